@@ -1,9 +1,9 @@
 -- All predefined names, and the sets among them.
 use Rattle.std.proofs.Common.{List, [], ◌∷◌, Contains, IsTrue, arith, refl, sym}
 use Rattle.std.proofs.lemmas.Bool.{true≢false}
-use Rattle.cat_values.specs.declared.predefined.Predefined.{Predefined}
-use Rattle.cat_values.specs.declared.predefined.Predefined.TheVariants as names
-use Rattle.cat_values.specs.PredefinedNames.{is_set}
+use Rattle.text_values.specs.declared.predefined.Predefined.{Predefined}
+use Rattle.text_values.specs.declared.predefined.Predefined.TheVariants as names
+use Rattle.text_values.specs.PredefinedNames.{is_set}
 
 abbrev pub all_names : List Predefined
 all_names = names.Loads ∷ names.Stores ∷ names.Accesses ∷ names.Fences ∷ names.InitialStores ∷ names.SyncFences ∷ names.LwsyncFences ∷ names.EieioFences ∷ names.IsyncFences ∷ names.Identity ∷ names.ProgramOrder ∷ names.SameLocation ∷ names.ProgramOrderSameLocation ∷ names.Internal ∷ names.External ∷ names.ReadsFrom ∷ names.Coherence ∷ names.FromReads ∷ names.ReadsFromExternal ∷ names.ReadsFromInternal ∷ names.CoherenceExternal ∷ names.CoherenceInternal ∷ names.FromReadsExternal ∷ names.FromReadsInternal ∷ names.Communication ∷ names.AddressDependency ∷ names.DataDependency ∷ names.ControlDependency ∷ names.ControlIsyncDependency ∷ names.SyncOrder ∷ names.LwsyncOrder ∷ names.EieioOrder ∷ names.IsyncOrder ∷ []

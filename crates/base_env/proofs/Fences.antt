@@ -2,7 +2,7 @@
 use Rattle.std.proofs.Common.{ℕ, ◌≡◌, ◌<◌, ◌+◌, ◌↔◌, ◌⊎◌, inl, inr, arith, refl, sym, ap, ◌∙◌, Bool, IsTrue, List, length, get_or, slice_get, Option, Some, None, is_some, true, false}
 use Rattle.std.proofs.lemmas.Option.{get_or_from_slice_get}
 use Rattle.std.proofs.lemmas.Bool.{cases_eq, false≢true}
-use Rattle.litmus_values.specs.declared.instruction.Fence.{Fence}
+use Rattle.text_values.specs.declared.instruction.Fence.{Fence}
 use Rattle.run_combinations.specs.declared.combination.Event.{Event}
 use Rattle.base_env.specs.Events.{location_of, IsAccess, IsFence, IsSameThread, At, Both, ProgramOrder, Fenced, FenceBelow}
 use Rattle.base_env.proofs.Linked.{at_number}

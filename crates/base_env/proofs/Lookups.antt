@@ -2,7 +2,7 @@
 use Rattle.std.proofs.Common.{ℕ, zero, suc, ◌≡◌, ◌<◌, ◌+◌, ◌↔◌, List, [], ◌∷◌, length, get_or, set, Contains, inl, inr, arith, refl, ap, get_or-set_other, get_or-set_same}
 use Rattle.std.proofs.lemmas.Bool.{cases_eq}
 use Rattle.bit_relations.specs.Relation.{Relation, Events, IsRelation, IsEvents}
-use Rattle.cat_values.specs.declared.predefined.Predefined.{Predefined}
+use Rattle.text_values.specs.declared.predefined.Predefined.{Predefined}
 use Rattle.run_combinations.specs.declared.combination.Combination.{Combination}
 use Rattle.base_env.specs.declared.names.Named.{Named}
 use Rattle.base_env.specs.declared.names.Shared.{Shared}

@@ -1,8 +1,8 @@
 -- The relations that are held are those of the candidate.
 use Rattle.std.proofs.Common.{ℕ, ◌↔◌, ◌⊎◌, List, inl, inr}
 use Rattle.bit_relations.specs.Relation.{Has}
-use Rattle.cat_values.specs.declared.predefined.Predefined.{Predefined}
-use Rattle.cat_values.specs.declared.predefined.Predefined.TheVariants as names
+use Rattle.text_values.specs.declared.predefined.Predefined.{Predefined}
+use Rattle.text_values.specs.declared.predefined.Predefined.TheVariants as names
 use Rattle.run_combinations.specs.declared.combination.Combination.{Combination}
 use Rattle.base_env.specs.Known.{Known, AreKnown, PairsOf}
 use Rattle.base_env.specs.Candidate.{IsEntered, IsReading, IsOrdered, Gives, RelationIn, FromReadsIn}

@@ -2,8 +2,8 @@
 use Rattle.std.proofs.Common.{ℕ, ◌≡◌, ◌↔◌, inl, inr, refl}
 use Rattle.bit_relations.specs.Relation.{Relation, Has, IsRelation}
 use Rattle.bit_relations.specs.Pairs.{Union, Opt, Complement}
-use Rattle.cat_values.specs.declared.predefined.Predefined.{Predefined}
-use Rattle.cat_values.specs.declared.predefined.Predefined.TheVariants as names
+use Rattle.text_values.specs.declared.predefined.Predefined.{Predefined}
+use Rattle.text_values.specs.declared.predefined.Predefined.TheVariants as names
 use Rattle.run_combinations.specs.declared.combination.Combination.{Combination}
 use Rattle.base_env.specs.Events.{Below, Links}
 use Rattle.base_env.specs.Names.{Fixed}

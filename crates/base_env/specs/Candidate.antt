@@ -1,6 +1,6 @@
 -- When the names that are held are those of a candidate.
 use Rattle.std.specs.Prelude.{ℕ, ◌≡◌, ◌<◌, ◌↔◌, List, length, get_or, Contains, Option, Some, None, false}
-use Rattle.cat_values.specs.declared.predefined.Predefined.{Predefined}
+use Rattle.text_values.specs.declared.predefined.Predefined.{Predefined}
 use Rattle.run_combinations.specs.declared.combination.Combination.{Combination}
 use Rattle.bit_relations.specs.Relation.{IsRelation, IsEvents}
 use Rattle.base_env.specs.declared.names.Named.{Named}
@@ -8,8 +8,8 @@ use Rattle.base_env.specs.declared.names.Shared.{Shared}
 use Rattle.base_env.specs.Events.{At, Below, ReadsFrom, Coherence}
 use Rattle.base_env.specs.Names.{IsIn, Fixed}
 use Rattle.bit_relations.specs.Pairs.{Inter, Union, Inverse, Composed}
-use Rattle.cat_values.specs.declared.predefined.Predefined.TheVariants as names
-use Rattle.cat_values.specs.PredefinedNames.{is_set}
+use Rattle.text_values.specs.declared.predefined.Predefined.TheVariants as names
+use Rattle.text_values.specs.PredefinedNames.{is_set}
 use Rattle.base_env.specs.Known.{Known, EventsOf, SharedPairs, set_names, shared_names}
 
 -- the events of a set among the first n events of a combination

@@ -2,8 +2,8 @@
 use Rattle.std.specs.Prelude.{ℕ, ◌≡◌, ◌≤◌, ◌⊎◌, List, [], ◌∷◌, map, Option, Some, None}
 use Rattle.bit_relations.specs.Pairs.{Identity, Inter, Union, Inverse, Composed}
 use Rattle.bit_relations.specs.Relation.{Relation, Has, IsRegular, IsRelation, Events, IsMember}
-use Rattle.cat_values.specs.declared.predefined.Predefined.{Predefined}
-use Rattle.cat_values.specs.declared.predefined.Predefined.TheVariants as names
+use Rattle.text_values.specs.declared.predefined.Predefined.{Predefined}
+use Rattle.text_values.specs.declared.predefined.Predefined.TheVariants as names
 use Rattle.base_env.specs.declared.names.Named.{Named}
 use Rattle.base_env.specs.declared.names.Shared.{Shared}
 

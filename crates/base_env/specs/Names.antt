@@ -1,8 +1,8 @@
 -- The predefined names of a candidate.
 use Rattle.std.specs.Prelude.{ℕ}
-use Rattle.litmus_values.specs.declared.instruction.Fence.TheVariants.{Sync, LightweightSync, Eieio, Isync}
-use Rattle.cat_values.specs.declared.predefined.Predefined.{Predefined}
-use Rattle.cat_values.specs.declared.predefined.Predefined.TheVariants as names
+use Rattle.text_values.specs.declared.instruction.Fence.TheVariants.{Sync, LightweightSync, Eieio, Isync}
+use Rattle.text_values.specs.declared.predefined.Predefined.{Predefined}
+use Rattle.text_values.specs.declared.predefined.Predefined.TheVariants as names
 use Rattle.run_combinations.specs.declared.combination.Event.{Event}
 use Rattle.run_combinations.specs.declared.combination.Combination.{Combination}
 use Rattle.bit_relations.specs.Pairs.{Identity, Complement, Inter}

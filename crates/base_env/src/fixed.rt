@@ -6,9 +6,8 @@ ghost use Rattle.base_env.specs.Events.{location_of, IsSameLocation, IsSameThrea
 ghost use Rattle.base_env.specs.Names.{Fixed};
 
 use bit_relations::Rel;
-use cat_values::Predefined;
-use litmus_values::Fence;
 use run_combinations::{Action, Combination, Event};
+use text_values::{Fence, Predefined};
 
 /// Adds a pair of events, if the relation can have it.
 pub fn put(target: &mut Rel, from: usize, to: usize)

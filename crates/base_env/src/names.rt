@@ -1,10 +1,10 @@
 //! The predefined names over the candidates of one combination of runs.
 ghost use Rattle.std.specs.Prelude.{◌≡◌, ℕ, ◌≤◌, ◌↔◌, MatchOption, Contains, length, IfOk, OnOk, IsTrue, false};
 ghost use Rattle.std.specs.List.{filter};
-ghost use Rattle.cat_values.specs.PredefinedNames.{is_set};
+ghost use Rattle.text_values.specs.PredefinedNames.{is_set};
 ghost use Rattle.bit_relations.specs.Relation.{Has, IsRelation, IsEvents};
 ghost use Rattle.bit_relations.specs.Pairs.{Inter};
-ghost use Rattle.cat_values.specs.declared.predefined.Predefined.TheVariants as names;
+ghost use Rattle.text_values.specs.declared.predefined.Predefined.TheVariants as names;
 ghost use Rattle.base_env.specs.Known.{AreKnown, IsConsistent, EventsUnder, PairsUnder, EventsOf, PairsOf, SharedPairs, EventsFound, set_names, shared_names};
 ghost use Rattle.base_env.specs.Candidate.{AreSets, AreShared, IsEntered, IsReading, IsOrdered, Gives, AreCovered, shared_for, SetIn, RelationIn};
 
@@ -13,10 +13,10 @@ use crate::fixed::write_fixed;
 use crate::reordering::write_next_order;
 use crate::sets::set_of;
 use bit_relations::{EventSet, Rel};
-use cat_values::{PREDEFINED, Predefined};
 use run_combinations::Combination;
 use std::alloc::{AllocError, Global};
 use std::marker::Model;
+use text_values::{PREDEFINED, Predefined};
 
 /// A relation that all candidates of a combination share.
 #[derive(Drop)]

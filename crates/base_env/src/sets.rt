@@ -6,9 +6,8 @@ ghost use Rattle.base_env.specs.Names.{IsIn};
 
 use crate::fixed::is_access;
 use bit_relations::EventSet;
-use cat_values::Predefined;
-use litmus_values::Fence;
 use run_combinations::{Action, Event};
+use text_values::{Fence, Predefined};
 
 /// Whether an event is in a predefined set; no event is in a name that is no set.
 fn is_member(name: Predefined, event: &Event) -> bool

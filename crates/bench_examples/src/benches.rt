@@ -6,7 +6,7 @@ use crate::played::PlayedBench;
 use crate::{rows, walk};
 use cells::bench::Bench;
 use node_values::NodeValue;
-use stamped_texts::StampedTexts;
+use running_bench::StampedTexts;
 use std::alloc::Global;
 use std::io;
 use std::marker::Brand;

@@ -11,12 +11,12 @@ use board::Board;
 use desk::{Accepted, BoardTexts, Desk};
 use desk_rule::Naming;
 use gate::{Held, Meeting};
-use source_text::{put_bytes, put_decimal};
 use std::alloc::{AllocError, Global};
 use std::io;
 use std::rt::Clock;
 use std::sync::Wait;
 use std::thread::Threads;
+use text_values::{put_bytes, put_decimal};
 use value_store::StoreName;
 
 const MP: &[u8] =

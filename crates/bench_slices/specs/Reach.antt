@@ -1,8 +1,8 @@
 -- Which cells an edit reaches. Read Slices first. Tests and models go by their indexes before the edit: one that the
 -- edit adds has the index behind the last.
 use Rattle.std.specs.Prelude.{◌≡◌, ℕ, ◌==◌, ◌⊎◌, List, Option, Some, None, Bool, ◌&&◌, IsTrue, slice_get, if◌then◌else◌}
-use Rattle.litmus_values.specs.declared.test.Test.{Test}
-use Rattle.litmus_values.specs.Value.{content_of}
+use Rattle.text_values.specs.declared.test.Test.{Test}
+use Rattle.text_values.specs.TestValue.{content_of}
 use Rattle.bench_texts.specs.declared.model.NamedModel.{NamedModel}
 use Rattle.bench_texts.specs.declared.prepared.Prepared.{Prepared}
 use Rattle.bench_texts.specs.declared.replacement.Replacement.{Replacement}

@@ -1,14 +1,14 @@
 //! Cells with one slice.
 
 ghost use Rattle.std.specs.Prelude.{◌≡◌, ◌↔◌, IsTrue, map};
-ghost use Rattle.litmus_values.specs.Value.{content_of, steps_of};
+ghost use Rattle.text_values.specs.TestValue.{content_of, steps_of};
 ghost use Rattle.bench_slices.specs.Slices.{slice, slice_of};
 
 use crate::lists::{are_same_items, are_same_numbers};
 use crate::uses::{Reached, are_same_uses};
 use bench_texts::{NamedModel, Reading};
-use litmus_values::{Test, Thread};
 use test_parts::{are_same_entries, are_same_places, are_same_steps, is_same_condition};
+use text_values::{Test, Thread};
 
 fn are_same_threads(first: &[Thread], second: &[Thread]) -> bool
     ensures { IsTrue result ↔ (map steps_of first.now ≡ map steps_of second.now) }

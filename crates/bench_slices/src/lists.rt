@@ -3,7 +3,7 @@
 ghost use Rattle.std.specs.Prelude.{◌≡◌, ◌↔◌, IsTrue, map, slice_get};
 ghost use Rattle.bench_slices.specs.Slices.{clause_at};
 
-use cat_values::Item;
+use text_values::Item;
 
 // Whether two lists have the same number at these indexes, or neither has one.
 pub(crate) fn is_same_number(first: &[u64], index: usize, second: &[u64], other: usize) -> bool

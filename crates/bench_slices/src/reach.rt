@@ -5,7 +5,7 @@ ghost use Rattle.bench_slices.specs.Reach.{cell_slice, test_after, model_after, 
 
 use crate::cells::is_same_slice;
 use bench_texts::{NamedModel, Prepared, Replacement, Texts};
-use litmus_values::Test;
+use text_values::Test;
 
 // Whether an edit is of the test or of the model of a cell.
 fn is_of(replacement: &Replacement, test: usize, model: usize) -> bool

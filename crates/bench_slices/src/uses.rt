@@ -5,7 +5,7 @@ ghost use Rattle.bench_slices.specs.Slices.{bound_name, uses_of, uses_at};
 
 use crate::lists::{are_same_numbers, is_same_number};
 use binding_graph::{Input, ResolvedItem};
-use cat_values::Item;
+use text_values::Item;
 
 fn is_same_name(first: &[u64], input: &Input, second: &[u64], other: &Input) -> bool
     ensures { IsTrue result ↔ (bound_name first.now input.now ≡ bound_name second.now other.now) }

@@ -5,8 +5,8 @@ use Rattle.std.proofs.lemmas.List.{map-set}
 use Rattle.std.proofs.lemmas.List.FromFn.{length-range_with_len}
 use Rattle.std.specs.List.{sum_by, insert, remove, position_or_len, range_with_len}
 use Rattle.std.proofs.lemmas.List.Sums.{sum_by-cons}
-use Rattle.cat_values.specs.declared.model.Item.{Item}
-use Rattle.cat_values.specs.Values.{clause_of, clauses_of}
+use Rattle.text_values.specs.declared.model.Item.{Item}
+use Rattle.text_values.specs.ModelValues.{clause_of, clauses_of}
 use Rattle.bench_texts.specs.BenchTexts.{items_of, item_index, put_at, numbered_items}
 use Rattle.bench_texts.specs.Limits.{clause_outputs, items_outputs}
 use Rattle.bench_texts.proofs.Lists.{map-remove}

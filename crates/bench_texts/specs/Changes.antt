@@ -1,8 +1,8 @@
 -- What an edit changes, by the indexes of what it changes.
 use Rattle.std.specs.Prelude.{◌≡◌, ◌+◌, ◌<◌, ◌≤◌, ◌^◌, length, insert, remove, vec_len, vec_capacity}
 use Rattle.std.specs.List.{HoldsAt}
-use Rattle.litmus_values.specs.Value.{content_of, steps_of, formula_of}
-use Rattle.cat_values.specs.Values.{clause_of}
+use Rattle.text_values.specs.TestValue.{content_of, steps_of, formula_of}
+use Rattle.text_values.specs.ModelValues.{clause_of}
 use Rattle.bench_texts.specs.declared.change.Change.{Change}
 use Rattle.bench_texts.specs.declared.change.Change.TheVariants as changes
 use Rattle.bench_texts.specs.declared.texts.Texts.{Texts}

@@ -1,6 +1,6 @@
 -- What the values of the code hold.
 use Rattle.std.specs.Prelude.{map, All}
-use Rattle.litmus_values.specs.Value.{content_of}
+use Rattle.text_values.specs.TestValue.{content_of}
 use Rattle.bench_texts.specs.declared.model.NamedModel.{NamedModel}
 use Rattle.bench_texts.specs.declared.texts.Texts.{Texts}
 use Rattle.bench_texts.specs.BenchTexts.{PlainModel, BenchTexts, items_of}

@@ -1,7 +1,7 @@
 -- How much the bench holds.
 use Rattle.std.specs.Prelude.{ℕ, ◌+◌, ◌*◌, List, length, Bool, ◌||◌, nat_lt, nat_le, ◌&&◌, ◌^◌}
 use Rattle.std.specs.List.{sum_by, list_all}
-use Rattle.cat_values.specs.Value.{Clause, Binding, Function, Checking, Flagging, Showing, Including}
+use Rattle.text_values.specs.ModelValue.{Clause, Binding, Function, Checking, Flagging, Showing, Including}
 use Rattle.bench_texts.specs.BenchTexts.{NumberedItem, PlainModel, BenchTexts}
 
 -- the bound names of an item, or the check or flag that it is

@@ -1,7 +1,7 @@
 -- What the items of a model are resolved to, or why they have no meaning.
 use Rattle.std.specs.Prelude.{◌≡◌, List, [], length, map, reverse}
-use Rattle.cat_values.specs.declared.predefined.TheConstants.{PREDEFINED}
-use Rattle.cat_values.specs.declared.model.Item.{Item}
+use Rattle.text_values.specs.declared.predefined.TheConstants.{PREDEFINED}
+use Rattle.text_values.specs.declared.model.Item.{Item}
 use Rattle.binding_kinds.specs.Value.{Naming, clause_of}
 use Rattle.binding_kinds.specs.Outermost.{naming_of}
 use Rattle.binding_kinds.specs.Faults.{HasNoFault, FirstFault}

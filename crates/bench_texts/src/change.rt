@@ -1,8 +1,7 @@
 //! What an edit changes, where each thing stands.
 
 use crate::model::NamedModel;
-use cat_values::Item;
-use litmus_values::{Condition, InitEntry, Place, Test, Thread};
+use text_values::{Condition, InitEntry, Item, Place, Test, Thread};
 
 /// A change of the texts, by the indexes of what it changes.
 #[derive(Drop)]

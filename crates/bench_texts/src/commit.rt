@@ -2,14 +2,14 @@
 #![tactic(auto, using(crate::proofs::Lists::list_lemmas))]
 
 ghost use Rattle.std.specs.Prelude.{◌≡◌, ◌<◌, vec_len};
-ghost use Rattle.litmus_values.specs.Value.{content_of};
+ghost use Rattle.text_values.specs.TestValue.{content_of};
 
 use crate::model::NamedModel;
 use crate::prepared::Prepared;
 use crate::replacement::Replacement;
 use crate::texts::Texts;
-use litmus_values::Test;
 use std::mem::{drop, replace};
+use text_values::Test;
 
 impl Texts {
     ghost use Rattle.std.specs.Prelude.{◌≤◌, vec_capacity};

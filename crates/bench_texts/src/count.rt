@@ -2,12 +2,12 @@
 
 ghost use Rattle.std.specs.Prelude.{◌≡◌, ◌-◌, ◌^◌, min, map};
 ghost use Rattle.std.specs.List.{sum_by};
-ghost use Rattle.cat_values.specs.Values.{clause_of};
+ghost use Rattle.text_values.specs.ModelValues.{clause_of};
 ghost use Rattle.bench_texts.specs.Held.{model_of};
 ghost use Rattle.bench_texts.specs.Limits.{clause_outputs, models_outputs};
 
 use crate::model::NamedModel;
-use cat_values::Item;
+use text_values::Item;
 
 /// The bound names of an item, or the check or flag that it is.
 pub fn outputs_of(item: &Item) -> usize

@@ -2,12 +2,12 @@
 #![tactic(auto, using(crate::proofs::Lists::list_lemmas))]
 
 ghost use Rattle.std.specs.Prelude.{◌≡◌, ◌≤◌, length, map};
-ghost use Rattle.litmus_values.specs.Value.{content_of};
+ghost use Rattle.text_values.specs.TestValue.{content_of};
 ghost use Rattle.bench_texts.specs.BenchTexts.{test_index, model_index};
 ghost use Rattle.bench_texts.specs.Held.{model_of};
 
 use crate::model::NamedModel;
-use litmus_values::Test;
+use text_values::Test;
 
 /// The index of the first test of that name, or how many there are.
 pub fn index_of_test(tests: &[Test], name: &[u8]) -> usize

@@ -3,15 +3,14 @@
 
 ghost use Rattle.std.specs.Prelude.{◌≡◌, ◌==◌, ◌<◌, ◌≤◌, ◌+◌, ◌^◌, IfOk, insert, remove, slice_set, vec_len};
 ghost use Rattle.std.specs.List.{position_or_len, range_with_len};
-ghost use Rattle.cat_values.specs.Values.{clause_of, clauses_of};
+ghost use Rattle.text_values.specs.ModelValues.{clause_of, clauses_of};
 
 use crate::count::count_items;
 use crate::reading::{Reading, read_items};
-use cat_values::{Item, ModelText};
 use item_copies::copied_items;
-use source_text::Name;
 use std::alloc::{AllocError, Global};
 use std::mem::replace;
+use text_values::{Item, ModelText, Name};
 
 /// The most items that a model has.
 pub const MAX_ITEMS: usize = 256;

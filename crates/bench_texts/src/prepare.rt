@@ -7,9 +7,9 @@ use crate::change::Change;
 use crate::fault::EditFault;
 use crate::texts::Texts;
 use litmus_ppc::{LitmusFault, read_cond, read_init, read_locations, read_test, read_thread};
-use litmus_values::Test;
 use std::alloc::Global;
 use std::mem::drop;
+use text_values::Test;
 
 // A refusal of a reader, with want of memory apart.
 fn test_fault(fault: LitmusFault) -> EditFault
@@ -28,7 +28,7 @@ impl Texts {
     ghost use Rattle.bench_texts.specs.declared.fault.EditFault.TheVariants.{NoTest};
     ghost use Rattle.bench_texts.specs.declared.change.Change.TheVariants as changes;
     ghost use Rattle.bench_texts.specs.BenchTexts.{test_index};
-    ghost use Rattle.litmus_values.specs.Value.{content_of};
+    ghost use Rattle.text_values.specs.TestValue.{content_of};
     ghost use Rattle.litmus_grammar.specs.Texts.{ReadsTest};
     ghost use Rattle.bench_texts.specs.Held.{texts_of, AreRead};
     ghost use Rattle.bench_texts.specs.Changes.{IsReady};

@@ -11,8 +11,8 @@ use crate::fault::EditFault;
 use crate::model::NamedModel;
 use crate::texts::Texts;
 use cat_syntax::{CatFault, read_model};
-use cat_values::{Item, ModelText};
 use std::alloc::{AllocError, Global};
+use text_values::{Item, ModelText};
 
 // A refusal of a reader, with want of memory apart.
 pub(crate) fn model_fault(fault: CatFault) -> EditFault
@@ -47,7 +47,7 @@ impl Texts {
     ghost use Rattle.std.specs.Prelude.{◌<◌, ◌≤◌, ◌+◌, ◌-◌, ◌^◌, min, take, drop, length, IfOk, MatchResult, true, false, vec_len};
     ghost use Rattle.bench_texts.specs.declared.fault.EditFault.TheVariants.{NoModel};
     ghost use Rattle.bench_texts.specs.BenchTexts.{model_index, put_at, numbered_items, with_models};
-    ghost use Rattle.cat_values.specs.Values.{clauses_of};
+    ghost use Rattle.text_values.specs.ModelValues.{clauses_of};
     ghost use Rattle.bench_texts.specs.Held.{texts_of, AreRead};
     ghost use Rattle.bench_texts.specs.Limits.{models_outputs};
     ghost use Rattle.bench_texts.specs.Changes.{IsReady, texts_after};

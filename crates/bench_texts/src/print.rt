@@ -1,16 +1,15 @@
 //! Prints the items of a model with their numbers.
 
 ghost use Rattle.std.specs.Prelude.{◌≡◌, ◌++◌, ◌∷◌, [], OnOk, IfOk, option_map};
-ghost use Rattle.cat_values.specs.Values.{clause_of};
+ghost use Rattle.text_values.specs.ModelValues.{clause_of};
 ghost use Rattle.bench_texts.specs.Printed.{numbered_line, printed_items};
 ghost use Rattle.bench_texts.specs.Replacements.{printed_by};
 
 use crate::model::NamedModel;
 use crate::replacement::Replacement;
 use cat_syntax::print_item;
-use cat_values::Item;
-use source_text::{put_bytes, put_decimal};
 use std::alloc::{AllocError, Global};
+use text_values::{Item, put_bytes, put_decimal};
 
 // Appends the line of an item.
 fn put_line(alloc: Global, text: &mut Vec<u8>, number: u64, item: &Item) -> Result<(), AllocError>

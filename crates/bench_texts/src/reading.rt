@@ -4,9 +4,9 @@ ghost use Rattle.std.specs.Prelude.{IfOk};
 ghost use Rattle.bench_texts.specs.Readings.{IsReading};
 
 use binding_graph::{ModelFault, ResolveFault, Resolved, resolve, used};
-use cat_values::ModelText;
 use std::alloc::{AllocError, Global};
 use std::sync::Arc;
+use text_values::ModelText;
 
 /// What the items of a model are resolved to, or why they have no meaning.
 #[derive(Drop)]

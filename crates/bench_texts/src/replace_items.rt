@@ -8,8 +8,8 @@ ghost use Rattle.bench_texts.specs.Replacements.{texts_with, IsReplaceable};
 
 use crate::replacement::Replacement;
 use crate::texts::Texts;
-use cat_values::Item;
 use std::alloc::{AllocError, Global};
+use text_values::Item;
 
 impl Texts {
     pub(crate) fn replace_set(

@@ -11,8 +11,8 @@ use crate::changed_tests::{
 };
 use crate::replacement::Replacement;
 use crate::texts::Texts;
-use litmus_values::{Condition, InitEntry, Place, Thread};
 use std::alloc::{AllocError, Global};
+use text_values::{Condition, InitEntry, Place, Thread};
 
 impl Texts {
     pub(crate) fn replace_init(

@@ -1,7 +1,7 @@
 //! What an edit puts in the place of what.
 
 use crate::model::NamedModel;
-use litmus_values::Test;
+use text_values::Test;
 
 /// What an edit puts in the place of what: whole tests and whole models.
 #[derive(Drop)]

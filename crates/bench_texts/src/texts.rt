@@ -2,8 +2,8 @@
 
 use crate::find::{index_of_model, index_of_test};
 use crate::model::NamedModel;
-use litmus_values::Test;
 use std::alloc::Global;
+use text_values::Test;
 
 /// The tests and the models of the bench, in their order. After any edits each name stands once.
 pub struct Texts {
@@ -24,7 +24,7 @@ impl Drop for Texts {
 
 impl Texts {
     ghost use Rattle.std.specs.Prelude.{◌≡◌, ◌≤◌, [], map, vec_len};
-    ghost use Rattle.litmus_values.specs.Value.{content_of};
+    ghost use Rattle.text_values.specs.TestValue.{content_of};
     ghost use Rattle.bench_texts.specs.BenchTexts.{test_index, model_index};
     ghost use Rattle.bench_texts.specs.Held.{model_of, texts_of, AreRead};
 

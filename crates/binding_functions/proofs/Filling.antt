@@ -5,9 +5,9 @@ use Rattle.std.specs.List.{AllZip, count_by}
 use Rattle.std.proofs.lemmas.List.{append-nil, take_more, take_all, map-append, length-reverse}
 use Rattle.std.proofs.lemmas.List.Sums.{sum_by-append}
 use Rattle.std.proofs.lemmas.Bool.{ltb-true}
-use Rattle.cat_values.specs.declared.model.Expression.{Expression}
-use Rattle.cat_values.specs.Values.{term_of}
-use Rattle.cat_values.specs.Value.{Term, Terms, Atom, AllEvents, EmptyRelation, EmptySet, Join, Mark, Not, On, Apply, NoTerm, OneMore, gathered}
+use Rattle.text_values.specs.declared.model.Expression.{Expression}
+use Rattle.text_values.specs.ModelValues.{term_of}
+use Rattle.text_values.specs.ModelValue.{Term, Terms, Atom, AllEvents, EmptyRelation, EmptySet, Join, Mark, Not, On, Apply, NoTerm, OneMore, gathered}
 use Rattle.binding_kinds.specs.declared.scope.Found.{Found}
 use Rattle.binding_kinds.specs.declared.scope.Binder.{Binder}
 use Rattle.binding_kinds.specs.declared.scope.Binder.TheVariants as binders

@@ -2,10 +2,10 @@
 use Rattle.std.proofs.Common.{ℕ, zero, suc, ◌≡◌, ◌<◌, ◌≤◌, ◌+◌, List, [], ◌∷◌, ◌++◌, length, map, reverse, get_or, Bool, true, false, ◌||◌, ◌&&◌, Option, Some, None, refl, sym, ap, ◌∙◌, arith}
 use Rattle.std.specs.Prelude.{is_some, nat_eq}
 use Rattle.std.proofs.Math.Bool.{or_assoc}
-use Rattle.cat_values.specs.declared.model.Expression.{Expression}
-use Rattle.cat_values.specs.declared.model.Infix.{Infix}
-use Rattle.cat_values.specs.Values.{term_of}
-use Rattle.cat_values.specs.Value.{Term, Atom, Join, Apply}
+use Rattle.text_values.specs.declared.model.Expression.{Expression}
+use Rattle.text_values.specs.declared.model.Infix.{Infix}
+use Rattle.text_values.specs.ModelValues.{term_of}
+use Rattle.text_values.specs.ModelValue.{Term, Atom, Join, Apply}
 use Rattle.binding_kinds.specs.declared.fault.ModelFault.{ModelFault}
 use Rattle.binding_kinds.specs.declared.function.Function.{Function}
 use Rattle.binding_kinds.specs.declared.kinds.Kind.{Kind}

@@ -1,9 +1,9 @@
 -- What is found of the parts of the body of a function: their first fault, their parameters under a complement, and what
 -- they make where the parameters have the kinds of each of the first combinations.
 use Rattle.std.specs.Prelude.{◌≡◌, ℕ, ◌<◌, ◌≤◌, List, length, map, Bool, false, None, get_or}
-use Rattle.cat_values.specs.declared.model.Expression.{Expression}
-use Rattle.cat_values.specs.Value.{Term, gathered}
-use Rattle.cat_values.specs.Values.{term_of}
+use Rattle.text_values.specs.declared.model.Expression.{Expression}
+use Rattle.text_values.specs.ModelValue.{Term, gathered}
+use Rattle.text_values.specs.ModelValues.{term_of}
 use Rattle.binding_kinds.specs.declared.kinds.Kind.{Kind}
 use Rattle.binding_kinds.specs.Value.{Naming}
 use Rattle.binding_kinds.specs.Combinations.{unknown}

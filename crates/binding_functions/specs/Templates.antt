@@ -1,6 +1,6 @@
 -- The lists in postfix order that are kept of expressions with the functions that they apply put in.
 use Rattle.std.specs.Prelude.{◌≡◌, ℕ, ◌<◌, ◌⊎◌, List, [], ◌∷◌, ◌++◌, length, true, false, get_or}
-use Rattle.cat_values.specs.Value.{Term, Atom, AllEvents, EmptyRelation, EmptySet, Join, Mark, Not, On, Apply}
+use Rattle.text_values.specs.ModelValue.{Term, Atom, AllEvents, EmptyRelation, EmptySet, Join, Mark, Not, On, Apply}
 use Rattle.binding_kinds.specs.declared.function.Piece.{Piece}
 use Rattle.binding_kinds.specs.declared.function.Piece.TheVariants as pieces
 use Rattle.binding_kinds.specs.Value.{Naming}

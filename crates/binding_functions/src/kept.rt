@@ -1,7 +1,7 @@
 //! What is kept of a function.
 
 ghost use Rattle.std.specs.Prelude.{◌≡◌, ◌≤◌, ◌^◌, ℕ, List, length, false, IfOk};
-ghost use Rattle.cat_values.specs.Value.{Term};
+ghost use Rattle.text_values.specs.ModelValue.{Term};
 ghost use Rattle.binding_kinds.specs.Value.{Naming};
 ghost use Rattle.binding_kinds.specs.Senses.{Sense, IsKept};
 ghost use Rattle.binding_kinds.specs.Functions.{sense_of_function};

@@ -1,11 +1,11 @@
 //! What is found of a part of the body of a function.
 
 ghost use Rattle.std.specs.Prelude.{◌≡◌, ◌<◌, ℕ, ◌||◌, ◌&&◌, List, [], ◌∷◌, ◌++◌, length, map, reverse, Bool, Some, None, false, nat_eq, get_or, IfOk};
-ghost use Rattle.cat_values.specs.declared.model.Expression.{Expression};
-ghost use Rattle.cat_values.specs.declared.model.Infix.{Infix};
-ghost use Rattle.cat_values.specs.declared.model.Postfix.{Postfix};
-ghost use Rattle.cat_values.specs.Value.{Term, Atom, Join, Mark, On, Apply, gathered};
-ghost use Rattle.cat_values.specs.Values.{term_of};
+ghost use Rattle.text_values.specs.declared.model.Expression.{Expression};
+ghost use Rattle.text_values.specs.declared.model.Infix.{Infix};
+ghost use Rattle.text_values.specs.declared.model.Postfix.{Postfix};
+ghost use Rattle.text_values.specs.ModelValue.{Term, Atom, Join, Mark, On, Apply, gathered};
+ghost use Rattle.text_values.specs.ModelValues.{term_of};
 ghost use Rattle.binding_kinds.specs.Value.{Naming};
 ghost use Rattle.binding_kinds.specs.Kinds.{found, is_turned};
 ghost use Rattle.binding_kinds.specs.Meanings.{parameter_of};
@@ -19,8 +19,8 @@ use binding_kinds::{
     either, identity_column, infix_column, judged_name, no_arguments, or_else, parameter_column,
     postfix_column, with_argument,
 };
-use cat_values::{Infix, MAX_PARAMETERS};
 use std::alloc::{AllocError, Global};
+use text_values::{Infix, MAX_PARAMETERS};
 
 /// The columns that are made of the parts of a body.
 #[derive(Clone, Copy)]

@@ -8,7 +8,7 @@ use Rattle.binding_kinds.specs.declared.function.Function.{Function}
 use Rattle.binding_kinds.specs.declared.scope.Entry.{Entry}
 use Rattle.binding_kinds.specs.declared.scope.Binder.TheVariants as binders
 use Rattle.binding_kinds.specs.declared.scope.Used.{Used}
-use Rattle.cat_values.specs.Value.{Term}
+use Rattle.text_values.specs.ModelValue.{Term}
 use Rattle.binding_kinds.specs.Value.{Naming, Defined, entry_of}
 use Rattle.binding_kinds.specs.Senses.{Sense, IsKept, AreKept}
 use Rattle.binding_graph.specs.declared.resolved.ResolvedItem.{ResolvedItem}

@@ -2,8 +2,8 @@
 use Rattle.std.proofs.Common.{ℕ, Bool, false, Option, Some, None, refl, ◌≡◌, ◌≤◌, ◌<◌, ◌+◌, List, [], ◌∷◌, ◌++◌, length, map, reverse, drop, take, get_or, sym, ◌∙◌, add-one, append_assoc, ap}
 use Rattle.std.proofs.Math.Seq.{drop-cons}
 use Rattle.std.proofs.lemmas.List.{drop_all, take_all, map_more, append-nil, reverse-reverse}
-use Rattle.cat_values.specs.declared.model.Binding.{Binding}
-use Rattle.cat_values.specs.Values.{term_of}
+use Rattle.text_values.specs.declared.model.Binding.{Binding}
+use Rattle.text_values.specs.ModelValues.{term_of}
 use Rattle.binding_kinds.specs.declared.fault.ModelFault.{ModelFault}
 use Rattle.binding_kinds.specs.declared.scope.Used.{Used}
 use Rattle.binding_kinds.specs.declared.scope.Input.{Input}

@@ -3,8 +3,8 @@ use Rattle.std.proofs.Common.{ℕ, zero, suc, ◌≡◌, ◌<◌, ◌≤◌, ◌
 use Rattle.std.specs.List.{AllZip}
 use Rattle.std.proofs.lemmas.List.{drop_all}
 use Rattle.std.proofs.Math.Seq.{drop-cons}
-use Rattle.cat_values.specs.declared.model.Binding.{Binding}
-use Rattle.cat_values.specs.Value.{AllEvents}
+use Rattle.text_values.specs.declared.model.Binding.{Binding}
+use Rattle.text_values.specs.ModelValue.{AllEvents}
 use Rattle.binding_kinds.specs.declared.scope.Entry.{Entry}
 use Rattle.binding_kinds.specs.declared.scope.Binder.TheVariants as binders
 use Rattle.binding_kinds.specs.declared.kinds.Kind.TheVariants.{OfRelation}

@@ -1,6 +1,6 @@
 -- What a resolved item does, as plain data.
 use Rattle.std.specs.Prelude.{ℕ, Bool, List, map, Option}
-use Rattle.cat_values.specs.declared.model.CheckWord.{CheckWord}
+use Rattle.text_values.specs.declared.model.CheckWord.{CheckWord}
 use Rattle.binding_kinds.specs.declared.kinds.Kind.{Kind}
 use Rattle.binding_graph.specs.declared.resolved.Body.{Body}
 use Rattle.binding_graph.specs.declared.resolved.Code.{Code}

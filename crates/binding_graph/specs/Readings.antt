@@ -1,7 +1,7 @@
 -- What one walk over an expression finds: its kind, its size and its first fault, and what it uses and applies.
 use Rattle.std.specs.Prelude.{◌≡◌, ℕ, List, reverse, Bool, false, Option, Some, None, Result, Ok, Err}
 use Rattle.std.specs.List.{AllZip}
-use Rattle.cat_values.specs.Value.{Term, Terms}
+use Rattle.text_values.specs.ModelValue.{Term, Terms}
 use Rattle.binding_kinds.specs.declared.fault.ModelFault.{ModelFault}
 use Rattle.binding_kinds.specs.declared.function.Function.{Function}
 use Rattle.binding_kinds.specs.declared.judged.Judged.{Judged}

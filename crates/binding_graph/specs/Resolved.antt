@@ -1,11 +1,11 @@
 -- What the items of a model are resolved to.
 use Rattle.std.specs.Prelude.{◌≡◌, ℕ, ◌+◌, List, [], ◌∷◌, length, reverse, Bool, true, false, Option, Some, None}
 use Rattle.std.specs.List.{AllZip}
-use Rattle.cat_values.specs.declared.model.CheckWord.{CheckWord}
-use Rattle.cat_values.specs.declared.model.Item as code_item
-use Rattle.cat_values.specs.declared.model.Item.TheVariants as items
+use Rattle.text_values.specs.declared.model.CheckWord.{CheckWord}
+use Rattle.text_values.specs.declared.model.Item as code_item
+use Rattle.text_values.specs.declared.model.Item.TheVariants as items
 use Rattle.binding_kinds.specs.declared.scope.Used.{Used}
-use Rattle.cat_values.specs.Value.{Term}
+use Rattle.text_values.specs.ModelValue.{Term}
 use Rattle.binding_kinds.specs.Value.{Naming, Bound, Clause, Group, Check, Mute, Defined}
 use Rattle.binding_kinds.specs.Senses.{Sense}
 use Rattle.binding_kinds.specs.Faults.{extended, senses_after}

@@ -1,7 +1,7 @@
 -- What expressions use and apply, through the functions that they apply too, the latest first. The names used are counted
 -- as in specs/Inputs.
 use Rattle.std.specs.Prelude.{◌≡◌, ℕ, ◌==◌, List, [], ◌∷◌, ◌++◌, length, map, reverse, Bool, true, false, if◌then◌else◌, Option, Some, None, Result, Ok, Err, get_or, slice_get}
-use Rattle.cat_values.specs.Value.{Term, Terms, Atom, AllEvents, EmptyRelation, EmptySet, Join, Mark, Not, On, Apply, NoTerm, OneMore}
+use Rattle.text_values.specs.ModelValue.{Term, Terms, Atom, AllEvents, EmptyRelation, EmptySet, Join, Mark, Not, On, Apply, NoTerm, OneMore}
 use Rattle.binding_kinds.specs.declared.fault.ModelFault.{ModelFault}
 use Rattle.binding_kinds.specs.declared.function.Function.{Function}
 use Rattle.binding_kinds.specs.declared.scope.Used.{Used}

@@ -1,7 +1,7 @@
 //! The bodies of groups and checks, each read once: their first fault, and their steps.
 
 ghost use Rattle.std.specs.Prelude.{◌≡◌, ◌++◌, ◌∷◌, ℕ, List, [], map, reverse, false, IfOk, OnOk};
-ghost use Rattle.cat_values.specs.Values.{term_of};
+ghost use Rattle.text_values.specs.ModelValues.{term_of};
 ghost use Rattle.binding_kinds.specs.Value.{Naming, Bound, entry_of, bound_of};
 ghost use Rattle.binding_kinds.specs.Kinds.{takes_body};
 ghost use Rattle.binding_kinds.specs.Verdict.{or_else, unless};
@@ -19,9 +19,8 @@ use crate::resolved::{Body, CheckCode, Code, ResolvedItem, Role};
 use crate::uses::{Uses, copied_lists};
 use crate::workspace::Workspace;
 use binding_kinds::{Judged, ModelFault, Sight, binding_fault, or_else, takes_body, unless};
-use cat_values::{Binding, Check, Expression};
-use source_text::Name;
 use std::alloc::{AllocError, Global};
+use text_values::{Binding, Check, Expression, Name};
 
 /// An expression that was read.
 #[derive(Drop)]

@@ -1,7 +1,7 @@
 //! The names that an item adds.
 
 ghost use Rattle.std.specs.Prelude.{◌≡◌, ◌++◌, ◌∷◌, [], None, IfOk, OnOk, List, length, reverse, map};
-ghost use Rattle.cat_values.specs.Values.{term_of};
+ghost use Rattle.text_values.specs.ModelValues.{term_of};
 ghost use Rattle.binding_kinds.specs.Value.{Naming, Bound, Defined, entry_of, bound_of};
 ghost use Rattle.binding_kinds.specs.Senses.{Sense, AreKept};
 ghost use Rattle.binding_kinds.specs.Faults.{with_own, with_all, extended, senses_after};
@@ -15,9 +15,8 @@ use crate::resolved::Body;
 use binding_kinds::{
     Binder, Entry, Function, Input, Kind, ModelFault, Scope, Sight, parameter_fault,
 };
-use cat_values::{Binding, Expression};
-use source_text::Name;
 use std::alloc::{AllocError, Global};
+use text_values::{Binding, Expression, Name};
 
 /// Adds the names of a recursive group. Errors: want of memory.
 #[tactic(auto, using(binding_kinds::proofs::Scopes::rev_push))]

@@ -1,7 +1,7 @@
 //! What is kept of a function whose body is read.
 
 ghost use Rattle.std.specs.Prelude.{◌≡◌, ◌≤◌, List, IfOk, length, map, reverse};
-ghost use Rattle.cat_values.specs.Values.{term_of};
+ghost use Rattle.text_values.specs.ModelValues.{term_of};
 ghost use Rattle.binding_kinds.specs.Value.{entry_of};
 ghost use Rattle.binding_kinds.specs.First.{first_of_body};
 ghost use Rattle.binding_kinds.specs.Senses.{Sense, IsKept, AreKept};
@@ -12,8 +12,8 @@ use crate::inside::read_inside;
 use crate::uses::Uses;
 use binding_functions::{Columns, ReadBody, Template, function_of};
 use binding_kinds::{Function, ModelFault, Sight, weight};
-use cat_values::Expression;
 use std::alloc::{AllocError, Global};
+use text_values::Expression;
 
 /// A function whose body was read.
 #[derive(Drop)]

@@ -3,8 +3,8 @@
 
 ghost use Rattle.std.specs.Prelude.{◌≡◌, ◌∷◌, [], Bool, List, ℕ, None, Some, length, map, reverse, IfOk, OnOk};
 ghost use Rattle.std.specs.List.{AllZip};
-ghost use Rattle.cat_values.specs.Value.{Atom, Apply, gathered};
-ghost use Rattle.cat_values.specs.Values.{term_of};
+ghost use Rattle.text_values.specs.ModelValue.{Atom, Apply, gathered};
+ghost use Rattle.text_values.specs.ModelValues.{term_of};
 ghost use Rattle.binding_kinds.specs.Value.{Naming, entry_of};
 ghost use Rattle.binding_kinds.specs.Kinds.{found};
 ghost use Rattle.binding_kinds.specs.Meanings.{parameter_of};
@@ -21,9 +21,8 @@ use crate::reading::{applied, note_name, read_unapplied};
 use crate::uses::Uses;
 use binding_functions::{BodyArguments, BodyPart, Columns, Template};
 use binding_kinds::{Function, Kind, Named, Piece, Sight, either, is_turned};
-use cat_values::Expression;
-use source_text::Name;
 use std::alloc::{AllocError, Global};
+use text_values::{Expression, Name};
 
 /// What is read of the arguments of a function in a body.
 #[derive(Drop)]

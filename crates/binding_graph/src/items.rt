@@ -1,7 +1,7 @@
 //! The items of a model, one after another, each read once.
 
 ghost use Rattle.std.specs.Prelude.{◌≡◌, ◌+◌, [], ◌∷◌, ◌++◌, List, None, Some, vec_len, IfOk, OnOk, MatchResult, reverse, map, length, true, false};
-ghost use Rattle.cat_values.specs.Values.{term_of};
+ghost use Rattle.text_values.specs.ModelValues.{term_of};
 ghost use Rattle.binding_kinds.specs.Value.{Group, Defined, entry_of, clause_of, bound_of};
 ghost use Rattle.binding_kinds.specs.Senses.{Sense, AreKept};
 ghost use Rattle.binding_kinds.specs.Faults.{HasNoFault, FirstFault, with_own, with_all, extended, senses_after};
@@ -20,9 +20,8 @@ use crate::resolved::{Resolved, ResolvedItem, Role};
 use crate::uses::copied_lists;
 use crate::workspace::Workspace;
 use binding_kinds::{ModelFault, Scope, Sight};
-use cat_values::{Binding, Expression, Item, ModelText, PREDEFINED};
-use source_text::Name;
 use std::alloc::{AllocError, Global};
+use text_values::{Binding, Expression, Item, ModelText, Name, PREDEFINED};
 
 /// Resolves a model. Each name is looked up once, also in the body of a function.
 ///

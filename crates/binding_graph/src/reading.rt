@@ -3,8 +3,8 @@
 
 ghost use Rattle.std.specs.Prelude.{◌≡◌, ◌<◌, ℕ, [], ◌∷◌, List, None, Some, Ok, Err, length, map, reverse, IfOk, OnOk, MatchResult};
 ghost use Rattle.std.specs.List.{AllZip};
-ghost use Rattle.cat_values.specs.Value.{Apply, gathered};
-ghost use Rattle.cat_values.specs.Values.{term_of};
+ghost use Rattle.text_values.specs.ModelValue.{Apply, gathered};
+ghost use Rattle.text_values.specs.ModelValues.{term_of};
 ghost use Rattle.binding_kinds.specs.Value.{Naming, entry_of};
 ghost use Rattle.binding_kinds.specs.Kinds.{found, kind_found};
 ghost use Rattle.binding_kinds.specs.Meanings.{parameter_of, named_of};
@@ -24,9 +24,8 @@ use binding_kinds::{
     judged_complement, judged_faulty, judged_identity, judged_infix, judged_name, judged_postfix,
     judged_sign,
 };
-use cat_values::Expression;
-use source_text::Name;
 use std::alloc::{AllocError, Global};
+use text_values::{Expression, Name};
 
 /// What is read of the arguments of a function.
 #[derive(Drop)]

@@ -1,8 +1,7 @@
 //! A model without fault.
 
 use binding_kinds::{Input, Kind};
-use cat_values::{CheckWord, Postfix, Predefined};
-use source_text::Name;
+use text_values::{CheckWord, Name, Postfix, Predefined};
 
 /// What a name stands for, where it is used.
 #[derive(Clone, Copy)]

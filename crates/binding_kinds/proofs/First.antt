@@ -2,7 +2,7 @@
 use Rattle.std.proofs.Common.{ℕ, ◌≡◌, ◌<◌, ◌≤◌, ◌+◌, ◌⊎◌, inl, inr, suc, List, Bool, true, false, IsTrue, IsFalse, ◌&&◌, ◌||◌, nat_le, Option, Some, None, Result, Ok, Err, refl, arith, sym, ap, rules}
 use Rattle.std.proofs.lemmas.Bool.{leb-true, lt-ltb, ltb-true}
 use Rattle.std.specs.Prelude.{if◌then◌else◌, nat_lt, not}
-use Rattle.cat_values.specs.Value.{Term, Terms, Atom, AllEvents, EmptyRelation, EmptySet, Join, Mark, Not, On, Apply, NoTerm, OneMore}
+use Rattle.text_values.specs.ModelValue.{Term, Terms, Atom, AllEvents, EmptyRelation, EmptySet, Join, Mark, Not, On, Apply, NoTerm, OneMore}
 use Rattle.binding_kinds.specs.declared.kinds.Kind.{Kind}
 use Rattle.binding_kinds.specs.declared.fault.ModelFault.{ModelFault}
 use Rattle.binding_kinds.specs.declared.fault.ModelFault.TheVariants as faults

@@ -2,7 +2,7 @@
 use Rattle.std.proofs.Common.{ℕ, zero, suc, ◌≡◌, ◌<◌, ◌≤◌, ◌+◌, ◌-◌, true, List, [], ◌∷◌, ◌++◌, length, map, reverse, take, get_or, bytes_eq, false, inl, inr, Option, Some, None, refl, ap, sym, ◌∙◌, subst, arith}
 use Rattle.std.proofs.lemmas.Bool.{cases_Bool}
 use Rattle.std.proofs.lemmas.Nat.{le_bytes_8}
-use Rattle.source_text.specs.Names.{key_of, key_bytes}
+use Rattle.text_values.specs.Names.{key_of, key_bytes}
 use Rattle.binding_kinds.specs.declared.scope.Found.{Found}
 use Rattle.binding_kinds.specs.Meanings.{named_of, meaning_named, meaning_of}
 use Rattle.std.proofs.lemmas.List.{take_more, reverse-append, map-append, same_lists, get_or_default}

@@ -4,9 +4,9 @@ use Rattle.std.specs.Prelude.{if◌then◌else◌, bytes_eq}
 use Rattle.std.proofs.lemmas.Bool.{cases_lt}
 use Rattle.std.proofs.lemmas.List.{get_or_push, get_or_append_left, get_or_default, reverse-append, length-reverse}
 use Rattle.std.proofs.Math.Nat.{pow-succ', mul_assoc, mul_comm}
-use Rattle.cat_values.specs.declared.model.Expression.{Expression}
-use Rattle.cat_values.specs.Values as values
-use Rattle.cat_values.specs.Value.{Terms, Apply, gathered}
+use Rattle.text_values.specs.declared.model.Expression.{Expression}
+use Rattle.text_values.specs.ModelValues as values
+use Rattle.text_values.specs.ModelValue.{Terms, Apply, gathered}
 use Rattle.binding_kinds.specs.declared.kinds.Kind.{Kind}
 use Rattle.binding_kinds.specs.declared.kinds.Kind.TheVariants.{OfAny}
 use Rattle.binding_kinds.specs.declared.scope.Binder.TheVariants as binders

@@ -1,7 +1,7 @@
 -- The tables that are made for each combination of kinds.
 use Rattle.std.specs.Prelude.{◌≡◌, ℕ, ◌+◌, ◌*◌, ◌^◌, ◌<◌, List, length, get_or, false, not, ◌||◌, if◌then◌else◌}
-use Rattle.cat_values.specs.declared.model.Infix.{Infix}
-use Rattle.cat_values.specs.Value.{Term, Terms}
+use Rattle.text_values.specs.declared.model.Infix.{Infix}
+use Rattle.text_values.specs.ModelValue.{Term, Terms}
 use Rattle.binding_kinds.specs.declared.kinds.Kind.{Kind}
 use Rattle.binding_kinds.specs.declared.kinds.Kind.TheVariants.{OfAny}
 use Rattle.binding_kinds.specs.declared.signature.Signature.{Signature}

@@ -1,8 +1,8 @@
 -- An expression whose names are resolved and in which each application stands as the body of its function, with the
 -- arguments in the places of the parameters.
 use Rattle.std.specs.Prelude.{ℕ, ◌+◌, ◌<◌, List, [], ◌∷◌, ◌++◌, nat_eq, if◌then◌else◌, get_or}
-use Rattle.cat_values.specs.declared.model.Infix.{Infix}
-use Rattle.cat_values.specs.declared.model.Postfix.{Postfix}
+use Rattle.text_values.specs.declared.model.Infix.{Infix}
+use Rattle.text_values.specs.declared.model.Postfix.{Postfix}
 use Rattle.binding_kinds.specs.declared.scope.Found.{Found}
 use Rattle.binding_kinds.specs.declared.function.Piece.{Piece}
 use Rattle.binding_kinds.specs.declared.function.Piece.TheVariants as pieces

@@ -1,7 +1,7 @@
 -- The names that are seen before the first item.
 use Rattle.std.specs.Prelude.{if◌then◌else◌}
-use Rattle.cat_values.specs.declared.predefined.Predefined.{Predefined}
-use Rattle.cat_values.specs.PredefinedNames.{spelling, is_set}
+use Rattle.text_values.specs.declared.predefined.Predefined.{Predefined}
+use Rattle.text_values.specs.PredefinedNames.{spelling, is_set}
 use Rattle.binding_kinds.specs.declared.kinds.Kind.{Kind}
 use Rattle.binding_kinds.specs.declared.kinds.Kind.TheVariants.{OfSet, OfRelation}
 use Rattle.binding_kinds.specs.declared.scope.Binder.TheVariants as binders

@@ -1,11 +1,11 @@
 -- A model as plain data, without where it lies in memory.
 use Rattle.std.specs.Prelude.{ℕ, List, Bool, map}
-use Rattle.cat_values.specs.declared.model.CheckWord.{CheckWord}
-use Rattle.cat_values.specs.declared.model.Binding as code_binding
-use Rattle.cat_values.specs.declared.model.Item as code_item
-use Rattle.cat_values.specs.declared.model.Item.TheVariants as items
-use Rattle.cat_values.specs.Value.{Term}
-use Rattle.cat_values.specs.Values.{term_of}
+use Rattle.text_values.specs.declared.model.CheckWord.{CheckWord}
+use Rattle.text_values.specs.declared.model.Binding as code_binding
+use Rattle.text_values.specs.declared.model.Item as code_item
+use Rattle.text_values.specs.declared.model.Item.TheVariants as items
+use Rattle.text_values.specs.ModelValue.{Term}
+use Rattle.text_values.specs.ModelValues.{term_of}
 use Rattle.binding_kinds.specs.declared.kinds.Kind.{Kind}
 use Rattle.binding_kinds.specs.declared.scope.Binder.{Binder}
 use Rattle.binding_kinds.specs.declared.scope.Entry as code_entry

@@ -11,8 +11,8 @@ use crate::function::Function;
 use crate::judged::either;
 use crate::kinds::{Kind, joined, takes};
 use crate::signature::{Signature, has_any, kind_at, weighed};
-use cat_values::Infix;
 use std::alloc::{AllocError, Global};
+use text_values::Infix;
 
 /// What is known of the arguments of an application, for one combination.
 #[derive(Clone, Copy)]

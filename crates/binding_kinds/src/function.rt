@@ -8,7 +8,7 @@ ghost use Rattle.binding_kinds.specs.Applicable.{is_no_parameter, is_parameter_a
 use crate::kinds::Kind;
 use crate::scope::{Found, Used};
 use crate::signature::Signature;
-use cat_values::{Infix, MAX_PARAMETERS, Postfix};
+use text_values::{Infix, MAX_PARAMETERS, Postfix};
 
 /// The greatest size of an application.
 pub const MAX_SIZE: usize = 4_096;

@@ -12,7 +12,7 @@ use crate::function::{Function, MAX_SIZE};
 use crate::kinds::{Kind, joined, takes};
 use crate::scope::{Binder, Found, kind_found};
 use crate::signature::weighed;
-use cat_values::Infix;
+use text_values::Infix;
 
 /// The kind of an expression, its size and its first fault.
 #[derive(Clone, Copy)]

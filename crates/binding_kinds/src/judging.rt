@@ -7,7 +7,7 @@ ghost use Rattle.binding_kinds.specs.Verdict.{is_seen, of_parameter, of_paramete
 ghost use Rattle.binding_kinds.specs.First.{of_binding};
 ghost use Rattle.binding_kinds.specs.GroupNames.{names_of};
 ghost use Rattle.binding_kinds.specs.Senses.{Sense, IsKept, AreKept, sense_of, size_in, kind_in, first_within, IsAlike};
-ghost use Rattle.cat_values.specs.Values.{term_of};
+ghost use Rattle.text_values.specs.ModelValues.{term_of};
 
 use crate::fault::ModelFault;
 use crate::function::Function;
@@ -17,8 +17,7 @@ use crate::judged::{
 };
 use crate::kinds::{Kind, is_turned};
 use crate::scope::{Binder, Entry, find};
-use cat_values::{Binding, Expression, MAX_PARAMETERS};
-use source_text::Name;
+use text_values::{Binding, Expression, MAX_PARAMETERS, Name};
 
 /// The function that a name with so many arguments stands for.
 pub(crate) fn function_of<'a>(

@@ -4,7 +4,7 @@ ghost use Rattle.std.specs.Prelude.{◌≡◌};
 ghost use Rattle.binding_kinds.specs.Kinds.{joined, takes, marked, narrowed, is_set, is_relation, takes_body, is_turned};
 ghost use Rattle.binding_kinds.specs.Combinations.{is_any};
 
-use cat_values::{CheckWord, Infix};
+use text_values::{CheckWord, Infix};
 
 /// Whether an expression is a set of events or a relation (the herd7 manual, chapter on cat), or
 /// fits either.

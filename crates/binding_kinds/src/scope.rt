@@ -1,16 +1,15 @@
 //! What names stand for.
 
 ghost use Rattle.std.specs.Prelude.{◌≡◌, [], reverse, map, bytes_eq, IfOk};
-ghost use Rattle.source_text.specs.Names.{key_of};
+ghost use Rattle.text_values.specs.Names.{key_of};
 ghost use Rattle.binding_kinds.specs.Value.{entry_of};
 ghost use Rattle.binding_kinds.specs.Kinds.{found, kind_found};
 ghost use Rattle.binding_kinds.specs.Outermost.{kind_of_predefined, naming_of};
 
 use crate::function::Function;
 use crate::kinds::Kind;
-use cat_values::{PREDEFINED, Predefined};
-use source_text::Name;
 use std::alloc::{AllocError, Global};
+use text_values::{Name, PREDEFINED, Predefined};
 
 /// A name of another item: the item's index in the model, and the name's position in its group.
 #[derive(Clone, Copy)]

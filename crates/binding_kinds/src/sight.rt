@@ -9,7 +9,7 @@ ghost use Rattle.binding_kinds.specs.Meanings.{parameter_of, named_of, meaning_n
 use crate::fault::ModelFault;
 use crate::function::Function;
 use crate::scope::{Binder, Entry, Found, find};
-use source_text::Name;
+use text_values::Name;
 
 /// The names that an expression sees.
 #[derive(Clone, Copy)]

@@ -3,8 +3,8 @@ use Rattle.std.proofs.Common.{◌≡◌, ℕ, ◌<◌, ◌≤◌, ◌⊎◌, inl
 use Rattle.std.specs.Prelude.{slice_get, remove, fold, Contains, if◌then◌else◌, ◌==◌, nat_lt}
 use Rattle.std.specs.Arc.{arc_value}
 use Rattle.std.proofs.lemmas.Option.{none-some}
-use Rattle.litmus_values.specs.declared.test.Test.{Test}
-use Rattle.litmus_values.specs.Value.{content_of}
+use Rattle.text_values.specs.declared.test.Test.{Test}
+use Rattle.text_values.specs.TestValue.{content_of}
 use Rattle.verdict.specs.declared.answer.Outcome.{Outcome}
 use Rattle.bench_texts.specs.declared.model.NamedModel.{NamedModel}
 use Rattle.bench_texts.specs.declared.replacement.Replacement.{Replacement}
@@ -22,7 +22,7 @@ use Rattle.board.specs.declared.operation.NameChange.TheVariants.{PutTest, DropT
 use Rattle.board.specs.Contents.{RowContent, ColumnContent, BoardContent, cell_at}
 use Rattle.board.specs.Operations.{with_cell, open_cell, rows_after, columns_after, after_operation, no_board, open_row, wider_row, narrower_row, with_name}
 use Rattle.board.specs.Legal.{Held, nothing_held, held_with, held_after, number_after, slice_before, slice_after, Announces, IsRightAt, MayFollow, LegalFrom}
-use Rattle.slice_laws.specs.Laws.{SlicesDecide}
+use Rattle.evaluation_laws.specs.SliceLaws.{SlicesDecide}
 use Rattle.board.proofs.Lookups.{skip, get_removed, placed, count_put, put_cases, opened_cell, opened_count, narrow_cell, dropped_row, wider_cell, wider_count, narrow_count, longer_cell}
 
 -- each model holds what its items are resolved to

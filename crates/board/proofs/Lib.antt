@@ -5,3 +5,8 @@ pub mod Names
 pub mod Announcing
 pub mod Items
 pub mod Histories
+pub mod ShownNames
+pub mod Widths
+pub mod Rights
+pub mod Counts
+pub mod ShownItems

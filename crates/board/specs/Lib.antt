@@ -4,3 +4,6 @@ pub mod Legal
 pub mod Histories
 pub mod Right
 pub mod Lines
+pub mod Results
+pub mod Edits
+pub mod Items

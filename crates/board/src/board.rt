@@ -11,11 +11,11 @@ use crate::column::Column;
 use crate::operation::{BoardEdit, BoardOp, CellIndex, NameChange};
 use crate::row::Row;
 use compare_report::Shown;
-use source_text::Name;
 use std::alloc::{AllocError, Global};
 use std::marker::Model;
 use std::mem::drop;
 use std::sync::Arc;
+use text_values::Name;
 use verdict::Outcome;
 
 /// For each test and each model what is known of the cell, the printed items of the models, and how many edits were made.

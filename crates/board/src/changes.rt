@@ -9,10 +9,10 @@ ghost use Rattle.bench_texts.specs.BenchTexts.{changed_at};
 use crate::column::Column;
 use crate::operation::CellIndex;
 use crate::row::Row;
-use source_text::Name;
 use std::alloc::{AllocError, Global};
 use std::mem::{drop, replace};
 use std::sync::Arc;
+use text_values::Name;
 use verdict::Outcome;
 
 /// The index of the first row of that name, or how many there are.

@@ -3,9 +3,9 @@
 ghost use Rattle.std.specs.Prelude.{◌≡◌};
 ghost use Rattle.std.specs.Arc.{arc_value};
 
-use source_text::Name;
 use std::marker::Model;
 use std::sync::Arc;
+use text_values::Name;
 
 /// A model: its name, and its items as the bench prints them.
 #[derive(Drop)]

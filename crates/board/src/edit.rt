@@ -11,11 +11,10 @@ ghost use Rattle.board.specs.Lines.{ListsAmong, ListsOneMore, test_cell, model_c
 use crate::operation::{BoardEdit, BoardOp, CellIndex, NameChange};
 use bench_slices::reaches;
 use bench_texts::{NamedModel, Prepared, Replacement, Texts};
-use litmus_values::Test;
-use source_text::Name;
 use std::alloc::{AllocError, Global};
 use std::snapshot::Snapshot;
 use std::sync::Arc;
+use text_values::{Name, Test};
 
 // The cells of a test under so many models.
 fn cells_of_test(alloc: Global, test: usize, models: usize) -> Result<Vec<CellIndex>, AllocError>

@@ -1,9 +1,9 @@
 //! The operations that change a board.
 
 use bench_texts::Prepared;
-use source_text::Name;
 use std::snapshot::Snapshot;
 use std::sync::Arc;
+use text_values::Name;
 use verdict::Outcome;
 
 /// A cell, by the indexes of its test and of its model.

@@ -6,11 +6,11 @@ ghost use Rattle.compare_report.specs.Cells.{cell_of};
 
 use crate::column::Column;
 use compare_report::Shown;
-use source_text::Name;
 use std::alloc::{AllocError, Global};
 use std::marker::Model;
 use std::mem::{drop, replace};
 use std::sync::Arc;
+use text_values::Name;
 use verdict::Outcome;
 
 /// A test: its name, and its cells, one for each model.

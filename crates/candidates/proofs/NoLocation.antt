@@ -5,13 +5,13 @@ use Rattle.std.specs.List.{flat_map}
 use Rattle.std.proofs.lemmas.Bool.{cases_eq, cases_lt}
 use Rattle.std.proofs.lemmas.List.{get_or_past, get_or-set_same, get_or-set_other, get_or-replicate, length-set}
 use Rattle.std.proofs.lemmas.List.Elements.{All-nil, Contains-append_left, Contains-append_right, Contains-push_cases}
-use Rattle.litmus_values.specs.declared.instruction.Operation.{Operation}
-use Rattle.litmus_values.specs.declared.instruction.Operation.TheVariants.{Add, SubtractFrom, Xor, Or, And}
-use Rattle.litmus_values.specs.declared.test.Test.{Test}
-use Rattle.litmus_values.specs.declared.test.Place.{Place}
-use Rattle.litmus_values.specs.declared.test.InitEntry.{InitEntry}
-use Rattle.litmus_values.specs.declared.test.Value as written
-use Rattle.litmus_values.specs.declared.test.Value.TheVariants as values
+use Rattle.text_values.specs.declared.instruction.Operation.{Operation}
+use Rattle.text_values.specs.declared.instruction.Operation.TheVariants.{Add, SubtractFrom, Xor, Or, And}
+use Rattle.text_values.specs.declared.test.Test.{Test}
+use Rattle.text_values.specs.declared.test.Place.{Place}
+use Rattle.text_values.specs.declared.test.InitEntry.{InitEntry}
+use Rattle.text_values.specs.declared.test.Value as written
+use Rattle.text_values.specs.declared.test.Value.TheVariants as values
 use Rattle.thread_runs.specs.declared.value.Value.{Value}
 use Rattle.thread_runs.specs.declared.value.Value.TheVariants.{Number, Address, NoValue}
 use Rattle.thread_runs.specs.declared.instruction.Instruction.{Instruction}
@@ -25,7 +25,7 @@ use Rattle.thread_runs.specs.AllRuns.{thread_of, first_of}
 use Rattle.thread_runs.specs.ValueSet.{IsOne}
 use Rattle.ppc_semantics.specs.Domain.{IsDomain, threads_from, threads_of}
 use Rattle.ppc_semantics.specs.Lowering.{IsProgram, Starts, AreRegisters, value_of, test_names, entry_names, place_names, value_names, formula_names}
-use Rattle.litmus_values.specs.Value.{formula_of}
+use Rattle.text_values.specs.TestValue.{formula_of}
 use Rattle.candidates.proofs.AnyValues.{over_domain, zip_as, thread_of_run, RunOf}
 use Rattle.candidates.proofs.Elements.{member_first, no_member, joined_there}
 use Rattle.candidates.proofs.LoadValues.{read_in, read_more, values_read}

@@ -7,11 +7,11 @@ use Rattle.std.specs.Ordering.{ordering_reverse}
 use Rattle.std.proofs.lemmas.Option.{slice_get_cases, slice_get_within, slice_get-get_or}
 use Rattle.std.proofs.lemmas.List.Sums.{sum_by-cons}
 use Rattle.std.proofs.lemmas.List.Elements.{All-contains, Contains-append_right}
-use Rattle.litmus_values.specs.declared.test.Test.{Test}
-use Rattle.litmus_values.specs.declared.test.Place.{Place}
-use Rattle.litmus_values.specs.declared.test.InitEntry.{InitEntry}
-use Rattle.litmus_values.specs.declared.test.Thread as text
-use Rattle.litmus_values.specs.declared.test.Step.{Step}
+use Rattle.text_values.specs.declared.test.Test.{Test}
+use Rattle.text_values.specs.declared.test.Place.{Place}
+use Rattle.text_values.specs.declared.test.InitEntry.{InitEntry}
+use Rattle.text_values.specs.declared.test.Thread as text
+use Rattle.text_values.specs.declared.test.Step.{Step}
 use Rattle.thread_runs.specs.declared.value.Value.{Value}
 use Rattle.thread_runs.specs.declared.value.Value.TheVariants.{Number, NoValue}
 use Rattle.thread_runs.specs.declared.value.Comparison.TheVariants.{Equal}

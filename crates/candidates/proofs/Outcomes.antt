@@ -1,6 +1,6 @@
 -- Two spaces of a test show the same.
 use Rattle.std.proofs.Common.{ℕ, ◌≡◌, List, [], ◌∷◌, refl, inl, inr, ap, sym, subst, ◌∙◌, arith}
-use Rattle.litmus_values.specs.declared.test.Test.{Test}
+use Rattle.text_values.specs.declared.test.Test.{Test}
 use Rattle.thread_runs.specs.declared.value.Value.{Value}
 use Rattle.dataflow.specs.Chains.{Executed, IsPairBefore}
 use Rattle.dataflow.proofs.PairDecision.{dependencies_one}

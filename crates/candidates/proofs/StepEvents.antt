@@ -18,7 +18,7 @@ use Rattle.dataflow.specs.Chains.{Executed, event_place, is_event}
 use Rattle.candidates.proofs.Elements.{behind_first, in_first}
 use Rattle.candidates.proofs.Places.{along, Placed, placed_more, places_same}
 use Rattle.candidates.proofs.Whole.{AreLocated, located_both, event_located, located_all}
-use Rattle.litmus_values.specs.declared.instruction.Fence.{Fence}
+use Rattle.text_values.specs.declared.instruction.Fence.{Fence}
 use Rattle.run_combinations.specs.Events.{thread_events, with_action, action_in, stores_to, fence_of, IsKind}
 use Rattle.run_combinations.specs.declared.combination.Action.TheVariants.{Fence as FenceAction}
 use Rattle.run_combinations.specs.declared.combination.Event.{Event}

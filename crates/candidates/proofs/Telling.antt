@@ -4,7 +4,7 @@ use Rattle.std.specs.List.{flat_map, AllZip}
 use Rattle.std.specs.declared.alloc.Global.{Global}
 use Rattle.std.proofs.Math.Nat.{suc-mul, zero-mul}
 use Rattle.std.proofs.lemmas.List.{length-append, length-map}
-use Rattle.litmus_values.specs.declared.test.Test.{Test}
+use Rattle.text_values.specs.declared.test.Test.{Test}
 use Rattle.thread_runs.specs.declared.value.Value.{Value}
 use Rattle.thread_runs.specs.declared.instruction.Program.{Program}
 use Rattle.thread_runs.specs.declared.run.Run as made
@@ -30,7 +30,7 @@ use Rattle.candidates.specs.Listed.{AreTestExecutions, Shows, ListsExecutions, H
 use Rattle.candidates.specs.Faults.{refusal_of}
 use Rattle.candidates.specs.declared.fault.EvalRefusal.{EvalRefusal}
 use Rattle.ppc_semantics.specs.Lowering.{IsTestFault, AreNames, test_names}
-use Rattle.source_text.specs.declared.name.Name.{Name}
+use Rattle.text_values.specs.declared.name.Name.{Name}
 use Rattle.ppc_semantics.specs.declared.fault.DomainRefusal.{DomainRefusal}
 use Rattle.ppc_semantics.specs.declared.fault.DomainRefusal.TheVariants as no_domain
 use Rattle.ppc_semantics.specs.declared.fault.DomainFault.TheVariants as domain_faults

@@ -1,7 +1,7 @@
 -- Laws of the executions of a test, each the contract of a call of `laws`. Read `Executions` and `Listed` first.
 use Rattle.std.specs.Prelude.{ℕ, Some, true, ◌≡◌, ◌↔◌, List, [], length, slice_get, Contains}
 use Rattle.std.specs.List.{AllZip}
-use Rattle.litmus_values.specs.declared.test.Test.{Test}
+use Rattle.text_values.specs.declared.test.Test.{Test}
 use Rattle.thread_runs.specs.declared.instruction.Program.{Program}
 use Rattle.thread_runs.specs.declared.value.Value.{Value}
 use Rattle.ppc_semantics.specs.Domain.{IsDomain, threads_of}

@@ -2,7 +2,7 @@
 -- `ListsExecutions` and `IsRefusedFor`. Read `Events` and `Executions` first.
 use Rattle.std.specs.Prelude.{ℕ, ◌≡◌, ◌<◌, ◌≤◌, ◌↔◌, List, map, length, Contains}
 use Rattle.std.specs.List.{AllPairs, AllZip, flat_map}
-use Rattle.litmus_values.specs.declared.test.Test.{Test}
+use Rattle.text_values.specs.declared.test.Test.{Test}
 use Rattle.thread_runs.specs.declared.instruction.Program.{Program}
 use Rattle.thread_runs.specs.declared.value.Value.{Value}
 use Rattle.ppc_semantics.specs.Domain.{IsDomain, IsRefused, threads_of}

@@ -13,7 +13,7 @@ use Rattle.ppc_semantics.specs.Lowering.{IsProgram, IsTestFault}
 use Rattle.ppc_semantics.specs.declared.fault.DomainRefusal.{DomainRefusal}
 use Rattle.ppc_semantics.specs.declared.fault.DomainFault.TheVariants as domain_faults
 use Rattle.candidates.specs.Faults.{refusal_of}
-use Rattle.litmus_values.specs.declared.test.Test.{Test}
+use Rattle.text_values.specs.declared.test.Test.{Test}
 use Rattle.run_combinations.specs.Keys.{IsKeyed}
 use Rattle.run_combinations.specs.Events.{initial_stores}
 use Rattle.run_combinations.specs.Layouts.{AreServedRuns, IsLaidOut}

@@ -8,8 +8,8 @@ use crate::ends::final_registers;
 use crate::execution::Execution;
 use crate::same::{Candidates, are_same, are_same_names};
 use ppc_semantics::Value;
-use source_text::Name;
 use std::alloc::{AllocError, Global};
+use text_values::Name;
 
 /// All candidates of a test: those of each combination in turn.
 pub struct Space {

@@ -8,7 +8,7 @@ ghost use Rattle.candidates.specs.Listed.{ChoosesApart};
 ghost use Rattle.candidates.specs.Laws.{HasAllExecutions, CoversEachStore, LosesNoValue, HasOneOutcome, HasOneList, ShowOneTest, LosesNoExecution, DropsNoEvent, NumbersItsSteps};
 
 use crate::{Execution, Space};
-use litmus_values::Test;
+use text_values::Test;
 
 /// The domain of a test loses none of its executions: one whose loads take any values whatever is one over the domain.
 pub fn domain_loses_nothing(test: &Test, execution: &Execution)

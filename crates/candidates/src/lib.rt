@@ -27,11 +27,11 @@ pub use candidate::Space;
 pub use dataflow::Dependencies;
 pub use execution::Execution;
 pub use fault::{EvalRefusal, SpaceFault};
-use litmus_values::Test;
 use ppc_semantics::{domain_of, program};
 pub use run_combinations::{Action, Combination, Event, MAX_CANDIDATES, StoreOrders};
 use run_combinations::{Layout, find_combinations, registers, with_orders};
 use std::alloc::{AllocError, Global};
+use text_values::Test;
 
 /// The space with these combinations.
 fn space_with(

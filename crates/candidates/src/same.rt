@@ -8,7 +8,7 @@ use crate::ends::registers_of;
 use crate::{Action, Combination, Event};
 use ppc_semantics::Value;
 use run_combinations::is_same;
-use source_text::Name;
+use text_values::Name;
 
 /// The candidates of combinations from one on.
 #[derive(Drop)]

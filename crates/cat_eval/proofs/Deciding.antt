@@ -12,11 +12,11 @@ use Rattle.bit_relations.proofs.Bits.{Bit-zero, Bit_cases}
 use Rattle.bit_relations.proofs.Closing.{Plus-within}
 use Rattle.bit_relations.proofs.Paths.{PlusBelow-suc, PlusBelow-zero, PlusBelow-all}
 use Rattle.base_env.specs.Known.{EventsFound}
-use Rattle.cat_values.specs.declared.model.CheckWord.{CheckWord}
-use Rattle.cat_values.specs.declared.model.CheckWord.TheVariants as words
-use Rattle.cat_values.specs.declared.model.Postfix.{Postfix}
-use Rattle.cat_values.specs.declared.model.Postfix.TheVariants as postfix
-use Rattle.cat_values.specs.declared.predefined.Predefined.{Predefined}
+use Rattle.text_values.specs.declared.model.CheckWord.{CheckWord}
+use Rattle.text_values.specs.declared.model.CheckWord.TheVariants as words
+use Rattle.text_values.specs.declared.model.Postfix.{Postfix}
+use Rattle.text_values.specs.declared.model.Postfix.TheVariants as postfix
+use Rattle.text_values.specs.declared.predefined.Predefined.{Predefined}
 use Rattle.binding_kinds.specs.declared.kinds.Kind.{Kind}
 use Rattle.binding_kinds.specs.declared.kinds.Kind.TheVariants as kinds
 use Rattle.binding_graph.specs.declared.resolved.Blend.{Blend}

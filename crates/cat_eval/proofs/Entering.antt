@@ -14,8 +14,8 @@ use Rattle.run_combinations.specs.Lists.{lists_of}
 use Rattle.run_combinations.specs.Combinations.{pairs, candidates_of}
 use Rattle.candidates.specs.Space.{candidates_in, Candidate}
 use Rattle.cat_eval.specs.Candidates.{reading_so, reading_in, of_combinations}
-use Rattle.cat_values.specs.declared.predefined.Predefined.{Predefined}
-use Rattle.cat_values.specs.PredefinedNames.{is_set}
+use Rattle.text_values.specs.declared.predefined.Predefined.{Predefined}
+use Rattle.text_values.specs.PredefinedNames.{is_set}
 use Rattle.cat_eval.specs.Worlds.{AreHeld, AreWorlds}
 
 -- what holds all sets among the names, and what the relations among them need, holds the names

@@ -3,8 +3,8 @@
 use Rattle.std.proofs.Common.{ℕ, ◌≡◌, ◌<◌, ◌∙◌, List, length, get_or, refl, sym, ap, subst}
 use Rattle.std.specs.Prelude.{slice_get, Some}
 use Rattle.std.proofs.lemmas.Option.{slice_get-get_or, get_or_from_slice_get}
-use Rattle.cat_values.specs.declared.predefined.Predefined.{Predefined}
-use Rattle.cat_values.specs.declared.predefined.Predefined.TheVariants as names
+use Rattle.text_values.specs.declared.predefined.Predefined.{Predefined}
+use Rattle.text_values.specs.declared.predefined.Predefined.TheVariants as names
 use Rattle.dataflow.specs.DependencyLists.{DependencyLists}
 use Rattle.run_combinations.specs.declared.combination.Action.{Action}
 use Rattle.run_combinations.specs.declared.combination.Action.TheVariants.{Read, Write, Fence}

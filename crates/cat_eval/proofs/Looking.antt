@@ -1,7 +1,7 @@
 -- What is seen under a name is what the name stands for in the candidate.
 use Rattle.std.proofs.Common.{ℕ, ◌≡◌, ◌↔◌, inl, inr, zero, suc, List, [], ◌∷◌, Contains, arith, refl}
 use Rattle.std.specs.Prelude.{Some, slice_get, map}
-use Rattle.cat_values.specs.declared.predefined.Predefined.{Predefined}
+use Rattle.text_values.specs.declared.predefined.Predefined.{Predefined}
 use Rattle.base_env.specs.Candidate.{SetIn, RelationIn}
 use Rattle.base_env.proofs.Same.{same_or_not}
 use Rattle.candidates.specs.Space.{Candidate}

@@ -1,11 +1,11 @@
 -- Where names have more pairs, so have the expressions that the test of syntax passes.
 use Rattle.std.proofs.Common.{ℕ, inl, inr}
-use Rattle.cat_values.specs.declared.model.Postfix.TheVariants as postfix
+use Rattle.text_values.specs.declared.model.Postfix.TheVariants as postfix
 use Rattle.binding_graph.specs.declared.resolved.Blend.TheVariants as blends
 use Rattle.binding_graph.specs.declared.resolved.Source.{Source}
 use Rattle.binding_graph.specs.declared.resolved.Source.TheVariants as sources
 use Rattle.binding_graph.specs.Trees.{RelTree, RelName, NoPair, RelBlend, Then, Cross, OnSet, Close, RelNot}
-use Rattle.cat_values.specs.declared.model.Postfix.{Postfix}
+use Rattle.text_values.specs.declared.model.Postfix.{Postfix}
 use Rattle.cat_eval.specs.Meaning.{Means, Closed}
 use Rattle.cat_eval.specs.Named.{WithOwn}
 use Rattle.cat_eval.specs.Least.{IsFixed, IsMonotone}

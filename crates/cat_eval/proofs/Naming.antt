@@ -1,8 +1,8 @@
 -- Whether two predefined names are one can be told: each has a number.
 use Rattle.std.proofs.Common.{ℕ, ◌≡◌, ◌⊎◌, ◌∙◌, inl, inr, List, [], ◌∷◌, get_or, refl, sym, ap}
 use Rattle.std.proofs.lemmas.Bool.{cases_eq}
-use Rattle.cat_values.specs.declared.predefined.Predefined.{Predefined}
-use Rattle.cat_values.specs.declared.predefined.Predefined.TheVariants as names
+use Rattle.text_values.specs.declared.predefined.Predefined.{Predefined}
+use Rattle.text_values.specs.declared.predefined.Predefined.TheVariants as names
 
 abbrev number_of : Predefined → ℕ
 number_of names.Loads = 0

@@ -1,9 +1,9 @@
 -- What a name stands for where the stores are ordered in another way.
 use Rattle.std.proofs.Common.{◌≡◌, Bool, true, false, refl}
 use Rattle.bit_relations.specs.Relation.{Relation, Events}
-use Rattle.cat_values.specs.declared.predefined.Predefined.{Predefined}
-use Rattle.cat_values.specs.declared.predefined.Predefined.TheVariants as names
-use Rattle.cat_values.specs.PredefinedNames.{is_set}
+use Rattle.text_values.specs.declared.predefined.Predefined.{Predefined}
+use Rattle.text_values.specs.declared.predefined.Predefined.TheVariants as names
+use Rattle.text_values.specs.PredefinedNames.{is_set}
 use Rattle.base_env.specs.Known.{Known, PairsOf, SharedPairs}
 use Rattle.cat_eval.specs.Needed.{changes_with_orders}
 use Rattle.cat_eval.specs.Reordered.{IsReordered, HoldsSame}

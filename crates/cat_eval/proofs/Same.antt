@@ -2,8 +2,8 @@
 use Rattle.std.proofs.Common.{ℕ, ◌↔◌, inl, inr}
 use Rattle.bit_relations.specs.Pairs.{Complement, Composed, Product, On}
 use Rattle.bit_relations.specs.Relation.{Relation, IsRelation, Events, IsEvents}
-use Rattle.cat_values.specs.declared.model.Postfix.{Postfix}
-use Rattle.cat_values.specs.declared.model.Postfix.TheVariants as postfix
+use Rattle.text_values.specs.declared.model.Postfix.{Postfix}
+use Rattle.text_values.specs.declared.model.Postfix.TheVariants as postfix
 use Rattle.binding_graph.specs.declared.resolved.Blend.{Blend}
 use Rattle.binding_graph.specs.declared.resolved.Blend.TheVariants as blends
 use Rattle.cat_eval.specs.Meaning.{Blended, BlendedSets, Closed, Others}

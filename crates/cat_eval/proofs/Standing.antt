@@ -2,9 +2,9 @@
 use Rattle.std.proofs.Common.{ℕ, ◌≡◌, List, [], ◌∷◌, Contains, IsTrue, false, inl, inr, arith, refl}
 use Rattle.std.proofs.lemmas.List.Elements.{Contains-append_right}
 use Rattle.bit_relations.specs.Relation.{Has}
-use Rattle.cat_values.specs.declared.predefined.Predefined.{Predefined}
-use Rattle.cat_values.specs.declared.predefined.Predefined.TheVariants as names
-use Rattle.cat_values.specs.PredefinedNames.{is_set}
+use Rattle.text_values.specs.declared.predefined.Predefined.{Predefined}
+use Rattle.text_values.specs.declared.predefined.Predefined.TheVariants as names
+use Rattle.text_values.specs.PredefinedNames.{is_set}
 use Rattle.run_combinations.specs.declared.combination.Combination.{Combination}
 use Rattle.base_env.specs.declared.names.Named.{Named}
 use Rattle.base_env.specs.declared.names.Shared.{Shared}

@@ -10,8 +10,8 @@ use Rattle.binding_graph.specs.Trees.{SetTree, RelTree, set_code, rel_code}
 use Rattle.cat_eval.specs.Meaning.{MeansSet, Means}
 use Rattle.cat_eval.specs.Named.{EventsIn, PairsOutside, WithOwn, Of}
 use denote.Ref.{Bor}
-use Rattle.cat_values.specs.declared.model.CheckWord.{CheckWord}
-use Rattle.cat_values.specs.declared.model.CheckWord.TheVariants as words
+use Rattle.text_values.specs.declared.model.CheckWord.{CheckWord}
+use Rattle.text_values.specs.declared.model.CheckWord.TheVariants as words
 use Rattle.binding_graph.specs.declared.resolved.CheckCode.{CheckCode}
 use Rattle.cat_eval.specs.Seen.{Known}
 use Rattle.cat_eval.specs.declared.column.Column.{Column}

@@ -1,8 +1,8 @@
 -- What the check words ask of a relation. A set meets a check of emptiness alone.
 use Rattle.std.specs.Prelude.{ℕ}
 use Rattle.bit_relations.specs.Pairs.{IsAcyclic, IsIrreflexive, IsEmpty}
-use Rattle.cat_values.specs.declared.model.CheckWord.{CheckWord}
-use Rattle.cat_values.specs.declared.model.CheckWord.TheVariants as words
+use Rattle.text_values.specs.declared.model.CheckWord.{CheckWord}
+use Rattle.text_values.specs.declared.model.CheckWord.TheVariants as words
 
 abbrev pub Holds : CheckWord → (ℕ → ℕ → Type 0) → Type 0
 Holds words.Acyclic R = IsAcyclic R

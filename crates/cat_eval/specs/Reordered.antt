@@ -1,8 +1,8 @@
 -- Candidates whose stores are ordered in another way than those of the one before.
 use Rattle.std.specs.Prelude.{◌≡◌, List}
 use Rattle.bit_relations.specs.Relation.{Relation, Events}
-use Rattle.cat_values.specs.declared.predefined.Predefined.{Predefined}
-use Rattle.cat_values.specs.PredefinedNames.{is_set}
+use Rattle.text_values.specs.declared.predefined.Predefined.{Predefined}
+use Rattle.text_values.specs.PredefinedNames.{is_set}
 use Rattle.base_env.specs.Known.{Known}
 use Rattle.cat_eval.specs.Steady.{EndsWith}
 use Rattle.cat_eval.specs.Tables.{IsHeld}

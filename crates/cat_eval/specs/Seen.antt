@@ -2,7 +2,7 @@
 use Rattle.std.specs.Prelude.{ℕ, ◌≡◌, ◌⊎◌, ◌+◌, ◌++◌, zero, suc, Option, Some, None, List, [], ◌∷◌, length, map, slice_get}
 use denote.Ref.{Bor}
 use Rattle.bit_relations.specs.Relation.{Relation, Events, Has}
-use Rattle.cat_values.specs.declared.predefined.Predefined.{Predefined}
+use Rattle.text_values.specs.declared.predefined.Predefined.{Predefined}
 use Rattle.base_env.specs.Known.{EventsFound}
 use Rattle.candidates.specs.Space.{Candidate}
 use Rattle.cat_eval.specs.declared.column.Column.{Column}

@@ -2,8 +2,8 @@
 use Rattle.std.specs.Prelude.{ℕ, ◌≡◌, ◌<◌, ◌↔◌, Bool, true, false, List, Vec, length, map, Some, slice_get, slice_index_or, Contains}
 use Rattle.std.specs.declared.alloc.Global.{Global}
 use Rattle.bit_relations.specs.Relation.{Relation, Events, IsRelation, IsEvents}
-use Rattle.cat_values.specs.declared.predefined.Predefined.{Predefined}
-use Rattle.cat_values.specs.PredefinedNames.{is_set}
+use Rattle.text_values.specs.declared.predefined.Predefined.{Predefined}
+use Rattle.text_values.specs.PredefinedNames.{is_set}
 use Rattle.base_env.specs.Known.{Known, EventsOf, PairsOf}
 use Rattle.base_env.specs.Candidate.{SetIn, RelationIn}
 use Rattle.candidates.specs.declared.candidate.Space.{Space}

@@ -1,7 +1,7 @@
 -- The predefined names of each candidate.
 use Rattle.std.specs.Prelude.{◌≡◌, Bool, IsTrue, false, List, [], ◌∷◌, Contains}
-use Rattle.cat_values.specs.declared.predefined.Predefined.{Predefined}
-use Rattle.cat_values.specs.PredefinedNames.{is_set}
+use Rattle.text_values.specs.declared.predefined.Predefined.{Predefined}
+use Rattle.text_values.specs.PredefinedNames.{is_set}
 use Rattle.run_combinations.specs.declared.combination.Combination.{Combination}
 use Rattle.base_env.specs.Known.{Known, IsConsistent, set_names}
 use Rattle.base_env.specs.Candidate.{IsEntered, IsReading, IsOrdered, Gives}

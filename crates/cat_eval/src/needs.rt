@@ -1,13 +1,13 @@
 //! Which predefined names an item uses, and what they change with.
 
 ghost use Rattle.std.specs.Prelude.{◌≡◌, ◌++◌, ◌∷◌, ◌||◌, [], false, OnOk, IsTrue, Contains};
-ghost use Rattle.cat_values.specs.declared.predefined.Predefined.{Predefined};
+ghost use Rattle.text_values.specs.declared.predefined.Predefined.{Predefined};
 ghost use Rattle.cat_eval.specs.Needs.{AreSuited, is_changing_name};
 ghost use Rattle.cat_eval.specs.Needed.{changes_with_reads, changes_with_orders, step_passes, steps_read, steps_order, bodies_read, bodies_order, role_reads, role_orders, step_names, names_in, bodies_names, role_names, AreListed};
 
 use binding_graph::{Body, ResolvedItem, Role, Source, Step};
-use cat_values::Predefined;
 use std::alloc::{AllocError, Global};
+use text_values::Predefined;
 
 /// What an item needs to know of a candidate.
 #[derive(Drop)]

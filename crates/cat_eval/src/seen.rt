@@ -8,9 +8,9 @@ ghost use Rattle.cat_eval.specs.Seen.{EventsOf, PairsOf, EventsAmong, PairsAmong
 use crate::column::Column;
 use crate::few::Few;
 use bit_relations::{EventSet, Rel};
-use cat_values::Predefined;
 use std::alloc::Global;
 use std::marker::Model;
+use text_values::Predefined;
 
 /// A predefined name, and what it stands for in each candidate.
 #[derive(Clone, Copy)]

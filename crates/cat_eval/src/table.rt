@@ -4,7 +4,7 @@ ghost use Rattle.std.specs.Prelude.{◌≡◌, ℕ, ◌<◌, ◌++◌, ◌∷◌
 ghost use Rattle.base_env.specs.Known.{Known};
 ghost use Rattle.candidates.specs.declared.candidate.Space.{Space};
 ghost use Rattle.candidates.specs.Space.{candidates_in, Candidate};
-ghost use Rattle.cat_values.specs.PredefinedNames.{is_set};
+ghost use Rattle.text_values.specs.PredefinedNames.{is_set};
 ghost use Rattle.cat_eval.specs.Needs.{AreSuited, is_changing_name};
 ghost use Rattle.cat_eval.specs.Needed.{changes_with_orders};
 ghost use Rattle.cat_eval.specs.Reordered.{EndsReordered, HoldsSame};
@@ -20,9 +20,9 @@ use crate::walk::{Enter, enter_space};
 use base_env::Base;
 use bit_relations::Rel;
 use candidates::Space;
-use cat_values::Predefined;
 use std::alloc::{AllocError, Global};
 use std::mem;
+use text_values::Predefined;
 
 /// A name and its column.
 #[derive(Drop)]

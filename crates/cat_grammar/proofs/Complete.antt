@@ -4,17 +4,17 @@ use Rattle.std.specs.Prelude.{if◌then◌else◌}
 use Rattle.std.proofs.lemmas.Bool.{le-leb, lt-leb, lt-ltb}
 use Rattle.cat_tokens.specs.declared.rule.CatRule.{CatRule}
 use Rattle.cat_tokens.specs.declared.rule.CatRule.TheVariants as rules
-use Rattle.cat_values.specs.declared.model.CheckWord.{CheckWord}
+use Rattle.text_values.specs.declared.model.CheckWord.{CheckWord}
 use Rattle.cat_grammar.specs.declared.form.Form.{Form}
 use Rattle.cat_tokens.specs.declared.token.Sign.TheVariants.{Bar, Semicolon, Backslash, Ampersand}
 use Rattle.cat_tokens.specs.declared.token.Mark.TheVariants.{Plus, Question, Inverse}
 use Rattle.cat_tokens.specs.declared.token.Token.{Token}
 use Rattle.cat_tokens.specs.declared.token.Token.TheVariants as tokens
-use Rattle.cat_values.specs.declared.model.Infix.{Infix}
-use Rattle.cat_values.specs.declared.model.Infix.TheVariants.{Union, Sequence, Difference, Intersection, Product}
-use Rattle.cat_values.specs.declared.model.Postfix.{Postfix}
-use Rattle.cat_values.specs.declared.model.Postfix.TheVariants as postfix
-use Rattle.cat_values.specs.Value.{Term, Terms, Clause, Atom, AllEvents, EmptyRelation, EmptySet, Join, Mark, Not, On, Apply, OneMore, NoTerm, gathered}
+use Rattle.text_values.specs.declared.model.Infix.{Infix}
+use Rattle.text_values.specs.declared.model.Infix.TheVariants.{Union, Sequence, Difference, Intersection, Product}
+use Rattle.text_values.specs.declared.model.Postfix.{Postfix}
+use Rattle.text_values.specs.declared.model.Postfix.TheVariants as postfix
+use Rattle.text_values.specs.ModelValue.{Term, Terms, Clause, Atom, AllEvents, EmptyRelation, EmptySet, Join, Mark, Not, On, Apply, OneMore, NoTerm, gathered}
 use Rattle.cat_grammar.specs.Grammar.{Tree, Word, Underscore, Zero, Braces, Pair, Post, Prefix, Group, Square, Application, Trees, Last, More, infix_token, postfix_token, spelled, spelled_arguments, meaning, meanings, level, left_level, right_level, tightness, IsGrouped, AreGrouped, depth, depths, operators, operators_of, Limits}
 use Rattle.cat_grammar.specs.Machine.{Frame, InGroup, InSquare, InPrefix, LeftOf, InArguments, Expectation, Wants, HasName, Has, HasStar, HasStarTilde, StepResult, Goes, Ends, EndsTilde, Refuses, open_count, fold_to, is_outermost, opened, left_frames, infix_at, ended, closed, square_closed, comma_read, star_tilde}
 use Rattle.cat_grammar.specs.ItemMachine.{Head, Body, AfterTilde, Fault, State, begin_check, excess, unless, unless_before, item_or_end, finished, at, added, goes_on}

@@ -9,7 +9,7 @@ use Rattle.cat_grammar.specs.declared.form.Form.{Form}
 use Rattle.cat_grammar.specs.declared.form.Form.TheVariants as forms
 use Rattle.cat_tokens.specs.declared.token.Token.{Token}
 use Rattle.cat_tokens.specs.declared.token.Token.TheVariants as tokens
-use Rattle.cat_values.specs.Value.{Clause}
+use Rattle.text_values.specs.ModelValue.{Clause}
 use Rattle.cat_grammar.specs.Grammar.{Limits, Begins, SameCounts, SameDepths, IsSeparator, CanStand, BeginsText, BeforeAName, last_two, last_offset, is_tilde, is_check, IsRefusal, Nowhere, TooMany, TooDeep, Plain, IsFault}
 use Rattle.cat_tokens.specs.Tokens.{TokenAt, tokens_of}
 use Rattle.cat_grammar.specs.ItemMachine as items

@@ -5,14 +5,14 @@ use Rattle.std.proofs.lemmas.Bool.Decides.{nat_tests}
 use Rattle.std.proofs.lemmas.Bool.{le-leb}
 use Rattle.cat_tokens.specs.declared.rule.CatRule.{CatRule}
 use Rattle.cat_tokens.specs.declared.rule.CatRule.TheVariants as rules
-use Rattle.cat_values.specs.declared.model.CheckWord.TheVariants as checks
-use Rattle.cat_values.specs.declared.model.Infix.TheVariants.{Product}
-use Rattle.cat_values.specs.declared.model.Postfix.TheVariants as postfix
+use Rattle.text_values.specs.declared.model.CheckWord.TheVariants as checks
+use Rattle.text_values.specs.declared.model.Infix.TheVariants.{Product}
+use Rattle.text_values.specs.declared.model.Postfix.TheVariants as postfix
 use Rattle.cat_grammar.specs.declared.form.Form.{Form}
 use Rattle.cat_grammar.specs.declared.form.Form.TheVariants as forms
 use Rattle.cat_tokens.specs.declared.token.Token.{Token}
 use Rattle.cat_tokens.specs.declared.token.Token.TheVariants as tokens
-use Rattle.cat_values.specs.Value.{Term, Clause, Atom, EmptySet, Join, Mark, Not, On, Apply, Function, Including, gathered}
+use Rattle.text_values.specs.ModelValue.{Term, Clause, Atom, EmptySet, Join, Mark, Not, On, Apply, Function, Including, gathered}
 use Rattle.cat_grammar.specs.Grammar.{level, Limits, Begins}
 use Rattle.cat_grammar.specs.Machine.{Frame, InGroup, InSquare, InPrefix, LeftOf, InArguments, Expectation, Wants, HasBrace, HasName, Has, HasStar, HasStarTilde, fold_to, infix_at, ended, closed, square_closed}
 use Rattle.cat_grammar.specs.ItemMachine as items

@@ -2,7 +2,7 @@
 use Rattle.std.proofs.Common.{◌≡◌, ℕ, ◌+◌, ◌<◌, List, [], ◌∷◌, ◌++◌, Option, length, refl, ap, arith}
 use Rattle.cat_tokens.specs.declared.token.Token.{Token}
 use Rattle.cat_tokens.specs.declared.token.Token.TheVariants as tokens
-use Rattle.cat_values.specs.Value.{Term, Clause}
+use Rattle.text_values.specs.ModelValue.{Term, Clause}
 use Rattle.cat_grammar.specs.Grammar.{Limits, IsExpression, Bound, Shown, ItemTree, meaning, spelled_bound, spelled_group, spelled_parameters, spelled_one, spelled_shown, spelled_item, spelled_items, group_meaning, shown_meaning, item_meaning, items_meaning, AreBound, AreShown, IsItem, AreItems}
 
 -- bindings, each with the `and` after it

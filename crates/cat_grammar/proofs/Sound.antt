@@ -10,11 +10,11 @@ use Rattle.cat_tokens.specs.declared.token.Mark as mark
 use Rattle.cat_tokens.specs.declared.token.Mark.TheVariants.{Plus, Question, Inverse}
 use Rattle.cat_tokens.specs.declared.token.Token.{Token}
 use Rattle.cat_tokens.specs.declared.token.Token.TheVariants as tokens
-use Rattle.cat_values.specs.declared.model.Infix.{Infix}
-use Rattle.cat_values.specs.declared.model.Infix.TheVariants.{Product}
-use Rattle.cat_values.specs.declared.model.Postfix.{Postfix}
-use Rattle.cat_values.specs.declared.model.Postfix.TheVariants as postfix
-use Rattle.cat_values.specs.Value.{Term, Atom, EmptySet, Join, Mark, Not, Apply}
+use Rattle.text_values.specs.declared.model.Infix.{Infix}
+use Rattle.text_values.specs.declared.model.Infix.TheVariants.{Product}
+use Rattle.text_values.specs.declared.model.Postfix.{Postfix}
+use Rattle.text_values.specs.declared.model.Postfix.TheVariants as postfix
+use Rattle.text_values.specs.ModelValue.{Term, Atom, EmptySet, Join, Mark, Not, Apply}
 use Rattle.cat_grammar.specs.Grammar.{Tree, Word, Underscore, Zero, Braces, Post, Group, Square, Application, infix_token, postfix_token, spelled, meaning, level, left_level, tightness, IsGrouped, depth, operators, Limits, IsExpression}
 use Rattle.cat_grammar.specs.Machine.{Frame, InGroup, InSquare, InPrefix, LeftOf, InArguments, Expectation, Wants, HasBrace, HasName, Has, HasStar, HasStarTilde, StepResult, Goes, Ends, EndsTilde, Refuses, open_count, fold_to, is_outermost, opened, operand, after_brace, left_frames, infix_at, counted, ended, closed, square_closed, comma_read, after, after_name, star_tilde, star_then, after_star, after_star_tilde, expression_step}
 use Rattle.cat_tokens.specs.Tokens.{begins_operand, infix_of, postfix_of}

@@ -3,11 +3,11 @@ use Rattle.std.specs.Prelude.{◌≡◌, ℕ, ◌+◌, ◌≤◌, ◌<◌, List,
 use Rattle.std.specs.Str.{bytes_eq}
 use Rattle.cat_tokens.specs.declared.rule.CatRule.{CatRule}
 use Rattle.cat_tokens.specs.declared.rule.CatRule.TheVariants as rules
-use Rattle.cat_values.specs.declared.model.CheckWord.{CheckWord}
-use Rattle.cat_values.specs.declared.model.Infix.{Infix}
-use Rattle.cat_values.specs.declared.model.Infix.TheVariants.{Union, Sequence, Difference, Intersection, Product}
-use Rattle.cat_values.specs.declared.model.Postfix.{Postfix}
-use Rattle.cat_values.specs.declared.model.Postfix.TheVariants as postfix
+use Rattle.text_values.specs.declared.model.CheckWord.{CheckWord}
+use Rattle.text_values.specs.declared.model.Infix.{Infix}
+use Rattle.text_values.specs.declared.model.Infix.TheVariants.{Union, Sequence, Difference, Intersection, Product}
+use Rattle.text_values.specs.declared.model.Postfix.{Postfix}
+use Rattle.text_values.specs.declared.model.Postfix.TheVariants as postfix
 use Rattle.cat_grammar.specs.declared.form.Form.{Form}
 use Rattle.cat_grammar.specs.declared.form.Form.TheVariants as forms
 use Rattle.cat_tokens.specs.declared.token.Sign.TheVariants.{Bar, Semicolon, Backslash, Ampersand}
@@ -15,8 +15,8 @@ use Rattle.cat_tokens.specs.declared.token.Mark.TheVariants.{Plus, Question, Inv
 use Rattle.cat_tokens.specs.declared.token.Token.{Token}
 use Rattle.cat_tokens.specs.declared.token.Token.TheVariants as tokens
 use Rattle.cat_tokens.specs.Tokens.{TokenAt, tokens_of}
-use Rattle.cat_values.specs.Value as value
-use Rattle.cat_values.specs.Value.{Term, Terms, Checked, Clause}
+use Rattle.text_values.specs.ModelValue as value
+use Rattle.text_values.specs.ModelValue.{Term, Terms, Checked, Clause}
 
 -- ---- expressions
 

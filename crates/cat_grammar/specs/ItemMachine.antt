@@ -2,13 +2,13 @@
 use Rattle.std.specs.Prelude.{ℕ, ◌+◌, List, [], ◌∷◌, ◌++◌, Bool, true, false, ◌==◌, Option, Some, None, Result, Ok, Err, length, nat_lt, if◌then◌else◌}
 use Rattle.cat_tokens.specs.declared.rule.CatRule.{CatRule}
 use Rattle.cat_tokens.specs.declared.rule.CatRule.TheVariants as rules
-use Rattle.cat_values.specs.declared.model.CheckWord.{CheckWord}
+use Rattle.text_values.specs.declared.model.CheckWord.{CheckWord}
 use Rattle.cat_grammar.specs.declared.form.Form.{Form}
 use Rattle.cat_grammar.specs.declared.form.Form.TheVariants as forms
 use Rattle.cat_grammar.specs.declared.form.CheckHead.{CheckHead}
 use Rattle.cat_tokens.specs.declared.token.Token.{Token}
 use Rattle.cat_tokens.specs.declared.token.Token.TheVariants as tokens
-use Rattle.cat_values.specs.Value.{Term, Clause, Binding, Function, Checking, Flagging, Showing, Including, Checked}
+use Rattle.text_values.specs.ModelValue.{Term, Clause, Binding, Function, Checking, Flagging, Showing, Including, Checked}
 use Rattle.cat_grammar.specs.Machine as machine
 use Rattle.cat_grammar.specs.Grammar.{Limits, has_no_effect}
 use Rattle.cat_tokens.specs.Tokens.{rule_of}

@@ -4,12 +4,12 @@ use Rattle.cat_tokens.specs.declared.rule.CatRule.{CatRule}
 use Rattle.cat_tokens.specs.declared.rule.CatRule.TheVariants.{Syntax, TooDeep}
 use Rattle.cat_tokens.specs.declared.token.Token.{Token}
 use Rattle.cat_tokens.specs.declared.token.Token.TheVariants as tokens
-use Rattle.cat_values.specs.declared.model.Infix.{Infix}
-use Rattle.cat_values.specs.declared.model.Infix.TheVariants.{Product}
-use Rattle.cat_values.specs.declared.model.Postfix.TheVariants as postfix
+use Rattle.text_values.specs.declared.model.Infix.{Infix}
+use Rattle.text_values.specs.declared.model.Infix.TheVariants.{Product}
+use Rattle.text_values.specs.declared.model.Postfix.TheVariants as postfix
 use Rattle.cat_tokens.specs.Tokens.{rule_of, begins_operand, infix_of, postfix_of}
 use Rattle.cat_grammar.specs.Grammar.{Limits, level, left_level}
-use Rattle.cat_values.specs.Value.{Term, Atom, AllEvents, EmptyRelation, EmptySet, Join, Mark, Not, On, Apply, gathered}
+use Rattle.text_values.specs.ModelValue.{Term, Atom, AllEvents, EmptyRelation, EmptySet, Join, Mark, Not, On, Apply, gathered}
 
 -- what stands open to the left, the innermost first
 pub data Frame : Type 0 where

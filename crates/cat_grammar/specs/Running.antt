@@ -2,7 +2,7 @@
 use Rattle.std.specs.Prelude.{ℕ, List, [], ◌∷◌, Result, Ok, Err}
 use Rattle.cat_tokens.specs.declared.rule.CatRule.{CatRule}
 use Rattle.cat_grammar.specs.declared.form.Form.{Form}
-use Rattle.cat_values.specs.Value.{Clause}
+use Rattle.text_values.specs.ModelValue.{Clause}
 use Rattle.cat_grammar.specs.Grammar.{Limits}
 use Rattle.cat_tokens.specs.Tokens.{TokenAt}
 use Rattle.cat_grammar.specs.ItemMachine.{Fault, Here, Before, State, step}

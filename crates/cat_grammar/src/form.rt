@@ -1,10 +1,10 @@
 //! The kinds of texts, and the head of a check.
 
 ghost use Rattle.std.specs.Prelude.{◌≡◌};
-ghost use Rattle.cat_values.specs.Values.{term_of, check_of};
+ghost use Rattle.text_values.specs.ModelValues.{term_of, check_of};
 ghost use Rattle.cat_grammar.specs.ItemMachine.{checked};
 
-use cat_values::{Check, CheckWord, Expression};
+use text_values::{Check, CheckWord, Expression};
 
 /// The kind of a text (the herd7 manual, chapter on cat).
 #[derive(Clone, Copy, PartialEq, Eq)]

@@ -1,7 +1,7 @@
 //! Laws of the grammar and of the machine that reads it.
 
 ghost use Rattle.std.specs.Prelude.{◌≡◌, ℕ, List, [], ◌∷◌, ◌++◌, Ok, Err};
-ghost use Rattle.cat_values.specs.Value.{Clause};
+ghost use Rattle.text_values.specs.ModelValue.{Clause};
 ghost use Rattle.cat_tokens.specs.declared.token.Token.{Token};
 ghost use Rattle.cat_tokens.specs.declared.token.Token.TheVariants.{End};
 ghost use Rattle.cat_tokens.specs.declared.rule.CatRule.{CatRule};

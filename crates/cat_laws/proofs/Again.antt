@@ -1,7 +1,7 @@
 -- What was read keeps the limits of number when it is printed, and so it is read again.
 use Rattle.std.proofs.Common.{◌≡◌, ℕ, ◌+◌, ◌≤◌, List, [], ◌∷◌, length, refl, ap, subst, arith}
 use Rattle.std.specs.Prelude.{map}
-use Rattle.cat_values.specs.Value.{Clause}
+use Rattle.text_values.specs.ModelValue.{Clause}
 use Rattle.cat_grammar.specs.Grammar as grammar
 use Rattle.cat_grammar.specs.Grammar.{Tree, Trees, Word, Underscore, Zero, Braces, Pair, Post, Prefix, Group, Square, Application, Last, More, meaning, meanings, operators, operators_of, Limits, limits, Bound, ItemTree, Let, Function, Check, Flag, Show, Include, group_meaning, shown_meaning, item_meaning, items_meaning, AreBound, IsItem, AreItems}
 use Rattle.cat_printing.specs.Printing.{printed_item, printed_model}

@@ -3,11 +3,11 @@ use Rattle.std.proofs.Common.{◌≡◌, ℕ, ◌<◌, Bool, true, false, List, 
 use Rattle.std.specs.Prelude.{Option, Some, None}
 use Rattle.cat_tokens.specs.declared.token.Token.{Token}
 use Rattle.cat_tokens.specs.declared.token.Token.TheVariants as tokens
-use Rattle.cat_values.specs.declared.model.Infix.{Infix}
-use Rattle.cat_values.specs.declared.model.Infix.TheVariants.{Union, Sequence, Difference, Intersection, Product}
-use Rattle.cat_values.specs.declared.model.Postfix.{Postfix}
-use Rattle.cat_values.specs.declared.model.Postfix.TheVariants as postfix
-use Rattle.cat_values.specs.Value.{Clause}
+use Rattle.text_values.specs.declared.model.Infix.{Infix}
+use Rattle.text_values.specs.declared.model.Infix.TheVariants.{Union, Sequence, Difference, Intersection, Product}
+use Rattle.text_values.specs.declared.model.Postfix.{Postfix}
+use Rattle.text_values.specs.declared.model.Postfix.TheVariants as postfix
+use Rattle.text_values.specs.ModelValue.{Clause}
 use Rattle.cat_grammar.specs.declared.form.Form.{Form}
 use Rattle.cat_grammar.specs.Grammar as grammar
 use Rattle.cat_grammar.specs.Grammar.{Tree, Trees, Word, Underscore, Zero, Braces, Pair, Post, Prefix, Group, Square, Application, Last, More, infix_token, postfix_token, spelled, spelled_arguments, Limits, Bound, CheckTree, ItemTree, Let, Check, Flag, Show, Include, show_token, spelled_rec, spelled_tilde, spelled_label, spelled_group, spelled_parameters, spelled_check, spelled_shown, spelled_item, spelled_items, IsItem, AreItems, Title, NoTitle, NameTitle, StringTitle, spelled_title, Means, is_rec_or_and}

@@ -5,8 +5,8 @@ use Rattle.std.specs.List.{position_or_len}
 use Rattle.std.proofs.lemmas.Bool.{cases_lt, and_left}
 use Rattle.std.proofs.lemmas.List.{length-take, length-drop, length-append, get_or-take, get_or-drop, get_or_append_left, take-append-drop, take_all, drop_all}
 use Rattle.std.proofs.lemmas.List.Sums.{fails_before_first, passes_at_first}
-use Rattle.source_text.specs.Letters.{is_letter}
-use Rattle.source_text.specs.Layout.{is_line_end, is_quote, quoted_from, comment_of}
+use Rattle.text_values.specs.Letters.{is_letter}
+use Rattle.text_values.specs.Layout.{is_line_end, is_quote, quoted_from, comment_of}
 use Rattle.text_laws.specs.Comments.{LacksQuote, begins_comment, BeginsWithComment}
 use Rattle.text_laws.proofs.Nesting as nesting
 use Rattle.cat_tokens.specs.declared.rule.CatRule.TheVariants as rules

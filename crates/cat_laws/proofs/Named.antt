@@ -6,17 +6,17 @@ use Rattle.std.specs.List.{position_or_len}
 use Rattle.std.proofs.lemmas.Bool.Decides.{nat_tests}
 use Rattle.std.proofs.lemmas.List.{length-take, get_or-take}
 use Rattle.std.proofs.lemmas.List.Sums.{fails_before_first}
-use Rattle.source_text.specs.Layout.{quoted_from, comment_of}
+use Rattle.text_values.specs.Layout.{quoted_from, comment_of}
 use Rattle.cat_tokens.specs.declared.token.Token.{Token}
 use Rattle.cat_tokens.specs.declared.token.Token.TheVariants as tokens
 use Rattle.cat_tokens.specs.declared.lexer.Front.{Front}
 use Rattle.cat_tokens.specs.declared.lexer.Front.TheVariants.{Layout, Lexeme}
 use Rattle.cat_grammar.specs.declared.form.Form.{Form}
 use Rattle.cat_grammar.specs.declared.form.Form.TheVariants as forms
-use Rattle.cat_values.specs.Value.{Terms, NoTerm, OneMore, Clause}
+use Rattle.text_values.specs.ModelValue.{Terms, NoTerm, OneMore, Clause}
 use Rattle.cat_tokens.specs.Words.{item_word, part_word, is_definition_word, is_other_word, name_or_broken, word_or, word_token}
 use Rattle.cat_tokens.specs.Lexer.{is_layout, is_name_byte, ends_name, comment_front, quoted_front, word_front, sign_token, front, after_front, tokens_from, lexed}
-use Rattle.source_text.specs.Letters.{is_letter}
+use Rattle.text_values.specs.Letters.{is_letter}
 use Rattle.text_laws.proofs.Runs.{tested}
 use Rattle.cat_grammar.specs.Grammar as grammar
 use Rattle.cat_tokens.specs.Tokens.{TokenAt, tokens_of}

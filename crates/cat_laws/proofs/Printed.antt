@@ -7,7 +7,7 @@ use Rattle.std.proofs.lemmas.Bool.Decides.{nat_tests}
 use Rattle.std.proofs.lemmas.List.{append-nil, length-append, length-map, take_at, drop_at, get_or_append_left}
 use Rattle.std.proofs.lemmas.List.Sums.{position_or_len_is}
 use Rattle.std.proofs.lemmas.Slice.Eq.{bytes_eq-Decides}
-use Rattle.source_text.specs.Layout.{is_quote, comment_of}
+use Rattle.text_values.specs.Layout.{is_quote, comment_of}
 use Rattle.cat_tokens.specs.declared.token.Token.{Token}
 use Rattle.cat_tokens.specs.declared.token.Token.TheVariants as tokens
 use Rattle.cat_tokens.specs.declared.token.Sign.TheVariants.{Bar, Semicolon, Backslash, Ampersand}
@@ -15,22 +15,22 @@ use Rattle.cat_tokens.specs.declared.token.Mark.TheVariants.{Plus, Question, Inv
 use Rattle.cat_tokens.specs.declared.rule.CatRule.TheVariants.{Unsupported}
 use Rattle.cat_tokens.specs.declared.lexer.Front.{Front}
 use Rattle.cat_tokens.specs.declared.lexer.Front.TheVariants.{Layout, Lexeme}
-use Rattle.cat_values.specs.declared.model.CheckWord.{CheckWord}
-use Rattle.cat_values.specs.declared.model.CheckWord.TheVariants.{Acyclic, Irreflexive, Empty}
-use Rattle.cat_values.specs.declared.model.Infix.{Infix}
-use Rattle.cat_values.specs.declared.model.Infix.TheVariants.{Union, Sequence, Difference, Intersection, Product}
-use Rattle.cat_values.specs.declared.model.Postfix.{Postfix}
-use Rattle.cat_values.specs.declared.model.Postfix.TheVariants as postfix
-use Rattle.cat_values.specs.Value as value
-use Rattle.cat_values.specs.Value.{Term, Terms, Atom, AllEvents, EmptyRelation, EmptySet, Join, Mark, Not, On, Apply, NoTerm, OneMore, Checked, Clause, Binding, Checking, Flagging, Showing, Including}
+use Rattle.text_values.specs.declared.model.CheckWord.{CheckWord}
+use Rattle.text_values.specs.declared.model.CheckWord.TheVariants.{Acyclic, Irreflexive, Empty}
+use Rattle.text_values.specs.declared.model.Infix.{Infix}
+use Rattle.text_values.specs.declared.model.Infix.TheVariants.{Union, Sequence, Difference, Intersection, Product}
+use Rattle.text_values.specs.declared.model.Postfix.{Postfix}
+use Rattle.text_values.specs.declared.model.Postfix.TheVariants as postfix
+use Rattle.text_values.specs.ModelValue as value
+use Rattle.text_values.specs.ModelValue.{Term, Terms, Atom, AllEvents, EmptyRelation, EmptySet, Join, Mark, Not, On, Apply, NoTerm, OneMore, Checked, Clause, Binding, Checking, Flagging, Showing, Including}
 use Rattle.cat_tokens.specs.Words.{item_word, part_word, word_token}
 use Rattle.cat_tokens.specs.Lexer.{is_layout, ends_name, sign_token, word_front, comment_front, quoted_front, front, after_front, tokens_from}
-use Rattle.source_text.specs.Letters.{is_letter}
+use Rattle.text_values.specs.Letters.{is_letter}
 use Rattle.cat_tokens.specs.Tokens.{TokenAt, tokens_of}
 use Rattle.cat_grammar.specs.Grammar.{Tree, infix_token, postfix_token, spelled, spelled_arguments, show_token, spelled_rec, spelled_tilde, spelled_label, spelled_bound, spelled_group, spelled_parameters, spelled_check, spelled_one, spelled_shown, spelled_item, spelled_items, Limits, limits, Means, NoTitle, has_no_effect}
 use Rattle.cat_grammar.specs.declared.form.Form.TheVariants as forms
 use Rattle.cat_printing.specs.Printing.{is_binary, is_compound, infix_text, postfix_text, printed_term, printed_terms, label_text, optional_label, tilde_text, word_text, check_text, recursion_text, binding_text, show_text, shown_text, quote, printed_item, printed_model}
-use Rattle.source_text.specs.Joined.{joined, bracketed}
+use Rattle.text_values.specs.Joined.{joined, bracketed}
 use Rattle.cat_laws.specs.Written as written
 use Rattle.cat_laws.specs.Written.{IsName, IsTerm, AreTerms, AreNames, IsLabel, AreBindings, IsWritten, AreWritten, IsWithin, AreWithin, IsTextOfItem, IsTextOfModel, IsItemWithinLimits, IsModelWithinLimits, ReadsItem, ReadsModel}
 use Rattle.cat_laws.proofs.PrintedTrees.{grouped, tree_of, trees_of, bound_of, check_of, shown_of, item_of, items_back, items_fit, enough, is_enough, enough_items}

@@ -2,10 +2,10 @@
 use Rattle.std.proofs.Common.{◌≡◌, ℕ, ◌+◌, ◌≤◌, Bool, true, false, List, [], ◌∷◌, length, refl, ap, ◌∙◌, arith}
 use Rattle.std.specs.Prelude.{map, max, Option}
 use Rattle.std.proofs.lemmas.List.{length-map}
-use Rattle.cat_values.specs.declared.model.Infix.{Infix}
-use Rattle.cat_values.specs.declared.model.Infix.TheVariants.{Union, Sequence, Difference, Intersection, Product}
-use Rattle.cat_values.specs.Value as value
-use Rattle.cat_values.specs.Value.{Term, Terms, Atom, AllEvents, EmptyRelation, EmptySet, Join, Mark, Not, On, Apply, NoTerm, OneMore, Checked, Clause, Binding, Checking, Flagging, Showing, Including}
+use Rattle.text_values.specs.declared.model.Infix.{Infix}
+use Rattle.text_values.specs.declared.model.Infix.TheVariants.{Union, Sequence, Difference, Intersection, Product}
+use Rattle.text_values.specs.ModelValue as value
+use Rattle.text_values.specs.ModelValue.{Term, Terms, Atom, AllEvents, EmptyRelation, EmptySet, Join, Mark, Not, On, Apply, NoTerm, OneMore, Checked, Clause, Binding, Checking, Flagging, Showing, Including}
 use Rattle.cat_grammar.specs.Grammar as grammar
 use Rattle.cat_grammar.specs.Grammar.{Tree, Trees, Word, Underscore, Zero, Braces, Pair, Post, Prefix, Group, Square, Application, Last, More, meaning, meanings, right_level, tightness, IsGrouped, AreGrouped, depth, depths, operators, operators_of, Limits, IsExpression, Bound, CheckTree, ItemTree, Let, Check, Flag, Show, Include, group_meaning, shown_meaning, item_meaning, items_meaning, AreBound, IsItem, AreItems}
 use Rattle.cat_printing.specs.Printing.{is_binary, is_compound}

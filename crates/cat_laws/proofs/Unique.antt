@@ -5,8 +5,8 @@ use Rattle.std.specs.List.{position_or_len}
 use Rattle.std.proofs.lemmas.Bool.{cases_lt, false_from_ne_true}
 use Rattle.std.proofs.lemmas.List.{append-nil, length-append, get_or_append_left, take_at, drop_at}
 use Rattle.std.proofs.lemmas.List.Sums.{position_or_len_is}
-use Rattle.source_text.specs.Letters.{is_letter}
-use Rattle.source_text.specs.Layout.{is_line_end, is_quote, quoted_from, comment_of}
+use Rattle.text_values.specs.Letters.{is_letter}
+use Rattle.text_values.specs.Layout.{is_line_end, is_quote, quoted_from, comment_of}
 use Rattle.text_laws.specs.Comments.{LacksQuote, begins_comment, BeginsWithComment}
 use Rattle.text_laws.proofs.Nesting as nesting
 use Rattle.text_laws.proofs.Runs.{equals, or_first, or_second, seam, when_true, when_false, quote_size, open_size}

@@ -1,7 +1,7 @@
 -- The tokens of the text of a model: its longest pieces that spell tokens, with gaps between them.
 use Rattle.std.specs.Prelude.{◌≡◌, ℕ, ◌+◌, ◌<◌, ◌≤◌, List, [], ◌∷◌, ◌++◌, Bool, true, false, ◌||◌, ◌&&◌, ◌==◌, codes, length, slice_index}
-use Rattle.source_text.specs.Letters.{is_letter}
-use Rattle.source_text.specs.Layout.{is_line_end, is_quote}
+use Rattle.text_values.specs.Letters.{is_letter}
+use Rattle.text_values.specs.Layout.{is_line_end, is_quote}
 use Rattle.text_laws.specs.Comments.{LacksQuote, begins_comment, BeginsWithComment}
 use Rattle.cat_tokens.specs.declared.rule.CatRule.TheVariants as rules
 use Rattle.cat_tokens.specs.declared.token.Mark.TheVariants.{Inverse}

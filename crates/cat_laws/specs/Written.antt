@@ -1,9 +1,9 @@
 -- The items and models that a text can have, and the limits that a printed one has to keep.
 use Rattle.std.specs.Prelude.{◌≡◌, ℕ, ◌+◌, ◌<◌, ◌≤◌, max, List, [], ◌∷◌, map, Bool, true, false, Option, Some, None, length, slice_index}
 use Rattle.cat_tokens.specs.declared.token.Token.TheVariants as tokens
-use Rattle.cat_values.specs.Value.{Term, Terms, Atom, AllEvents, EmptyRelation, EmptySet, Join, Mark, Not, On, Apply, NoTerm, OneMore, Clause, Binding, Function, Checking, Flagging, Showing, Including}
+use Rattle.text_values.specs.ModelValue.{Term, Terms, Atom, AllEvents, EmptyRelation, EmptySet, Join, Mark, Not, On, Apply, NoTerm, OneMore, Clause, Binding, Function, Checking, Flagging, Showing, Including}
 use Rattle.cat_tokens.specs.Lexer.{is_name_byte, lexed}
-use Rattle.source_text.specs.Letters.{is_letter}
+use Rattle.text_values.specs.Letters.{is_letter}
 use Rattle.cat_tokens.specs.Words.{word_token}
 use Rattle.cat_grammar.specs.declared.form.Form.TheVariants as forms
 use Rattle.cat_grammar.specs.Grammar.{Limits, limits, Means, has_no_effect}

@@ -1,7 +1,7 @@
 //! Laws of the definitions.
 
 ghost use Rattle.std.specs.Prelude.{◌≡◌, List, [], ◌∷◌, ◌++◌, ℕ, true};
-ghost use Rattle.cat_values.specs.Value.{Clause};
+ghost use Rattle.text_values.specs.ModelValue.{Clause};
 ghost use Rattle.cat_printing.specs.Printing.{printed_item, printed_model};
 ghost use Rattle.cat_tokens.specs.declared.token.Token.{Token};
 ghost use Rattle.cat_tokens.specs.declared.token.Token.TheVariants as tokens;

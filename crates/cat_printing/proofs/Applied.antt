@@ -1,13 +1,13 @@
 -- The text of a function's application.
 use Rattle.std.proofs.Common.{◌≡◌, ℕ, List, [], ◌∷◌, ◌++◌, map, Vec, Global, refl, sym, ap, ◌∙◌, append_assoc}
 use Rattle.std.specs.Prelude.{codes}
-use Rattle.cat_values.specs.declared.model.Expression.{Expression}
-use Rattle.cat_values.specs.declared.model.Expression.TheVariants as expressions
-use Rattle.cat_values.specs.Value.{Term, gathered}
-use Rattle.cat_values.specs.Values.{term_of}
+use Rattle.text_values.specs.declared.model.Expression.{Expression}
+use Rattle.text_values.specs.declared.model.Expression.TheVariants as expressions
+use Rattle.text_values.specs.ModelValue.{Term, gathered}
+use Rattle.text_values.specs.ModelValues.{term_of}
 use Rattle.cat_printing.specs.Printing.{printed_term, printed_terms}
-use Rattle.source_text.specs.Joined.{joined}
-use Rattle.cat_values.proofs.Arguments.{applied_term}
+use Rattle.text_values.specs.Joined.{joined}
+use Rattle.text_values.proofs.Arguments.{applied_term}
 
 texts_gathered : (ts : List Term) → printed_terms (gathered ts) ≡ map printed_term ts
 texts_gathered [] = refl

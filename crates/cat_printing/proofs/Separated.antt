@@ -1,8 +1,8 @@
 -- Lists that are printed one after another.
 use Rattle.std.proofs.Common.{◌≡◌, ℕ, List, [], ◌∷◌, refl, ap, ◌∙◌}
 use Rattle.std.specs.Prelude.{map}
-use Rattle.source_text.specs.Joined.{joined}
-use Rattle.source_text.proofs.Separated.{from, from_first}
+use Rattle.text_values.specs.Joined.{joined}
+use Rattle.text_values.proofs.Separated.{from, from_first}
 
 pub map_both : {A B : Type 0} (f : B → List ℕ) (g : A → B) (xs : List A) → map (λ x. f (g x)) xs ≡ map f (map g xs)
 map_both f g [] = refl

@@ -1,13 +1,13 @@
 -- The text of an item and of a model.
 use Rattle.std.specs.Prelude.{ℕ, List, [], ◌∷◌, ◌++◌, map, Bool, true, false, Option, Some, None, codes}
-use Rattle.source_text.specs.Joined.{joined, bracketed}
-use Rattle.cat_values.specs.declared.model.CheckWord.{CheckWord}
-use Rattle.cat_values.specs.declared.model.CheckWord.TheVariants.{Acyclic, Irreflexive, Empty}
-use Rattle.cat_values.specs.declared.model.Infix.{Infix}
-use Rattle.cat_values.specs.declared.model.Infix.TheVariants.{Union, Sequence, Difference, Intersection, Product}
-use Rattle.cat_values.specs.declared.model.Postfix.{Postfix}
-use Rattle.cat_values.specs.declared.model.Postfix.TheVariants as postfix
-use Rattle.cat_values.specs.Value.{Term, Terms, Atom, AllEvents, EmptyRelation, EmptySet, Join, Mark, Not, On, Apply, NoTerm, OneMore, Checked, Clause, Binding, Function, Checking, Flagging, Showing, Including}
+use Rattle.text_values.specs.Joined.{joined, bracketed}
+use Rattle.text_values.specs.declared.model.CheckWord.{CheckWord}
+use Rattle.text_values.specs.declared.model.CheckWord.TheVariants.{Acyclic, Irreflexive, Empty}
+use Rattle.text_values.specs.declared.model.Infix.{Infix}
+use Rattle.text_values.specs.declared.model.Infix.TheVariants.{Union, Sequence, Difference, Intersection, Product}
+use Rattle.text_values.specs.declared.model.Postfix.{Postfix}
+use Rattle.text_values.specs.declared.model.Postfix.TheVariants as postfix
+use Rattle.text_values.specs.ModelValue.{Term, Terms, Atom, AllEvents, EmptyRelation, EmptySet, Join, Mark, Not, On, Apply, NoTerm, OneMore, Checked, Clause, Binding, Function, Checking, Flagging, Showing, Including}
 
 -- texts one a line
 abbrev pub lines : List (List ℕ) → List ℕ

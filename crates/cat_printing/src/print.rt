@@ -1,15 +1,15 @@
 //! Prints items.
 
 ghost use Rattle.std.specs.Prelude.{◌≡◌, ◌++◌, map, OnOk, IfOk, codes};
-ghost use Rattle.cat_values.specs.Values.{term_of, binding_of, shown_of, check_of, clause_of, clauses_of};
+ghost use Rattle.text_values.specs.ModelValues.{term_of, binding_of, shown_of, check_of, clause_of, clauses_of};
 ghost use Rattle.cat_printing.specs.Printing.{infix_text, postfix_text, is_binary, is_compound, printed_term, label_text, optional_label, word_text, check_text, recursion_text, binding_text, show_text, shown_text, printed_item, printed_model};
-ghost use Rattle.source_text.specs.Joined.{joined, bracketed};
+ghost use Rattle.text_values.specs.Joined.{joined, bracketed};
 
-use cat_values::{
-    Binding, Check, CheckWord, Expression, Infix, Item, ModelText, Postfix, ShownExpression,
-};
-use source_text::{Name, put_between, put_bytes};
 use std::alloc::{AllocError, Global};
+use text_values::{
+    Binding, Check, CheckWord, Expression, Infix, Item, ModelText, Name, Postfix, ShownExpression,
+    put_between, put_bytes,
+};
 
 fn infix_text(op: Infix) -> &'static [u8]
     ensures { result.now ≡ infix_text op }

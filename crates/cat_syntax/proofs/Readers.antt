@@ -10,16 +10,16 @@ use Rattle.cat_syntax.specs.declared.fault.CatFault.{CatFault}
 use Rattle.cat_syntax.specs.declared.fault.CatFault.TheVariants as faults
 use Rattle.cat_tokens.specs.declared.lexer.Front.{Front}
 use Rattle.cat_tokens.specs.declared.lexer.Front.TheVariants.{Layout, Lexeme}
-use Rattle.cat_values.specs.declared.model.Item.{Item}
+use Rattle.text_values.specs.declared.model.Item.{Item}
 use Rattle.cat_grammar.specs.declared.form.Form.{Form}
 use Rattle.cat_grammar.specs.declared.form.Form.TheVariants as forms
 use Rattle.cat_tokens.specs.declared.token.Token.{Token}
 use Rattle.cat_tokens.specs.declared.token.Token.TheVariants.{End}
-use Rattle.cat_values.specs.Value.{Clause}
+use Rattle.text_values.specs.ModelValue.{Clause}
 use Rattle.cat_tokens.specs.Tokens.{tokens_of}
 use Rattle.cat_tokens.specs.Lexer.{front, after_front, tokens_from, lexed}
 use Rattle.cat_syntax.specs.Faults.{IsMemory}
-use Rattle.cat_values.specs.Values.{clause_of, clauses_of}
+use Rattle.text_values.specs.ModelValues.{clause_of, clauses_of}
 use Rattle.cat_syntax.specs.ReadingTexts.{reading, ReadsTo}
 use Rattle.cat_syntax.specs.Reads.{Reads, FaultAt, IsLong, InText, IsFaultOf}
 use Rattle.cat_syntax.proofs.Texts.{too_long, fits}

@@ -8,7 +8,7 @@ use Rattle.cat_syntax.specs.declared.parts.Part as code_part
 use Rattle.cat_syntax.specs.declared.parts.Part.TheVariants as parts
 use Rattle.cat_grammar.specs.ItemMachine as machine
 use Rattle.cat_grammar.specs.ItemMachine.{State, Fault}
-use Rattle.cat_values.specs.Values.{clauses_of}
+use Rattle.text_values.specs.ModelValues.{clauses_of}
 use Rattle.cat_terms.specs.Reading.{stack_of, expectation_of}
 use Rattle.cat_syntax.specs.ReadingItems.{head_of, part_of, Fails}
 

@@ -2,7 +2,7 @@
 use Rattle.std.specs.Prelude.{◌≡◌, Bool, true, false, List, map, Result, Ok, Err}
 use Rattle.cat_terms.specs.declared.frames.StepError.{StepError}
 use Rattle.cat_terms.specs.declared.frames.StepError.TheVariants as errors
-use Rattle.cat_values.specs.declared.model.Item.{Item}
+use Rattle.text_values.specs.declared.model.Item.{Item}
 use Rattle.cat_syntax.specs.declared.lets.Group as code_group
 use Rattle.cat_syntax.specs.declared.lets.LetPart as code_let
 use Rattle.cat_syntax.specs.declared.lets.LetPart.TheVariants as lets
@@ -12,7 +12,7 @@ use Rattle.cat_syntax.specs.declared.parts.Head.TheVariants as heads
 use Rattle.cat_syntax.specs.declared.parts.Part as code_part
 use Rattle.cat_syntax.specs.declared.parts.Part.TheVariants as parts
 use Rattle.cat_grammar.specs.ItemMachine as machine
-use Rattle.cat_values.specs.Values.{term_of, binding_of, shown_of, clauses_of}
+use Rattle.text_values.specs.ModelValues.{term_of, binding_of, shown_of, clauses_of}
 
 abbrev pub group_of : code_group.Group → machine.Group
 group_of g = record { recursive = g.recursive; bindings = map binding_of g.bindings.items }

@@ -8,13 +8,13 @@ use Rattle.cat_syntax.specs.declared.fault.CatFault.{CatFault}
 use Rattle.cat_syntax.specs.declared.fault.CatFault.TheVariants as faults
 use Rattle.cat_grammar.specs.declared.form.Form.{Form}
 use Rattle.cat_syntax.specs.declared.items.Parser.{Parser}
-use Rattle.cat_values.specs.declared.model.Item.{Item}
+use Rattle.text_values.specs.declared.model.Item.{Item}
 use Rattle.cat_tokens.specs.Lexer.{lexed}
-use Rattle.cat_values.specs.Value.{Clause}
+use Rattle.text_values.specs.ModelValue.{Clause}
 use Rattle.cat_grammar.specs.Grammar.{limits}
 use Rattle.cat_grammar.specs.ItemMachine.{start}
 use Rattle.cat_grammar.specs.Running.{Ran, run, items_of}
-use Rattle.cat_values.specs.Values.{clauses_of}
+use Rattle.text_values.specs.ModelValues.{clauses_of}
 use Rattle.cat_syntax.specs.ParserState.{state_of}
 
 -- the items of a text, or the rule that it breaks and where

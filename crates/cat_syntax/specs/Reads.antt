@@ -5,7 +5,7 @@ use Rattle.cat_tokens.specs.declared.rule.CatRule.TheVariants.{TooLong}
 use Rattle.cat_syntax.specs.declared.fault.CatFault.{CatFault}
 use Rattle.cat_syntax.specs.declared.fault.CatFault.TheVariants.{Refused, OutOfMemory}
 use Rattle.cat_grammar.specs.declared.form.Form.{Form}
-use Rattle.cat_values.specs.Value.{Clause}
+use Rattle.text_values.specs.ModelValue.{Clause}
 use Rattle.cat_grammar.specs.Grammar.{limits, Means, IsFault}
 use Rattle.cat_tokens.specs.Tokens.{tokens_of}
 use Rattle.cat_tokens.specs.Lexer.{lexed}

@@ -2,7 +2,7 @@
 
 ghost use Rattle.std.specs.Prelude.{◌≡◌, false};
 ghost use Rattle.cat_grammar.specs.Grammar.{limits, has_no_effect};
-ghost use Rattle.cat_values.specs.Values.{term_of, clause_of, clauses_of};
+ghost use Rattle.text_values.specs.ModelValues.{term_of, clause_of, clauses_of};
 ghost use Rattle.cat_grammar.specs.ItemMachine.{begin_item, excess, unless, item_or_end, after_title, after_tilde, after_flag, after_include, finished, item_ended, item_ended_by_tilde, after_body, and_read, label_start, shown_on, after_as, after_show_as, after_show_label, step_part, start, step};
 ghost use Rattle.cat_syntax.specs.ReadingItems.{show_of, head_of, part_of, is_body, Gives, Steps};
 
@@ -11,9 +11,9 @@ use crate::parts::{Head, Part, ShowHead, body_start, check_body, show_body};
 use cat_grammar::{CheckHead, Form};
 use cat_terms::{ExpressionStep, OpenExpression, StepError};
 use cat_tokens::{CatRule, Token};
-use cat_values::{CheckWord, Expression, Item};
 use std::alloc::Global;
 use std::mem;
+use text_values::{CheckWord, Expression, Item};
 
 /// The greatest number of items of a model.
 pub const MAX_ITEMS: usize = 256;

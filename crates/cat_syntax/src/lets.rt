@@ -2,16 +2,15 @@
 
 ghost use Rattle.std.specs.Prelude.{◌≡◌, IfOk};
 ghost use Rattle.cat_grammar.specs.Grammar.{limits};
-ghost use Rattle.cat_values.specs.Values.{term_of, clause_of};
+ghost use Rattle.text_values.specs.ModelValues.{term_of, clause_of};
 ghost use Rattle.cat_grammar.specs.ItemMachine.{fresh, extended, group_clause, after_keyword, bound_name, parameter_read, after_parameter, after_let_name, after_bound, after_parameters, after_let};
 ghost use Rattle.cat_syntax.specs.ReadingItems.{group_of, let_of, part_of, Gives};
 
 use crate::parts::{Head, Part, body_start};
 use cat_terms::StepError;
 use cat_tokens::{CatRule, Token};
-use cat_values::{Binding, Expression, Item, MAX_PARAMETERS};
-use source_text::Name;
 use std::alloc::{AllocError, Global};
+use text_values::{Binding, Expression, Item, MAX_PARAMETERS, Name};
 
 /// The greatest number of names in a group.
 pub const MAX_NAMES: usize = 64;

@@ -10,10 +10,9 @@ mod read;
 
 pub use cat_printing::{print_item, print_model};
 pub use cat_tokens::CatRule;
-pub use cat_values::{
-    Binding, Check, CheckWord, Expression, Infix, Item, ModelText, PREDEFINED, PREDEFINED_COUNT,
-    Postfix, Predefined, ShownExpression,
-};
 pub use fault::CatFault;
 pub use read::{read_item, read_model};
-pub use source_text::Name;
+pub use text_values::{
+    Binding, Check, CheckWord, Expression, Infix, Item, ModelText, Name, PREDEFINED,
+    PREDEFINED_COUNT, Postfix, Predefined, ShownExpression,
+};

@@ -1,15 +1,14 @@
 //! The position of the reader in an item.
 
 ghost use Rattle.std.specs.Prelude.{◌≡◌, IfOk};
-ghost use Rattle.cat_values.specs.Values.{term_of, clause_of};
+ghost use Rattle.text_values.specs.ModelValues.{term_of, clause_of};
 ghost use Rattle.cat_grammar.specs.ItemMachine.{shown_also, shown_clause, begin_body, begin_check, begin_show};
 ghost use Rattle.cat_syntax.specs.ReadingItems.{show_of, head_of, part_of};
 
 use crate::lets::{Group, LetPart};
 use cat_grammar::CheckHead;
-use cat_values::{CheckWord, Expression, Item, ShownExpression};
-use source_text::Name;
 use std::alloc::{AllocError, Global};
+use text_values::{CheckWord, Expression, Item, Name, ShownExpression};
 
 /// The expressions of a `show` or an `unshow` so far.
 #[derive(Drop)]

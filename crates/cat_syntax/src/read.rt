@@ -6,20 +6,19 @@ ghost use Rattle.cat_tokens.specs.Lexer.{lexed};
 ghost use Rattle.cat_grammar.specs.Grammar.{limits};
 ghost use Rattle.cat_grammar.specs.ItemMachine.{step};
 ghost use Rattle.cat_syntax.specs.ParserState.{state_of};
-ghost use Rattle.cat_values.specs.Values.{clause_of, clauses_of};
+ghost use Rattle.text_values.specs.ModelValues.{clause_of, clauses_of};
 ghost use Rattle.cat_syntax.specs.ReadingTexts.{reading, StepsAt, ReadsTo};
 ghost use Rattle.cat_syntax.specs.Reads.{Reads, IsFaultOf};
 ghost use Rattle.cat_grammar.specs.Running.{run, with_offset};
-ghost use Rattle.cat_values.specs.Value.{Clause};
+ghost use Rattle.text_values.specs.ModelValue.{Clause};
 
 use crate::fault::CatFault;
 use crate::items::Parser;
 use cat_grammar::Form;
 use cat_terms::StepError;
 use cat_tokens::{CatRule, Front, Token, front_of};
-use cat_values::{Item, ModelText};
-use source_text::MAX_BYTES;
 use std::alloc::{AllocError, Global};
+use text_values::{Item, MAX_BYTES, ModelText};
 
 // A token at an offset; the token before it began at `before`.
 fn step_at(parser: &mut Parser, token: Token, before: usize, offset: usize) -> Result<(), CatFault>

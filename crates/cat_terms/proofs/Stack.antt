@@ -11,22 +11,22 @@ use Rattle.cat_terms.specs.declared.frames.Frame.TheVariants as frames
 use Rattle.std.proofs.Common.{Vec, Global}
 use Rattle.std.proofs.Math.Bool.{and-false, and-true}
 use Rattle.std.proofs.lemmas.Bool.{lt-ltb}
-use Rattle.cat_values.specs.declared.model.Expression.{Expression}
-use Rattle.cat_values.specs.declared.model.Expression.TheVariants as expressions
-use Rattle.cat_values.specs.declared.model.Infix.{Infix}
-use Rattle.cat_values.specs.declared.model.Infix.TheVariants.{Product}
+use Rattle.text_values.specs.declared.model.Expression.{Expression}
+use Rattle.text_values.specs.declared.model.Expression.TheVariants as expressions
+use Rattle.text_values.specs.declared.model.Infix.{Infix}
+use Rattle.text_values.specs.declared.model.Infix.TheVariants.{Product}
 use Rattle.cat_tokens.specs.declared.rule.CatRule.TheVariants.{TooDeep, Syntax}
 use Rattle.cat_terms.specs.declared.frames.ExpressionStep as code_step
 use Rattle.cat_terms.specs.declared.frames.StepError.{StepError}
-use Rattle.cat_values.specs.declared.model.CheckWord.{CheckWord}
+use Rattle.text_values.specs.declared.model.CheckWord.{CheckWord}
 use Rattle.cat_tokens.specs.declared.token.Token.{Token}
 use Rattle.cat_tokens.specs.declared.token.Token.TheVariants as tokens
-use Rattle.cat_values.specs.Value.{Term, Join, Not, On, Apply, gathered}
+use Rattle.text_values.specs.ModelValue.{Term, Join, Not, On, Apply, gathered}
 use Rattle.cat_terms.specs.declared.frames.Frame as code_frame
 use Rattle.cat_grammar.specs.Machine as machine
 use Rattle.cat_grammar.specs.Grammar.{level, limits}
-use Rattle.cat_values.specs.Values.{term_of}
-use Rattle.cat_values.proofs.Arguments.{applied_term}
+use Rattle.text_values.specs.ModelValues.{term_of}
+use Rattle.text_values.proofs.Arguments.{applied_term}
 use Rattle.cat_terms.specs.declared.terms.OpenExpression.{OpenExpression}
 use Rattle.cat_terms.specs.Reading.{frame_of, stacked, stack_of, is_open, is_square, is_no_bracket, takes_operand}
 use Rattle.cat_terms.specs.OpenReading.{StepsTo}

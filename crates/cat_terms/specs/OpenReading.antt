@@ -9,8 +9,8 @@ use Rattle.cat_terms.specs.declared.frames.ExpressionStep.TheVariants as code_st
 use Rattle.cat_terms.specs.declared.terms.OpenExpression.{OpenExpression}
 use Rattle.cat_tokens.specs.declared.token.Token.{Token}
 use Rattle.cat_tokens.specs.declared.token.Token.TheVariants as tokens
-use Rattle.cat_values.specs.Value.{Term, AllEvents}
-use Rattle.cat_values.specs.Values.{term_of}
+use Rattle.text_values.specs.ModelValue.{Term, AllEvents}
+use Rattle.text_values.specs.ModelValues.{term_of}
 use Rattle.cat_grammar.specs.Machine as machine
 use Rattle.cat_terms.specs.Reading.{stack_of, expectation_of}
 

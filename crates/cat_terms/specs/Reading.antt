@@ -4,7 +4,7 @@ use Rattle.cat_terms.specs.declared.frames.Frame as code_frame
 use Rattle.cat_terms.specs.declared.frames.Frame.TheVariants as frames
 use Rattle.cat_terms.specs.declared.frames.Expectation as code_expectation
 use Rattle.cat_terms.specs.declared.frames.Expectation.TheVariants as expectations
-use Rattle.cat_values.specs.Values.{term_of}
+use Rattle.text_values.specs.ModelValues.{term_of}
 use Rattle.cat_grammar.specs.Grammar.{level}
 use Rattle.cat_grammar.specs.Machine as machine
 

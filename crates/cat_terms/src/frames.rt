@@ -3,15 +3,14 @@
 ghost use Rattle.std.specs.Prelude.{◌≡◌, [], ◌∷◌, IfOk};
 ghost use Rattle.cat_grammar.specs.Machine.{open_count, is_outermost, fold_to, infix_at};
 ghost use Rattle.cat_grammar.specs.Grammar.{level, left_level};
-ghost use Rattle.cat_values.specs.Values.{term_of};
+ghost use Rattle.text_values.specs.ModelValues.{term_of};
 ghost use Rattle.cat_terms.specs.Reading.{stack_of, takes_operand};
 ghost use Rattle.cat_terms.specs.declared.frames.StepError.TheVariants.{OutOfMemory};
 
 use cat_tokens::CatRule;
-use cat_values::{CheckWord, Expression, Infix};
-use source_text::Name;
 use std::alloc::{AllocError, AllocFailed, Global};
 use std::mem;
+use text_values::{CheckWord, Expression, Infix, Name};
 
 /// Why a step over a token failed.
 #[derive(Drop)]

@@ -5,10 +5,9 @@ use crate::frames::{
     open_frames, open_infix,
 };
 use cat_tokens::{CatRule, Mark, Sign, Token};
-use cat_values::{Expression, Infix, Postfix};
-use source_text::Name;
 use std::alloc::Global;
 use std::mem;
+use text_values::{Expression, Infix, Name, Postfix};
 
 /// An expression that is read in part: what is open, how many operators it has so far, and what is expected.
 #[derive(Drop)]
@@ -23,7 +22,7 @@ impl OpenExpression {
     ghost use Rattle.std.specs.Prelude.{◌≡◌, ◌+◌, []};
     ghost use Rattle.cat_grammar.specs.Machine.{InArguments, Goes, Ends, fold_to, operand, opened, after_brace, ended, closed, square_closed, comma_read, after, after_name, after_star, after_star_tilde, expression_step};
     ghost use Rattle.cat_grammar.specs.Grammar.{limits};
-    ghost use Rattle.cat_values.specs.Values.{term_of};
+    ghost use Rattle.text_values.specs.ModelValues.{term_of};
     ghost use Rattle.cat_terms.specs.Reading.{frame_of, stack_of, expectation_of};
     ghost use Rattle.cat_terms.specs.OpenReading.{IsStart, StepsTo, whole_of};
     ghost use Rattle.cat_tokens.specs.declared.token.Token.{Token};

@@ -3,8 +3,8 @@ use Rattle.std.specs.Prelude.{ℕ, zero, suc, ◌+◌, ◌-◌, List, [], ◌∷
 use Rattle.std.specs.List.{position_or_len}
 use Rattle.cat_tokens.specs.Words.{word_token}
 use Rattle.cat_tokens.specs.Tokens.{TokenAt}
-use Rattle.source_text.specs.Letters.{is_letter, is_digit}
-use Rattle.source_text.specs.Layout.{is_blank, is_line_end, quoted_from, comment_of}
+use Rattle.text_values.specs.Letters.{is_letter, is_digit}
+use Rattle.text_values.specs.Layout.{is_blank, is_line_end, quoted_from, comment_of}
 use Rattle.cat_tokens.specs.declared.rule.CatRule.TheVariants as rules
 use Rattle.cat_tokens.specs.declared.token.Sign.TheVariants.{Bar, Semicolon, Backslash, Ampersand}
 use Rattle.cat_tokens.specs.declared.token.Mark.TheVariants.{Plus, Question, Inverse}

@@ -1,9 +1,9 @@
 -- What tokens stand for, and where they stand.
 use Rattle.std.specs.Prelude.{ℕ, List, [], ◌∷◌, Bool, true, false}
-use Rattle.cat_values.specs.declared.model.Infix.{Infix}
-use Rattle.cat_values.specs.declared.model.Infix.TheVariants.{Union, Sequence, Difference, Intersection}
-use Rattle.cat_values.specs.declared.model.Postfix.{Postfix}
-use Rattle.cat_values.specs.declared.model.Postfix.TheVariants as postfix
+use Rattle.text_values.specs.declared.model.Infix.{Infix}
+use Rattle.text_values.specs.declared.model.Infix.TheVariants.{Union, Sequence, Difference, Intersection}
+use Rattle.text_values.specs.declared.model.Postfix.{Postfix}
+use Rattle.text_values.specs.declared.model.Postfix.TheVariants as postfix
 use Rattle.cat_tokens.specs.declared.rule.CatRule.{CatRule}
 use Rattle.cat_tokens.specs.declared.rule.CatRule.TheVariants as rules
 use Rattle.cat_tokens.specs.declared.token.Sign.{Sign}

@@ -2,16 +2,16 @@
 
 ghost use Rattle.std.specs.Prelude.{◌≡◌, ◌<◌, ◌≤◌, length, IfOk};
 ghost use Rattle.std.specs.List.{position_or_len};
-ghost use Rattle.source_text.specs.Layout.{quoted_from, comment_of};
+ghost use Rattle.text_values.specs.Layout.{quoted_from, comment_of};
 ghost use Rattle.cat_tokens.specs.Lexer.{is_name_byte, ends_name, is_layout, comment_front, quoted_front, sign_token, sign_front, front};
 
 use crate::rule::CatRule;
 use crate::token::{Mark, Sign, Token};
 use crate::words::word_token;
-use source_text::{
+use std::alloc::{AllocError, Global};
+use text_values::{
     Name, byte_at, comment_length, is_blank, is_digit, is_letter, line_length, quoted_length,
 };
-use std::alloc::{AllocError, Global};
 
 /// The front of a text: layout or a token, with its length in bytes.
 #[derive(Drop)]

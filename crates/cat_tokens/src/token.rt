@@ -4,8 +4,7 @@ ghost use Rattle.std.specs.Prelude.{◌≡◌};
 ghost use Rattle.cat_tokens.specs.Tokens.{infix_of, postfix_of, rule_of, begins_operand};
 
 use crate::rule::CatRule;
-use cat_values::{CheckWord, Infix, Postfix};
-use source_text::Name;
+use text_values::{CheckWord, Infix, Name, Postfix};
 
 /// An infix operator of one sign that is never postfix.
 #[derive(Clone, Copy, PartialEq, Eq)]

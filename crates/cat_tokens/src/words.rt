@@ -6,9 +6,8 @@ ghost use Rattle.cat_tokens.specs.Words.{item_word, part_word, is_definition_wor
 
 use crate::rule::CatRule;
 use crate::token::Token;
-use cat_values::CheckWord;
-use source_text::{Name, byte_at};
 use std::alloc::{AllocError, Global};
+use text_values::{CheckWord, Name, byte_at};
 
 // Whether a text has these bytes.
 #[inline(never)]

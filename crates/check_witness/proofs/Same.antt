@@ -2,8 +2,8 @@
 use Rattle.std.proofs.Common.{ℕ, ◌≡◌, ◌↔◌, List, [], ◌∷◌, Bool, true, false, Option, Some, None, subst, sym}
 use Rattle.bit_relations.specs.Pairs.{Path}
 use Rattle.relation_cycles.specs.Cycles.{IsCycle}
-use Rattle.cat_values.specs.declared.model.CheckWord.{CheckWord}
-use Rattle.cat_values.specs.declared.model.CheckWord.TheVariants as words
+use Rattle.text_values.specs.declared.model.CheckWord.{CheckWord}
+use Rattle.text_values.specs.declared.model.CheckWord.TheVariants as words
 use Rattle.cat_eval.specs.Checks.{Holds}
 use Rattle.cat_eval.proofs.Same.{Same, SameSet}
 use Rattle.check_witness.specs.declared.witness.Witness.{Witness}

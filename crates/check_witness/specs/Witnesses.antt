@@ -1,8 +1,8 @@
 -- Why a check refuses a candidate. Read first: `Meaning` and `Checks` of cat_eval, `Cycles` of relation_cycles.
 use Rattle.std.specs.Prelude.{ℕ, ◌≡◌, ◌<◌, [], Bool, true, false, Option, Some, None}
 use Rattle.relation_cycles.specs.Cycles.{IsShortestCycle, IsFirstReflexive, IsLeastPair}
-use Rattle.cat_values.specs.declared.model.CheckWord.{CheckWord}
-use Rattle.cat_values.specs.declared.model.CheckWord.TheVariants as words
+use Rattle.text_values.specs.declared.model.CheckWord.{CheckWord}
+use Rattle.text_values.specs.declared.model.CheckWord.TheVariants as words
 use Rattle.binding_kinds.specs.declared.kinds.Kind.{Kind}
 use Rattle.binding_kinds.specs.declared.kinds.Kind.TheVariants as kinds
 use Rattle.binding_graph.specs.declared.resolved.CheckCode.{CheckCode}

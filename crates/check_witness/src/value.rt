@@ -6,8 +6,8 @@ ghost use Rattle.check_witness.specs.Values.{AreValues, IsGroupOf};
 use binding_graph::{Body, Code, ResolvedItem, Role};
 use candidates::Space;
 use cat_eval::{Column, eval_group};
-use source_text::Name;
 use std::alloc::{AllocError, Global};
+use text_values::Name;
 
 // A group of one name, which stands for what the code means.
 fn group_of(alloc: Global, code: &Code) -> Result<ResolvedItem, AllocError>

@@ -11,10 +11,10 @@ ghost use Rattle.columns.specs.Runs.{value_at, set_at};
 use binding_graph::CheckCode;
 use bit_relations::{EventSet, Rel};
 use cat_eval::Column;
-use cat_values::CheckWord;
 use columns::{Cursor, RunColumn, SetRuns};
 use relation_cycles::{first_reflexive, least_pair, shortest_cycle};
 use std::alloc::{AllocError, Global};
+use text_values::CheckWord;
 
 /// Why a check refuses a candidate. Events go by their numbers.
 #[derive(Debug, Drop, PartialEq)]

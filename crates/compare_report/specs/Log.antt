@@ -1,8 +1,8 @@
 -- The bytes of a log.
 use Rattle.std.specs.Prelude.{ℕ, List, [], ◌∷◌, ◌++◌, Bool, true, false, decimal, length, codes}
 use Rattle.std.specs.List.{flat_map}
-use Rattle.litmus_values.specs.declared.test.Quantifier.{Quantifier}
-use Rattle.litmus_values.specs.declared.test.Quantifier.TheVariants.{Exists, NotExists, Forall}
+use Rattle.text_values.specs.declared.test.Quantifier.{Quantifier}
+use Rattle.text_values.specs.declared.test.Quantifier.TheVariants.{Exists, NotExists, Forall}
 use Rattle.binding_kinds.specs.Numbers.{number as fault_number}
 use Rattle.candidates.specs.Faults.{number as refusal_number}
 use Rattle.verdict.specs.declared.answer.CountedState.{CountedState}

@@ -5,8 +5,8 @@ ghost use Rattle.std.specs.List.{flat_map};
 ghost use Rattle.compare_report.specs.Cells.{cell_of, result_field, cell_field, cell_log, holds_sign, count_line, result_counts, cell_counts};
 
 use crate::log::{outcome_log, put_observation, put_refusal, put_refusal_line};
-use source_text::{put_bytes, put_decimal};
 use std::alloc::{AllocError, Global};
+use text_values::{put_bytes, put_decimal};
 use verdict::{CountedState, Outcome, OutcomeResult};
 
 /// What is shown of a test under a model.

@@ -7,10 +7,10 @@ ghost use Rattle.compare_report.specs.Differences.{merged, has_other_count, is_s
 
 use crate::cell::{Shown, put_cell};
 use crate::log::put_flags;
-use source_text::{put_bytes, put_decimal};
 use std::alloc::{AllocError, Global};
 use std::cmp::Ordering;
 use std::marker::Model;
+use text_values::{put_bytes, put_decimal};
 use verdict::{CountedState, Evaluation, OutcomeResult, Refusal};
 
 /// The cells of a test under two models.

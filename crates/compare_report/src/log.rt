@@ -4,9 +4,8 @@ ghost use Rattle.std.specs.Prelude.{◌≡◌, ◌++◌, OnOk, IfOk};
 ghost use Rattle.std.specs.List.{flat_map};
 ghost use Rattle.compare_report.specs.Log.{kind_word, observation_word, met_word, state_line, flag_line, state_lines, witness_lines, observation_text, observation_label, condition_line, observation_line, evaluation_lines, head_line, refusal_text, refusal_line, log_of};
 
-use litmus_values::Quantifier;
-use source_text::{Name, put_bytes, put_decimal};
 use std::alloc::{AllocError, Global};
+use text_values::{Name, Quantifier, put_bytes, put_decimal};
 use verdict::{CountedState, Evaluation, Observation, Outcome, OutcomeResult, Refusal};
 
 #[tactic(auto, unfolding(crate::specs::Log::kind_word))]

@@ -6,9 +6,9 @@ ghost use Rattle.compare_report.specs.Cells.{cell_of, cell_field};
 ghost use Rattle.compare_report.specs.Columns.{field_width, column_width, field_text, line_from, row_of, head_fields, row_fields, table_of};
 
 use crate::cell::{Shown, put_cell};
-use source_text::{Name, put_bytes};
 use std::alloc::{AllocError, Global};
 use std::marker::Model;
+use text_values::{Name, put_bytes};
 
 /// The cells of a test, in the order of the models.
 #[derive(Drop)]

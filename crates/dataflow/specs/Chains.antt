@@ -1,6 +1,6 @@
 -- How the values of loads reach the events of a run.
 use Rattle.std.specs.Prelude.{ℕ, zero, suc, ◌≡◌, ◌⊎◌, ◌<◌, ◌+◌, ◌↔◌, Bool, true, false, not, List, [], ◌∷◌, length, IsTrue, slice_index_or, Contains, if◌then◌else◌}
-use Rattle.litmus_values.specs.declared.instruction.Fence.TheVariants.{Isync}
+use Rattle.text_values.specs.declared.instruction.Fence.TheVariants.{Isync}
 use Rattle.thread_runs.specs.declared.instruction.Instruction.{Instruction}
 use Rattle.thread_runs.specs.declared.instruction.Instruction.TheVariants.{Immediate, Move, AddImmediate, Operate, Load, LoadIndexed, Store, StoreIndexed, Compare, CompareImmediate, Branch, Barrier}
 use Rattle.thread_runs.specs.Machine.{is_load, is_branch, cancels}

@@ -13,8 +13,8 @@ use crate::lists::{Dependencies, Links};
 use crate::taints::{
     Columns, Taints, clean, is_event, no_taints, note, operands, reach, registers_fit,
 };
-use litmus_values::Fence;
 use std::alloc::{AllocError, Global};
+use text_values::Fence;
 use thread_runs::{Instruction, Run, RunStep};
 
 /// How many of the steps are events.

@@ -10,8 +10,8 @@ use Rattle.bench_texts.proofs.Lists.{map-put_at, set-put_at, map-remove}
 use Rattle.bench_nodes.specs.declared.table.ModelRow.{ModelRow}
 use Rattle.model_slots.specs.Slots.{PlainSlot}
 use Rattle.model_slots.specs.Tables.{ModelReading, slots_in}
-use Rattle.edited_tables.specs.declared.models.HeldModel.{HeldModel}
-use Rattle.edited_items.specs.Items.{ItemFact}
+use Rattle.stamped_parts.specs.declared.model_rows.HeldModel.{HeldModel}
+use Rattle.stamped_parts.specs.Items.{ItemFact}
 use Rattle.edited_parts.specs.Edited.{held_models, model_before, rest_of, IsModelMade, AreModelsMade}
 use Rattle.edited_parts.specs.Readings.{readings_of, facts_in, all_facts}
 

@@ -5,8 +5,8 @@ use Rattle.std.specs.List.{AllZip, All, AllByRecursion as Each, range_with_len, 
 use Rattle.std.proofs.lemmas.Bool.Decides.{eqb_tells, leb_tells}
 use Rattle.std.proofs.lemmas.List.{length-append, length-map, map-append}
 use Rattle.std.proofs.lemmas.List.FromFn.{fill_by_all}
-use Rattle.litmus_values.specs.declared.test.Test.{Test}
-use Rattle.cat_values.specs.declared.model.Item.{Item}
+use Rattle.text_values.specs.declared.test.Test.{Test}
+use Rattle.text_values.specs.declared.model.Item.{Item}
 use Rattle.binding_kinds.specs.Value.{clause_of}
 use Rattle.binding_kinds.specs.declared.fault.ModelFault.{ModelFault}
 use Rattle.binding_graph.specs.declared.resolved.ResolvedItem.{ResolvedItem}
@@ -36,14 +36,14 @@ use Rattle.stamped_parts.specs.declared.parts.Parts.{Parts}
 use Rattle.stamped_parts.specs.Built.{IsItemRow, IsModelRow, AreTestRows, IsModelIn, IsBuilt}
 use Rattle.stamped_parts.specs.Contents.{State, state_of, content, item_content, fault_content, fault_part}
 use Rattle.stamped_parts.specs.States.{IsPartAfter}
-use Rattle.edited_tables.specs.declared.models.HeldModel.{HeldModel}
-use Rattle.edited_tables.specs.Laws.{WasModelRow}
+use Rattle.stamped_parts.specs.declared.model_rows.HeldModel.{HeldModel}
+use Rattle.stamped_parts.specs.TableLaws.{WasModelRow}
 use Rattle.stamped_parts.specs.Stamps.{IsLaterNumber, IsPartNow, next_number}
-use Rattle.edited_tables.specs.Models.{raised_model}
-use Rattle.edited_items.specs.Items.{ItemFact, fact_at, item_facts, raised_item}
-use Rattle.edited_items.specs.Laws.{AreItemsAfter, DoesWhatIsRead}
-use Rattle.edited_items.specs.Laws as items
-use Rattle.edited_items.proofs.ItemRows.{parts_go_on, items_are_stamped, items_do, items_in_order, items_held}
+use Rattle.stamped_parts.specs.Models.{raised_model}
+use Rattle.stamped_parts.specs.Items.{ItemFact, fact_at, item_facts, raised_item}
+use Rattle.stamped_parts.specs.ItemLaws.{AreItemsAfter, DoesWhatIsRead}
+use Rattle.stamped_parts.specs.ItemLaws as items
+use Rattle.stamped_parts.proofs.ItemRows.{parts_go_on, items_are_stamped, items_do, items_in_order, items_held}
 use Rattle.edited_parts.specs.declared.edited.EditedParts.{EditedParts}
 use Rattle.edited_parts.specs.declared.edited.EditedParts.TheVariants as edited
 use Rattle.edited_parts.specs.declared.edited.ModelParts.{ModelParts}

@@ -9,12 +9,12 @@ use Rattle.bench_nodes.specs.declared.table.ModelRow.{ModelRow}
 use Rattle.bench_nodes.specs.Nodes.{fault_stamp}
 use Rattle.stamped_parts.specs.Built.{IsModelRow}
 use Rattle.stamped_parts.specs.Contents.{PartContent, fault_part, fault_content}
-use Rattle.edited_tables.specs.declared.models.HeldModel.{HeldModel}
-use Rattle.edited_tables.specs.Laws.{WasModelRow}
+use Rattle.stamped_parts.specs.declared.model_rows.HeldModel.{HeldModel}
+use Rattle.stamped_parts.specs.TableLaws.{WasModelRow}
 use Rattle.stamped_parts.specs.Stamps.{IsLaterNumber, IsPartNow, next_number, raised}
-use Rattle.edited_tables.specs.Models.{fault_by, fault_stamp_by, raised_model}
+use Rattle.stamped_parts.specs.Models.{fault_by, fault_stamp_by, raised_model}
 use Rattle.stamped_parts.proofs.Stamping.{part_now}
-use Rattle.edited_tables.proofs.ModelRows.{fault_low, model_stamped}
+use Rattle.stamped_parts.proofs.ModelRows.{fault_low, model_stamped}
 use Rattle.edited_parts.specs.Edited.{held_models, model_id, rest_of, IsModelMade, AreModelsMade}
 use Rattle.edited_parts.specs.Owed.{AreApart}
 use Rattle.edited_parts.specs.Readings.{fault_in}

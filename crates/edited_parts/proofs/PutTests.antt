@@ -2,17 +2,17 @@
 use Rattle.std.proofs.Common.{ℕ, zero, suc, ◌<◌, ◌≤◌, ◌≡◌, ◌≢◌, ◌⊎◌, inl, inr, List, [], ◌∷◌, map, Option, Some, None, Vec, Global, slice_get, refl, sym, subst, ◌∙◌, eq-eqb, ne_eqb, arith}
 use Rattle.std.specs.List.{AllZip, AllByRecursion as Each, remove}
 use Rattle.std.proofs.lemmas.Bool.Decides.{eqb_tells}
-use Rattle.litmus_values.specs.declared.test.Test.{Test}
+use Rattle.text_values.specs.declared.test.Test.{Test}
 use Rattle.memo_core.specs.Step.{Has}
 use Rattle.bench_texts.specs.BenchTexts.{put_at}
 use Rattle.bench_nodes.specs.declared.table.TestRow.{TestRow}
 use Rattle.bench_nodes.specs.Nodes.{stamp_in, test_stamp}
 use Rattle.stamped_parts.specs.Built.{IsTestRow, AreTestRows}
 use Rattle.stamped_parts.specs.Contents.{test_part, test_content}
-use Rattle.edited_tables.specs.Laws.{WasTestRow}
+use Rattle.stamped_parts.specs.TableLaws.{WasTestRow}
 use Rattle.stamped_parts.specs.Stamps.{IsPartNow}
-use Rattle.edited_tables.specs.Tests.{TestEntry, held_by, stamp_by}
-use Rattle.edited_tables.proofs.TestRows.{row_stays}
+use Rattle.stamped_parts.specs.Tests.{TestEntry, held_by, stamp_by}
+use Rattle.stamped_parts.proofs.TestRows.{row_stays}
 use Rattle.edited_parts.specs.Edited.{entry_by, test_id}
 use Rattle.edited_parts.specs.Owed.{AreApart}
 

@@ -2,7 +2,7 @@
 use Rattle.std.proofs.Common.{ℕ, ◌<◌, ◌≤◌, ◌≡◌, ◌^◌, ◌-◌, inl, inr, List, [], ◌∷◌, length, map, Option, Some, None, Vec, Global, sym, ap, subst, ◌∙◌, arith}
 use Rattle.std.specs.List.{AllZip, AllByRecursion as Each, remove}
 use Rattle.std.proofs.lemmas.Bool.Decides.{eqb_tells}
-use Rattle.litmus_values.specs.declared.test.Test.{Test}
+use Rattle.text_values.specs.declared.test.Test.{Test}
 use Rattle.ppc_semantics.specs.Lowering.{AreNames, test_names}
 use Rattle.binding_kinds.specs.declared.fault.ModelFault.{ModelFault}
 use Rattle.shared_items.specs.declared.items.SharedItem.{SharedItem}
@@ -23,9 +23,9 @@ use Rattle.stamped_parts.specs.declared.parts.Parts.{Parts}
 use Rattle.stamped_parts.specs.Built.{IsItemRow, IsModelRow, IsTestRow, AreTestRows, IsModelIn, IsBuilt}
 use Rattle.stamped_parts.specs.Contents.{State, state_of, content, item_content, fault_content, test_content}
 use Rattle.stamped_parts.specs.States.{IsPartAfter}
-use Rattle.edited_tables.specs.Laws.{IsTestAfter}
+use Rattle.stamped_parts.specs.TableLaws.{IsTestAfter}
 use Rattle.stamped_parts.specs.Stamps.{IsLaterNumber, IsPartNow, next_number}
-use Rattle.edited_tables.proofs.TestRows.{test_stamped, parts_now}
+use Rattle.stamped_parts.proofs.TestRows.{test_stamped, parts_now}
 use Rattle.edited_parts.specs.declared.edited.EditedParts.{EditedParts}
 use Rattle.edited_parts.specs.declared.edited.EditedParts.TheVariants as edited
 use Rattle.edited_parts.specs.Edited.{entry_at, test_id, IsTestMade, AreModelsSame, PutsTest, DropsTest}

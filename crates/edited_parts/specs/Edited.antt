@@ -1,7 +1,7 @@
 -- What an edit makes of the parts of the bench, and what they are after it. Read it after Readings.
 use Rattle.std.specs.Prelude.{◌≡◌, ⊤, ℕ, zero, suc, ◌<◌, List, [], ◌∷◌, ◌++◌, length, map, remove, nat_lt, if◌then◌else◌, slice_get, Vec, vec_len, vec_capacity, Option, Some, None}
 use Rattle.std.specs.declared.alloc.Global.{Global}
-use Rattle.litmus_values.specs.declared.test.Test.{Test}
+use Rattle.text_values.specs.declared.test.Test.{Test}
 use Rattle.ppc_semantics.specs.Lowering.{AreNames, test_names}
 use Rattle.binding_kinds.specs.declared.fault.ModelFault.{ModelFault}
 use Rattle.bench_texts.specs.declared.model.NamedModel.{NamedModel}
@@ -14,11 +14,11 @@ use Rattle.bench_nodes.specs.declared.table.TestRow.{TestRow}
 use Rattle.model_slots.specs.Slots.{plain, item_history}
 use Rattle.model_slots.specs.Tables.{all_slots}
 use Rattle.stamped_parts.specs.declared.parts.Parts.{Parts}
-use Rattle.edited_tables.specs.declared.models.HeldModel.{HeldModel}
-use Rattle.edited_tables.specs.Models.{raised_model, IsModelRowOf}
+use Rattle.stamped_parts.specs.declared.model_rows.HeldModel.{HeldModel}
+use Rattle.stamped_parts.specs.Models.{raised_model, IsModelRowOf}
 use Rattle.stamped_parts.specs.Stamps.{next_number}
-use Rattle.edited_tables.specs.Tests.{TestEntry, IsRowOf, IsRaisedRow}
-use Rattle.edited_items.specs.Items.{raised_item, AreListsOf}
+use Rattle.stamped_parts.specs.Tests.{TestEntry, IsRowOf, IsRaisedRow}
+use Rattle.stamped_parts.specs.Items.{raised_item, AreListsOf}
 use Rattle.edited_parts.specs.declared.edited.EditedParts.{EditedParts}
 use Rattle.edited_parts.specs.declared.edited.EditedParts.TheVariants as edited
 use Rattle.edited_parts.specs.declared.edited.ModelParts.{ModelParts}

@@ -1,6 +1,6 @@
 -- LAWS of the parts of the bench after an edit: what `laws` states.
 use Rattle.std.specs.Prelude.{⊤, ℕ, List, All}
-use Rattle.litmus_values.specs.declared.test.Test.{Test}
+use Rattle.text_values.specs.declared.test.Test.{Test}
 use Rattle.bench_texts.specs.Held.{IsRead}
 use Rattle.bench_texts.specs.declared.model.NamedModel.{NamedModel}
 use Rattle.bench_texts.specs.declared.replacement.Replacement.{Replacement}

@@ -2,3 +2,9 @@ pub mod Edited
 pub mod Laws
 pub mod Owed
 pub mod Readings
+pub mod Solved
+pub mod Settled
+pub mod Kept
+pub mod BenchCells
+pub mod Left
+pub mod Slices

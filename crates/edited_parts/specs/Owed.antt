@@ -1,7 +1,7 @@
 -- What the parts of the bench owe to its tests and models. Read it after Readings. The laws cite it.
 use Rattle.std.specs.Prelude.{◌≡◌, ⊤, ℕ, ◌≤◌, List, [], ◌∷◌, length, map}
 use Rattle.std.specs.List.{AllZip, AllByRecursion as Each, flat_map}
-use Rattle.litmus_values.specs.declared.test.Test.{Test}
+use Rattle.text_values.specs.declared.test.Test.{Test}
 use Rattle.ppc_semantics.specs.Lowering.{AreNames, test_names}
 use Rattle.memo_core.specs.Step.{Has}
 use Rattle.bench_texts.specs.declared.model.NamedModel.{NamedModel}

@@ -9,7 +9,7 @@ use Rattle.bench_texts.specs.declared.reading.Reading.{Reading}
 use Rattle.bench_texts.specs.declared.reading.Reading.TheVariants as readings
 use Rattle.bench_nodes.specs.declared.table.ModelRow.{ModelRow}
 use Rattle.model_slots.specs.Tables.{ModelReading, Sound, Faulty}
-use Rattle.edited_items.specs.Items.{ItemFact, item_facts}
+use Rattle.stamped_parts.specs.Items.{ItemFact, item_facts}
 
 -- the fault of a model, if it has one
 abbrev pub fault_in : Reading → Option ModelFault

@@ -2,16 +2,14 @@
 
 ghost use Rattle.std.specs.Prelude.{◌≡◌, ◌+◌, ◌<◌, ◌≤◌, map, remove, vec_len, vec_capacity};
 ghost use Rattle.bench_texts.specs.BenchTexts.{put_at};
-ghost use Rattle.edited_tables.specs.Models.{raised_model};
+ghost use Rattle.stamped_parts.specs.Models.{raised_model};
 ghost use Rattle.edited_parts.specs.Edited.{IsReady, HasRoom, PutsTest, DropsTest, PutsModels, Commits};
 
 use crate::edited::{EditedParts, ModelParts};
 use bench_nodes::{ModelRow, TestRow, are_rising};
-use edited_items::raise_items;
-use edited_tables::{raise_row, raised_model};
-use source_text::Name;
-use stamped_parts::Parts;
+use stamped_parts::{Parts, raise_items, raise_row, raised_model};
 use std::mem::{drop, replace};
+use text_values::Name;
 
 fn raise_models(rows: &mut [ModelRow], last: u64, number: u64)
     ensures { rows.new ≡ map (raised_model last number) rows.old }

@@ -5,8 +5,8 @@ ghost use Rattle.bench_nodes.specs.Places.{are_apart, lists_if, lists_in};
 
 use bench_nodes::{ModelRow, Slot, SlotPlaces, TestRow};
 use binding_graph::ModelFault;
-use edited_items::ItemLists;
-use source_text::Name;
+use stamped_parts::ItemLists;
+use text_values::Name;
 
 /// The parts of all models after an edit, without its number.
 #[derive(Drop)]

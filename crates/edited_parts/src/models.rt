@@ -3,16 +3,14 @@
 ghost use Rattle.std.specs.Prelude.{◌≡◌, IfOk, map, remove};
 ghost use Rattle.bench_texts.specs.BenchTexts.{put_at};
 ghost use Rattle.bench_texts.specs.Replacements.{models_with};
-ghost use Rattle.edited_items.specs.Items.{facts_of, AreListsOf};
+ghost use Rattle.stamped_parts.specs.Items.{facts_of, AreListsOf};
 ghost use Rattle.edited_parts.specs.Edited.{held_models, models_before, model_before, model_id, IsModelMade, AreModelsMade};
 ghost use Rattle.edited_parts.specs.Readings.{fault_in, facts_in, all_facts};
 
 use bench_nodes::ModelRow;
 use bench_texts::{NamedModel, Reading, Replacement};
 use binding_graph::ModelFault;
-use edited_items::{ItemLists, ModelItems};
-use edited_tables::{HeldModel, model_row};
-use stamped_parts::Parts;
+use stamped_parts::{HeldModel, ItemLists, ModelItems, Parts, model_row};
 use std::alloc::{AllocError, Global};
 
 // The models that are there, with their faults.

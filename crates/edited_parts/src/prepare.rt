@@ -9,11 +9,10 @@ use crate::slots::all_slots;
 use crate::tests::made_test;
 use bench_nodes::SlotPlaces;
 use bench_texts::{NamedModel, Replacement};
-use edited_tables::{HeldModel, next_number};
-use litmus_values::Test;
 use model_slots::Histories;
-use stamped_parts::Parts;
+use stamped_parts::{HeldModel, Parts, next_number};
 use std::alloc::{AllocError, Global};
+use text_values::Test;
 
 /// The most tests, and the most nodes of a test, that a table has.
 const MOST: usize = 65_536;

@@ -1,16 +1,14 @@
 //! The row of a test that an edit puts.
 
 ghost use Rattle.std.specs.Prelude.{◌≡◌, IfOk, option_map};
-ghost use Rattle.edited_tables.specs.Tests.{entry_of};
+ghost use Rattle.stamped_parts.specs.Tests.{entry_of};
 ghost use Rattle.edited_parts.specs.Edited.{entry_at, test_id, IsTestMade};
 
 use bench_nodes::TestRow;
-use edited_tables::{HeldTest, next_number, test_row};
-use litmus_values::Test;
 use ppc_semantics::locations_of;
-use source_text::Name;
-use stamped_parts::Parts;
+use stamped_parts::{HeldTest, Parts, next_number, test_row};
 use std::alloc::{AllocError, Global};
+use text_values::{Name, Test};
 
 /// The row of a test, and the names of all its locations.
 #[derive(Drop)]

@@ -2,8 +2,8 @@
 use Rattle.std.specs.Prelude.{◌≡◌, Bool, true, false, List, [], map}
 use Rattle.std.specs.List.{AllByRecursion}
 use denote.Ref.{Bor}
-use Rattle.litmus_values.specs.declared.test.Test.{Test}
-use Rattle.cat_values.specs.declared.model.ModelText.{ModelText}
+use Rattle.text_values.specs.declared.test.Test.{Test}
+use Rattle.text_values.specs.declared.model.ModelText.{ModelText}
 use Rattle.binding_kinds.specs.declared.kinds.Kind.{Kind}
 use Rattle.binding_kinds.specs.declared.kinds.Kind.TheVariants as kinds
 use Rattle.binding_graph.specs.declared.resolved.Body.{Body}

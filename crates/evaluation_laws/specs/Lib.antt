@@ -1,1 +1,5 @@
+pub mod ItemLaws
 pub mod Laws
+pub mod Readings
+pub mod Alignment
+pub mod SliceLaws

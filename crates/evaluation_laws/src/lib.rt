@@ -1,13 +1,51 @@
-//! Laws of what evaluating from nothing gives: one outcome, from one list of columns and of answers of each item. Read
-//! specs/Laws first, after `FromScratch` of `memo_graph/specs`.
+//! Laws of evaluation.
+//!
+//! - What an item is resolved to depends only on its text and on what its names stand for: specs/ItemLaws, after `Resolved`
+//!   of `binding_graph/specs`.
+//! - Evaluating from nothing gives one outcome, from one list of columns and of answers of each item: specs/Laws, after
+//!   `FromScratch` of `memo_graph/specs`.
+//! - Two models whose slices for a test are equal are read alike: specs/Readings, after `Slices` of `bench_slices/specs`;
+//!   specs/Alignment is how the proof goes.
+//! - What a cell gives from nothing depends on what its slice has: specs/SliceLaws.
 #![tactic(auto)]
 
+ghost use Rattle.evaluation_laws.specs.ItemLaws.{Pairing, Scope, IsAlikeFunction, HaveAlikeItems, HaveItemsAlikeByText};
 ghost use Rattle.evaluation_laws.specs.Laws.{HasOneColumns, HasOneAnswers, HasOneResolution, HasCodedItems, HasOneOutcome};
+ghost use Rattle.std.specs.Prelude.{◌≡◌};
+ghost use Rattle.text_values.specs.TestValue.{Content};
+ghost use Rattle.bench_texts.specs.declared.model.NamedModel.{NamedModel};
+ghost use Rattle.bench_texts.specs.Held.{IsRead};
+ghost use Rattle.bench_slices.specs.Slices.{slice};
+ghost use Rattle.evaluation_laws.specs.Readings.{items_read};
+ghost use Rattle.evaluation_laws.specs.SliceLaws.{GiveTheSame, ItemsDecide, SlicesDecide};
 
 use binding_graph::Role;
 use candidates::Space;
-use cat_values::ModelText;
-use litmus_values::Test;
+use text_values::{ModelText, Test};
+
+/// Items of one text whose names stand for the same in two models are resolved to the same steps, at whatever index they
+/// stand, and use names that stand for each other, in the same order.
+pub fn items_are_alike(model: &ModelText, other: &ModelText)
+    ensures { HaveAlikeItems model.now other.now }
+{
+    let _model = model;
+    let _other = other;
+}
+
+/// A function whose names stand for the same in two models is the same to those who apply it in both.
+pub fn functions_are_alike()
+    ensures { (p : Pairing) (s o : Scope) → IsAlikeFunction p s o }
+{}
+
+/// Items of one text are resolved to the same steps, at whatever indices of two models they stand, and use names that stand
+/// for each other, in the same order, where their names are resolved alike: to what stands for the same, of one kind, and to
+/// functions of one text whose own names are resolved alike in turn.
+pub fn items_by_what_they_say(model: &ModelText, other: &ModelText)
+    ensures { HaveItemsAlikeByText model.now other.now }
+{
+    let _model = model;
+    let _other = other;
+}
 
 /// An item has one list of columns over a space, given those of its inputs.
 pub fn columns_are_one(role: &Role, space: &Space)
@@ -46,3 +84,28 @@ pub fn outcome_is_one(test: &Test, model: &ModelText)
     let _test = test;
     let _model = model;
 }
+
+/// Models without fault that give a test one slice have, in the order of the text, equal items that checks and flags reach:
+/// what they do, which names they use, and which functions they apply.
+pub fn equal_slices_read_alike()
+    ensures { (test other : Content) (model under : NamedModel) → IsRead model → IsRead under → slice test model ≡ slice other under → items_read model ≡ items_read under }
+{}
+
+/// Tests that say the same, wherever they lie in memory, have the same outcomes under a model.
+pub fn equal_tests_give_the_same(test: &Test, other: &Test, model: &ModelText)
+    ensures { GiveTheSame test.now other.now model.now }
+{
+    let _test = test;
+    let _other = other;
+    let _model = model;
+}
+
+/// Two models without fault that give a test one slice give it the same evaluations.
+pub fn items_decide()
+    ensures { ItemsDecide }
+{}
+
+/// The slice of a cell decides what evaluating the cell from nothing gives.
+pub fn slices_decide()
+    ensures { SlicesDecide }
+{}

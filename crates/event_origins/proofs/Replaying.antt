@@ -4,7 +4,7 @@ use Rattle.std.specs.Prelude.{Option, Some, None, Vec, slice_get}
 use Rattle.std.specs.List.{All, Contains}
 use Rattle.std.specs.declared.alloc.Global.{Global}
 use Rattle.std.proofs.lemmas.List.{get_or-map, length-append, length-map}
-use Rattle.litmus_values.specs.declared.test.Test.{Test}
+use Rattle.text_values.specs.declared.test.Test.{Test}
 use Rattle.ppc_semantics.specs.Lowering.{ShowsTestRuns}
 use Rattle.run_combinations.specs.declared.combination.Event.{Event}
 use Rattle.thread_runs.specs.AllRuns.{ShowsRuns, Shown, shown, shown_of, thread_of}

@@ -3,7 +3,7 @@
 use Rattle.std.specs.Prelude.{Vec, ℕ, ◌≡◌, ◌⊎◌, ◌+◌, ◌++◌, Bool, true, false, List, [], Option, Some, None, if◌then◌else◌, nat_eq, length, slice_get, vec_len}
 use Rattle.std.specs.List.{All, Contains, filter_map}
 use Rattle.std.specs.declared.alloc.Global.{Global}
-use Rattle.litmus_values.specs.declared.test.Test.{Test}
+use Rattle.text_values.specs.declared.test.Test.{Test}
 use Rattle.ppc_semantics.specs.Lowering.{IsProgram, IsTestDomain, IsTestFault, ShowsTestRuns}
 use Rattle.ppc_semantics.specs.declared.fault.DomainFault.TheVariants as faults
 use Rattle.ppc_semantics.specs.declared.fault.DomainRefusal.{DomainRefusal}

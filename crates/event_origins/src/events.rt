@@ -3,7 +3,7 @@
 ghost use Rattle.std.specs.Prelude.{◌≡◌, IfOk};
 ghost use Rattle.std.specs.Option.{option_map};
 ghost use Rattle.std.specs.List.{filter_map};
-ghost use Rattle.litmus_values.specs.declared.test.Test as tests;
+ghost use Rattle.text_values.specs.declared.test.Test as tests;
 ghost use Rattle.event_origins.specs.Origins.{AreAllRuns, AreInstructions, AreMadeIn, AreMadeOf, is_initial, is_of, made_by, made_by_run, made_in, makes_event, not_made, read_by, value_read, values_read};
 
 use crate::runs::run_reading;

@@ -5,10 +5,10 @@ ghost use Rattle.std.specs.Option.{option_map};
 ghost use Rattle.thread_runs.specs.ValueSet.{IsSet};
 ghost use Rattle.event_origins.specs.Origins.{AreAllRuns, AreRunsOver, IsReader, Reads};
 
-use litmus_values::Test;
 use ppc_semantics::{Domain, DomainFault, Run, Value, domain, runs};
 use run_combinations::is_same;
 use std::alloc::{AllocError, Global};
+use text_values::Test;
 
 // The runs of each thread over a domain.
 fn runs_over(alloc: Global, test: &Test, domain: &Domain) -> Result<Vec<Vec<Run>>, AllocError>

@@ -1,7 +1,7 @@
 -- What is made for a combination stands for another with the same events and dependencies.
 use Rattle.std.proofs.Common.{ℕ, ◌≡◌, ◌∙◌, List, length, ap, sym, subst}
-use Rattle.cat_values.specs.declared.predefined.Predefined.{Predefined}
-use Rattle.cat_values.specs.declared.predefined.Predefined.TheVariants as names
+use Rattle.text_values.specs.declared.predefined.Predefined.{Predefined}
+use Rattle.text_values.specs.declared.predefined.Predefined.TheVariants as names
 use Rattle.run_combinations.specs.declared.combination.Combination.{Combination}
 use Rattle.run_combinations.specs.declared.combination.Event.{Event}
 use Rattle.base_env.specs.Candidate.{IsEntered, SetIn, SharedIn}

@@ -1,7 +1,7 @@
 -- All predefined names of one candidate.
 use Rattle.std.specs.Prelude.{ℕ, ◌≡◌, ◌<◌, List}
 use Rattle.bit_relations.specs.Relation.{IsRelation, IsEvents}
-use Rattle.cat_values.specs.declared.predefined.Predefined.TheVariants as names
+use Rattle.text_values.specs.declared.predefined.Predefined.TheVariants as names
 use Rattle.dataflow.specs.DependencyLists.{dependency_lists}
 use Rattle.run_combinations.specs.declared.combination.Combination.{Combination}
 use Rattle.candidates.specs.declared.execution.Execution.{Execution}

@@ -2,7 +2,7 @@
 
 ghost use Rattle.std.specs.Prelude.{◌≡◌, List, ℕ, length, IfOk, IsTrue, Contains, false};
 ghost use Rattle.bit_relations.specs.Relation.{IsRelation};
-ghost use Rattle.cat_values.specs.PredefinedNames.{is_set};
+ghost use Rattle.text_values.specs.PredefinedNames.{is_set};
 ghost use Rattle.candidates.specs.Space.{IsExecution};
 ghost use Rattle.base_env.specs.Known.{set_names};
 ghost use Rattle.base_env.specs.Candidate.{IsEntered, IsReading, IsOrdered, Gives, RelationIn};
@@ -11,8 +11,8 @@ ghost use Rattle.execution_env.specs.Environment.{HasFacts, IsEnvironment};
 use base_env::Base;
 use bit_relations::{EventSet, Rel};
 use candidates::{Combination, Execution, StoreOrders};
-use cat_values::Predefined;
 use std::alloc::{AllocError, Global};
+use text_values::Predefined;
 
 /// The predefined names of one candidate, all over the number of its events (the herd7 manual,
 /// chapter on cat, section on predefined names).

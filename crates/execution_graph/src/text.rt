@@ -7,8 +7,8 @@ ghost use Rattle.execution_graph.specs.Texts.{boxes_text, cluster_front, cluster
 use crate::drawing::{Cluster, Drawing, Edge, Edges, Ink};
 use ppc_semantics::Instruction;
 use reason_text::{Telling, ToldEvent, ToldStep, put_action, put_instruction, put_name};
-use source_text::{put_bytes, put_decimal};
 use std::alloc::AllocError;
+use text_values::{put_bytes, put_decimal};
 
 fn put_escaped_byte(text: &mut Vec<u8>, byte: u8) -> Result<(), AllocError>
     ensures { OnOk result (text.new.items ≡ text.old.items ++ escaped_byte byte) }

@@ -4,8 +4,8 @@ use Rattle.std.proofs.lemmas.List.{append-nil, map-append, reverse-append}
 use Rattle.binding_graph.specs.declared.resolved.Step.{Step}
 use Rattle.binding_graph.specs.declared.resolved.Step.TheVariants as steps
 use Rattle.binding_graph.specs.Trees.{SetTree, SetName, AllEvents, NoEvent, SetBlend, SetNot, RelTree, RelName, NoPair, RelBlend, Then, Cross, OnSet, Close, RelNot, set_code, rel_code}
-use Rattle.cat_values.specs.declared.model.Postfix.{Postfix}
-use Rattle.cat_values.specs.declared.model.Postfix.TheVariants as postfix
+use Rattle.text_values.specs.declared.model.Postfix.{Postfix}
+use Rattle.text_values.specs.declared.model.Postfix.TheVariants as postfix
 use Rattle.factor_walks.specs.declared.factor.Factor.{Factor}
 use Rattle.factor_walks.specs.declared.factor.Repeats.{Repeats}
 use Rattle.factor_walks.specs.declared.factor.Repeats.TheVariants as repeats

@@ -2,7 +2,7 @@
 use Rattle.std.specs.Prelude.{◌≡◌, ◌++◌, List, [], ◌∷◌, reverse, map}
 use Rattle.binding_graph.specs.declared.resolved.Step.{Step}
 use Rattle.binding_graph.specs.Trees.{RelTree, Then, Close, rel_code}
-use Rattle.cat_values.specs.declared.model.Postfix.TheVariants as postfix
+use Rattle.text_values.specs.declared.model.Postfix.TheVariants as postfix
 use Rattle.factor_walks.specs.declared.factor.Factor.{Factor}
 use Rattle.factor_walks.specs.declared.factor.Repeats.{Repeats}
 use Rattle.factor_walks.specs.declared.factor.Repeats.TheVariants as repeats

@@ -5,8 +5,8 @@ ghost use Rattle.factor_walks.specs.Factors.{AreFactors, part_of, parts_in};
 ghost use Rattle.factor_walks.specs.Scanning.{is_next_factor, last_of, makes_relation, next_inside, next_twice, parts_after, pending_after, with_last, with_step, without_next};
 
 use binding_graph::Step;
-use cat_values::Postfix;
 use std::alloc::{AllocError, Global};
+use text_values::Postfix;
 
 /// How often a factor takes the steps of its relation.
 #[derive(Clone, Copy, Debug, PartialEq, Eq)]

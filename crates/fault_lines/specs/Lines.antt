@@ -1,8 +1,8 @@
 -- What is told of a refused text. `put_fault_lines` cites `fault_lines`.
 use Rattle.std.specs.Prelude.{ℕ, ◌+◌, ◌-◌, ◌==◌, ◌||◌, ◌&&◌, Bool, not, min, max, nat_le, nat_lt, List, ◌∷◌, ◌++◌, length, map, take, drop, slice_index, codes, decimal, if◌then◌else◌}
 use Rattle.std.specs.List.{position_or_len}
-use Rattle.source_text.specs.Layout.{is_line_end}
-use Rattle.source_text.specs.Letters.{is_letter, is_digit}
+use Rattle.text_values.specs.Layout.{is_line_end}
+use Rattle.text_values.specs.Letters.{is_letter, is_digit}
 use Rattle.fault_lines.specs.Positions.{count_behind, line_number, column_number, position_label}
 
 -- ---- what is shown of a line

@@ -1,7 +1,7 @@
 -- The line and the column of a byte of a text, both from 1, columns in bytes. `put_position` cites `position_label`.
 use Rattle.std.specs.Prelude.{ℕ, ◌+◌, ◌==◌, List, ◌++◌, length, take, reverse, codes, decimal}
 use Rattle.std.specs.List.{filter, position_or_len}
-use Rattle.source_text.specs.Layout.{is_line_end}
+use Rattle.text_values.specs.Layout.{is_line_end}
 
 -- how many bytes stand behind the last byte of this value: all of them where there is none
 abbrev pub count_behind : ℕ → List ℕ → ℕ

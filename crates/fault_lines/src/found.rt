@@ -4,8 +4,8 @@ ghost use Rattle.std.specs.Prelude.{◌≡◌, ◌≤◌, ◌++◌, OnOk, length
 ghost use Rattle.std.specs.List.{position_or_len};
 ghost use Rattle.fault_lines.specs.Lines.{shown_byte, blank_below, is_word_byte, ends_word, quoted, found};
 
-use source_text::{is_digit, is_letter, put_bytes};
 use std::alloc::AllocError;
+use text_values::{is_digit, is_letter, put_bytes};
 
 /// The most bytes that are shown of a line before an offset, behind it, and of a word.
 pub const MOST_SHOWN: usize = 100;

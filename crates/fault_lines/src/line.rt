@@ -5,8 +5,8 @@ ghost use Rattle.fault_lines.specs.Lines.{line_before, line_behind, picture, rul
 
 use crate::found::{MOST_SHOWN, put_blanks, put_found, put_shown};
 use crate::position::{count_behind, put_position};
-use source_text::{line_length, put_bytes, put_decimal};
 use std::alloc::AllocError;
+use text_values::{line_length, put_bytes, put_decimal};
 
 fn line_before(front: &[u8]) -> &[u8]
     ensures { result.now ≡ line_before front.now }

@@ -2,11 +2,11 @@
 
 ghost use Rattle.std.specs.Prelude.{◌≡◌, ◌≤◌, ◌++◌, OnOk, length};
 ghost use Rattle.fault_lines.specs.Positions.{count_behind, line_number, column_number, position_label};
-ghost use Rattle.source_text.specs.Layout.{is_line_end};
+ghost use Rattle.text_values.specs.Layout.{is_line_end};
 ghost use Rattle.std.specs.List.{filter};
 
-use source_text::{put_bytes, put_decimal};
 use std::alloc::AllocError;
+use text_values::{put_bytes, put_decimal};
 
 /// How many bytes stand behind the last `sign`, or all where there is none.
 pub fn count_behind(bytes: &[u8], sign: u8) -> usize

@@ -1,7 +1,7 @@
 -- What is found is the first fault of the model.
 use Rattle.std.proofs.Common.{◌≡◌, List, [], map, reverse, Option, Some, None, Result, Ok, Err, IfOk, sym, ap, ◌∙◌, subst, arith}
 use Rattle.std.specs.Prelude.{option_map}
-use Rattle.cat_values.specs.declared.predefined.TheConstants.{PREDEFINED}
+use Rattle.text_values.specs.declared.predefined.TheConstants.{PREDEFINED}
 use Rattle.binding_kinds.specs.declared.function.Function.{Function}
 use Rattle.binding_kinds.specs.declared.scope.Entry.{Entry}
 use Rattle.binding_kinds.specs.Outermost.{naming_of}

@@ -1,14 +1,14 @@
 -- One more name of a group, and one more function.
 use Rattle.std.proofs.Common.{ℕ, ◌≡◌, ◌<◌, ◌+◌, List, [], ◌∷◌, ◌++◌, length, map, reverse, drop, get_or, refl, add-one}
 use Rattle.std.proofs.Math.Seq.{drop-cons}
-use Rattle.cat_values.specs.declared.model.Binding.{Binding}
+use Rattle.text_values.specs.declared.model.Binding.{Binding}
 use Rattle.binding_kinds.specs.declared.scope.Entry.{Entry}
 use Rattle.binding_kinds.specs.declared.scope.Binder.TheVariants as binders
 use Rattle.std.specs.Prelude.{Option, Some, None, is_some, true, false}
 use Rattle.binding_kinds.specs.declared.fault.ModelFault.{ModelFault}
 use Rattle.binding_kinds.specs.declared.function.Function.{Function}
 use Rattle.binding_kinds.specs.declared.kinds.Kind.TheVariants.{OfRelation, OfAny}
-use Rattle.cat_values.specs.Values.{term_of}
+use Rattle.text_values.specs.ModelValues.{term_of}
 use Rattle.binding_kinds.specs.Value.{Naming, entry_of, bound_of}
 use Rattle.binding_kinds.specs.Senses.{Sense, IsKept, AreKept, kind_in}
 use Rattle.binding_kinds.specs.Verdict.{or_else, of_parameter, of_parameters}

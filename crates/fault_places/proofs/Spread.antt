@@ -3,12 +3,12 @@ use Rattle.std.proofs.Common.{ℕ, suc, ◌≡◌, ◌<◌, ◌≤◌, ◌+◌, 
 use Rattle.std.specs.Prelude.{min}
 use Rattle.std.proofs.lemmas.List.{drop_all}
 use Rattle.std.proofs.Math.Seq.{drop-cons}
-use Rattle.cat_values.specs.declared.model.Binding.{Binding}
-use Rattle.cat_values.specs.declared.model.Expression.{Expression}
-use Rattle.cat_values.specs.declared.model.Expression.TheVariants as expressions
-use Rattle.cat_values.specs.Value.{Terms, Apply, gathered}
-use Rattle.cat_values.specs.Values.{term_of}
-use Rattle.cat_values.proofs.Arguments.{applied_term}
+use Rattle.text_values.specs.declared.model.Binding.{Binding}
+use Rattle.text_values.specs.declared.model.Expression.{Expression}
+use Rattle.text_values.specs.declared.model.Expression.TheVariants as expressions
+use Rattle.text_values.specs.ModelValue.{Terms, Apply, gathered}
+use Rattle.text_values.specs.ModelValues.{term_of}
+use Rattle.text_values.proofs.Arguments.{applied_term}
 use Rattle.binding_kinds.specs.declared.fault.ModelFault.{ModelFault}
 use Rattle.binding_kinds.specs.GroupNames.{names_of}
 use Rattle.binding_kinds.specs.Kinds.{found}

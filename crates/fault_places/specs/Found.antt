@@ -1,6 +1,6 @@
 -- What is found of the first fault of a model. `first_fault` cites it.
 use Rattle.std.specs.Prelude.{◌≡◌, List, [], map, reverse, slice_get, slice_index_or, Option, Some, None}
-use Rattle.cat_values.specs.declared.predefined.TheConstants.{PREDEFINED}
+use Rattle.text_values.specs.declared.predefined.TheConstants.{PREDEFINED}
 use Rattle.binding_kinds.specs.Value.{Naming, Clause, Mute}
 use Rattle.binding_kinds.specs.Outermost.{naming_of}
 use Rattle.binding_kinds.specs.Faults.{HasNoFault, FirstFault}

@@ -1,16 +1,15 @@
 //! The fault of an application itself, whatever its arguments' faults are.
 
 ghost use Rattle.std.specs.Prelude.{◌≡◌, ◌<◌, ◌≤◌, List, length, reverse, map, None, Ok, Err, MatchResult};
-ghost use Rattle.cat_values.specs.Value.{gathered};
-ghost use Rattle.cat_values.specs.Values.{term_of};
+ghost use Rattle.text_values.specs.ModelValue.{gathered};
+ghost use Rattle.text_values.specs.ModelValues.{term_of};
 ghost use Rattle.binding_kinds.specs.Value.{entry_of};
 ghost use Rattle.binding_kinds.specs.Kinds.{found};
 ghost use Rattle.binding_kinds.specs.Combinations.{digit, number_of};
 ghost use Rattle.binding_kinds.specs.Senses.{Sense, IsKept, AreKept, IsAlike, sense_of, sizes_in, kinds_in, size_applied, under_of, fault_applied};
 
 use binding_kinds::{Binder, Entry, Function, Kind, MAX_SIZE, ModelFault, find, judge, unless};
-use cat_values::Expression;
-use source_text::Name;
+use text_values::{Expression, Name};
 
 /// The function that a name with so many arguments stands for.
 fn function_of<'a>(

@@ -1,7 +1,7 @@
 //! The first fault of the body of a function, and the sign that it stands at.
 
 ghost use Rattle.std.specs.Prelude.{◌≡◌, List, reverse, map, option_map};
-ghost use Rattle.cat_values.specs.Values.{term_of};
+ghost use Rattle.text_values.specs.ModelValues.{term_of};
 ghost use Rattle.binding_kinds.specs.Value.{entry_of};
 ghost use Rattle.binding_kinds.specs.Senses.{Sense, AreKept, sense_of};
 ghost use Rattle.binding_kinds.specs.Kinds.{found};
@@ -11,8 +11,7 @@ ghost use Rattle.fault_places.specs.Search.{signed_fault_of, signed_fault, first
 
 use crate::place::{SignFault, or_later, signed_fault};
 use binding_kinds::{ModelFault, Sight};
-use cat_values::Expression;
-use source_text::Name;
+use text_values::{Expression, Name};
 
 /// The fault of a name without arguments.
 #[tactic(auto, using(binding_kinds::proofs::Bodies::inside_fault))]

@@ -1,7 +1,7 @@
 //! The names that an item adds, and its first fault.
 
 ghost use Rattle.std.specs.Prelude.{◌≡◌, [], None, IfOk, OnOk, List, reverse, map, length, option_map, false};
-ghost use Rattle.cat_values.specs.Values.{term_of};
+ghost use Rattle.text_values.specs.ModelValues.{term_of};
 ghost use Rattle.binding_kinds.specs.Value.{Defined, entry_of, bound_of, clause_of};
 ghost use Rattle.binding_kinds.specs.Kinds.{takes_body};
 ghost use Rattle.binding_kinds.specs.Senses.{Sense, AreKept, kind_in};
@@ -19,9 +19,8 @@ use binding_graph::read_function;
 use binding_kinds::{
     Binder, Entry, Function, Input, Kind, ModelFault, Scope, Sight, judge, takes_body, unless,
 };
-use cat_values::{Binding, Check, Expression, Item};
-use source_text::Name;
 use std::alloc::{AllocError, Global};
+use text_values::{Binding, Check, Expression, Item, Name};
 
 /// Adds the names of a recursive group.
 #[tactic(auto, using(binding_kinds::proofs::Scopes::rev_push))]

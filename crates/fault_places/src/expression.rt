@@ -1,7 +1,7 @@
 //! The first fault of an expression, and the sign that it stands at.
 
 ghost use Rattle.std.specs.Prelude.{◌≡◌, ◌||◌, List, reverse, map, option_map};
-ghost use Rattle.cat_values.specs.Values.{term_of};
+ghost use Rattle.text_values.specs.ModelValues.{term_of};
 ghost use Rattle.binding_kinds.specs.Value.{entry_of};
 ghost use Rattle.binding_kinds.specs.Senses.{Sense, AreKept, kind_in};
 ghost use Rattle.fault_places.specs.Search.{signed_fault_of, signed_fault, first_fault_in};
@@ -11,7 +11,7 @@ use crate::kinds::{is_relation, is_set, takes};
 use crate::place::{SignFault, or_later, signed_fault};
 use crate::signs::{infix_sign, postfix_sign};
 use binding_kinds::{Entry, Function, Kind, ModelFault, is_turned, judge, unless};
-use cat_values::Expression;
+use text_values::Expression;
 
 fn kind_of(entries: &[Entry], functions: &[Function], term: &Expression) -> Kind
     ensures { (senses : List Sense) → AreKept functions.now senses → result ≡ kind_in senses (reverse (map entry_of entries.now)) (term_of term.now) }

@@ -11,8 +11,7 @@ ghost use Rattle.fault_places.specs.Search.{signed_fault_of, signed_fault, first
 use crate::expression::expression_fault;
 use crate::place::{SignFault, or_later, signed_fault};
 use binding_kinds::{Entry, Function, Kind, ModelFault, judge, unless};
-use cat_values::{Binding, MAX_PARAMETERS};
-use source_text::Name;
+use text_values::{Binding, MAX_PARAMETERS, Name};
 
 /// Whether one of the bindings has the name.
 fn is_seen(before: &[Binding], name: &Name) -> bool

@@ -9,8 +9,8 @@ ghost use Rattle.fault_places.specs.Found.{IsFound};
 use crate::declare::declare_item;
 use crate::place::ItemFault;
 use binding_kinds::Scope;
-use cat_values::Item;
 use std::alloc::{AllocError, Global};
+use text_values::Item;
 
 /// The first fault of items over a scope.
 fn find_fault<'t>(

@@ -4,7 +4,7 @@ ghost use Rattle.std.specs.Prelude.{◌≡◌};
 ghost use Rattle.binding_kinds.specs.Kinds.{takes, is_set, is_relation};
 
 use binding_kinds::Kind;
-use cat_values::Infix;
+use text_values::Infix;
 
 /// Whether it is a set, or fits every kind.
 pub fn is_set(kind: Kind) -> bool

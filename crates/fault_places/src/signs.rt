@@ -3,7 +3,7 @@
 ghost use Rattle.std.specs.Prelude.{◌≡◌};
 ghost use Rattle.fault_places.specs.Signs.{infix_sign, postfix_sign, check_sign};
 
-use cat_values::{CheckWord, Infix, Postfix};
+use text_values::{CheckWord, Infix, Postfix};
 
 /// How an infix operator is written.
 pub fn infix_sign(op: Infix) -> &'static [u8]

@@ -1,10 +1,10 @@
 -- Copies of applications.
 use Rattle.std.proofs.Common.{◌≡◌, ℕ, List, map, ap, sym, ◌∙◌, Vec, Global}
-use Rattle.cat_values.specs.declared.model.Expression.{Expression}
-use Rattle.cat_values.specs.declared.model.Expression.TheVariants as expressions
-use Rattle.cat_values.specs.Value.{Apply, gathered}
-use Rattle.cat_values.specs.Values.{term_of}
-use Rattle.cat_values.proofs.Arguments.{applied_term}
+use Rattle.text_values.specs.declared.model.Expression.{Expression}
+use Rattle.text_values.specs.declared.model.Expression.TheVariants as expressions
+use Rattle.text_values.specs.ModelValue.{Apply, gathered}
+use Rattle.text_values.specs.ModelValues.{term_of}
+use Rattle.text_values.proofs.Arguments.{applied_term}
 
 -- applications of one function with equal arguments are equal
 pub copied_application : (e : Expression) (n m : List ℕ) (copies args : Vec Expression Global) (xs : List Expression)

@@ -1,10 +1,10 @@
 //! Copies of expressions.
 
 ghost use Rattle.std.specs.Prelude.{◌≡◌, IfOk, map};
-ghost use Rattle.cat_values.specs.Values.{term_of};
+ghost use Rattle.text_values.specs.ModelValues.{term_of};
 
-use cat_values::Expression;
 use std::alloc::{AllocError, Global};
+use text_values::Expression;
 
 #[cycle(copies)]
 fn copied_expressions(

@@ -1,12 +1,11 @@
 //! Copies of items.
 
 ghost use Rattle.std.specs.Prelude.{◌≡◌, IfOk, map};
-ghost use Rattle.cat_values.specs.Values.{binding_of, shown_of, check_of, clause_of, clauses_of};
+ghost use Rattle.text_values.specs.ModelValues.{binding_of, shown_of, check_of, clause_of, clauses_of};
 
 use crate::expressions::copied_expression;
-use cat_values::{Binding, Check, Item, ShownExpression};
-use source_text::Name;
 use std::alloc::{AllocError, Global};
+use text_values::{Binding, Check, Item, Name, ShownExpression};
 
 fn copied_label(alloc: Global, label: &Option<Name>) -> Result<Option<Name>, AllocError>
     ensures { IfOk result (λ l. l ≡ label.now) }

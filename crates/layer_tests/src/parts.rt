@@ -9,12 +9,12 @@ use bench_nodes::{ItemRow, ModelRow, TestRow};
 use bench_texts::{Edit, EditFault, Texts};
 use edited_parts::{EditedParts, commit_parts, prepare_parts};
 use memo_core::keys::Kind;
-use source_text::{put_bytes, put_decimal};
 use stamped_parts::Parts;
 use std::alloc::{AllocError, Global};
 use std::rt::Files;
 use std::{fs, io};
 use test_cases::text_of;
+use text_values::{put_bytes, put_decimal};
 
 fn put_stamp(answer: &mut Vec<u8>, stamp: u64) -> Result<(), AllocError> {
     put_bytes(answer, b" ")?;

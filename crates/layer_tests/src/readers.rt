@@ -8,11 +8,11 @@ mod tests;
 mod values;
 
 use crate::print_answer;
-use source_text::{put_bytes, put_decimal};
 use std::alloc::{AllocError, Global};
 use std::rt::Files;
 use std::{fs, io};
 use test_cases::text_of;
+use text_values::{put_bytes, put_decimal};
 
 /// Appends a refusal: the letter and the number of its rule, and its offset.
 fn put_refusal(

@@ -7,11 +7,11 @@ mod spaces;
 
 use crate::print_answer;
 use litmus_ppc::{Test, read_test};
-use source_text::{put_between, put_bytes, put_decimal};
 use std::alloc::{AllocError, Global};
 use std::rt::Files;
 use std::{fs, io};
 use test_cases::text_of;
+use text_values::{put_between, put_bytes, put_decimal};
 
 /// Appends a number of a list, behind a blank if it is not the first.
 fn put_item(answer: &mut Vec<u8>, index: usize, number: usize) -> Result<(), AllocError> {

@@ -10,7 +10,7 @@ use Rattle.litmus_tokens.specs.Stage.{after}
 use Rattle.litmus_tokens.specs.Texts.{TokenAt, tokens_of, stage_after, StandsAt}
 use Rattle.litmus_tokens.specs.Words.{column_name}
 use Rattle.litmus_tokens.specs.Faults.{Begins}
-use Rattle.litmus_conditions.specs.Grammar.{PlaceTree, Location, Register, place_meaning, meaning}
+use Rattle.litmus_tokens.specs.Conditions.{PlaceTree, Location, Register, place_meaning, meaning}
 use Rattle.litmus_table.specs.Grammar.{spelled_header, spelled_names, columns_meaning}
 use Rattle.litmus_table.specs.Late.{columns_notes}
 use Rattle.litmus_table.specs.Machine as table

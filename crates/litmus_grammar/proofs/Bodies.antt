@@ -12,8 +12,8 @@ use Rattle.litmus_tokens.specs.Stage.{after}
 use Rattle.litmus_tokens.specs.Texts.{TokenAt, tokens_of, stage_after, begins_tail}
 use Rattle.litmus_tokens.specs.Words.{column_name, names_column}
 use Rattle.litmus_tokens.specs.Faults.{Begins}
-use Rattle.litmus_values.specs.declared.test.Step.{Step}
-use Rattle.litmus_conditions.specs.Grammar.{limits, place_meaning, meaning, IsFormula}
+use Rattle.text_values.specs.declared.test.Step.{Step}
+use Rattle.litmus_tokens.specs.Conditions.{limits, place_meaning, meaning, IsFormula}
 use Rattle.litmus_table.specs.Grammar.{RowTree, spelled_rows, spelled_names, AreRows, columns_meaning}
 use Rattle.litmus_table.specs.Late.{columns_notes}
 use Rattle.litmus_table.specs.Machine as table

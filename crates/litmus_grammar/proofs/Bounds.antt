@@ -11,17 +11,17 @@ use Rattle.litmus_tokens.specs.declared.lexer.Front.TheVariants.{Layout, Lexeme}
 use Rattle.litmus_tokens.specs.Lexer.{front}
 use Rattle.litmus_tokens.specs.Texts.{TokenAt, after_front, tokens_from, lexed, is_end, begins_tail}
 use Rattle.litmus_tokens.specs.Words.{is_test_name, names_column}
-use Rattle.litmus_values.specs.declared.test.InitEntry.{InitEntry}
-use Rattle.litmus_values.specs.declared.test.Place.{Place}
-use Rattle.litmus_values.specs.declared.test.Value as declared_value
-use Rattle.litmus_values.specs.declared.test.Quantifier.{Quantifier}
-use Rattle.litmus_conditions.specs.declared.place.PlaceExpectation.{PlaceExpectation}
-use Rattle.litmus_conditions.specs.declared.place.PlaceExpectation.TheVariants as places
-use Rattle.litmus_conditions.specs.declared.place.PlaceStep.{PlaceStep}
-use Rattle.litmus_conditions.specs.declared.place.PlaceStep.TheVariants as place_steps
-use Rattle.litmus_conditions.specs.Grammar.{limits}
-use Rattle.litmus_conditions.specs.PlaceMachine.{place_step, value_read, is_there}
-use Rattle.litmus_conditions.specs.ConditionMachine as condition
+use Rattle.text_values.specs.declared.test.InitEntry.{InitEntry}
+use Rattle.text_values.specs.declared.test.Place.{Place}
+use Rattle.text_values.specs.declared.test.Value as declared_value
+use Rattle.text_values.specs.declared.test.Quantifier.{Quantifier}
+use Rattle.litmus_tokens.specs.declared.place.PlaceExpectation.{PlaceExpectation}
+use Rattle.litmus_tokens.specs.declared.place.PlaceExpectation.TheVariants as places
+use Rattle.litmus_tokens.specs.declared.place.PlaceStep.{PlaceStep}
+use Rattle.litmus_tokens.specs.declared.place.PlaceStep.TheVariants as place_steps
+use Rattle.litmus_tokens.specs.Conditions.{limits}
+use Rattle.litmus_tokens.specs.PlaceMachine.{place_step, value_read, is_there}
+use Rattle.litmus_tokens.specs.ConditionMachine as condition
 use Rattle.litmus_table.specs.Machine as table
 use Rattle.litmus_table.specs.Within.{AreWithin}
 use Rattle.litmus_table.proofs.Places.{expectation_within, widened_within}

@@ -13,15 +13,15 @@ use Rattle.litmus_tokens.specs.Stage.{after}
 use Rattle.litmus_tokens.specs.Texts.{TokenAt, tokens_of, stage_after, are_none}
 use Rattle.litmus_tokens.specs.Words.{is_filter}
 use Rattle.litmus_tokens.specs.Faults.{Begins, CanFollow, Always, ruling, Says}
-use Rattle.litmus_values.specs.declared.test.Quantifier.{Quantifier}
-use Rattle.litmus_values.specs.declared.test.Quantifier.TheVariants.{Exists, NotExists, Forall}
-use Rattle.litmus_values.specs.Value.{Formula}
-use Rattle.litmus_conditions.specs.Grammar.{limits, meaning, spelled, spelled_quantifier, IsConditionText}
-use Rattle.litmus_conditions.specs.ConditionMachine.{Frame, Expectation, Wants, StepResult, Goes, Ends, Refuses, proposition_step, whole_at, go_on, proposition}
-use Rattle.litmus_conditions.specs.Laws.{takes_on, takes, IsPropositionText}
-use Rattle.litmus_conditions.proofs.Sound.{sound}
-use Rattle.litmus_conditions.proofs.Complete.{complete}
-use Rattle.litmus_conditions.proofs.Beginnings.{takes_beginnings}
+use Rattle.text_values.specs.declared.test.Quantifier.{Quantifier}
+use Rattle.text_values.specs.declared.test.Quantifier.TheVariants.{Exists, NotExists, Forall}
+use Rattle.text_values.specs.TestValue.{Formula}
+use Rattle.litmus_tokens.specs.Conditions.{limits, meaning, spelled, spelled_quantifier, IsConditionText}
+use Rattle.litmus_tokens.specs.ConditionMachine.{Frame, Expectation, Wants, StepResult, Goes, Ends, Refuses, proposition_step, whole_at, go_on, proposition}
+use Rattle.litmus_tokens.specs.ConditionLaws.{takes_on, takes, IsPropositionText}
+use Rattle.litmus_tokens.proofs.Sound.{sound}
+use Rattle.litmus_tokens.proofs.Complete.{complete}
+use Rattle.litmus_tokens.proofs.Beginnings.{takes_beginnings}
 use Rattle.litmus_table.specs.Machine as table
 use Rattle.litmus_grammar.specs.declared.parts.TextKind.{TextKind}
 use Rattle.litmus_grammar.specs.declared.parts.TextKind.TheVariants as kinds

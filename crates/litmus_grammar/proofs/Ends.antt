@@ -3,14 +3,14 @@ use Rattle.std.proofs.Common.{◌≡◌, ℕ, Bool, true, false, List, [], ◌�
 use Rattle.std.specs.Prelude.{◌&&◌, nat_lt, if◌then◌else◌}
 use Rattle.litmus_tokens.specs.declared.token.Token.TheVariants.{End}
 use Rattle.litmus_tokens.specs.Texts.{TokenAt}
-use Rattle.litmus_values.specs.declared.test.Quantifier.{Quantifier}
-use Rattle.litmus_values.specs.Value.{Formula, Constant}
-use Rattle.litmus_conditions.specs.declared.place.PlaceExpectation.{PlaceExpectation}
-use Rattle.litmus_conditions.specs.declared.place.PlaceExpectation.TheVariants as places
-use Rattle.litmus_conditions.specs.Grammar.{limits}
-use Rattle.litmus_conditions.specs.PlaceMachine.{place_step}
-use Rattle.litmus_conditions.specs.ConditionMachine as condition
-use Rattle.litmus_conditions.specs.ConditionMachine.{Frame}
+use Rattle.text_values.specs.declared.test.Quantifier.{Quantifier}
+use Rattle.text_values.specs.TestValue.{Formula, Constant}
+use Rattle.litmus_tokens.specs.declared.place.PlaceExpectation.{PlaceExpectation}
+use Rattle.litmus_tokens.specs.declared.place.PlaceExpectation.TheVariants as places
+use Rattle.litmus_tokens.specs.Conditions.{limits}
+use Rattle.litmus_tokens.specs.PlaceMachine.{place_step}
+use Rattle.litmus_tokens.specs.ConditionMachine as condition
+use Rattle.litmus_tokens.specs.ConditionMachine.{Frame}
 use Rattle.litmus_table.specs.declared.opcode.Want.{Want}
 use Rattle.litmus_table.specs.declared.opcode.Want.TheVariants as wants
 use Rattle.litmus_table.specs.Machine as table

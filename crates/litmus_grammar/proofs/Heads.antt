@@ -13,7 +13,7 @@ use Rattle.litmus_tokens.specs.Stage.{after}
 use Rattle.litmus_tokens.specs.Texts.{TokenAt, tokens_of}
 use Rattle.litmus_tokens.specs.Words.{column_name, is_test_name}
 use Rattle.litmus_tokens.specs.Faults.{Begins}
-use Rattle.litmus_conditions.specs.Grammar.{limits, place_meaning, meaning}
+use Rattle.litmus_tokens.specs.Conditions.{limits, place_meaning, meaning}
 use Rattle.litmus_table.specs.Grammar.{spelled_header, spelled_names, spelled_rows, columns_meaning}
 use Rattle.litmus_table.specs.Late.{columns_notes}
 use Rattle.litmus_table.specs.Machine as table

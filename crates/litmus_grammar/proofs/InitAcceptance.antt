@@ -9,12 +9,12 @@ use Rattle.litmus_tokens.specs.declared.token.Mark.TheVariants as marks
 use Rattle.litmus_tokens.specs.Stage.{after}
 use Rattle.litmus_tokens.specs.Texts.{TokenAt, tokens_of}
 use Rattle.litmus_tokens.specs.Words.{signed, decimal, register_of, is_known, or_zero}
-use Rattle.litmus_values.specs.declared.test.Place.{Place}
-use Rattle.litmus_conditions.specs.declared.place.PlaceExpectation.TheVariants as places
-use Rattle.litmus_conditions.specs.declared.place.WrittenPlace.{WrittenPlace}
-use Rattle.litmus_conditions.specs.declared.place.WrittenPlace.TheVariants as written
-use Rattle.litmus_conditions.specs.Grammar.{PlaceTree, Location, Register, ValueTree, Number, Address, spelled_place, spelled_value, value_meaning, IsPlace, IsValue, written_place}
-use Rattle.litmus_conditions.specs.PlaceMachine.{place_step, place_of, register_ends, number_read}
+use Rattle.text_values.specs.declared.test.Place.{Place}
+use Rattle.litmus_tokens.specs.declared.place.PlaceExpectation.TheVariants as places
+use Rattle.litmus_tokens.specs.declared.place.WrittenPlace.{WrittenPlace}
+use Rattle.litmus_tokens.specs.declared.place.WrittenPlace.TheVariants as written
+use Rattle.litmus_tokens.specs.Conditions.{PlaceTree, Location, Register, ValueTree, Number, Address, spelled_place, spelled_value, value_meaning, IsPlace, IsValue, written_place}
+use Rattle.litmus_tokens.specs.PlaceMachine.{place_step, place_of, register_ends, number_read}
 use Rattle.litmus_grammar.specs.declared.parts.InitExpectation.{InitExpectation}
 use Rattle.litmus_grammar.specs.declared.parts.InitExpectation.TheVariants as expectations
 use Rattle.litmus_grammar.specs.declared.parts.TextKind.TheVariants as kinds

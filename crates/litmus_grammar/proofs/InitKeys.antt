@@ -9,8 +9,8 @@ use Rattle.std.specs.BTreeSet.{insert_key}
 use Rattle.std.specs.Str.{bytes_eq}
 use Rattle.std.proofs.lemmas.Map.Text.{is_eq-slice_cmp}
 use Rattle.std.proofs.lemmas.Slice.Eq.{bytes_eq-Decides}
-use Rattle.litmus_conditions.specs.declared.place.WrittenPlace.{WrittenPlace}
-use Rattle.litmus_conditions.specs.declared.place.WrittenPlace.TheVariants as written
+use Rattle.litmus_tokens.specs.declared.place.WrittenPlace.{WrittenPlace}
+use Rattle.litmus_tokens.specs.declared.place.WrittenPlace.TheVariants as written
 use Rattle.litmus_grammar.specs.Grammar.{Lacks}
 use Rattle.litmus_grammar.specs.InitMachine.{Block, location_key, register_key, has_key, with_key, added}
 use Rattle.std.proofs.lemmas.Bool.{false_from_ne_true, or_from}

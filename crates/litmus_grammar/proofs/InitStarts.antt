@@ -11,14 +11,14 @@ use Rattle.litmus_tokens.specs.Faults.{Begins, CanFollow, ruling, Says}
 use Rattle.litmus_tokens.specs.Stage.{after}
 use Rattle.litmus_tokens.specs.Texts.{TokenAt, tokens_of, stage_after}
 use Rattle.litmus_tokens.specs.Words.{signed, decimal, is_int, register_of}
-use Rattle.litmus_values.specs.declared.test.Place.{Place}
-use Rattle.litmus_values.specs.declared.test.Value.TheVariants as values
-use Rattle.litmus_conditions.specs.declared.place.PlaceExpectation.{PlaceExpectation}
-use Rattle.litmus_conditions.specs.declared.place.PlaceExpectation.TheVariants as places
-use Rattle.litmus_conditions.specs.declared.place.PlaceStep.{PlaceStep}
-use Rattle.litmus_conditions.specs.declared.place.WrittenPlace.{WrittenPlace}
-use Rattle.litmus_conditions.specs.declared.place.WrittenPlace.TheVariants as written
-use Rattle.litmus_conditions.specs.PlaceMachine.{place_step, register_ends, number_read}
+use Rattle.text_values.specs.declared.test.Place.{Place}
+use Rattle.text_values.specs.declared.test.Value.TheVariants as values
+use Rattle.litmus_tokens.specs.declared.place.PlaceExpectation.{PlaceExpectation}
+use Rattle.litmus_tokens.specs.declared.place.PlaceExpectation.TheVariants as places
+use Rattle.litmus_tokens.specs.declared.place.PlaceStep.{PlaceStep}
+use Rattle.litmus_tokens.specs.declared.place.WrittenPlace.{WrittenPlace}
+use Rattle.litmus_tokens.specs.declared.place.WrittenPlace.TheVariants as written
+use Rattle.litmus_tokens.specs.PlaceMachine.{place_step, register_ends, number_read}
 use Rattle.litmus_table.specs.Machine as table
 use Rattle.litmus_grammar.specs.declared.parts.InitExpectation.{InitExpectation}
 use Rattle.litmus_grammar.specs.declared.parts.InitExpectation.TheVariants as expectations

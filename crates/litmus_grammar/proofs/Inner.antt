@@ -3,7 +3,7 @@ use Rattle.std.proofs.Common.{◌≡◌, ℕ, zero, suc, ◌+◌, ◌-◌, ◌�
 use Rattle.std.specs.Prelude.{◌&&◌, ◌||◌, ◌==◌, slice_index, take, drop, length, codes, if◌then◌else◌}
 use Rattle.std.specs.List.{position_or_len}
 use Rattle.std.specs.Str.{bytes_eq}
-use Rattle.source_text.specs.Layout.{is_blank, is_line_end, quoted_from, comment_of}
+use Rattle.text_values.specs.Layout.{is_blank, is_line_end, quoted_from, comment_of}
 use Rattle.litmus_tokens.specs.declared.rule.LitmusRule.TheVariants as rules
 use Rattle.litmus_tokens.specs.declared.stage.Stage.{Stage}
 use Rattle.litmus_tokens.specs.declared.stage.Stage.TheVariants as stages
@@ -15,7 +15,7 @@ use Rattle.litmus_tokens.specs.declared.lexer.Front.TheVariants.{Layout, Lexeme}
 use Rattle.litmus_tokens.specs.Lexer.{front, is_not_ascii, begins_comment, is_equals, ends_word, gap_from, raw_from, raw_front, comment_front, quoted_front, line_front, word_front, mark_of, mark_front, sign_front, plain_front, head_front, stage_front}
 use Rattle.litmus_tokens.specs.Stage.{after}
 use Rattle.litmus_tokens.specs.Texts.{TokenAt, tokens_of, ends_line, after_front, tokens_from, lexed}
-use Rattle.source_text.specs.Letters.{is_letter, is_digit}
+use Rattle.text_values.specs.Letters.{is_letter, is_digit}
 
 abbrev pub IsInner : Token → Type 0
 IsInner tokens.End = ⊥

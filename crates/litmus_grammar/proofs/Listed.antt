@@ -12,15 +12,15 @@ use Rattle.litmus_tokens.specs.Faults.{Begins, CanFollow, ruling, Says}
 use Rattle.litmus_tokens.specs.Stage.{after}
 use Rattle.litmus_tokens.specs.Texts.{TokenAt, tokens_of}
 use Rattle.litmus_tokens.specs.Words.{decimal, register_of, is_known, or_zero}
-use Rattle.litmus_values.specs.declared.test.Place.{Place}
-use Rattle.litmus_conditions.specs.declared.place.PlaceExpectation.{PlaceExpectation}
-use Rattle.litmus_conditions.specs.declared.place.PlaceExpectation.TheVariants as places
-use Rattle.litmus_conditions.specs.declared.place.PlaceStep.{PlaceStep}
-use Rattle.litmus_conditions.specs.declared.place.PlaceStep.TheVariants as place_steps
-use Rattle.litmus_conditions.specs.declared.place.WrittenPlace.TheVariants as written
-use Rattle.litmus_conditions.specs.Grammar.{PlaceTree, Location, Register, spelled_place, place_meaning, IsPlace, HasThread}
-use Rattle.litmus_conditions.specs.PlaceMachine.{place_step, place_of, register_ends, is_there}
-use Rattle.litmus_conditions.proofs.Places.{place_of_written}
+use Rattle.text_values.specs.declared.test.Place.{Place}
+use Rattle.litmus_tokens.specs.declared.place.PlaceExpectation.{PlaceExpectation}
+use Rattle.litmus_tokens.specs.declared.place.PlaceExpectation.TheVariants as places
+use Rattle.litmus_tokens.specs.declared.place.PlaceStep.{PlaceStep}
+use Rattle.litmus_tokens.specs.declared.place.PlaceStep.TheVariants as place_steps
+use Rattle.litmus_tokens.specs.declared.place.WrittenPlace.TheVariants as written
+use Rattle.litmus_tokens.specs.Conditions.{PlaceTree, Location, Register, spelled_place, place_meaning, IsPlace, HasThread}
+use Rattle.litmus_tokens.specs.PlaceMachine.{place_step, place_of, register_ends, is_there}
+use Rattle.litmus_tokens.proofs.Places.{place_of_written}
 use Rattle.litmus_grammar.specs.declared.parts.ItemExpectation.{ItemExpectation}
 use Rattle.litmus_grammar.specs.declared.parts.ItemExpectation.TheVariants as items
 use Rattle.litmus_grammar.specs.declared.parts.TextKind.TheVariants as kinds

@@ -5,9 +5,9 @@ use Rattle.litmus_tokens.specs.declared.token.Token.{Token}
 use Rattle.litmus_tokens.specs.declared.token.Token.TheVariants as tokens
 use Rattle.litmus_tokens.specs.declared.token.Mark.TheVariants as marks
 use Rattle.litmus_tokens.specs.Words.{column_name}
-use Rattle.litmus_values.specs.declared.test.Quantifier.{Quantifier}
-use Rattle.litmus_values.specs.declared.test.Quantifier.TheVariants.{Exists, NotExists, Forall}
-use Rattle.litmus_conditions.specs.Grammar.{PlaceTree, Location, Register, ValueTree, Number, Address, FormulaTree, Word, Atom, Prefix, Pair, Group, spelled_place, spelled_value, prefix_token, connective_token, spelled, spelled_quantifier}
+use Rattle.text_values.specs.declared.test.Quantifier.{Quantifier}
+use Rattle.text_values.specs.declared.test.Quantifier.TheVariants.{Exists, NotExists, Forall}
+use Rattle.litmus_tokens.specs.Conditions.{PlaceTree, Location, Register, ValueTree, Number, Address, FormulaTree, Word, Atom, Prefix, Pair, Group, spelled_place, spelled_value, prefix_token, connective_token, spelled, spelled_quantifier}
 use Rattle.litmus_table.specs.Grammar.{CellTree, RowTree, ThreadTree, spelled_cell, spelled_cells, spelled_rows, spelled_steps, spelled_thread, spelled_names}
 use Rattle.litmus_grammar.specs.Grammar.{Listed, EntryTree, spelled_entry, spelled_end, spelled_others, spelled_listed, spelled_init, spelled_items, spelled_condition}
 use Rattle.litmus_table.proofs.Complete.{cell-append, cells-append}

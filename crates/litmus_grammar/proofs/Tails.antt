@@ -11,16 +11,16 @@ use Rattle.litmus_tokens.specs.declared.token.Mark.TheVariants as marks
 use Rattle.litmus_tokens.specs.Stage.{after}
 use Rattle.litmus_tokens.specs.Texts.{TokenAt, tokens_of, stage_after, begins_tail}
 use Rattle.litmus_tokens.specs.Faults.{Begins}
-use Rattle.litmus_values.specs.declared.test.Place.{Place}
-use Rattle.litmus_values.specs.declared.test.Quantifier.{Quantifier}
-use Rattle.litmus_values.specs.declared.test.Quantifier.TheVariants.{Exists, NotExists, Forall}
-use Rattle.litmus_values.specs.Value.{Formula, Constant}
-use Rattle.litmus_conditions.specs.declared.place.PlaceExpectation.TheVariants as places
-use Rattle.litmus_conditions.specs.declared.place.PlaceStep.{PlaceStep}
-use Rattle.litmus_conditions.specs.declared.place.PlaceStep.TheVariants as place_steps
-use Rattle.litmus_conditions.specs.PlaceMachine.{place_step, is_there}
-use Rattle.litmus_conditions.specs.ConditionMachine as condition
-use Rattle.litmus_conditions.specs.Grammar.{limits, PlaceTree, FormulaTree, place_meaning, meaning, spelled, spelled_quantifier, IsFormula, IsConditionText}
+use Rattle.text_values.specs.declared.test.Place.{Place}
+use Rattle.text_values.specs.declared.test.Quantifier.{Quantifier}
+use Rattle.text_values.specs.declared.test.Quantifier.TheVariants.{Exists, NotExists, Forall}
+use Rattle.text_values.specs.TestValue.{Formula, Constant}
+use Rattle.litmus_tokens.specs.declared.place.PlaceExpectation.TheVariants as places
+use Rattle.litmus_tokens.specs.declared.place.PlaceStep.{PlaceStep}
+use Rattle.litmus_tokens.specs.declared.place.PlaceStep.TheVariants as place_steps
+use Rattle.litmus_tokens.specs.PlaceMachine.{place_step, is_there}
+use Rattle.litmus_tokens.specs.ConditionMachine as condition
+use Rattle.litmus_tokens.specs.Conditions.{limits, PlaceTree, FormulaTree, place_meaning, meaning, spelled, spelled_quantifier, IsFormula, IsConditionText}
 use Rattle.litmus_table.specs.Machine as table
 use Rattle.litmus_grammar.specs.declared.parts.ItemExpectation.TheVariants as items
 use Rattle.litmus_grammar.specs.declared.parts.TextKind.{TextKind}

@@ -11,9 +11,9 @@ use Rattle.litmus_tokens.specs.Stage.{after}
 use Rattle.litmus_tokens.specs.Texts.{TokenAt, tokens_of, stage_after}
 use Rattle.litmus_tokens.specs.Words.{column_name, is_test_name}
 use Rattle.litmus_tokens.specs.Faults.{CanFollow}
-use Rattle.litmus_conditions.specs.Grammar.{limits}
-use Rattle.litmus_conditions.specs.declared.place.PlaceExpectation.{PlaceExpectation}
-use Rattle.litmus_conditions.specs.declared.place.PlaceExpectation.TheVariants as places
+use Rattle.litmus_tokens.specs.Conditions.{limits}
+use Rattle.litmus_tokens.specs.declared.place.PlaceExpectation.{PlaceExpectation}
+use Rattle.litmus_tokens.specs.declared.place.PlaceExpectation.TheVariants as places
 use Rattle.litmus_table.specs.Grammar.{spelled_header, spelled_names, spelled_rows}
 use Rattle.litmus_table.specs.Laws.{columns}
 use Rattle.litmus_table.specs.Machine as table

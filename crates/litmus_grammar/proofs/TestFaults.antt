@@ -14,8 +14,8 @@ use Rattle.litmus_tokens.specs.Faults.{Begins, CanFollow, cell_ruling, ruling, S
 use Rattle.litmus_tokens.specs.Stage.{after}
 use Rattle.litmus_tokens.specs.Texts.{TokenAt, tokens_of, stage_after, begins_tail}
 use Rattle.litmus_tokens.specs.Words.{is_test_name}
-use Rattle.litmus_values.specs.declared.test.Quantifier.TheVariants.{Exists, Forall}
-use Rattle.litmus_conditions.specs.Grammar.{PlaceTree, Location, Register, ValueTree, Number, Address, spelled_place, spelled_value}
+use Rattle.text_values.specs.declared.test.Quantifier.TheVariants.{Exists, Forall}
+use Rattle.litmus_tokens.specs.Conditions.{PlaceTree, Location, Register, ValueTree, Number, Address, spelled_place, spelled_value}
 use Rattle.litmus_table.specs.Laws.{IsInCell, stands, is_taken}
 use Rattle.litmus_table.specs.Machine as table
 use Rattle.litmus_table.proofs.Rules.{rules_given}

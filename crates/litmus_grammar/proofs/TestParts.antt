@@ -11,18 +11,18 @@ use Rattle.litmus_tokens.specs.declared.token.Mark.TheVariants as marks
 use Rattle.litmus_tokens.specs.Stage.{after}
 use Rattle.litmus_tokens.specs.Texts.{TokenAt, tokens_of, stage_after, begins_tail}
 use Rattle.litmus_tokens.specs.Words.{is_test_name, names_column}
-use Rattle.litmus_values.specs.declared.test.Place.{Place}
-use Rattle.litmus_values.specs.declared.test.Quantifier.{Quantifier}
-use Rattle.litmus_values.specs.declared.test.Quantifier.TheVariants.{Exists, NotExists, Forall}
-use Rattle.litmus_conditions.specs.declared.place.PlaceExpectation.{PlaceExpectation}
-use Rattle.litmus_conditions.specs.declared.place.PlaceExpectation.TheVariants as places
-use Rattle.litmus_conditions.specs.declared.place.PlaceStep.{PlaceStep}
-use Rattle.litmus_conditions.specs.declared.place.PlaceStep.TheVariants as place_steps
-use Rattle.litmus_conditions.specs.PlaceMachine.{place_step, is_there}
-use Rattle.litmus_conditions.specs.ConditionMachine as condition
-use Rattle.litmus_conditions.specs.Grammar.{limits}
-use Rattle.litmus_values.specs.declared.test.Value as declared_value
-use Rattle.litmus_conditions.specs.PlaceMachine.{value_read}
+use Rattle.text_values.specs.declared.test.Place.{Place}
+use Rattle.text_values.specs.declared.test.Quantifier.{Quantifier}
+use Rattle.text_values.specs.declared.test.Quantifier.TheVariants.{Exists, NotExists, Forall}
+use Rattle.litmus_tokens.specs.declared.place.PlaceExpectation.{PlaceExpectation}
+use Rattle.litmus_tokens.specs.declared.place.PlaceExpectation.TheVariants as places
+use Rattle.litmus_tokens.specs.declared.place.PlaceStep.{PlaceStep}
+use Rattle.litmus_tokens.specs.declared.place.PlaceStep.TheVariants as place_steps
+use Rattle.litmus_tokens.specs.PlaceMachine.{place_step, is_there}
+use Rattle.litmus_tokens.specs.ConditionMachine as condition
+use Rattle.litmus_tokens.specs.Conditions.{limits}
+use Rattle.text_values.specs.declared.test.Value as declared_value
+use Rattle.litmus_tokens.specs.PlaceMachine.{value_read}
 use Rattle.litmus_table.specs.Machine as table
 use Rattle.litmus_grammar.specs.declared.parts.InitExpectation.{InitExpectation}
 use Rattle.litmus_grammar.specs.declared.parts.InitExpectation.TheVariants as expectations

@@ -5,11 +5,11 @@ use Rattle.litmus_tokens.specs.declared.token.Token.{Token}
 use Rattle.litmus_tokens.specs.declared.token.Token.TheVariants as tokens
 use Rattle.litmus_tokens.specs.declared.token.Mark.TheVariants.{OpenBrace, CloseBrace, OpenBracket, CloseBracket, Semicolon, Equals}
 use Rattle.litmus_tokens.specs.Words.{is_test_name}
-use Rattle.litmus_values.specs.declared.test.InitEntry.{InitEntry}
-use Rattle.litmus_values.specs.declared.test.Quantifier.{Quantifier}
-use Rattle.litmus_values.specs.Value.{Content}
-use Rattle.litmus_conditions.specs.declared.place.WrittenPlace.{WrittenPlace}
-use Rattle.litmus_conditions.specs.Grammar.{PlaceTree, ValueTree, spelled_place, spelled_value, place_meaning, value_meaning, IsPlace, HasThread, IsValue, FormulaTree, spelled, meaning, Limits, IsFormula, spelled_quantifier, written_place}
+use Rattle.text_values.specs.declared.test.InitEntry.{InitEntry}
+use Rattle.text_values.specs.declared.test.Quantifier.{Quantifier}
+use Rattle.text_values.specs.TestValue.{Content}
+use Rattle.litmus_tokens.specs.declared.place.WrittenPlace.{WrittenPlace}
+use Rattle.litmus_tokens.specs.Conditions.{PlaceTree, ValueTree, spelled_place, spelled_value, place_meaning, value_meaning, IsPlace, HasThread, IsValue, FormulaTree, spelled, meaning, Limits, IsFormula, spelled_quantifier, written_place}
 use Rattle.litmus_table.specs.Grammar.{RowTree, ThreadTree, AreCells, AreRows, spelled_header, spelled_rows, spelled_thread, columns_meaning}
 
 -- ---- lists with semicolons between, and one behind the last or none

@@ -9,15 +9,15 @@ use Rattle.litmus_tokens.specs.declared.token.Token.{Token}
 use Rattle.litmus_tokens.specs.declared.token.Token.TheVariants as tokens
 use Rattle.litmus_tokens.specs.declared.token.Mark.TheVariants as marks
 use Rattle.litmus_tokens.specs.Words.{register_of}
-use Rattle.litmus_values.specs.declared.test.Place.{Place}
-use Rattle.litmus_values.specs.declared.test.Place.TheVariants as whole_places
-use Rattle.litmus_values.specs.declared.test.Value as declared_value
-use Rattle.litmus_values.specs.declared.test.InitEntry.{InitEntry}
-use Rattle.litmus_conditions.specs.declared.place.PlaceExpectation.{PlaceExpectation}
-use Rattle.litmus_conditions.specs.declared.place.PlaceExpectation.TheVariants as places
-use Rattle.litmus_conditions.specs.declared.place.PlaceStep.{PlaceStep}
-use Rattle.litmus_conditions.specs.declared.place.PlaceStep.TheVariants as place_steps
-use Rattle.litmus_conditions.specs.PlaceMachine.{place_step, place_of, value_read}
+use Rattle.text_values.specs.declared.test.Place.{Place}
+use Rattle.text_values.specs.declared.test.Place.TheVariants as whole_places
+use Rattle.text_values.specs.declared.test.Value as declared_value
+use Rattle.text_values.specs.declared.test.InitEntry.{InitEntry}
+use Rattle.litmus_tokens.specs.declared.place.PlaceExpectation.{PlaceExpectation}
+use Rattle.litmus_tokens.specs.declared.place.PlaceExpectation.TheVariants as places
+use Rattle.litmus_tokens.specs.declared.place.PlaceStep.{PlaceStep}
+use Rattle.litmus_tokens.specs.declared.place.PlaceStep.TheVariants as place_steps
+use Rattle.litmus_tokens.specs.PlaceMachine.{place_step, place_of, value_read}
 use Rattle.litmus_grammar.specs.declared.parts.InitExpectation.{InitExpectation}
 use Rattle.litmus_grammar.specs.declared.parts.InitExpectation.TheVariants as expectations
 use Rattle.litmus_grammar.specs.declared.parts.InitStep.{InitStep}

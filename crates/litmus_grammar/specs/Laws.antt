@@ -4,12 +4,12 @@ use Rattle.litmus_tokens.specs.declared.token.Token.{Token}
 use Rattle.litmus_tokens.specs.declared.token.Token.TheVariants as tokens
 use Rattle.litmus_tokens.specs.declared.token.Mark.TheVariants.{Semicolon}
 use Rattle.litmus_tokens.specs.Texts.{TokenAt, StandsAt}
-use Rattle.litmus_values.specs.declared.test.InitEntry.{InitEntry}
-use Rattle.litmus_values.specs.declared.test.Place.{Place}
-use Rattle.litmus_values.specs.declared.test.Quantifier.{Quantifier}
-use Rattle.litmus_values.specs.Value.{Formula}
-use Rattle.litmus_conditions.specs.Grammar.{place_meaning, value_meaning, meaning, written_place}
-use Rattle.litmus_conditions.specs.PlaceMachine.{place_of}
+use Rattle.text_values.specs.declared.test.InitEntry.{InitEntry}
+use Rattle.text_values.specs.declared.test.Place.{Place}
+use Rattle.text_values.specs.declared.test.Quantifier.{Quantifier}
+use Rattle.text_values.specs.TestValue.{Formula}
+use Rattle.litmus_tokens.specs.Conditions.{place_meaning, value_meaning, meaning, written_place}
+use Rattle.litmus_tokens.specs.PlaceMachine.{place_of}
 use Rattle.litmus_table.specs.Grammar.{ThreadTree, columns_meaning, thread_meaning}
 use Rattle.litmus_table.specs.Late.{thread_notes, columns_notes}
 use Rattle.litmus_table.specs.Laws.{steps_of, AreNoted}

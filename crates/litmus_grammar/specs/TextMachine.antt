@@ -11,16 +11,16 @@ use Rattle.litmus_tokens.specs.declared.token.Mark.TheVariants as marks
 use Rattle.litmus_tokens.specs.Stage.{after, rule_of}
 use Rattle.litmus_tokens.specs.Texts.{TokenAt, is_end, begins_tail}
 use Rattle.litmus_tokens.specs.Words.{is_test_name, is_filter}
-use Rattle.litmus_values.specs.declared.test.Place.{Place}
-use Rattle.litmus_values.specs.declared.test.Quantifier.{Quantifier}
-use Rattle.litmus_values.specs.declared.test.Quantifier.TheVariants.{Exists, NotExists, Forall}
-use Rattle.litmus_values.specs.Value.{Formula, Constant}
-use Rattle.litmus_conditions.specs.declared.place.PlaceExpectation.TheVariants as place_expectations
-use Rattle.litmus_conditions.specs.declared.place.PlaceStep.{PlaceStep}
-use Rattle.litmus_conditions.specs.declared.place.PlaceStep.TheVariants as place_steps
-use Rattle.litmus_conditions.specs.Grammar.{limits}
-use Rattle.litmus_conditions.specs.PlaceMachine.{place_step, place_of, is_there}
-use Rattle.litmus_conditions.specs.ConditionMachine as condition
+use Rattle.text_values.specs.declared.test.Place.{Place}
+use Rattle.text_values.specs.declared.test.Quantifier.{Quantifier}
+use Rattle.text_values.specs.declared.test.Quantifier.TheVariants.{Exists, NotExists, Forall}
+use Rattle.text_values.specs.TestValue.{Formula, Constant}
+use Rattle.litmus_tokens.specs.declared.place.PlaceExpectation.TheVariants as place_expectations
+use Rattle.litmus_tokens.specs.declared.place.PlaceStep.{PlaceStep}
+use Rattle.litmus_tokens.specs.declared.place.PlaceStep.TheVariants as place_steps
+use Rattle.litmus_tokens.specs.Conditions.{limits}
+use Rattle.litmus_tokens.specs.PlaceMachine.{place_step, place_of, is_there}
+use Rattle.litmus_tokens.specs.ConditionMachine as condition
 use Rattle.litmus_table.specs.Machine as table
 use Rattle.litmus_grammar.specs.declared.parts.TextKind.{TextKind}
 use Rattle.litmus_grammar.specs.declared.parts.TextKind.TheVariants as kinds

@@ -10,12 +10,12 @@ use Rattle.litmus_tokens.specs.declared.token.Mark.TheVariants.{OpenBrace, OpenB
 use Rattle.litmus_tokens.specs.Words.{decimal}
 use Rattle.litmus_tokens.specs.Texts.{tokens_of, stage_after, lexed, StandsAt}
 use Rattle.litmus_tokens.specs.Faults.{CanFollow, IsFault}
-use Rattle.litmus_values.specs.declared.test.Place.{Place}
-use Rattle.litmus_values.specs.declared.test.InitEntry.{InitEntry}
-use Rattle.litmus_values.specs.declared.test.Step.{Step}
-use Rattle.litmus_values.specs.declared.test.Quantifier.{Quantifier}
-use Rattle.litmus_values.specs.Value.{Content, Formula}
-use Rattle.litmus_conditions.specs.Grammar.{PlaceTree, Location, Register, limits, place_meaning, meaning, IsConditionText}
+use Rattle.text_values.specs.declared.test.Place.{Place}
+use Rattle.text_values.specs.declared.test.InitEntry.{InitEntry}
+use Rattle.text_values.specs.declared.test.Step.{Step}
+use Rattle.text_values.specs.declared.test.Quantifier.{Quantifier}
+use Rattle.text_values.specs.TestValue.{Content, Formula}
+use Rattle.litmus_tokens.specs.Conditions.{PlaceTree, Location, Register, limits, place_meaning, meaning, IsConditionText}
 use Rattle.litmus_table.specs.Grammar.{spelled_header, thread_meaning}
 use Rattle.litmus_table.specs.Late.{Late, or_else, late_notes, late_columns, thread_notes}
 use Rattle.litmus_grammar.specs.Grammar.{EntryTree, spelled_entry, spelled_init, spelled_head, members, entry_meaning, TestTree, test_meaning, IsTestText, IsInitText, IsThreadText, IsLocationsText}

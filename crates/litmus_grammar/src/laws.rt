@@ -8,7 +8,7 @@ ghost use Rattle.litmus_tokens.specs.declared.token.Token.TheVariants as tokens;
 ghost use Rattle.litmus_tokens.specs.declared.token.Mark.TheVariants.{OpenBrace};
 ghost use Rattle.litmus_tokens.specs.Faults.{IsFault};
 ghost use Rattle.litmus_tokens.specs.Texts.{TokenAt, tokens_of, lexed};
-ghost use Rattle.litmus_conditions.specs.Grammar.{limits, place_meaning, meaning, IsConditionText};
+ghost use Rattle.litmus_tokens.specs.Conditions.{limits, place_meaning, meaning, IsConditionText};
 ghost use Rattle.litmus_grammar.specs.declared.parts.TextKind.{TextKind};
 ghost use Rattle.litmus_grammar.specs.declared.parts.TextKind.TheVariants.{Test, Thread, Init, Condition, Locations};
 ghost use Rattle.litmus_grammar.specs.Grammar.{members, IsTestText, IsInitText, IsThreadText, IsLocationsText};

@@ -1,7 +1,7 @@
 //! The kinds of texts, and what the reader expects in the lists of a text.
 
-use litmus_conditions::PlaceExpectation;
-use litmus_values::Place;
+use litmus_tokens::PlaceExpectation;
+use text_values::Place;
 
 /// The kind of a text.
 #[derive(Clone, Copy)]

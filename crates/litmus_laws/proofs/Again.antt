@@ -1,8 +1,8 @@
 -- What was read keeps the limit of operators when it is printed, and so it is read again.
 use Rattle.std.proofs.Common.{◌≡◌, ℕ, ◌+◌, ◌<◌, ◌≤◌, List, refl, ap, arith}
-use Rattle.litmus_values.specs.declared.test.Quantifier.{Quantifier}
-use Rattle.litmus_values.specs.Value.{Formula, Content}
-use Rattle.litmus_conditions.specs.Grammar.{FormulaTree, Word, Atom, Prefix, Pair, Group, meaning, operators, limits, IsFormula}
+use Rattle.text_values.specs.declared.test.Quantifier.{Quantifier}
+use Rattle.text_values.specs.TestValue.{Formula, Content}
+use Rattle.litmus_tokens.specs.Conditions.{FormulaTree, Word, Atom, Prefix, Pair, Group, meaning, operators, limits, IsFormula}
 use Rattle.litmus_grammar.specs.Texts.{ReadsCondition, ReadsTest}
 use Rattle.litmus_printing.specs.Printing.{condition_text, printed}
 use Rattle.litmus_laws.specs.Written.{joins, IsWithinLimits, StaysWithin}

@@ -5,7 +5,7 @@ use Rattle.std.specs.Fmt.{decimal}
 use Rattle.std.proofs.lemmas.Bool.{and_parts, ltb-false}
 use Rattle.std.proofs.lemmas.Fmt.{decimal_nonempty}
 use Rattle.std.proofs.lemmas.List.{append-nil}
-use Rattle.source_text.specs.Layout.{comment_of}
+use Rattle.text_values.specs.Layout.{comment_of}
 use Rattle.litmus_tokens.specs.declared.stage.Stage.TheVariants.{Tail}
 use Rattle.litmus_tokens.specs.declared.token.Token.{Token}
 use Rattle.litmus_tokens.specs.declared.token.Token.TheVariants as tokens
@@ -14,23 +14,23 @@ use Rattle.litmus_tokens.specs.declared.lexer.Front.TheVariants.{Lexeme}
 use Rattle.litmus_tokens.specs.Lexer.{is_word_byte, comment_front, front}
 use Rattle.litmus_tokens.specs.Stage.{after}
 use Rattle.litmus_tokens.specs.Texts.{tokens_from}
-use Rattle.litmus_values.specs.declared.test.Place.{Place}
-use Rattle.litmus_values.specs.declared.test.Place.TheVariants as places
-use Rattle.litmus_values.specs.declared.test.Quantifier.{Quantifier}
-use Rattle.litmus_values.specs.declared.test.Quantifier.TheVariants.{Exists, NotExists, Forall}
-use Rattle.litmus_values.specs.declared.test.Connective.{Connective}
-use Rattle.litmus_values.specs.declared.test.Connective.TheVariants as connectives
-use Rattle.litmus_values.specs.Value.{Formula, Constant, Holds, Not, Join, level}
-use Rattle.litmus_conditions.specs.Grammar as grammar
-use Rattle.litmus_conditions.specs.Grammar.{FormulaTree, Word, Atom, Prefix, Pair, Group, connective_token, spelled, spelled_quantifier, meaning, tightness, IsGrouped, HasAtoms, depth, operators, Limits, limits}
+use Rattle.text_values.specs.declared.test.Place.{Place}
+use Rattle.text_values.specs.declared.test.Place.TheVariants as places
+use Rattle.text_values.specs.declared.test.Quantifier.{Quantifier}
+use Rattle.text_values.specs.declared.test.Quantifier.TheVariants.{Exists, NotExists, Forall}
+use Rattle.text_values.specs.declared.test.Connective.{Connective}
+use Rattle.text_values.specs.declared.test.Connective.TheVariants as connectives
+use Rattle.text_values.specs.TestValue.{Formula, Constant, Holds, Not, Join, level}
+use Rattle.litmus_tokens.specs.Conditions as grammar
+use Rattle.litmus_tokens.specs.Conditions.{FormulaTree, Word, Atom, Prefix, Pair, Group, connective_token, spelled, spelled_quantifier, meaning, tightness, IsGrouped, HasAtoms, depth, operators, Limits, limits}
 use Rattle.litmus_printing.specs.Printing.{place_text, value_text, connective_text, is_loose, formula_text, condition_text}
-use Rattle.source_text.specs.Joined.{bracketed}
+use Rattle.text_values.specs.Joined.{bracketed}
 use Rattle.litmus_grammar.specs.Texts.{ReadsCondition}
 use Rattle.litmus_laws.specs.Written.{begins_word, IsWord, IsPlace, IsFormula, IsTextOfCondition, one_where, nesting, joins, IsWithinLimits}
 use Rattle.litmus_laws.proofs.Read.{Within, Entries, Operands, Condition, part, core, free, inner, inner_turn}
 use Rattle.litmus_laws.proofs.Numbers.{digits_first, word, are_back}
 use Rattle.litmus_laws.proofs.Places.{equals, Stops, value, value_tree, value_back, value_fine, value_first, place_tree, square_place, place_back, place_fine, place_there}
-use Rattle.litmus_conditions.proofs.Branches.{level-le}
+use Rattle.litmus_tokens.proofs.Branches.{level-le}
 use Rattle.text_laws.proofs.Runs.{other}
 
 -- ---- words and signs

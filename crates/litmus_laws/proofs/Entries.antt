@@ -14,19 +14,19 @@ use Rattle.litmus_tokens.specs.Words as words
 use Rattle.litmus_tokens.specs.Words.{register_of, or_zero, column_name}
 use Rattle.litmus_tokens.specs.Lexer.{is_word_byte, ends_word, front}
 use Rattle.litmus_tokens.specs.Texts.{tokens_from}
-use Rattle.litmus_values.specs.declared.test.Place.{Place}
-use Rattle.litmus_values.specs.declared.test.Place.TheVariants as places
-use Rattle.litmus_values.specs.declared.test.Value as declared_value
-use Rattle.litmus_values.specs.declared.test.InitEntry.{InitEntry}
-use Rattle.litmus_conditions.specs.declared.place.WrittenPlace.{WrittenPlace}
-use Rattle.litmus_conditions.specs.declared.place.WrittenPlace.TheVariants as written
-use Rattle.litmus_conditions.specs.Grammar.{spelled_place, spelled_value, value_meaning, written_place}
+use Rattle.text_values.specs.declared.test.Place.{Place}
+use Rattle.text_values.specs.declared.test.Place.TheVariants as places
+use Rattle.text_values.specs.declared.test.Value as declared_value
+use Rattle.text_values.specs.declared.test.InitEntry.{InitEntry}
+use Rattle.litmus_tokens.specs.declared.place.WrittenPlace.{WrittenPlace}
+use Rattle.litmus_tokens.specs.declared.place.WrittenPlace.TheVariants as written
+use Rattle.litmus_tokens.specs.Conditions.{spelled_place, spelled_value, value_meaning, written_place}
 use Rattle.litmus_table.specs.Grammar.{spelled_names}
 use Rattle.litmus_grammar.specs.Grammar as grammar
 use Rattle.litmus_grammar.specs.Grammar.{Listed, spelled_others, spelled_listed, members, EntryTree, spelled_entry, entry_meaning}
 use Rattle.litmus_grammar.specs.Texts.{is_there, late_entries}
 use Rattle.litmus_printing.specs.Printing.{register_text, bare_text, value_text, all_of, entry_text, entry_line, names}
-use Rattle.source_text.specs.Joined.{joined}
+use Rattle.text_values.specs.Joined.{joined}
 use Rattle.litmus_laws.specs.Written.{IsWord, IsPlace, Lacks, AreEntries}
 use Rattle.litmus_laws.proofs.Read.{Entries, Condition, read, free, turn, inner}
 use Rattle.litmus_laws.proofs.Numbers.{number_back, register_back, word_here}

@@ -2,7 +2,7 @@
 use Rattle.std.proofs.Common.{◌≡◌, ℕ, zero, suc, ◌+◌, ◌-◌, ◌≤◌, Bool, true, false, List, [], ◌∷◌, ◌++◌, length, take, drop, refl, sym, ap, ◌∙◌, subst, arith, append_assoc}
 use Rattle.std.specs.Prelude.{Option, Some, None, slice_index, ◌||◌, if◌then◌else◌}
 use Rattle.std.proofs.lemmas.List.{length-take, length-drop, length-append, take-append-drop, drop_at}
-use Rattle.source_text.specs.Layout.{is_blank, is_line_end, comment_of}
+use Rattle.text_values.specs.Layout.{is_blank, is_line_end, comment_of}
 use Rattle.text_laws.specs.Comments.{BeginsWithComment}
 use Rattle.text_laws.proofs.Nesting as nesting
 use Rattle.litmus_tokens.specs.declared.stage.Stage.TheVariants.{CellBegins}

@@ -16,18 +16,18 @@ use Rattle.litmus_tokens.specs.declared.token.Mark.TheVariants as marks
 use Rattle.litmus_tokens.specs.declared.lexer.Front.{Front}
 use Rattle.litmus_tokens.specs.declared.lexer.Front.TheVariants.{Layout, Lexeme}
 use Rattle.litmus_tokens.specs.Words.{ends_table, is_register, is_known, register_of, or_zero}
-use Rattle.source_text.specs.Letters.{is_letter}
+use Rattle.text_values.specs.Letters.{is_letter}
 use Rattle.litmus_tokens.specs.Lexer.{is_space, ends_word, significant, begins_comment, gap_from, label_front, front}
 use Rattle.litmus_tokens.specs.Stage.{after}
 use Rattle.litmus_tokens.specs.Texts.{tokens_from}
-use Rattle.litmus_values.specs.declared.instruction.Instruction.{Instruction}
-use Rattle.litmus_values.specs.declared.instruction.Instruction.TheVariants as instructions
-use Rattle.litmus_values.specs.declared.instruction.Operation.{Operation}
-use Rattle.litmus_values.specs.declared.instruction.Operation.TheVariants as operations
-use Rattle.litmus_values.specs.declared.instruction.BranchCondition.{BranchCondition}
-use Rattle.litmus_values.specs.declared.instruction.BranchCondition.TheVariants as branches
-use Rattle.litmus_values.specs.declared.instruction.Fence as fence
-use Rattle.litmus_values.specs.declared.instruction.Fence.TheVariants as fences
+use Rattle.text_values.specs.declared.instruction.Instruction.{Instruction}
+use Rattle.text_values.specs.declared.instruction.Instruction.TheVariants as instructions
+use Rattle.text_values.specs.declared.instruction.Operation.{Operation}
+use Rattle.text_values.specs.declared.instruction.Operation.TheVariants as operations
+use Rattle.text_values.specs.declared.instruction.BranchCondition.{BranchCondition}
+use Rattle.text_values.specs.declared.instruction.BranchCondition.TheVariants as branches
+use Rattle.text_values.specs.declared.instruction.Fence as fence
+use Rattle.text_values.specs.declared.instruction.Fence.TheVariants as fences
 use Rattle.litmus_table.specs.declared.opcode.DataOpcode.{DataOpcode}
 use Rattle.litmus_table.specs.declared.opcode.DataOpcode.TheVariants as data_opcodes
 use Rattle.litmus_table.specs.declared.opcode.Opcode.{Opcode}
@@ -37,7 +37,7 @@ use Rattle.litmus_table.specs.declared.opcode.Want.TheVariants as wants
 use Rattle.litmus_table.specs.Words.{computing_of, accessing_of, fence_of, branch_of, opcode_of, data_form, all_fit, registers, immediate, data_meaning, instruction_meaning}
 use Rattle.litmus_table.specs.Grammar.{InstructionTree, IsOperation}
 use Rattle.litmus_printing.specs.Printing.{register_text, operation_text, branch_text, fence_text, operands_text, based_text, instruction_text}
-use Rattle.source_text.specs.Joined.{joined}
+use Rattle.text_values.specs.Joined.{joined}
 use Rattle.litmus_laws.specs.Written.{begins_word, IsWord, IsNumber, IsBase, IsInstruction}
 use Rattle.litmus_laws.proofs.Read.{Operands, core, read, free, turn, inner, first_of, word_byte}
 use Rattle.litmus_laws.proofs.Numbers.{second_test, word_len, word, number, signed_number, is_negative, digits_of, signed_back, is_int_back, register_back, register_word}

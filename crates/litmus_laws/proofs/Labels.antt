@@ -6,10 +6,10 @@ use Rattle.litmus_tokens.specs.declared.rule.LitmusRule.TheVariants as rules
 use Rattle.litmus_tokens.specs.declared.token.Token.{Token}
 use Rattle.litmus_tokens.specs.declared.token.Token.TheVariants as tokens
 use Rattle.litmus_tokens.specs.declared.token.Mark.TheVariants as marks
-use Rattle.litmus_values.specs.declared.instruction.Instruction.{Instruction}
-use Rattle.litmus_values.specs.declared.instruction.Instruction.TheVariants as instructions
-use Rattle.litmus_values.specs.declared.test.Step.{Step}
-use Rattle.litmus_values.specs.declared.test.Step.TheVariants as steps
+use Rattle.text_values.specs.declared.instruction.Instruction.{Instruction}
+use Rattle.text_values.specs.declared.instruction.Instruction.TheVariants as instructions
+use Rattle.text_values.specs.declared.test.Step.{Step}
+use Rattle.text_values.specs.declared.test.Step.TheVariants as steps
 use Rattle.litmus_table.specs.declared.opcode.Opcode.{Opcode}
 use Rattle.litmus_table.specs.Grammar.{spelled_cell, spelled_rows}
 use Rattle.litmus_table.specs.Late.{Late, or_else, Note, Defines, Branches, branch_notes, cell_notes, nth_notes, column_notes, columns_notes, is_in, defined, late_notes, first_late, late_columns}

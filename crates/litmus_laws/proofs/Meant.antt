@@ -7,11 +7,11 @@ use Rattle.litmus_tokens.specs.declared.token.Token.{Token}
 use Rattle.litmus_tokens.specs.Words as words
 use Rattle.litmus_tokens.specs.Words.{signed, is_int, is_plain, register_of, is_register, is_known, or_zero}
 use Rattle.litmus_tokens.specs.Texts.{tokens_of, lexed}
-use Rattle.litmus_values.specs.declared.test.Quantifier.{Quantifier}
-use Rattle.litmus_values.specs.declared.test.Quantifier.TheVariants.{Exists, NotExists, Forall}
-use Rattle.litmus_values.specs.Value.{Formula}
-use Rattle.litmus_conditions.specs.Grammar as grammar
-use Rattle.litmus_conditions.specs.Grammar.{limits, PlaceTree, Location, Register, ValueTree, Number, Address, spelled_place, spelled_value, place_meaning, value_meaning, HasThread, FormulaTree, Word, Atom, Prefix, Pair, Group, prefix_token, spelled, spelled_quantifier, meaning, HasAtoms}
+use Rattle.text_values.specs.declared.test.Quantifier.{Quantifier}
+use Rattle.text_values.specs.declared.test.Quantifier.TheVariants.{Exists, NotExists, Forall}
+use Rattle.text_values.specs.TestValue.{Formula}
+use Rattle.litmus_tokens.specs.Conditions as grammar
+use Rattle.litmus_tokens.specs.Conditions.{limits, PlaceTree, Location, Register, ValueTree, Number, Address, spelled_place, spelled_value, place_meaning, value_meaning, HasThread, FormulaTree, Word, Atom, Prefix, Pair, Group, prefix_token, spelled, spelled_quantifier, meaning, HasAtoms}
 use Rattle.litmus_grammar.specs.Texts.{ReadsCondition}
 use Rattle.litmus_laws.specs.Written.{IsNumber, IsValue, IsPlace, IsFormula, IsTextOfCondition}
 use Rattle.litmus_laws.proofs.Tokens.{AllFine, tokens_fine, all_fine}

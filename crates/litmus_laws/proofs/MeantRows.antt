@@ -13,9 +13,9 @@ use Rattle.litmus_tokens.specs.declared.token.Token.TheVariants as tokens
 use Rattle.litmus_tokens.specs.declared.token.Mark.TheVariants as marks
 use Rattle.litmus_tokens.specs.Words as numbers
 use Rattle.litmus_tokens.specs.Words.{are_digits, is_plain, is_empty, is_register, is_known, register_of, or_zero, signed}
-use Rattle.litmus_values.specs.declared.test.Step.{Step}
-use Rattle.litmus_values.specs.declared.test.Step.TheVariants as steps
-use Rattle.litmus_values.specs.declared.instruction.BranchCondition.{BranchCondition}
+use Rattle.text_values.specs.declared.test.Step.{Step}
+use Rattle.text_values.specs.declared.test.Step.TheVariants as steps
+use Rattle.text_values.specs.declared.instruction.BranchCondition.{BranchCondition}
 use Rattle.litmus_table.specs.declared.opcode.DataOpcode.{DataOpcode}
 use Rattle.litmus_table.specs.declared.opcode.DataOpcode.TheVariants as data_opcodes
 use Rattle.litmus_table.specs.declared.opcode.Opcode.{Opcode}

@@ -13,12 +13,12 @@ use Rattle.litmus_tokens.specs.declared.token.Mark.TheVariants.{CloseBrace, Clos
 use Rattle.litmus_tokens.specs.Words as words
 use Rattle.litmus_tokens.specs.Words.{column_name}
 use Rattle.litmus_tokens.specs.Lexer.{significant}
-use Rattle.litmus_values.specs.declared.test.Place.{Place}
-use Rattle.litmus_values.specs.declared.test.Place.TheVariants as places
-use Rattle.litmus_values.specs.Value.{Content}
-use Rattle.litmus_conditions.specs.declared.place.WrittenPlace.{WrittenPlace}
-use Rattle.litmus_conditions.specs.declared.place.WrittenPlace.TheVariants as written
-use Rattle.litmus_conditions.specs.Grammar.{Limits, limits, PlaceTree, Location, Register, ValueTree, Number, Address, spelled_place, spelled_value, place_meaning, HasThread, written_place}
+use Rattle.text_values.specs.declared.test.Place.{Place}
+use Rattle.text_values.specs.declared.test.Place.TheVariants as places
+use Rattle.text_values.specs.TestValue.{Content}
+use Rattle.litmus_tokens.specs.declared.place.WrittenPlace.{WrittenPlace}
+use Rattle.litmus_tokens.specs.declared.place.WrittenPlace.TheVariants as written
+use Rattle.litmus_tokens.specs.Conditions.{Limits, limits, PlaceTree, Location, Register, ValueTree, Number, Address, spelled_place, spelled_value, place_meaning, HasThread, written_place}
 use Rattle.litmus_table.specs.Grammar.{spelled_names, spelled_header, spelled_rows, columns_meaning}
 use Rattle.litmus_table.specs.Late.{late_columns}
 use Rattle.litmus_grammar.specs.Grammar as grammar

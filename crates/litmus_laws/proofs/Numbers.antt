@@ -14,7 +14,7 @@ use Rattle.litmus_tokens.specs.declared.token.Token.TheVariants as tokens
 use Rattle.litmus_tokens.specs.declared.lexer.Front.TheVariants.{Layout, Lexeme}
 use Rattle.litmus_tokens.specs.Words as words
 use Rattle.litmus_tokens.specs.Words.{are_digits, is_plain, is_empty, decimal_from, signed, is_int, register_of}
-use Rattle.source_text.specs.Letters.{is_letter, is_digit}
+use Rattle.text_values.specs.Letters.{is_letter, is_digit}
 use Rattle.litmus_tokens.specs.Lexer.{is_word_byte, ends_word, ends_digits, significant, front, word_front, number_front, minus_front, sign_front}
 use Rattle.litmus_printing.specs.Printing.{register_text}
 use Rattle.text_laws.proofs.Runs.{seam, other}

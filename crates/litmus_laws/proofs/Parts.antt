@@ -16,9 +16,9 @@ use Rattle.litmus_tokens.specs.Faults.{IsFault, Ruling, Always, Where, Says, rul
 use Rattle.litmus_tokens.specs.Stage.{rule_of, after}
 use Rattle.litmus_tokens.specs.Texts.{TokenAt, tokens_of, stage_after, are_none}
 use Rattle.litmus_tokens.specs.Words.{ends_table, is_filter, is_int, column_name}
-use Rattle.litmus_values.specs.declared.test.Quantifier.{Quantifier}
-use Rattle.litmus_values.specs.declared.test.Quantifier.TheVariants.{Exists, NotExists, Forall}
-use Rattle.litmus_conditions.specs.Grammar.{PlaceTree, Location, Register, ValueTree, Number, Address, spelled_place, spelled_value, spelled_quantifier, Limits, limits, IsConditionText}
+use Rattle.text_values.specs.declared.test.Quantifier.{Quantifier}
+use Rattle.text_values.specs.declared.test.Quantifier.TheVariants.{Exists, NotExists, Forall}
+use Rattle.litmus_tokens.specs.Conditions.{PlaceTree, Location, Register, ValueTree, Number, Address, spelled_place, spelled_value, spelled_quantifier, Limits, limits, IsConditionText}
 use Rattle.litmus_table.specs.declared.opcode.Opcode.{Opcode}
 use Rattle.litmus_table.specs.declared.opcode.Opcode.TheVariants as opcodes
 use Rattle.litmus_table.specs.declared.opcode.Want.{Want}

@@ -6,8 +6,8 @@ use Rattle.std.proofs.lemmas.Bool.{cases_lt, or_from}
 use Rattle.std.proofs.lemmas.Bool.Decides.{nat_tests}
 use Rattle.std.proofs.lemmas.List.{length-take, length-drop, length-append, get_or-take, get_or-drop, take-append-drop, take_all, drop_all, take_at, drop_at}
 use Rattle.std.proofs.lemmas.List.Sums.{fails_before_first, passes_at_first}
-use Rattle.source_text.specs.Letters.{is_letter, is_digit}
-use Rattle.source_text.specs.Layout.{is_blank, is_line_end, is_quote, quoted_from, comment_of}
+use Rattle.text_values.specs.Letters.{is_letter, is_digit}
+use Rattle.text_values.specs.Layout.{is_blank, is_line_end, is_quote, quoted_from, comment_of}
 use Rattle.text_laws.specs.Comments.{BeginsWithComment}
 use Rattle.text_laws.proofs.Nesting as nesting
 use Rattle.text_laws.proofs.Runs.{opposite, equals, less, pos_some, pos_le, first_in_take, lacks_before, string_text, tested, or_first, or_second, seam}

@@ -13,12 +13,12 @@ use Rattle.litmus_tokens.specs.Words.{register_of, is_known, or_zero}
 use Rattle.litmus_tokens.specs.Lexer.{ends_word, ends_digits, significant, front}
 use Rattle.litmus_tokens.specs.Stage.{after}
 use Rattle.litmus_tokens.specs.Texts.{tokens_from}
-use Rattle.litmus_values.specs.declared.test.Place.{Place}
-use Rattle.litmus_values.specs.declared.test.Place.TheVariants as places
-use Rattle.litmus_values.specs.declared.test.Value as declared_value
-use Rattle.litmus_values.specs.declared.test.Value.TheVariants as values
-use Rattle.litmus_conditions.specs.Grammar as grammar
-use Rattle.litmus_conditions.specs.Grammar.{PlaceTree, Location, Register, ValueTree, Number, Address, spelled_place, spelled_value, place_meaning, value_meaning, HasThread}
+use Rattle.text_values.specs.declared.test.Place.{Place}
+use Rattle.text_values.specs.declared.test.Place.TheVariants as places
+use Rattle.text_values.specs.declared.test.Value as declared_value
+use Rattle.text_values.specs.declared.test.Value.TheVariants as values
+use Rattle.litmus_tokens.specs.Conditions as grammar
+use Rattle.litmus_tokens.specs.Conditions.{PlaceTree, Location, Register, ValueTree, Number, Address, spelled_place, spelled_value, place_meaning, value_meaning, HasThread}
 use Rattle.litmus_printing.specs.Printing.{register_text, value_text, bare_text, place_text}
 use Rattle.litmus_laws.specs.Written.{begins_word, IsWord, IsValue, IsPlace}
 use Rattle.litmus_laws.proofs.Read.{Within, Entries, Operands, Condition, part, core, free, inner, inner_turn}

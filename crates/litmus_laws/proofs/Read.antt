@@ -3,7 +3,7 @@ use Rattle.std.proofs.Common.{◌≡◌, ℕ, zero, suc, ◌+◌, ◌-◌, ◌<�
 use Rattle.std.specs.Prelude.{if◌then◌else◌, ◌==◌, ◌||◌, nat_le, slice_index}
 use Rattle.std.proofs.lemmas.Bool.{and_left}
 use Rattle.std.proofs.lemmas.Bool.Decides.{nat_tests}
-use Rattle.source_text.specs.Layout.{is_blank}
+use Rattle.text_values.specs.Layout.{is_blank}
 use Rattle.std.proofs.lemmas.List.{drop_at, length-append}
 use Rattle.litmus_tokens.specs.declared.stage.Stage.{Stage}
 use Rattle.litmus_tokens.specs.declared.stage.Stage.TheVariants.{Magic, Title, TitleEnd, Head, Init, Header, CellBegins, InCell, Tail}
@@ -13,7 +13,7 @@ use Rattle.litmus_tokens.specs.declared.token.Mark.TheVariants as marks
 use Rattle.litmus_tokens.specs.declared.lexer.Front.{Front}
 use Rattle.litmus_tokens.specs.declared.lexer.Front.TheVariants.{Layout, Lexeme}
 use Rattle.litmus_tokens.specs.Words.{ends_table}
-use Rattle.source_text.specs.Letters.{is_digit}
+use Rattle.text_values.specs.Letters.{is_digit}
 use Rattle.litmus_tokens.specs.Lexer.{front, begins_comment, stage_front}
 use Rattle.litmus_tokens.specs.Stage.{after, after_brace}
 use Rattle.litmus_tokens.specs.Texts.{TokenAt, tokens_of, ends_line, fresh_after, after_front, tokens_from}

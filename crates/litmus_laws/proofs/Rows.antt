@@ -8,14 +8,14 @@ use Rattle.litmus_tokens.specs.declared.token.Token.TheVariants as tokens
 use Rattle.litmus_tokens.specs.declared.token.Mark.TheVariants as marks
 use Rattle.litmus_tokens.specs.Lexer.{front}
 use Rattle.litmus_tokens.specs.Texts.{tokens_from}
-use Rattle.litmus_values.specs.declared.instruction.Instruction.{Instruction}
-use Rattle.litmus_values.specs.declared.test.Step.{Step}
-use Rattle.litmus_values.specs.declared.test.Step.TheVariants as steps
+use Rattle.text_values.specs.declared.instruction.Instruction.{Instruction}
+use Rattle.text_values.specs.declared.test.Step.{Step}
+use Rattle.text_values.specs.declared.test.Step.TheVariants as steps
 use Rattle.litmus_table.specs.declared.opcode.Opcode.{Opcode}
 use Rattle.litmus_table.specs.Grammar as grammar
 use Rattle.litmus_table.specs.Grammar.{CellTree, RowTree, spelled_cell, spelled_cells, spelled_rows, AreCells, AreRows, operation_steps, cell_steps, cells_steps, nth_cell, column, columns_meaning}
 use Rattle.litmus_printing.specs.Printing.{step_text, cell_text, row_text, rows_text, longest}
-use Rattle.source_text.specs.Joined.{joined}
+use Rattle.text_values.specs.Joined.{joined}
 use Rattle.litmus_laws.specs.Written.{IsStep, AreSteps}
 use Rattle.litmus_laws.proofs.Read.{Operands, read, free, inner}
 use Rattle.litmus_laws.proofs.Instructions.{NoColon, cell_label, tree_of, instruction_read}

@@ -5,7 +5,7 @@ use Rattle.std.specs.List.{position_or_len}
 use Rattle.std.specs.Str.{bytes_eq}
 use Rattle.std.proofs.lemmas.Bool.{and_parts, and_from, or_parts, or_from, eqb-false}
 use Rattle.std.proofs.lemmas.Bool.Decides.{nat_tests}
-use Rattle.source_text.specs.Layout.{is_blank, is_line_end, quoted_from, comment_of}
+use Rattle.text_values.specs.Layout.{is_blank, is_line_end, quoted_from, comment_of}
 use Rattle.litmus_tokens.specs.declared.rule.LitmusRule.TheVariants as rules
 use Rattle.litmus_tokens.specs.declared.stage.Stage.{Stage}
 use Rattle.litmus_tokens.specs.declared.stage.Stage.TheVariants.{Magic, Title, TitleEnd, Head, Init, Header, CellBegins, InCell, Tail}
@@ -15,7 +15,7 @@ use Rattle.litmus_tokens.specs.declared.token.Mark as mark
 use Rattle.litmus_tokens.specs.declared.lexer.Front.{Front}
 use Rattle.litmus_tokens.specs.declared.lexer.Front.TheVariants.{Layout, Lexeme}
 use Rattle.litmus_tokens.specs.Words.{are_digits}
-use Rattle.source_text.specs.Letters.{is_digit, is_letter}
+use Rattle.text_values.specs.Letters.{is_digit, is_letter}
 use Rattle.litmus_tokens.specs.Lexer.{is_word_byte, is_space, is_not_ascii, ends_word, ends_digits, is_equals, begins_comment, gap_from, comment_front, ends_raw, raw_from, raw_front, quoted_front, line_front, word_token, word_front, significant, number_front, minus_front, mark_of, mark_front, sign_front, plain_front, stage_front, front}
 use Rattle.litmus_tokens.specs.Stage.{after}
 use Rattle.litmus_tokens.specs.Texts.{TokenAt, tokens_of, ends_line, fresh_after, after_front, tokens_from}

@@ -7,21 +7,21 @@ use Rattle.litmus_tokens.specs.declared.token.Token.TheVariants as tokens
 use Rattle.litmus_tokens.specs.declared.token.Mark.TheVariants as marks
 use Rattle.litmus_tokens.specs.Lexer.{front}
 use Rattle.litmus_tokens.specs.Texts.{tokens_of, lexed, tokens_from}
-use Rattle.litmus_values.specs.declared.test.Place.{Place}
-use Rattle.litmus_values.specs.declared.test.InitEntry.{InitEntry}
-use Rattle.litmus_values.specs.declared.test.Step.{Step}
-use Rattle.litmus_values.specs.declared.test.Quantifier.{Quantifier}
-use Rattle.litmus_values.specs.declared.test.Quantifier.TheVariants.{Exists, NotExists, Forall}
-use Rattle.litmus_values.specs.Value.{Formula, Content}
-use Rattle.litmus_conditions.specs.Grammar as conditions
-use Rattle.litmus_conditions.specs.Grammar.{Limits, limits, Group, place_meaning, spelled_place, spelled, spelled_quantifier}
+use Rattle.text_values.specs.declared.test.Place.{Place}
+use Rattle.text_values.specs.declared.test.InitEntry.{InitEntry}
+use Rattle.text_values.specs.declared.test.Step.{Step}
+use Rattle.text_values.specs.declared.test.Quantifier.{Quantifier}
+use Rattle.text_values.specs.declared.test.Quantifier.TheVariants.{Exists, NotExists, Forall}
+use Rattle.text_values.specs.TestValue.{Formula, Content}
+use Rattle.litmus_tokens.specs.Conditions as conditions
+use Rattle.litmus_tokens.specs.Conditions.{Limits, limits, Group, place_meaning, spelled_place, spelled, spelled_quantifier}
 use Rattle.litmus_table.specs.Grammar.{spelled_header, spelled_rows}
 use Rattle.litmus_table.specs.Late.{Late, or_else, late_columns}
 use Rattle.litmus_grammar.specs.Grammar as grammar
 use Rattle.litmus_grammar.specs.Grammar.{members, spelled_others, spelled_listed, spelled_entry, spelled_observed, spelled_condition, spelled_test, TestTree, AreItems, test_meaning, entry_meaning}
 use Rattle.litmus_grammar.specs.Texts.{ReadsTest, late_entries, late_test, before_entries, before_rows}
 use Rattle.litmus_printing.specs.Printing.{line, all_of, entry_line, place_text, item_text, observed_text, formula_text, condition_text, names, row_text, rows_text, table_text, longest, printed}
-use Rattle.source_text.specs.Joined.{joined}
+use Rattle.text_values.specs.Joined.{joined}
 use Rattle.litmus_laws.specs.Written.{ArePlaces, IsFormula, AreThreads, IsTest, IsTextOfTest, nesting, joins, IsWithinLimits}
 use Rattle.litmus_laws.proofs.Read.{Condition, read, free, inner}
 use Rattle.litmus_laws.proofs.Numbers.{word}

@@ -8,7 +8,7 @@ use Rattle.litmus_tokens.specs.Faults.{IsFault}
 use Rattle.litmus_tokens.specs.Texts.{TokenAt, tokens_of}
 use Rattle.litmus_tokens.specs.declared.stage.Stage.{Stage}
 use Rattle.litmus_tokens.specs.declared.stage.Stage.TheVariants.{Magic}
-use Rattle.litmus_conditions.specs.Grammar.{limits}
+use Rattle.litmus_tokens.specs.Conditions.{limits}
 use Rattle.litmus_table.specs.Grammar.{spelled_header, spelled_rows}
 use Rattle.litmus_grammar.specs.Grammar.{TestTree, spelled_text, spelled_keylines, spelled_init, spelled_observed, spelled_condition, IsTestText}
 use Rattle.litmus_grammar.specs.Texts.{IsStart}

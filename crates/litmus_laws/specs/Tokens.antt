@@ -1,8 +1,8 @@
 -- The tokens of the text of a test: in each part the pieces that its tokens are written as, none of which goes on, with
 -- gaps between them.
 use Rattle.std.specs.Prelude.{◌≡◌, ℕ, ◌+◌, ◌<◌, ◌≤◌, List, [], ◌∷◌, ◌++◌, Bool, true, false, ◌||◌, ◌&&◌, ◌==◌, not, length, slice_index, Option, Some, None, if◌then◌else◌}
-use Rattle.source_text.specs.Letters.{is_letter, is_digit}
-use Rattle.source_text.specs.Layout.{is_blank, is_line_end}
+use Rattle.text_values.specs.Letters.{is_letter, is_digit}
+use Rattle.text_values.specs.Layout.{is_blank, is_line_end}
 use Rattle.text_laws.specs.Comments.{LacksQuote, begins_comment, BeginsWithComment}
 use Rattle.litmus_tokens.specs.declared.rule.LitmusRule.TheVariants as rules
 use Rattle.litmus_tokens.specs.declared.stage.Stage.{Stage}

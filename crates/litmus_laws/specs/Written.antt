@@ -3,20 +3,20 @@ use Rattle.std.specs.Prelude.{◌≡◌, ℕ, ◌+◌, ◌<◌, ◌≤◌, max, 
 use Rattle.litmus_tokens.specs.declared.stage.Stage.TheVariants.{Magic, Tail}
 use Rattle.litmus_tokens.specs.Lexer.{is_word_byte, begins_comment}
 use Rattle.litmus_tokens.specs.Words.{is_test_name}
-use Rattle.source_text.specs.Letters.{is_letter}
+use Rattle.text_values.specs.Letters.{is_letter}
 use Rattle.litmus_tokens.specs.Texts.{tokens_of, lexed}
-use Rattle.litmus_values.specs.declared.test.Place.{Place}
-use Rattle.litmus_values.specs.declared.test.Place.TheVariants as places
-use Rattle.litmus_values.specs.declared.test.Value as declared_value
-use Rattle.litmus_values.specs.declared.test.Value.TheVariants as values
-use Rattle.litmus_values.specs.declared.test.InitEntry.{InitEntry}
-use Rattle.litmus_values.specs.declared.test.Step.{Step}
-use Rattle.litmus_values.specs.declared.test.Step.TheVariants as steps
-use Rattle.litmus_values.specs.declared.test.Quantifier.{Quantifier}
-use Rattle.litmus_values.specs.declared.instruction.Instruction.{Instruction}
-use Rattle.litmus_values.specs.declared.instruction.Instruction.TheVariants as instructions
-use Rattle.litmus_values.specs.Value.{Formula, Constant, Holds, Not, Join, Content, level}
-use Rattle.litmus_conditions.specs.Grammar.{Limits, limits, IsConditionText, meaning}
+use Rattle.text_values.specs.declared.test.Place.{Place}
+use Rattle.text_values.specs.declared.test.Place.TheVariants as places
+use Rattle.text_values.specs.declared.test.Value as declared_value
+use Rattle.text_values.specs.declared.test.Value.TheVariants as values
+use Rattle.text_values.specs.declared.test.InitEntry.{InitEntry}
+use Rattle.text_values.specs.declared.test.Step.{Step}
+use Rattle.text_values.specs.declared.test.Step.TheVariants as steps
+use Rattle.text_values.specs.declared.test.Quantifier.{Quantifier}
+use Rattle.text_values.specs.declared.instruction.Instruction.{Instruction}
+use Rattle.text_values.specs.declared.instruction.Instruction.TheVariants as instructions
+use Rattle.text_values.specs.TestValue.{Formula, Constant, Holds, Not, Join, Content, level}
+use Rattle.litmus_tokens.specs.Conditions.{Limits, limits, IsConditionText, meaning}
 use Rattle.litmus_table.specs.Late.{is_in}
 use Rattle.litmus_grammar.specs.Grammar.{IsTestText, test_meaning}
 use Rattle.litmus_grammar.specs.Texts.{most_bytes, late_test}

@@ -9,10 +9,10 @@ ghost use Rattle.litmus_tokens.specs.declared.stage.Stage.TheVariants.{Magic, In
 ghost use Rattle.litmus_tokens.specs.declared.token.Token.{Token};
 ghost use Rattle.litmus_tokens.specs.Stage.{rule_of};
 ghost use Rattle.litmus_tokens.specs.Texts.{TokenAt, stage_after, lexed};
-ghost use Rattle.litmus_conditions.specs.Grammar.{Limits, limits, IsConditionText};
+ghost use Rattle.litmus_tokens.specs.Conditions.{Limits, limits, IsConditionText};
 ghost use Rattle.litmus_grammar.specs.Grammar.{TestTree, IsTest as IsTestTree, spelled_test, IsInitText, IsThreadText, IsLocationsText};
-ghost use Rattle.litmus_values.specs.declared.test.Quantifier.{Quantifier};
-ghost use Rattle.litmus_values.specs.Value.{Formula, Content};
+ghost use Rattle.text_values.specs.declared.test.Quantifier.{Quantifier};
+ghost use Rattle.text_values.specs.TestValue.{Formula, Content};
 ghost use Rattle.litmus_printing.specs.Printing.{condition_text, printed};
 ghost use Rattle.litmus_grammar.specs.Texts.{IsStart, ReadsCondition, ReadsTest};
 ghost use Rattle.litmus_laws.specs.Parts.{tokens_in, test_parts, StandsIn, IsRefusal, IsOfItsPart, IsOfPart};

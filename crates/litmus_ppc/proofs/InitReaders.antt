@@ -11,11 +11,11 @@ use Rattle.litmus_tokens.specs.declared.token.Token.TheVariants as tokens
 use Rattle.litmus_tokens.specs.declared.token.Mark.TheVariants as marks
 use Rattle.litmus_tokens.specs.Texts.{TokenAt, tokens_of, lexed, StandsAt}
 use Rattle.litmus_tokens.specs.Words.{decimal, register_of, or_zero}
-use Rattle.litmus_values.specs.declared.test.Place.{Place}
-use Rattle.litmus_values.specs.declared.test.Place.TheVariants as whole_places
-use Rattle.litmus_values.specs.declared.test.InitEntry.{InitEntry}
-use Rattle.litmus_conditions.specs.Grammar.{PlaceTree, Location, Register, place_meaning, value_meaning, written_place}
-use Rattle.litmus_conditions.specs.PlaceMachine.{place_of}
+use Rattle.text_values.specs.declared.test.Place.{Place}
+use Rattle.text_values.specs.declared.test.Place.TheVariants as whole_places
+use Rattle.text_values.specs.declared.test.InitEntry.{InitEntry}
+use Rattle.litmus_tokens.specs.Conditions.{PlaceTree, Location, Register, place_meaning, value_meaning, written_place}
+use Rattle.litmus_tokens.specs.PlaceMachine.{place_of}
 use Rattle.litmus_table.specs.Late.{Late}
 use Rattle.litmus_ppc.specs.declared.fault.LitmusFault.{LitmusFault}
 use Rattle.litmus_ppc.specs.declared.fault.LitmusFault.TheVariants as faults

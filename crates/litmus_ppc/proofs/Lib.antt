@@ -1,3 +1,5 @@
+pub mod Entries
+pub mod Keys
 pub mod InitReaders
 pub mod ListReaders
 pub mod Readers

@@ -3,8 +3,8 @@ use Rattle.std.proofs.Common.{◌≡◌, ℕ, ◌<◌, ◌≤◌, false, List, l
 use Rattle.std.proofs.lemmas.Bool.{cases_lt}
 use Rattle.litmus_tokens.specs.declared.stage.Stage.TheVariants.{Tail}
 use Rattle.litmus_tokens.specs.Texts.{tokens_of, lexed}
-use Rattle.litmus_values.specs.declared.test.Place.{Place}
-use Rattle.litmus_conditions.specs.Grammar.{place_meaning}
+use Rattle.text_values.specs.declared.test.Place.{Place}
+use Rattle.litmus_tokens.specs.Conditions.{place_meaning}
 use Rattle.litmus_ppc.specs.declared.fault.LitmusFault.{LitmusFault}
 use Rattle.litmus_ppc.specs.declared.fault.LitmusFault.TheVariants as faults
 use Rattle.litmus_grammar.specs.declared.parts.TextKind.TheVariants as kinds

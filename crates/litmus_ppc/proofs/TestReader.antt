@@ -2,10 +2,10 @@
 use Rattle.std.proofs.Common.{◌≡◌, ℕ, ◌+◌, ◌<◌, ◌≤◌, List, map, length, Option, Some, None, Result, Ok, Err, refl, sym, ap, ◌∙◌, subst, arith, inl, inr, ◌⊎◌}
 use Rattle.std.proofs.lemmas.Bool.{cases_lt}
 use Rattle.litmus_tokens.specs.Texts.{TokenAt, tokens_of, lexed}
-use Rattle.litmus_values.specs.declared.test.InitEntry.{InitEntry}
-use Rattle.litmus_values.specs.declared.test.Step.{Step}
-use Rattle.litmus_values.specs.Value.{Content}
-use Rattle.litmus_conditions.specs.Grammar.{limits, place_meaning, meaning}
+use Rattle.text_values.specs.declared.test.InitEntry.{InitEntry}
+use Rattle.text_values.specs.declared.test.Step.{Step}
+use Rattle.text_values.specs.TestValue.{Content}
+use Rattle.litmus_tokens.specs.Conditions.{limits, place_meaning, meaning}
 use Rattle.litmus_table.specs.Checks.{IsFoundAt}
 use Rattle.litmus_table.specs.Late.{Late, Note, or_else, first_late, columns_notes, late_columns}
 use Rattle.litmus_table.specs.Laws.{steps_of, AreNoted}

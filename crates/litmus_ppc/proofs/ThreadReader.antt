@@ -1,7 +1,7 @@
 -- What `read_thread` answers is what the grammar and the checks of labels say.
 use Rattle.std.proofs.Common.{◌≡◌, ℕ, ◌<◌, ◌≤◌, List, [], ◌∷◌, length, Option, Some, None, Result, Ok, Err, refl, sym, ap, ◌∙◌, subst}
 use Rattle.litmus_tokens.specs.Texts.{TokenAt, tokens_of, lexed}
-use Rattle.litmus_values.specs.declared.test.Step.{Step}
+use Rattle.text_values.specs.declared.test.Step.{Step}
 use Rattle.litmus_table.specs.Grammar.{thread_meaning}
 use Rattle.litmus_table.specs.Late.{Late, Note, or_else, late_notes, first_late, thread_notes}
 use Rattle.litmus_table.specs.Laws.{steps_of, AreNoted}

@@ -1,2 +1,4 @@
+pub mod InitReading
+pub mod PartReading
 pub mod Faults
 pub mod TextReading

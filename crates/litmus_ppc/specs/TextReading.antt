@@ -1,21 +1,21 @@
 -- What the reader holds of a text, as the machine sees it.
 use Rattle.std.specs.Prelude.{◌≡◌, ℕ, List, Bool, true, false, Option, Some, Result, Ok, Err}
 use Rattle.litmus_tokens.specs.declared.rule.LitmusRule.{LitmusRule}
-use Rattle.litmus_values.specs.Value.{Content, formula_of}
-use Rattle.litmus_conditions.specs.declared.step.StepError.{StepError}
-use Rattle.litmus_conditions.specs.declared.condition.Frame as code_frame
-use Rattle.litmus_conditions.specs.declared.condition.Expectation as code_expectation
-use Rattle.litmus_conditions.specs.Reading.{stack_of, expectation_of}
-use Rattle.litmus_values.specs.declared.test.Quantifier.{Quantifier}
+use Rattle.text_values.specs.TestValue.{Content, formula_of}
+use Rattle.litmus_tokens.specs.declared.step.StepError.{StepError}
+use Rattle.litmus_tokens.specs.declared.condition.Frame as code_frame
+use Rattle.litmus_tokens.specs.declared.condition.Expectation as code_expectation
+use Rattle.litmus_tokens.specs.ConditionReading.{stack_of, expectation_of}
+use Rattle.text_values.specs.declared.test.Quantifier.{Quantifier}
 use Rattle.litmus_table.specs.Laws.{steps_of}
 use Rattle.litmus_table.specs.Reading.{Refuses, table_of}
 use Rattle.litmus_ppc.specs.declared.fault.LitmusFault.{LitmusFault}
 use Rattle.litmus_ppc.specs.declared.fault.LitmusFault.TheVariants as faults
-use Rattle.litmus_parts.specs.declared.parts.Part as code_part
+use Rattle.litmus_ppc.specs.declared.parts.Part as code_part
 use Rattle.litmus_ppc.specs.declared.draft.Draft as code_draft
 use Rattle.litmus_ppc.specs.declared.reader.Reader.{Reader}
-use Rattle.litmus_parts.specs.InitReading.{block_of}
-use Rattle.litmus_parts.specs.PartReading.{part_of}
+use Rattle.litmus_ppc.specs.InitReading.{block_of}
+use Rattle.litmus_ppc.specs.PartReading.{part_of}
 use Rattle.litmus_grammar.specs.TextMachine as machine
 
 abbrev pub draft_of : code_draft.Draft → machine.Draft

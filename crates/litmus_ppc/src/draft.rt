@@ -1,33 +1,31 @@
 //! The draft of a test.
 
 ghost use Rattle.std.specs.Prelude.{◌≡◌, IfOk};
-ghost use Rattle.litmus_conditions.specs.ConditionMachine.{proposition_step};
-ghost use Rattle.litmus_conditions.specs.Grammar.{limits};
-ghost use Rattle.litmus_conditions.specs.PlaceMachine.{place_step};
-ghost use Rattle.litmus_conditions.specs.Reading.{stack_of, expectation_of};
-ghost use Rattle.litmus_values.specs.Value.{content_of};
+ghost use Rattle.litmus_tokens.specs.ConditionMachine.{proposition_step};
+ghost use Rattle.litmus_tokens.specs.Conditions.{limits};
+ghost use Rattle.litmus_tokens.specs.PlaceMachine.{place_step};
+ghost use Rattle.litmus_tokens.specs.ConditionReading.{stack_of, expectation_of};
+ghost use Rattle.text_values.specs.TestValue.{content_of};
 ghost use Rattle.litmus_table.specs.Machine.{named};
 ghost use Rattle.litmus_table.specs.Reading.{table_of, first_steps};
 ghost use Rattle.litmus_grammar.specs.TextMachine.{HasColumn, part_step, nothing, first_table, after_init, Done, title_read, table_result, item_start, item_result, next_item, item_read, proposition_result, threads_in};
-ghost use Rattle.litmus_parts.specs.PartReading.{part_of};
+ghost use Rattle.litmus_ppc.specs.PartReading.{part_of};
 ghost use Rattle.litmus_ppc.specs.TextReading.{draft_of, test_of, StepsTo, ReadsProposition};
 
-use litmus_conditions::{
-    Expectation, Frame, PlaceExpectation, PlaceStep, PropositionStep, StepError, is_there,
-    place_step, proposition_step,
+use crate::init::InitBlock;
+use crate::parts::{
+    Part, begins_tail, column_ended, end_read, exists_read, head_read, is_end, is_thread,
+    item_ended, list_opened, list_start, magic_read, quantifier_read, tail_start, title_ended,
 };
 use litmus_grammar::{ItemExpectation, TextKind};
-use litmus_parts::{
-    InitBlock, Part, begins_tail, column_ended, end_read, exists_read, head_read, is_end,
-    is_thread, item_ended, list_opened, list_start, magic_read, quantifier_read, tail_start,
-    title_ended,
-};
 use litmus_table::Table;
-use litmus_tokens::{Mark, Token, is_test_name};
-use litmus_values::{Condition, InitEntry, Place, Proposition, Quantifier, Test, Thread};
-use source_text::Name;
+use litmus_tokens::{
+    Expectation, Frame, Mark, PlaceExpectation, PlaceStep, PropositionStep, StepError, Token,
+    is_test_name, is_there, place_step, proposition_step,
+};
 use std::alloc::{AllocError, Global};
 use std::mem;
+use text_values::{Condition, InitEntry, Name, Place, Proposition, Quantifier, Test, Thread};
 
 /// The draft of a test: what was read of a text so far.
 #[derive(Drop)]

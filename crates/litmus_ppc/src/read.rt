@@ -2,9 +2,9 @@
 
 ghost use Rattle.std.specs.Prelude.{◌≡◌, ◌<◌, ◌≤◌, List, length, IfOk, IfErr, MatchResult};
 ghost use Rattle.litmus_tokens.specs.Texts.{fresh_after, lexed};
-ghost use Rattle.litmus_values.specs.Value.{Content, Formula, content_of, formula_of};
-ghost use Rattle.litmus_values.specs.declared.test.Quantifier.{Quantifier};
-ghost use Rattle.litmus_values.specs.declared.test.Step.{Step};
+ghost use Rattle.text_values.specs.TestValue.{Content, Formula, content_of, formula_of};
+ghost use Rattle.text_values.specs.declared.test.Quantifier.{Quantifier};
+ghost use Rattle.text_values.specs.declared.test.Step.{Step};
 ghost use Rattle.litmus_ppc.specs.Faults.{IsWithin, IsTooLong, IsMemory, IsFaultOf};
 ghost use Rattle.litmus_grammar.specs.TextMachine.{start, first_stage, run};
 ghost use Rattle.litmus_ppc.specs.TextReading.{state_of, Runs, StepsAt};
@@ -12,13 +12,12 @@ ghost use Rattle.litmus_grammar.specs.Texts.{ReadsTest, IsTestFault, ReadsInit, 
 
 use crate::draft::Draft;
 use crate::fault::LitmusFault;
+use crate::parts::is_line_end;
 use crate::reader::Reader;
 use litmus_grammar::TextKind;
-use litmus_parts::is_line_end;
 use litmus_tokens::{Front, LitmusRule, Stage, Token, front_of};
-use litmus_values::{Condition, InitEntry, Place, Test, Thread};
-use source_text::{MAX_BYTES, is_blank};
 use std::alloc::Global;
+use text_values::{Condition, InitEntry, MAX_BYTES, Place, Test, Thread, is_blank};
 
 // Whether the line holds nothing but blanks, this byte too.
 fn is_fresh_behind(is_fresh: bool, byte: u8) -> bool

@@ -13,11 +13,10 @@ ghost use Rattle.litmus_ppc.specs.TextReading.{draft_of, state_of, StepsAt};
 
 use crate::draft::Draft;
 use crate::fault::LitmusFault;
-use litmus_conditions::StepError;
+use crate::parts::{Part, first_stage, is_filter_word, is_thread, is_word};
 use litmus_grammar::TextKind;
-use litmus_parts::{Part, first_stage, is_filter_word, is_thread, is_word};
 use litmus_table::LateFault;
-use litmus_tokens::{LitmusRule, Stage, Token};
+use litmus_tokens::{LitmusRule, Stage, StepError, Token};
 use std::alloc::{AllocError, Global};
 
 /// The state of the reader.

@@ -2,11 +2,11 @@
 use Rattle.std.proofs.Common.{◌≡◌, ℕ, zero, suc, ◌+◌, ◌-◌, ◌<◌, ◌≤◌, List, [], ◌∷◌, ◌++◌, length, get_or, refl, sym, ap, ◌∙◌, arith, append_assoc}
 use Rattle.std.specs.Prelude.{map, codes}
 use Rattle.std.specs.Fmt.{decimal}
-use Rattle.source_text.specs.Joined.{joined, between}
-use Rattle.source_text.proofs.Separated.{from, from_first}
-use Rattle.litmus_values.specs.declared.test.Step.{Step}
-use Rattle.litmus_values.specs.declared.test.Thread.{Thread}
-use Rattle.litmus_values.specs.Value.{steps_of}
+use Rattle.text_values.specs.Joined.{joined, between}
+use Rattle.text_values.proofs.Separated.{from, from_first}
+use Rattle.text_values.specs.declared.test.Step.{Step}
+use Rattle.text_values.specs.declared.test.Thread.{Thread}
+use Rattle.text_values.specs.TestValue.{steps_of}
 use Rattle.litmus_printing.specs.Printing.{names, cell_text, step_text, row_text, rows_text}
 
 -- ---- the header

@@ -1,27 +1,27 @@
 -- The text of a test.
 use Rattle.std.specs.Prelude.{ℕ, zero, suc, ◌+◌, max, List, [], ◌∷◌, ◌++◌, map, length, Bool, true, false, nat_lt, codes}
 use Rattle.std.specs.Fmt.{decimal, signed_decimal}
-use Rattle.source_text.specs.Joined.{joined, bracketed}
-use Rattle.litmus_values.specs.declared.instruction.Instruction.{Instruction}
-use Rattle.litmus_values.specs.declared.instruction.Instruction.TheVariants as instructions
-use Rattle.litmus_values.specs.declared.instruction.Operation.{Operation}
-use Rattle.litmus_values.specs.declared.instruction.Operation.TheVariants as operations
-use Rattle.litmus_values.specs.declared.instruction.BranchCondition.{BranchCondition}
-use Rattle.litmus_values.specs.declared.instruction.BranchCondition.TheVariants as branches
-use Rattle.litmus_values.specs.declared.instruction.Fence as fence
-use Rattle.litmus_values.specs.declared.instruction.Fence.TheVariants as fences
-use Rattle.litmus_values.specs.declared.test.Place.{Place}
-use Rattle.litmus_values.specs.declared.test.Place.TheVariants as places
-use Rattle.litmus_values.specs.declared.test.Value as declared_value
-use Rattle.litmus_values.specs.declared.test.Value.TheVariants as values
-use Rattle.litmus_values.specs.declared.test.InitEntry.{InitEntry}
-use Rattle.litmus_values.specs.declared.test.Step.{Step}
-use Rattle.litmus_values.specs.declared.test.Step.TheVariants as steps
-use Rattle.litmus_values.specs.declared.test.Quantifier.{Quantifier}
-use Rattle.litmus_values.specs.declared.test.Quantifier.TheVariants.{Exists, NotExists, Forall}
-use Rattle.litmus_values.specs.declared.test.Connective.{Connective}
-use Rattle.litmus_values.specs.declared.test.Connective.TheVariants as connectives
-use Rattle.litmus_values.specs.Value.{Formula, Constant, Holds, Not, Join, Content, level}
+use Rattle.text_values.specs.Joined.{joined, bracketed}
+use Rattle.text_values.specs.declared.instruction.Instruction.{Instruction}
+use Rattle.text_values.specs.declared.instruction.Instruction.TheVariants as instructions
+use Rattle.text_values.specs.declared.instruction.Operation.{Operation}
+use Rattle.text_values.specs.declared.instruction.Operation.TheVariants as operations
+use Rattle.text_values.specs.declared.instruction.BranchCondition.{BranchCondition}
+use Rattle.text_values.specs.declared.instruction.BranchCondition.TheVariants as branches
+use Rattle.text_values.specs.declared.instruction.Fence as fence
+use Rattle.text_values.specs.declared.instruction.Fence.TheVariants as fences
+use Rattle.text_values.specs.declared.test.Place.{Place}
+use Rattle.text_values.specs.declared.test.Place.TheVariants as places
+use Rattle.text_values.specs.declared.test.Value as declared_value
+use Rattle.text_values.specs.declared.test.Value.TheVariants as values
+use Rattle.text_values.specs.declared.test.InitEntry.{InitEntry}
+use Rattle.text_values.specs.declared.test.Step.{Step}
+use Rattle.text_values.specs.declared.test.Step.TheVariants as steps
+use Rattle.text_values.specs.declared.test.Quantifier.{Quantifier}
+use Rattle.text_values.specs.declared.test.Quantifier.TheVariants.{Exists, NotExists, Forall}
+use Rattle.text_values.specs.declared.test.Connective.{Connective}
+use Rattle.text_values.specs.declared.test.Connective.TheVariants as connectives
+use Rattle.text_values.specs.TestValue.{Formula, Constant, Holds, Not, Join, Content, level}
 
 abbrev pub line : List ℕ → List ℕ
 line text = text ++ 10 ∷ []

@@ -2,16 +2,15 @@
 
 ghost use Rattle.std.specs.Prelude.{◌≡◌, ◌++◌, ◌+◌, OnOk, IfOk, codes};
 ghost use Rattle.std.specs.Fmt.{decimal, signed_decimal};
-ghost use Rattle.litmus_values.specs.Value.{formula_of, level};
+ghost use Rattle.text_values.specs.TestValue.{formula_of, level};
 ghost use Rattle.litmus_printing.specs.Printing.{line, register_text, value_text, place_text, entry_text, operation_text, branch_text, fence_text, instruction_text, step_text, connective_text, is_loose, formula_text, condition_text};
-ghost use Rattle.source_text.specs.Joined.{bracketed};
+ghost use Rattle.text_values.specs.Joined.{bracketed};
 
-use litmus_values::{
-    BranchCondition, Condition, Connective, Fence, InitEntry, Instruction, Operation, Place,
-    Proposition, Quantifier, Register, Step, Value,
-};
-use source_text::{put_bytes, put_decimal};
 use std::alloc::{AllocError, Global};
+use text_values::{
+    BranchCondition, Condition, Connective, Fence, InitEntry, Instruction, Operation, Place,
+    Proposition, Quantifier, Register, Step, Value, put_bytes, put_decimal,
+};
 
 /// Appends a location or a register: `[x]` or `1:r1`. Errors: out of memory.
 pub fn put_place(text: &mut Vec<u8>, place: &Place) -> Result<(), AllocError>

@@ -1,13 +1,12 @@
 //! Prints tests.
 
 ghost use Rattle.std.specs.Prelude.{◌≡◌, ◌++◌, map, OnOk, IfOk};
-ghost use Rattle.litmus_values.specs.Value.{steps_of, content_of};
+ghost use Rattle.text_values.specs.TestValue.{steps_of, content_of};
 ghost use Rattle.litmus_printing.specs.Printing.{all_of, item_text, cell_text, row_text, rows_text, longest, names, observed_text, entry_line, printed};
 
 use crate::print::{put_condition, put_entry, put_place, put_step};
-use litmus_values::{InitEntry, Place, Step, Test, Thread};
-use source_text::{put_between, put_bytes, put_decimal};
 use std::alloc::{AllocError, Global};
+use text_values::{InitEntry, Place, Step, Test, Thread, put_between, put_bytes, put_decimal};
 
 // Appends the names of the columns.
 fn put_header(text: &mut Vec<u8>, threads: usize) -> Result<(), AllocError>

@@ -7,11 +7,11 @@ use Rattle.litmus_tokens.specs.declared.token.Token.{Token}
 use Rattle.litmus_tokens.specs.declared.token.Token.TheVariants as tokens
 use Rattle.litmus_tokens.specs.Texts as texts
 use Rattle.litmus_tokens.specs.Texts.{StandsAt}
-use Rattle.litmus_values.specs.declared.instruction.BranchCondition.{BranchCondition}
-use Rattle.litmus_values.specs.declared.instruction.Instruction.{Instruction}
-use Rattle.litmus_values.specs.declared.instruction.Instruction.TheVariants as instructions
-use Rattle.litmus_values.specs.declared.test.Step.{Step}
-use Rattle.litmus_values.specs.declared.test.Step.TheVariants as steps
+use Rattle.text_values.specs.declared.instruction.BranchCondition.{BranchCondition}
+use Rattle.text_values.specs.declared.instruction.Instruction.{Instruction}
+use Rattle.text_values.specs.declared.instruction.Instruction.TheVariants as instructions
+use Rattle.text_values.specs.declared.test.Step.{Step}
+use Rattle.text_values.specs.declared.test.Step.TheVariants as steps
 use Rattle.litmus_table.specs.declared.opcode.DataOpcode.{DataOpcode}
 use Rattle.litmus_table.specs.declared.opcode.DataOpcode.TheVariants as data_opcodes
 use Rattle.litmus_table.specs.declared.opcode.Opcode.{Opcode}

@@ -8,8 +8,8 @@ use Rattle.litmus_tokens.specs.declared.token.Token.TheVariants as tokens
 use Rattle.litmus_tokens.specs.declared.token.Mark.TheVariants as marks
 use Rattle.litmus_tokens.specs.Texts as texts
 use Rattle.litmus_tokens.specs.Texts.{tokens_of}
-use Rattle.litmus_values.specs.declared.instruction.BranchCondition.{BranchCondition}
-use Rattle.litmus_values.specs.declared.test.Step.{Step}
+use Rattle.text_values.specs.declared.instruction.BranchCondition.{BranchCondition}
+use Rattle.text_values.specs.declared.test.Step.{Step}
 use Rattle.litmus_table.specs.declared.opcode.DataOpcode.{DataOpcode}
 use Rattle.litmus_table.specs.declared.opcode.Opcode.{Opcode}
 use Rattle.litmus_table.specs.declared.opcode.Opcode.TheVariants as opcodes

@@ -5,7 +5,7 @@ use Rattle.litmus_tokens.specs.declared.token.Token.{Token}
 use Rattle.litmus_tokens.specs.Texts as texts
 use Rattle.litmus_tokens.specs.Texts.{tokens_of, StandsAt}
 use Rattle.litmus_tokens.specs.Faults.{Begins}
-use Rattle.litmus_values.specs.declared.test.Step.{Step}
+use Rattle.text_values.specs.declared.test.Step.{Step}
 use Rattle.litmus_table.specs.Grammar.{spelled_rows, spelled_thread, columns_meaning, cells_steps, column}
 use Rattle.litmus_table.specs.Late.{column_notes, columns_notes}
 use Rattle.litmus_table.specs.Machine.{ThreadSteps, fresh, State, widened, step}

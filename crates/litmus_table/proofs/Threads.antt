@@ -1,6 +1,6 @@
 -- The threads of a table as a list.
 use Rattle.std.proofs.Common.{◌≡◌, ℕ, zero, suc, ◌<◌, ◌≤◌, List, [], ◌∷◌, length, get_or, set, refl, ap, arith}
-use Rattle.litmus_values.specs.declared.test.Step.{Step}
+use Rattle.text_values.specs.declared.test.Step.{Step}
 use Rattle.litmus_table.specs.declared.late.PlacedThread.{PlacedThread}
 use Rattle.litmus_table.specs.Machine.{ThreadSteps, noted, put_at}
 use Rattle.litmus_table.specs.Reading.{thread_of, threads_of}

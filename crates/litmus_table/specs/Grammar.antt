@@ -5,8 +5,8 @@ use Rattle.litmus_tokens.specs.declared.token.Token.{Token}
 use Rattle.litmus_tokens.specs.declared.token.Token.TheVariants as tokens
 use Rattle.litmus_tokens.specs.declared.token.Mark.TheVariants.{Semicolon, Bar}
 use Rattle.litmus_tokens.specs.Words.{column_name}
-use Rattle.litmus_values.specs.declared.test.Step.{Step}
-use Rattle.litmus_values.specs.declared.test.Step.TheVariants as steps
+use Rattle.text_values.specs.declared.test.Step.{Step}
+use Rattle.text_values.specs.declared.test.Step.TheVariants as steps
 use Rattle.litmus_table.specs.declared.opcode.Opcode.{Opcode}
 use Rattle.litmus_table.specs.Words.{opcode_of, takes, instruction_meaning}
 

@@ -6,10 +6,10 @@ use Rattle.litmus_tokens.specs.declared.token.Token.{Token}
 use Rattle.litmus_tokens.specs.Texts as texts
 use Rattle.litmus_tokens.specs.Texts.{tokens_of, StandsAt, is_end, begins_tail}
 use Rattle.litmus_tokens.specs.Faults.{Says, cell_ruling}
-use Rattle.litmus_values.specs.declared.instruction.Instruction.{Instruction}
-use Rattle.litmus_values.specs.declared.instruction.Instruction.TheVariants as instructions
-use Rattle.litmus_values.specs.declared.test.Step.{Step}
-use Rattle.litmus_values.specs.declared.test.Step.TheVariants as steps
+use Rattle.text_values.specs.declared.instruction.Instruction.{Instruction}
+use Rattle.text_values.specs.declared.instruction.Instruction.TheVariants as instructions
+use Rattle.text_values.specs.declared.test.Step.{Step}
+use Rattle.text_values.specs.declared.test.Step.TheVariants as steps
 use Rattle.litmus_table.specs.Grammar.{RowTree, ThreadTree, spelled_rows, spelled_thread, AreCells, AreRows, columns_meaning, thread_meaning}
 use Rattle.litmus_table.specs.Late.{Note, Defines, Branches, thread_notes, columns_notes}
 use Rattle.litmus_table.specs.Machine.{ThreadSteps, State, start, widened, step, is_row_start, can_end, rule_at}

@@ -1,8 +1,8 @@
 -- What the reader holds of a table, as the machine sees it.
 use Rattle.std.specs.Prelude.{◌≡◌, List, [], ◌∷◌, map, drop, Option, Some, None, Result, Ok, Err}
-use Rattle.litmus_conditions.specs.declared.step.StepError.{StepError}
-use Rattle.litmus_conditions.specs.declared.step.StepError.TheVariants as errors
-use Rattle.litmus_values.specs.declared.test.Step.{Step}
+use Rattle.litmus_tokens.specs.declared.step.StepError.{StepError}
+use Rattle.litmus_tokens.specs.declared.step.StepError.TheVariants as errors
+use Rattle.text_values.specs.declared.test.Step.{Step}
 use Rattle.litmus_table.specs.declared.late.PlacedThread.{PlacedThread}
 use Rattle.litmus_table.specs.declared.operand.Pending as code_pending
 use Rattle.litmus_table.specs.declared.table.Cell.{Cell}

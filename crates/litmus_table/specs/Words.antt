@@ -6,13 +6,13 @@ use Rattle.litmus_tokens.specs.declared.token.Token.{Token}
 use Rattle.litmus_tokens.specs.declared.token.Token.TheVariants as tokens
 use Rattle.litmus_tokens.specs.declared.token.Mark.TheVariants as marks
 use Rattle.litmus_tokens.specs.Texts.{are_none}
-use Rattle.litmus_values.specs.declared.instruction.Operation.TheVariants as operations
-use Rattle.litmus_values.specs.declared.instruction.BranchCondition.{BranchCondition}
-use Rattle.litmus_values.specs.declared.instruction.BranchCondition.TheVariants as branches
-use Rattle.litmus_values.specs.declared.instruction.Fence as fence
-use Rattle.litmus_values.specs.declared.instruction.Fence.TheVariants as fences
-use Rattle.litmus_values.specs.declared.instruction.Instruction.{Instruction}
-use Rattle.litmus_values.specs.declared.instruction.Instruction.TheVariants as instructions
+use Rattle.text_values.specs.declared.instruction.Operation.TheVariants as operations
+use Rattle.text_values.specs.declared.instruction.BranchCondition.{BranchCondition}
+use Rattle.text_values.specs.declared.instruction.BranchCondition.TheVariants as branches
+use Rattle.text_values.specs.declared.instruction.Fence as fence
+use Rattle.text_values.specs.declared.instruction.Fence.TheVariants as fences
+use Rattle.text_values.specs.declared.instruction.Instruction.{Instruction}
+use Rattle.text_values.specs.declared.instruction.Instruction.TheVariants as instructions
 use Rattle.litmus_table.specs.declared.opcode.DataOpcode.{DataOpcode}
 use Rattle.litmus_table.specs.declared.opcode.DataOpcode.TheVariants as data_opcodes
 use Rattle.litmus_table.specs.declared.opcode.Opcode.{Opcode}

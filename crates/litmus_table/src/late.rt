@@ -4,17 +4,16 @@ ghost use Rattle.std.specs.Prelude.{◌≡◌, ℕ, List, [], ◌∷◌, ◌++�
 ghost use Rattle.std.specs.Ordering.{nat_cmp};
 ghost use Rattle.std.specs.Cmp.Lexicographic.{slice_cmp};
 ghost use Rattle.std.specs.BTreeMap.{get_by};
-ghost use Rattle.litmus_values.specs.declared.test.Step as declared_step;
+ghost use Rattle.text_values.specs.declared.test.Step as declared_step;
 ghost use Rattle.litmus_table.specs.Checks.{AreFirst, first_from, label_rule, target_rule, instruction_rule, step_rule, first_fault};
 ghost use Rattle.litmus_table.specs.Machine.{fresh, noted};
 ghost use Rattle.litmus_table.specs.Reading.{thread_of};
 ghost use Rattle.litmus_table.specs.Within.{AllAtMost, IsFoundWithin};
 
 use litmus_tokens::LitmusRule;
-use litmus_values::{Instruction, Step, Thread};
-use source_text::Name;
 use std::alloc::{AllocError, Global};
 use std::collections::BTreeMap;
+use text_values::{Instruction, Name, Step, Thread};
 
 /// A fault of a label in a text that the grammar allows.
 #[derive(Clone, Copy)]

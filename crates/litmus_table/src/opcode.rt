@@ -3,7 +3,7 @@
 ghost use Rattle.std.specs.Prelude.{◌≡◌};
 ghost use Rattle.litmus_table.specs.Words.{computing_of, accessing_of, fence_of, branch_of, opcode_of, data_form};
 
-use litmus_values::{BranchCondition, Fence, Operation};
+use text_values::{BranchCondition, Fence, Operation};
 
 /// The mnemonic of an instruction.
 #[derive(Clone, Copy)]

@@ -7,10 +7,9 @@ ghost use Rattle.litmus_table.specs.Machine.{empty_pending, registers_with, valu
 ghost use Rattle.litmus_table.specs.Reading.{pending_of, Takes};
 
 use crate::opcode::{DataOpcode, Want};
-use litmus_conditions::StepError;
-use litmus_tokens::{Mark, Token, register_number, signed_number};
-use litmus_values::{Instruction, Register};
+use litmus_tokens::{Mark, StepError, Token, register_number, signed_number};
 use std::alloc::{AllocError, Global};
+use text_values::{Instruction, Register};
 
 /// An instruction that is read in part.
 #[derive(Drop)]

@@ -12,10 +12,9 @@ ghost use Rattle.litmus_table.specs.Reading.{threads_of, expectation_of, table_o
 use crate::late::{LateFault, PlacedThread};
 use crate::opcode::{Opcode, Want, opcode_of};
 use crate::operand::{Pending, is_int, is_register};
-use litmus_conditions::StepError;
-use litmus_tokens::{LitmusRule, Mark, Token, is_column, is_filter};
-use litmus_values::{BranchCondition, Instruction, Step, Thread};
+use litmus_tokens::{LitmusRule, Mark, StepError, Token, is_column, is_filter};
 use std::alloc::{AllocError, Global};
+use text_values::{BranchCondition, Instruction, Step, Thread};
 
 /// What the reader of a cell expects next.
 #[derive(Drop)]

@@ -5,8 +5,8 @@ use Rattle.std.proofs.lemmas.List.{at_drop_more, at_drop_all, take_all, get_or-d
 use Rattle.std.specs.List.{position_or_len}
 use Rattle.std.proofs.lemmas.Bool.Decides.{nat_tests}
 use Rattle.memchr.specs.Find.{IsFirstByte, is_byte}
-use Rattle.source_text.specs.Layout.{comment_of}
-use Rattle.source_text.proofs.Bytes.{first_found, none_found}
+use Rattle.text_values.specs.Layout.{comment_of}
+use Rattle.text_values.proofs.Bytes.{first_found, none_found}
 use Rattle.litmus_tokens.specs.declared.lexer.Front.TheVariants.{Lexeme}
 use Rattle.litmus_tokens.specs.declared.token.Token.TheVariants.{Bad, Keyline}
 use Rattle.litmus_tokens.specs.Lexer.{ends_raw, raw_from, is_space, begins_comment, over, gap_from, is_not_ascii, is_equals, line_front}

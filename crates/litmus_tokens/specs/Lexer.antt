@@ -2,7 +2,7 @@
 use Rattle.std.specs.Prelude.{ℕ, zero, suc, ◌+◌, ◌-◌, List, [], ◌∷◌, Bool, true, false, ◌||◌, ◌&&◌, ◌==◌, nat_le, not, Option, Some, None, length, take, drop, slice_index, codes, if◌then◌else◌}
 use Rattle.std.specs.List.{position_or_len}
 use Rattle.std.specs.Str.{bytes_eq}
-use Rattle.source_text.specs.Layout.{is_blank, is_line_end, quoted_from, comment_of}
+use Rattle.text_values.specs.Layout.{is_blank, is_line_end, quoted_from, comment_of}
 use Rattle.litmus_tokens.specs.declared.rule.LitmusRule.TheVariants as rules
 use Rattle.litmus_tokens.specs.declared.stage.Stage.{Stage}
 use Rattle.litmus_tokens.specs.declared.stage.Stage.TheVariants.{Magic, Title, TitleEnd, Head, Header, CellBegins}
@@ -12,7 +12,7 @@ use Rattle.litmus_tokens.specs.declared.token.Mark as mark
 use Rattle.litmus_tokens.specs.declared.token.Mark.TheVariants.{OpenBrace, CloseBrace, OpenBracket, CloseBracket, Open, Close, Comma, Semicolon, Colon, Bar, Equals, Tilde, And, Or, Implies}
 use Rattle.litmus_tokens.specs.declared.lexer.Front.{Front}
 use Rattle.litmus_tokens.specs.declared.lexer.Front.TheVariants.{Layout, Lexeme}
-use Rattle.source_text.specs.Letters.{is_letter, is_digit}
+use Rattle.text_values.specs.Letters.{is_letter, is_digit}
 
 -- ---- bytes
 

@@ -4,3 +4,8 @@ pub mod Numbers
 pub mod Stage
 pub mod Texts
 pub mod Words
+pub mod ConditionMachine
+pub mod Conditions
+pub mod ConditionLaws
+pub mod PlaceMachine
+pub mod ConditionReading

@@ -1,6 +1,6 @@
 -- The tokens of a text, with their offsets.
 use Rattle.std.specs.Prelude.{◌≡◌, ℕ, zero, suc, ◌+◌, ◌-◌, List, [], ◌∷◌, ◌++◌, Bool, true, false, ◌||◌, ◌&&◌}
-use Rattle.source_text.specs.Layout.{is_blank, is_line_end}
+use Rattle.text_values.specs.Layout.{is_blank, is_line_end}
 use Rattle.litmus_tokens.specs.declared.stage.Stage.{Stage}
 use Rattle.litmus_tokens.specs.declared.token.Token.{Token}
 use Rattle.litmus_tokens.specs.declared.token.Token.TheVariants as tokens

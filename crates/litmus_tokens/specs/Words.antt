@@ -1,7 +1,7 @@
 -- Words and numbers.
 use Rattle.std.specs.Prelude.{ℕ, zero, suc, ◌+◌, ◌-◌, ◌*◌, List, [], ◌∷◌, Bool, true, false, ◌||◌, ◌&&◌, ◌==◌, not, nat_le, nat_lt, Option, Some, None, length, codes, ℤ, pos, negsuc, if◌then◌else◌}
 use Rattle.std.specs.Str.{bytes_eq}
-use Rattle.source_text.specs.Letters.{is_digit}
+use Rattle.text_values.specs.Letters.{is_digit}
 
 -- ---- numbers
 

@@ -3,16 +3,16 @@
 ghost use Rattle.std.specs.Prelude.{◌≡◌, ◌<◌, ◌≤◌, length, take, drop, slice_index, IfOk};
 ghost use Rattle.std.specs.List.{position_or_len};
 ghost use Rattle.litmus_tokens.specs.Lexer.{is_not_ascii, is_space, ends_raw, is_word_byte, ends_word, ends_digits, begins_comment, gap_from, raw_from, comment_front, raw_front, quoted_front, line_front, word_front, number_front, minus_front, significant, mark_of, sign_front, plain_front, head_front, front};
-ghost use Rattle.source_text.specs.Layout.{is_line_end, quoted_from, comment_of};
+ghost use Rattle.text_values.specs.Layout.{is_line_end, quoted_from, comment_of};
 
 use crate::rule::LitmusRule;
 use crate::stage::Stage;
 use crate::token::{Mark, Token};
 use memchr::memchr;
-use source_text::{
+use std::alloc::{AllocError, Global};
+use text_values::{
     Name, byte_at, comment_length, is_blank, is_digit, is_letter, line_length, quoted_length,
 };
-use std::alloc::{AllocError, Global};
 
 /// The front of a text: layout or a token, with its length in bytes.
 #[derive(Drop)]

@@ -1,7 +1,7 @@
 //! The tokens of a text.
 
 use crate::rule::LitmusRule;
-use source_text::Name;
+use text_values::Name;
 
 /// A punctuation token.
 #[derive(Clone, Copy, PartialEq, Eq)]

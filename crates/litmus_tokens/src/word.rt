@@ -3,7 +3,7 @@
 ghost use Rattle.std.specs.Prelude.{◌≡◌, ◌<◌, min, IfSome};
 ghost use Rattle.litmus_tokens.specs.Words.{decimal, int_of, are_digits, is_plain, register_of, is_filter, ends_table, names_column, is_printable, are_printable, is_test_name};
 
-use source_text::is_digit;
+use text_values::is_digit;
 
 /// The number that decimal digits spell, or the greatest `usize` if that number is greater.
 pub fn decimal(digits: &[u8]) -> usize

@@ -7,13 +7,13 @@ use Rattle.cat_tokens.specs.declared.rule.CatRule.{CatRule}
 use Rattle.cat_tokens.specs.Tokens.{number_of as model_rule_number}
 use Rattle.litmus_tokens.specs.declared.rule.LitmusRule.{LitmusRule}
 use Rattle.litmus_tokens.specs.Numbers.{number_of as test_rule_number}
-use Rattle.litmus_values.specs.declared.test.Test.{Test}
+use Rattle.text_values.specs.declared.test.Test.{Test}
 use Rattle.litmusbench.specs.declared.file.TextFile.{TextFile}
 use Rattle.litmusbench.specs.declared.reading.NamedModel.{NamedModel}
 use Rattle.litmusbench.specs.Answer.{IsModelRefused, IsTestRefused}
 use Rattle.litmusbench.specs.Files.{AddsFault}
 use Rattle.litmusbench.specs.Reports.{AddsModel, IsModelFault, IsTestFault, AreModels, NoModel, NextModel, AddsTest, AreTests, NoTest, NextTest, IsModelTold, IsTestTold, IsToldOf}
-use Rattle.cat_values.specs.declared.model.ModelText.{ModelText}
+use Rattle.text_values.specs.declared.model.ModelText.{ModelText}
 use Rattle.verdict.specs.declared.answer.Outcome.{Outcome}
 use Rattle.compare_report.specs.Cells.{Settled}
 use Rattle.memo_graph.specs.FromScratch.{IsFromScratch}

@@ -5,9 +5,9 @@ use Rattle.std.specs.declared.alloc.AllocError.{AllocError}
 use Rattle.std.specs.declared.vec.Vec.{Vec}
 use Rattle.cat_grammar.specs.declared.form.Form.TheVariants.{Model}
 use Rattle.cat_syntax.specs.Reads.{Reads}
-use Rattle.cat_values.specs.Values.{clauses_of}
-use Rattle.cat_values.specs.declared.model.ModelText.{ModelText}
-use Rattle.cat_values.specs.declared.model.Item.{Item}
+use Rattle.text_values.specs.ModelValues.{clauses_of}
+use Rattle.text_values.specs.declared.model.ModelText.{ModelText}
+use Rattle.text_values.specs.declared.model.Item.{Item}
 use Rattle.litmusbench.specs.Told.{IsFaultTold, IsRead}
 use Rattle.litmusbench.specs.declared.file.TextFile.{TextFile}
 use Rattle.model_faults.specs.Told.{IsTold}

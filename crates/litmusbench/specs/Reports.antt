@@ -6,7 +6,7 @@ use Rattle.cat_grammar.specs.declared.form.Form.TheVariants.{Model}
 use Rattle.cat_syntax.specs.Reads.{Reads}
 use Rattle.cat_tokens.specs.declared.rule.CatRule.{CatRule}
 use Rattle.cat_tokens.specs.Tokens.{number_of as model_rule_number}
-use Rattle.cat_values.specs.Values.{clauses_of}
+use Rattle.text_values.specs.ModelValues.{clauses_of}
 use Rattle.compare_report.specs.Cells.{Cell, NoCell, Open, Settled}
 use Rattle.compare_report.specs.Columns.{Row, table_of}
 use Rattle.compare_report.specs.Differences.{difference_of}
@@ -14,8 +14,8 @@ use Rattle.session_answers.specs.Rows.{pair_in}
 use Rattle.litmus_grammar.specs.Texts.{ReadsTest}
 use Rattle.litmus_tokens.specs.declared.rule.LitmusRule.{LitmusRule}
 use Rattle.litmus_tokens.specs.Numbers.{number_of as test_rule_number}
-use Rattle.litmus_values.specs.declared.test.Test.{Test}
-use Rattle.litmus_values.specs.Value.{content_of}
+use Rattle.text_values.specs.declared.test.Test.{Test}
+use Rattle.text_values.specs.TestValue.{content_of}
 use Rattle.litmusbench.specs.declared.file.TextFile.{TextFile}
 use Rattle.litmusbench.specs.declared.reading.NamedModel.{NamedModel}
 use Rattle.litmusbench.specs.Answer.{IsModelRefused, IsTestRefused}

@@ -3,8 +3,8 @@ use Rattle.std.specs.Prelude.{◌≡◌, ℕ, List, []}
 use Rattle.cat_grammar.specs.declared.form.Form.TheVariants.{Model}
 use Rattle.cat_syntax.specs.Reads.{Reads}
 use Rattle.cat_tokens.specs.declared.rule.CatRule.{CatRule}
-use Rattle.cat_values.specs.Values.{clauses_of}
-use Rattle.cat_values.specs.declared.model.ModelText.{ModelText}
+use Rattle.text_values.specs.ModelValues.{clauses_of}
+use Rattle.text_values.specs.declared.model.ModelText.{ModelText}
 use Rattle.litmusbench.specs.Answer.{IsModelRefused}
 use Rattle.litmusbench.specs.declared.file.TextFile.{TextFile}
 use Rattle.model_faults.specs.Told.{IsTold}

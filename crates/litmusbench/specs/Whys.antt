@@ -1,10 +1,10 @@
 -- What `why` answers to a model's text and a test's text. Read `IsWhy` of reasons first.
 use Rattle.std.specs.Prelude.{ℕ, List, Bool, true, false, Option, Result}
-use Rattle.litmus_values.specs.declared.test.Test.{Test}
-use Rattle.litmus_values.specs.Value.{content_of}
+use Rattle.text_values.specs.declared.test.Test.{Test}
+use Rattle.text_values.specs.TestValue.{content_of}
 use Rattle.litmus_grammar.specs.Texts.{ReadsTest}
-use Rattle.cat_values.specs.declared.model.ModelText.{ModelText}
-use Rattle.cat_values.specs.Values.{clauses_of}
+use Rattle.text_values.specs.declared.model.ModelText.{ModelText}
+use Rattle.text_values.specs.ModelValues.{clauses_of}
 use Rattle.cat_grammar.specs.declared.form.Form.TheVariants.{Model}
 use Rattle.cat_syntax.specs.Reads.{Reads}
 use Rattle.reasons.specs.declared.answer.Asked.{Asked}

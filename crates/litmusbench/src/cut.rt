@@ -3,7 +3,7 @@
 ghost use Rattle.std.specs.Prelude.{◌≡◌, ◌≢◌, ℕ, ◌+◌, ◌<◌, ◌≤◌, length, slice_index};
 ghost use Rattle.litmusbench.specs.Cut.{IsCut};
 
-use source_text::line_length;
+use text_values::line_length;
 
 // Where the line that begins at `start` ends.
 fn line_end(bytes: &[u8], start: usize) -> usize

@@ -8,9 +8,9 @@ use fault_lines::{put_fault_lines, put_rule, rule_words};
 use model_faults::model_fault_lines;
 use session_answers::{Progress, ProgressListener};
 use session_script::number_of;
-use source_text::{put_bytes, put_decimal};
 use std::alloc::{AllocError, Global};
 use std::io::Write;
+use text_values::{put_bytes, put_decimal};
 
 /// Who hears of answers, and in between how far a table is.
 pub trait AnswerListener: ProgressListener {

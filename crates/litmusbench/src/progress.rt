@@ -1,11 +1,11 @@
 //! Tells people how far a table is.
 
 use session_answers::{Progress, ProgressListener};
-use source_text::{put_bytes, put_decimal};
 use std::alloc::{AllocError, Global};
 use std::io::Write;
 use std::rt::Clock;
 use std::time::Instant;
+use text_values::{put_bytes, put_decimal};
 
 // The shortest time between two lines, in milliseconds.
 const PAUSE: u64 = 200;

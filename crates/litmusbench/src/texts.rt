@@ -3,9 +3,9 @@
 ghost use Rattle.std.specs.Prelude.{◌≡◌, IfOk, IfErr};
 ghost use Rattle.cat_grammar.specs.declared.form.Form.{Form};
 ghost use Rattle.cat_syntax.specs.Reads.{Reads};
-ghost use Rattle.cat_values.specs.Values.{clauses_of};
+ghost use Rattle.text_values.specs.ModelValues.{clauses_of};
 ghost use Rattle.litmus_grammar.specs.Texts.{ReadsTest};
-ghost use Rattle.litmus_values.specs.Value.{content_of};
+ghost use Rattle.text_values.specs.TestValue.{content_of};
 ghost use Rattle.litmusbench.specs.Pictures as pictures;
 ghost use Rattle.litmusbench.specs.Pictures.{IsPictureOf};
 ghost use Rattle.litmusbench.specs.Answer.{IsLogOf, IsLog, IsRefusal, IsOfModel, IsOfTest};

@@ -1,11 +1,11 @@
 -- Two outcomes of one cell are equal.
 use Rattle.std.proofs.Common.{◌≡◌, ℕ, List, Option, Some, None}
-use Rattle.litmus_values.specs.declared.test.Test.{Test}
+use Rattle.text_values.specs.declared.test.Test.{Test}
 use Rattle.verdict.specs.declared.answer.Outcome.{Outcome}
 use Rattle.bench_texts.specs.declared.model.NamedModel.{NamedModel}
 use Rattle.evaluation_laws.proofs.Saying.{one_outcome}
-use Rattle.stamped_texts.specs.declared.texts.StampedTexts.{StampedTexts}
-use Rattle.stamped_texts.specs.Cells.{scratch_by, from_scratch, test_of, model_of}
+use Rattle.running_bench.specs.declared.stamped_texts.StampedTexts.{StampedTexts}
+use Rattle.running_bench.specs.StampedCells.{scratch_by, from_scratch, test_of, model_of}
 
 one_of : (c : Option Test) (m : Option NamedModel) (o p : Outcome) → scratch_by c m o → scratch_by c m p → o ≡ p
 one_of None m o p h k = absurd h

@@ -11,10 +11,10 @@ use Rattle.verdict.specs.declared.answer.Outcome.{Outcome}
 use Rattle.stamped_parts.specs.States.{makes, keeps}
 use Rattle.cells.specs.Cells.{Cells, cells}
 use Rattle.cells.specs.Events.{Refusing}
-use Rattle.stamped_texts.specs.declared.texts.StampedTexts.{StampedTexts}
-use Rattle.stamped_texts.specs.Texts.{IsSound, IsSince, net_of, verdict_of}
-use Rattle.stamped_texts.specs.Edited.{IsEdited}
-use Rattle.stamped_texts.specs.Cells.{from_scratch, Reaches}
+use Rattle.running_bench.specs.declared.stamped_texts.StampedTexts.{StampedTexts}
+use Rattle.running_bench.specs.StampedTexts.{IsSound, IsSince, net_of, verdict_of}
+use Rattle.running_bench.specs.Edited.{IsEdited}
+use Rattle.running_bench.specs.StampedCells.{from_scratch, Reaches}
 
 -- which texts are sound, what their nodes are, and what an edit makes of them
 abbrev pub live_meaning : Meaning StampedTexts Edit NodeContent GivenContent

@@ -2,13 +2,13 @@
 
 ghost use Rattle.std.specs.Prelude.{◌≡◌, ℕ, List};
 ghost use Rattle.verdict.specs.declared.answer.Outcome.{Outcome};
-ghost use Rattle.stamped_texts.specs.declared.texts.StampedTexts.{StampedTexts as StampedRecord};
-ghost use Rattle.stamped_texts.specs.Cells.{from_scratch};
+ghost use Rattle.running_bench.specs.declared.stamped_texts.StampedTexts.{StampedTexts as StampedRecord};
+ghost use Rattle.running_bench.specs.StampedCells.{from_scratch};
 ghost use Rattle.memo_core.specs.Work.{ReturnsLowerInRuns, WorkIsBounded, WorkUnsettlesNone};
 ghost use Rattle.cells.specs.CellLaws.{SettledCellIsFromScratch, UnreachedCellStays, OnlyNeededIsGiven, NoneIsOutTwice, EditBoundsWork, QuietCellsAreSettled, ListsAreRuns, ListBoundsWork};
 ghost use Rattle.live_bench.specs.Live.{live_meaning, live_cells, live_refusing};
 
-use stamped_texts::StampedTexts;
+use running_bench::StampedTexts;
 
 /// After any list of edits, claims, returns (late and repeated ones too), losses, renewals and refused calls, in any order, a
 /// cell that is settled carries what evaluating its present test under its present model from nothing gives.

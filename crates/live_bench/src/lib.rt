@@ -6,7 +6,7 @@
 pub mod laws;
 
 use cells::bench::Bench;
-use stamped_texts::StampedTexts;
+use running_bench::StampedTexts;
 
 /// A bench of litmus tests under models, whose store has the name `K`.
 pub type LiveBench<K> = Bench<K, StampedTexts>;

@@ -8,7 +8,7 @@ use Rattle.bench_texts.specs.declared.fault.EditFault.{EditFault}
 use Rattle.session_edits.specs.Faults.{fault_line}
 use Rattle.board.specs.declared.operation.BoardOp.{BoardOp}
 use Rattle.board.specs.Legal.{IsLegal}
-use Rattle.view_laws.specs.Results.{ShowsRightCells}
+use Rattle.board.specs.Results.{ShowsRightCells}
 use Rattle.live_watch.specs.Lines.{lists_of, lines_now, IsClosedBy, AreShown, changed_line, changed_lines, SaysRefused, AreTold, OneTold, IsTold, IsRefused}
 
 append_none : (xs : List ℕ) → xs ++ [] ≡ xs

@@ -3,7 +3,7 @@ use Rattle.std.specs.Prelude.{◌≡◌, ◌≢◌, ◌⊎◌, ℕ, ◌+◌, Lis
 use Rattle.std.specs.Prelude.{codes, decimal, drop, map, bytes_eq, if◌then◌else◌}
 use Rattle.std.specs.declared.alloc.Global.{Global}
 use Rattle.std.specs.List.{position_or_len, AllByRecursion as Each}
-use Rattle.source_text.specs.Layout.{is_line_end}
+use Rattle.text_values.specs.Layout.{is_line_end}
 use Rattle.compare_report.specs.Cells.{Cell, Open}
 use Rattle.compare_report.specs.Columns.{table_of}
 use Rattle.bench_texts.specs.declared.fault.EditFault.{EditFault}
@@ -12,7 +12,7 @@ use Rattle.board.specs.declared.operation.BoardOp.{BoardOp}
 use Rattle.board.specs.Contents.{shown}
 use Rattle.board.specs.Operations.{board_after}
 use Rattle.board.specs.Legal.{IsLegal, texts_after}
-use Rattle.view_laws.specs.Results.{IsRightCell, ShowsRightCells}
+use Rattle.board.specs.Results.{IsRightCell, ShowsRightCells}
 use Rattle.live_watch.specs.declared.watched.WatchedTest.{WatchedTest}
 
 -- ---- the line of a test

@@ -15,9 +15,9 @@ use bench_texts::EditFault;
 use desk_rule::Naming;
 use litmusbench::{ByteSink, ByteSource, SessionFault, write_whole};
 use session_edits::refused_edit;
-use source_text::put_bytes;
 use std::alloc::{AllocError, Global};
 use std::sync::Wait;
+use text_values::put_bytes;
 use value_store::StoreName;
 
 const MAX_TURNS: u32 = 16_777_216;

@@ -12,11 +12,10 @@ use compare_report::{Shown as Cell, TestRow, table_text};
 use core::mem::replace_with;
 use desk_rule::{Naming, View, Viewer};
 use litmus_ppc::Name;
-use running_bench::RunningTexts;
-use running_views::{newest_view, result_in};
-use source_text::{line_length, put_bytes, put_decimal};
+use running_bench::{RunningTexts, newest_view, result_in};
 use std::alloc::{AllocError, Global};
 use std::sync::Wait;
+use text_values::{line_length, put_bytes, put_decimal};
 use value_store::StoreName;
 
 /// The name of the model on the bench.

@@ -1,9 +1,9 @@
 -- The trees of bodies without fault are monotone.
 use Rattle.std.proofs.Common.{ℕ, ◌≡◌, ◌<◌, ◌≤◌, ◌+◌, inl, inr, zero, suc, List, [], ◌∷◌, length, Bool, true, false, Option, Some, None, Result, Ok, Err, refl, sym, ◌∙◌, subst, arith, rules}
 use Rattle.std.specs.List.{AllByRecursion}
-use Rattle.cat_values.specs.declared.model.Infix.{Infix}
-use Rattle.cat_values.specs.declared.model.Infix.TheVariants as infixes
-use Rattle.cat_values.specs.Value.{Term, Terms, Atom, AllEvents as Everything, EmptyRelation, EmptySet, Join, Mark, Not, On, Apply, NoTerm, OneMore}
+use Rattle.text_values.specs.declared.model.Infix.{Infix}
+use Rattle.text_values.specs.declared.model.Infix.TheVariants as infixes
+use Rattle.text_values.specs.ModelValue.{Term, Terms, Atom, AllEvents as Everything, EmptyRelation, EmptySet, Join, Mark, Not, On, Apply, NoTerm, OneMore}
 use Rattle.binding_kinds.specs.declared.fault.ModelFault.{ModelFault}
 use Rattle.binding_kinds.specs.declared.fault.ModelFault.TheVariants as faults
 use Rattle.binding_kinds.specs.declared.kinds.Kind.{Kind}
@@ -25,7 +25,7 @@ use Rattle.binding_graph.specs.Resolved.{AreBodies, IsGroupRole, IsCheckRole, Is
 use Rattle.binding_graph.specs.declared.resolved.Role.{Role}
 use Rattle.binding_graph.specs.declared.resolved.Role.TheVariants as roles
 use Rattle.binding_graph.specs.declared.resolved.ResolvedItem.{ResolvedItem}
-use Rattle.cat_values.specs.declared.model.CheckWord.{CheckWord}
+use Rattle.text_values.specs.declared.model.CheckWord.{CheckWord}
 use Rattle.binding_graph.specs.Trees.{SetTree, RelTree, rel_code}
 use Rattle.cat_eval.specs.Least.{IsMonotone, AreMonotone, body}
 use Rattle.cat_eval.specs.Rising.{AreCodes}

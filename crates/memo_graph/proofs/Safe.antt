@@ -5,8 +5,8 @@ use Rattle.std.specs.Prelude.{◌&&◌, is_some, nat_eq, if◌then◌else◌, sl
 use Rattle.std.specs.List.{AllByRecursion}
 use Rattle.std.proofs.lemmas.Bool.{leb-true, or_left, or_right}
 use Rattle.std.proofs.lemmas.Bool.Decides.{nat_tests}
-use Rattle.cat_values.specs.declared.model.Infix.TheVariants as infixes
-use Rattle.cat_values.specs.Value.{Term, Terms, Atom, AllEvents as Everywhere, EmptyRelation, EmptySet, Join, Mark, Not, On, Apply, NoTerm, OneMore}
+use Rattle.text_values.specs.declared.model.Infix.TheVariants as infixes
+use Rattle.text_values.specs.ModelValue.{Term, Terms, Atom, AllEvents as Everywhere, EmptyRelation, EmptySet, Join, Mark, Not, On, Apply, NoTerm, OneMore}
 use Rattle.binding_kinds.specs.declared.fault.ModelFault.{ModelFault}
 use Rattle.binding_kinds.specs.declared.fault.ModelFault.TheVariants as faults
 use Rattle.binding_kinds.specs.declared.scope.Found.{Found}

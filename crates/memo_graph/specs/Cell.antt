@@ -1,7 +1,7 @@
 -- What a test says under a model.
 use Rattle.std.specs.Prelude.{◌≡◌, Bool, List, reverse}
-use Rattle.litmus_values.specs.declared.test.Test.{Test}
-use Rattle.litmus_values.specs.Value.{formula_of}
+use Rattle.text_values.specs.declared.test.Test.{Test}
+use Rattle.text_values.specs.TestValue.{formula_of}
 use Rattle.litmus_printing.specs.Printing.{condition_text}
 use Rattle.candidates.specs.Space.{shown_in}
 use Rattle.candidates.specs.declared.candidate.Space.{Space}

@@ -3,13 +3,13 @@
 -- specs/Executions and Listed), the answers of checks and flags (specs/Answers), states, counts and words (verdict,
 -- specs/Evaluated).
 use Rattle.std.specs.Prelude.{◌≡◌, List, [], map, reverse}
-use Rattle.litmus_values.specs.declared.test.Test.{Test}
-use Rattle.litmus_values.specs.Value.{formula_of}
+use Rattle.text_values.specs.declared.test.Test.{Test}
+use Rattle.text_values.specs.TestValue.{formula_of}
 use Rattle.litmus_printing.specs.Printing.{condition_text}
 use Rattle.candidates.specs.declared.candidate.Space.{Space}
 use Rattle.candidates.specs.Listed.{ListsExecutions, IsRefusal}
-use Rattle.cat_values.specs.declared.model.ModelText.{ModelText}
-use Rattle.cat_values.specs.declared.predefined.TheConstants.{PREDEFINED}
+use Rattle.text_values.specs.declared.model.ModelText.{ModelText}
+use Rattle.text_values.specs.declared.predefined.TheConstants.{PREDEFINED}
 use Rattle.binding_kinds.specs.declared.fault.ModelFault.{ModelFault}
 use Rattle.binding_kinds.specs.Faults.{HasNoFault, FirstFault}
 use Rattle.binding_kinds.specs.Outermost.{naming_of}

@@ -1,9 +1,9 @@
 -- Laws of what evaluating from nothing gives: `laws` proves them. The relation itself is in specs/FromScratch.
 use Rattle.std.specs.Prelude.{◌≡◌, ℕ, ◌<◌, List, length}
 use denote.Ref.{Bor}
-use Rattle.litmus_values.specs.declared.test.Test.{Test}
+use Rattle.text_values.specs.declared.test.Test.{Test}
 use Rattle.bit_relations.specs.Relation.{Relation}
-use Rattle.cat_values.specs.declared.model.ModelText.{ModelText}
+use Rattle.text_values.specs.declared.model.ModelText.{ModelText}
 use Rattle.binding_kinds.specs.declared.fault.ModelFault.{ModelFault}
 use Rattle.binding_graph.specs.Trees.{RelTree}
 use Rattle.candidates.specs.Space.{Candidate}

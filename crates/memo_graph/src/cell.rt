@@ -2,7 +2,7 @@
 
 ghost use denote.Ref.{Bor};
 ghost use Rattle.std.specs.Prelude.{◌≡◌, ◌<◌, ◌+◌, ◌∷◌, ◌++◌, ℕ, [], List, Vec, Some, None, IfOk, OnOk, length, option_map, reverse, slice_index_or, vec_len};
-ghost use Rattle.litmus_values.specs.Value.{formula_of};
+ghost use Rattle.text_values.specs.TestValue.{formula_of};
 ghost use Rattle.litmus_printing.specs.Printing.{condition_text};
 ghost use Rattle.candidates.specs.Space.{shown_in};
 ghost use Rattle.cat_eval.specs.Wanted.{WantedColumnsOf};
@@ -23,11 +23,9 @@ use crate::suite::{over_space, space_for};
 use binding_graph::{CheckCode, Input, ResolveFault, Resolved, ResolvedItem, Role, resolve, used};
 use candidates::{EvalRefusal, Space};
 use cat_eval::{Column, Evaluator};
-use cat_values::ModelText;
 use litmus_printing::print_condition;
-use litmus_values::Test;
-use source_text::Name;
 use std::alloc::{AllocError, Global};
+use text_values::{ModelText, Name, Test};
 use verdict::{Outcome, OutcomeResult, Raised, Refusal, outcome_kept};
 
 /// A flag: its name, and whether its check holds on each candidate.

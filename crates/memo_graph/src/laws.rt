@@ -7,8 +7,7 @@ ghost use Rattle.candidates.specs.Space.{Candidate};
 ghost use Rattle.memo_graph.specs.Laws.{HasOneFault, HasOneRefusal, HasOneLeast};
 
 use cat_eval::Column;
-use cat_values::ModelText;
-use litmus_values::Test;
+use text_values::{ModelText, Test};
 
 /// A model has one first fault, or none.
 pub fn faults_are_one(model: &ModelText)

@@ -3,7 +3,7 @@
 ghost use denote.Ref.{Bor};
 ghost use Rattle.std.specs.Prelude.{List, IfOk};
 ghost use Rattle.std.specs.Result.{ForOk};
-ghost use Rattle.cat_values.specs.declared.model.ModelText.{ModelText};
+ghost use Rattle.text_values.specs.declared.model.ModelText.{ModelText};
 ghost use Rattle.cat_eval.specs.Tables.{IsOver};
 ghost use Rattle.memo_graph.specs.Answers.{AreSound};
 ghost use Rattle.memo_graph.specs.Cell.{IsCell, IsEvaluationOver, OfModel};
@@ -14,9 +14,8 @@ use crate::cell::{evaluated, refused};
 use binding_graph::{ModelFault, ResolveFault, Resolved, resolve};
 use candidates::{EvalRefusal, Space, SpaceFault, space};
 use cat_eval::Evaluator;
-use cat_values::ModelText;
-use litmus_values::Test;
 use std::alloc::{AllocError, Global};
+use text_values::{ModelText, Test};
 use verdict::{Outcome, Refusal};
 
 /// The candidates of a test, or why it has none. Errors: want of memory.

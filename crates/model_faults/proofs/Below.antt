@@ -1,7 +1,7 @@
 -- The item of a fault is one of the model.
 use Rattle.std.proofs.Common.{ℕ, ◌<◌, ◌+◌, List, [], ◌∷◌, length, map, inl, inr, arith}
 use Rattle.std.proofs.lemmas.List.{length-map}
-use Rattle.cat_values.specs.declared.model.Item.{Item}
+use Rattle.text_values.specs.declared.model.Item.{Item}
 use Rattle.binding_kinds.specs.declared.fault.ModelFault.{ModelFault}
 use Rattle.binding_kinds.specs.Value.{Naming, Clause, clause_of}
 use Rattle.binding_kinds.specs.Senses.{Sense}

@@ -1,8 +1,8 @@
 -- What people are told of a model whose text reads and that has a fault. `model_fault_lines` cites `IsTold`.
 use Rattle.std.specs.Prelude.{◌≡◌, ℕ, suc, List, [], ◌++◌, map, slice_get, slice_index_or, Some, codes, decimal}
-use Rattle.cat_values.specs.declared.model.Item.{Item}
-use Rattle.cat_values.specs.Value.{Clause}
-use Rattle.cat_values.specs.Values.{clause_of}
+use Rattle.text_values.specs.declared.model.Item.{Item}
+use Rattle.text_values.specs.ModelValue.{Clause}
+use Rattle.text_values.specs.ModelValues.{clause_of}
 use Rattle.cat_printing.specs.Printing.{printed_item}
 use Rattle.binding_kinds.specs.declared.fault.ModelFault.{ModelFault}
 use Rattle.binding_kinds.specs.Numbers.{number as fault_number}

@@ -3,15 +3,14 @@
 ghost use Rattle.std.specs.Prelude.{◌≡◌, ◌++◌, ◌<◌, ◌^◌, ◌-◌, map, IfOk, OnOk};
 ghost use Rattle.binding_kinds.specs.Value.{clause_of as kind_clause};
 ghost use Rattle.fault_places.specs.Found.{IsPlace};
-ghost use Rattle.cat_values.specs.Values.{clause_of};
+ghost use Rattle.text_values.specs.ModelValues.{clause_of};
 ghost use Rattle.model_faults.specs.Told.{item_number, fault_told, IsTold};
 
 use cat_printing::print_item;
-use cat_values::Item;
 use fault_lines::{put_rule, rule_words};
 use fault_places::{ItemFault, first_fault};
-use source_text::{put_bytes, put_decimal};
 use std::alloc::{AllocError, Global};
+use text_values::{Item, put_bytes, put_decimal};
 
 const LETTER: u8 = b'M';
 

@@ -2,7 +2,7 @@
 use Rattle.std.specs.Prelude.{Option, Some, None}
 use Rattle.memo_core.specs.declared.keys.Kind.{Kind}
 use Rattle.memo_core.specs.declared.keys.Kind.TheVariants as kinds
-use Rattle.cat_values.specs.Value.{Clause, Binding, Function, Checking, Flagging, Showing, Including}
+use Rattle.text_values.specs.ModelValue.{Clause, Binding, Function, Checking, Flagging, Showing, Including}
 
 -- the kind of node that an item is by its text, if it is one
 abbrev pub node_kind : Clause → Option Kind

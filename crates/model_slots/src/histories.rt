@@ -6,7 +6,7 @@ ghost use Rattle.model_slots.specs.Slots.{item_history};
 
 use bench_nodes::ItemRow;
 use shared_items::SharedItem;
-use source_text::Name;
+use text_values::Name;
 
 /// The items by their numbers, and beside each what it does, with its history.
 #[derive(Clone, Copy)]

@@ -1,11 +1,11 @@
 //! Which items of a model are nodes.
 
 ghost use Rattle.std.specs.Prelude.{◌≡◌};
-ghost use Rattle.cat_values.specs.Values.{clause_of};
+ghost use Rattle.text_values.specs.ModelValues.{clause_of};
 ghost use Rattle.model_slots.specs.Kinds.{node_kind};
 
-use cat_values::Item;
 use memo_core::keys::Kind;
+use text_values::Item;
 
 /// The kind of node that an item is by its text, if it is one: a group of bindings, or a check or a flag.
 pub fn node_kind(item: &Item) -> Option<Kind>

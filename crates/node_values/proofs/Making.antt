@@ -5,10 +5,10 @@ use Rattle.std.specs.List.{Contains, flat_map}
 use Rattle.std.specs.declared.alloc.AllocError.{AllocError}
 use Rattle.std.proofs.lemmas.List.{append-nil, map-append}
 use Rattle.std.proofs.lemmas.List.Elements.{Contains-append_left, Contains-append_right, Contains-append_cases}
-use Rattle.litmus_values.specs.declared.test.InitEntry.{InitEntry}
-use Rattle.litmus_values.specs.declared.test.Place.{Place}
-use Rattle.litmus_values.specs.declared.test.Place.TheVariants.{Location}
-use Rattle.litmus_values.specs.Value.{formula_of}
+use Rattle.text_values.specs.declared.test.InitEntry.{InitEntry}
+use Rattle.text_values.specs.declared.test.Place.{Place}
+use Rattle.text_values.specs.declared.test.Place.TheVariants.{Location}
+use Rattle.text_values.specs.TestValue.{formula_of}
 use Rattle.ppc_semantics.specs.Lowering.{place_names, entry_names}
 use Rattle.candidates.specs.Space.{shown_in}
 use Rattle.candidates.specs.declared.candidate.Space.{Space}

@@ -3,13 +3,13 @@ use Rattle.std.specs.Prelude.{◌≡◌, Bool, true, List, [], ◌∷◌, ◌⊎
 use Rattle.std.specs.Coded.{Coded, code_by, coded_list, coded_bool, coded×, coded⊎}
 use base.Stored.{coded_unit}
 use Rattle.std.proofs.Common.{inl, inr, ap, ◌∙◌}
-use Rattle.litmus_values.specs.declared.test.Connective.{Connective}
-use Rattle.litmus_values.specs.declared.test.Place.{Place}
-use Rattle.litmus_values.specs.declared.test.Value.{Value}
-use Rattle.litmus_values.specs.contracts.test.Connective as connective
-use Rattle.litmus_values.specs.contracts.test.Place as place
-use Rattle.litmus_values.specs.contracts.test.Value as value
-use Rattle.litmus_values.specs.Value.{Formula, Constant, Holds, Not, Join}
+use Rattle.text_values.specs.declared.test.Connective.{Connective}
+use Rattle.text_values.specs.declared.test.Place.{Place}
+use Rattle.text_values.specs.declared.test.Value.{Value}
+use Rattle.text_values.specs.contracts.test.Connective as connective
+use Rattle.text_values.specs.contracts.test.Place as place
+use Rattle.text_values.specs.contracts.test.Value as value
+use Rattle.text_values.specs.TestValue.{Formula, Constant, Holds, Not, Join}
 
 -- a constant or an atom; or a negation or an operator
 abbrev pub Mark : Type 0

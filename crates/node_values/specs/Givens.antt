@@ -1,9 +1,9 @@
 -- What a node is given of the texts, as plain data: contracts see a `Given` so.
 use Rattle.std.specs.Prelude.{ℕ, List, [], Option}
-use Rattle.litmus_values.specs.declared.test.Condition.{Condition}
-use Rattle.litmus_values.specs.declared.test.Place.{Place}
-use Rattle.litmus_values.specs.declared.test.Quantifier.{Quantifier}
-use Rattle.litmus_values.specs.Value.{Formula, formula_of}
+use Rattle.text_values.specs.declared.test.Condition.{Condition}
+use Rattle.text_values.specs.declared.test.Place.{Place}
+use Rattle.text_values.specs.declared.test.Quantifier.{Quantifier}
+use Rattle.text_values.specs.TestValue.{Formula, formula_of}
 use Rattle.binding_kinds.specs.declared.fault.ModelFault.{ModelFault}
 use Rattle.shared_items.specs.Items.{RoleContent}
 use Rattle.node_values.specs.Parts.{SpacePartsContent}

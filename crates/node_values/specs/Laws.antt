@@ -1,6 +1,6 @@
 -- LAWS of what nodes give: what `laws` states.
 use Rattle.std.specs.Prelude.{◌≡◌, length, List}
-use Rattle.litmus_values.specs.declared.test.Test.{Test}
+use Rattle.text_values.specs.declared.test.Test.{Test}
 use Rattle.candidates.specs.declared.candidate.Space.{Space}
 use Rattle.candidates.specs.declared.fault.EvalRefusal.{EvalRefusal}
 use Rattle.candidates.specs.Listed.{ListsExecutions, IsRefusal}

@@ -1,11 +1,11 @@
 -- The parts of a test that its space reads.
 use Rattle.std.specs.Prelude.{ℕ, ◌≡◌, ◌↔◌, ◌⊎◌, List, map, Contains}
 use Rattle.std.specs.List.{flat_map}
-use Rattle.litmus_values.specs.declared.test.InitEntry.{InitEntry}
-use Rattle.litmus_values.specs.declared.test.Step.{Step}
-use Rattle.litmus_values.specs.declared.test.Test.{Test}
-use Rattle.litmus_values.specs.declared.test.Thread.{Thread}
-use Rattle.litmus_values.specs.Value.{steps_of}
+use Rattle.text_values.specs.declared.test.InitEntry.{InitEntry}
+use Rattle.text_values.specs.declared.test.Step.{Step}
+use Rattle.text_values.specs.declared.test.Test.{Test}
+use Rattle.text_values.specs.declared.test.Thread.{Thread}
+use Rattle.text_values.specs.TestValue.{steps_of}
 use Rattle.candidates.specs.declared.fault.EvalRefusal.{EvalRefusal}
 use Rattle.ppc_semantics.specs.Lowering.{entry_names, test_names}
 use Rattle.candidates.specs.declared.candidate.Space.{Space}

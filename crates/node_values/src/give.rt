@@ -7,11 +7,10 @@ ghost use Rattle.node_values.specs.Parts.{parts_of};
 
 use crate::given::{FaultParts, Given, GivenParts, SpaceParts, VerdictParts};
 use binding_graph::ModelFault;
-use litmus_values::{Condition, InitEntry, Place, Thread};
 use part_copies::{copied_condition, copied_entries, copied_places, copied_threads};
 use shared_items::{SharedItem, copied_names};
-use source_text::Name;
 use std::alloc::{AllocError, Global};
+use text_values::{Condition, InitEntry, Name, Place, Thread};
 
 impl Given {
     /// What the space of these parts is given. Errors: out of memory.

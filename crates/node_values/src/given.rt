@@ -1,7 +1,7 @@
 //! What a node is given of the texts.
 
 ghost use Rattle.std.specs.Prelude.{◌≡◌, ◌↔◌, IsTrue, IfOk};
-ghost use Rattle.litmus_values.specs.Value.{formula_of};
+ghost use Rattle.text_values.specs.TestValue.{formula_of};
 ghost use Rattle.node_values.specs.Givens.{ForSpace, ForItem, ForVerdict, ForFault, asked, faulted, given_flags};
 ghost use Rattle.shared_items.specs.Items.{shared_role, shared_history};
 ghost use Rattle.node_values.specs.Makes.{output_names};
@@ -10,13 +10,12 @@ ghost use Rattle.node_values.specs.Views.{given_content};
 
 use crate::same::{same_flags, same_names, same_role, same_threads};
 use binding_graph::ModelFault;
-use litmus_values::{Condition, InitEntry, Place, Thread};
 use shared_items::{SharedItem, only_zero};
-use source_text::Name;
 use std::alloc::{AllocError, Global};
 use std::marker::Model;
 use std::sync::Arc;
 use test_parts::{are_same_entries, are_same_places, is_same_condition};
+use text_values::{Condition, InitEntry, Name, Place, Thread};
 
 /// The parts of a test that its space reads.
 #[derive(Drop)]

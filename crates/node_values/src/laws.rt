@@ -1,7 +1,7 @@
 //! Laws of what nodes give.
 
 ghost use Rattle.std.specs.Prelude.{List};
-ghost use Rattle.litmus_values.specs.declared.test.Test.{Test};
+ghost use Rattle.text_values.specs.declared.test.Test.{Test};
 ghost use Rattle.node_values.specs.Laws.{HasOneSpace, IsOfEachTest, HasOneVerdict, HasNames};
 ghost use Rattle.node_values.specs.Givens.{VerdictPartsContent, GivenContent};
 ghost use Rattle.node_values.specs.Parts.{SpacePartsContent};

@@ -1,7 +1,7 @@
 //! What a node gives.
 
 ghost use Rattle.std.specs.Prelude.{◌≡◌, ◌∷◌, [], IfOk, map, option_map};
-ghost use Rattle.litmus_values.specs.Value.{formula_of};
+ghost use Rattle.text_values.specs.TestValue.{formula_of};
 ghost use Rattle.candidates.specs.declared.fault.EvalRefusal.{EvalRefusal};
 ghost use Rattle.verdict.specs.declared.answer.Outcome.{Outcome};
 ghost use Rattle.verdict.specs.declared.answer.Refusal.TheVariants as refusals;
@@ -19,10 +19,9 @@ use binding_graph::{ResolvedItem, Role};
 use candidates::{EvalRefusal, Space, SpaceFault, space};
 use cat_eval::{Column, eval_check, eval_group};
 use litmus_printing::print_condition;
-use litmus_values::{Condition, Place, Proposition, Quantifier, Test};
 use part_copies::{copied_entries, copied_threads};
-use source_text::Name;
 use std::alloc::{AllocError, Global};
+use text_values::{Condition, Name, Place, Proposition, Quantifier, Test};
 use verdict::{Outcome, OutcomeResult, Raised, Refusal, outcome};
 
 // A space without candidates.

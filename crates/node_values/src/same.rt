@@ -1,14 +1,12 @@
 //! When two parts of texts say the same.
 
 ghost use Rattle.std.specs.Prelude.{◌≡◌, ◌↔◌, IsTrue, map};
-ghost use Rattle.litmus_values.specs.Value.{steps_of};
+ghost use Rattle.text_values.specs.TestValue.{steps_of};
 ghost use Rattle.shared_items.specs.Items.{code_content, body_content, role_content};
 
 use binding_graph::{Body, CheckCode, Code, Role, Source, Step as CodeStep};
-use cat_values::Predefined;
-use litmus_values::Thread;
-use source_text::Name;
 use test_parts::are_same_steps;
+use text_values::{Name, Predefined, Thread};
 
 /// Whether the names are the same, in order.
 pub fn same_names(these: &[Name], those: &[Name]) -> bool

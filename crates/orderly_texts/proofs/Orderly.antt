@@ -4,8 +4,8 @@ use Rattle.std.specs.List.{insert, remove}
 use Rattle.std.specs.Str.{bytes_eq}
 use Rattle.std.proofs.lemmas.Slice.Eq.{bytes_eq-Decides}
 use Rattle.std.proofs.lemmas.Bool.Decides.{nat_tests}
-use Rattle.litmus_values.specs.Value.{Content}
-use Rattle.cat_values.specs.Value.{Clause}
+use Rattle.text_values.specs.TestValue.{Content}
+use Rattle.text_values.specs.ModelValue.{Clause}
 use Rattle.memo_core.specs.Step.{Has}
 use Rattle.bench_texts.specs.declared.fault.EditFault.{EditFault}
 use Rattle.bench_texts.specs.BenchTexts.{BenchTexts, NumberedItem, PlainModel, test_index, model_index, item_index, put_at, changed_at, with_init, with_thread, with_condition, with_observed, with_items, with_tests, with_models, numbered_items}

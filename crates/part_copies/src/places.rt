@@ -2,8 +2,8 @@
 
 ghost use Rattle.std.specs.Prelude.{◌≡◌, IfOk};
 
-use litmus_values::{InitEntry, Place, Value};
 use std::alloc::{AllocError, Global};
+use text_values::{InitEntry, Place, Value};
 
 pub(crate) fn copied_place(alloc: Global, place: &Place) -> Result<Place, AllocError>
     ensures { IfOk result (λ p. p ≡ place.now) }

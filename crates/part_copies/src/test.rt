@@ -1,12 +1,12 @@
 //! Copies of conditions and of whole tests.
 
 ghost use Rattle.std.specs.Prelude.{◌≡◌, IfOk};
-ghost use Rattle.litmus_values.specs.Value.{formula_of, content_of};
+ghost use Rattle.text_values.specs.TestValue.{formula_of, content_of};
 
 use crate::places::{copied_entries, copied_place, copied_places, copied_value};
 use crate::threads::copied_threads;
-use litmus_values::{Condition, Proposition, Test};
 use std::alloc::{AllocError, Global};
+use text_values::{Condition, Proposition, Test};
 
 // A copy of a proposition. It goes as deep as the proposition does.
 fn copied_proposition(alloc: Global, proposition: &Proposition) -> Result<Proposition, AllocError>

@@ -1,10 +1,10 @@
 //! Copies of threads.
 
 ghost use Rattle.std.specs.Prelude.{◌≡◌, IfOk, map};
-ghost use Rattle.litmus_values.specs.Value.{steps_of};
+ghost use Rattle.text_values.specs.TestValue.{steps_of};
 
-use litmus_values::{Instruction, Step, Thread};
 use std::alloc::{AllocError, Global};
+use text_values::{Instruction, Step, Thread};
 
 fn copied_instruction(alloc: Global, instruction: &Instruction) -> Result<Instruction, AllocError>
     ensures { IfOk result (λ i. i ≡ instruction.now) }

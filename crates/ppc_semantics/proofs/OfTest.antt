@@ -1,6 +1,6 @@
 -- From the program of a test to the test.
 use Rattle.std.proofs.Common.{List}
-use Rattle.litmus_values.specs.declared.test.Test.{Test}
+use Rattle.text_values.specs.declared.test.Test.{Test}
 use Rattle.thread_runs.specs.declared.value.Value.{Value}
 use Rattle.thread_runs.specs.declared.instruction.Program.{Program}
 use Rattle.ppc_semantics.specs.declared.fault.DomainFault.{DomainFault}

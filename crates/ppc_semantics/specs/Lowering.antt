@@ -7,18 +7,18 @@ use Rattle.std.specs.declared.cmp.Ordering.{Ordering}
 use Rattle.std.specs.declared.cmp.Ordering.TheVariants as how
 use Rattle.std.specs.Int.{w32, cast_unsigned}
 use Rattle.std.specs.declared.alloc.Global.{Global}
-use Rattle.litmus_values.specs.declared.test.Place.{Place}
-use Rattle.litmus_values.specs.declared.test.Place.TheVariants as places
-use Rattle.litmus_values.specs.declared.test.Value as written
-use Rattle.litmus_values.specs.declared.test.Value.TheVariants as values
-use Rattle.litmus_values.specs.declared.test.InitEntry.{InitEntry}
-use Rattle.litmus_values.specs.declared.test.Step.{Step}
-use Rattle.litmus_values.specs.declared.test.Step.TheVariants as steps
-use Rattle.litmus_values.specs.declared.test.Thread.{Thread}
-use Rattle.litmus_values.specs.declared.instruction.Instruction as text
-use Rattle.litmus_values.specs.declared.instruction.Instruction.TheVariants as texts
-use Rattle.litmus_values.specs.Value.{Formula, Constant, Holds, Not, Join, formula_of}
-use Rattle.litmus_values.specs.declared.test.Test.{Test}
+use Rattle.text_values.specs.declared.test.Place.{Place}
+use Rattle.text_values.specs.declared.test.Place.TheVariants as places
+use Rattle.text_values.specs.declared.test.Value as written
+use Rattle.text_values.specs.declared.test.Value.TheVariants as values
+use Rattle.text_values.specs.declared.test.InitEntry.{InitEntry}
+use Rattle.text_values.specs.declared.test.Step.{Step}
+use Rattle.text_values.specs.declared.test.Step.TheVariants as steps
+use Rattle.text_values.specs.declared.test.Thread.{Thread}
+use Rattle.text_values.specs.declared.instruction.Instruction as text
+use Rattle.text_values.specs.declared.instruction.Instruction.TheVariants as texts
+use Rattle.text_values.specs.TestValue.{Formula, Constant, Holds, Not, Join, formula_of}
+use Rattle.text_values.specs.declared.test.Test.{Test}
 use Rattle.thread_runs.specs.declared.value.Value.{Value}
 use Rattle.thread_runs.specs.declared.value.Value.TheVariants.{Number, Address, NoValue}
 use Rattle.thread_runs.specs.declared.instruction.Instruction.{Instruction}

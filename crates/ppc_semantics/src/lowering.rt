@@ -2,14 +2,15 @@
 ghost use Rattle.std.specs.Prelude.{◌≡◌, ◌++◌, ◌∷◌, [], IfOk, OnOk, length, replicate};
 ghost use Rattle.std.specs.List.{AllPairs, flat_map};
 ghost use Rattle.std.specs.List.Sorted.{IsBinarySearchResult, IsSearchInRange};
-ghost use Rattle.litmus_values.specs.Value.{formula_of};
+ghost use Rattle.text_values.specs.TestValue.{formula_of};
 ghost use Rattle.ppc_semantics.specs.Domain.{AreProper};
 ghost use Rattle.ppc_semantics.specs.Lowering as low;
 
-use litmus_values::{InitEntry, Instruction as Written, Place, Proposition, Step, Test, Thread};
-use source_text::Name;
 use std::alloc::{AllocError, Global};
 use std::cmp::Ordering;
+use text_values::{
+    InitEntry, Instruction as Written, Name, Place, Proposition, Step, Test, Thread,
+};
 use thread_runs::{Instruction, Line, Program, Value};
 
 /// The order of two names by their bytes.
@@ -74,15 +75,15 @@ fn note_place(alloc: Global, names: &mut Vec<Name>, place: &Place) -> Result<(),
 fn note_value(
     alloc: Global,
     names: &mut Vec<Name>,
-    value: &litmus_values::Value,
+    value: &text_values::Value,
 ) -> Result<(), AllocError>
     requires { AllPairs low.IsBefore names.old.items }
     ensures rising { AllPairs low.IsBefore names.new.items }
     ensures noted { OnOk result (low.Adds (low.value_names value.now) names.old.items names.new.items) }
 {
     match value {
-        litmus_values::Value::Address(name) => note(alloc, names, name),
-        litmus_values::Value::Number(_) => Ok(()),
+        text_values::Value::Address(name) => note(alloc, names, name),
+        text_values::Value::Number(_) => Ok(()),
     }
 }
 
@@ -91,7 +92,7 @@ fn note_both(
     alloc: Global,
     names: &mut Vec<Name>,
     place: &Place,
-    value: &litmus_values::Value,
+    value: &text_values::Value,
 ) -> Result<(), AllocError>
     requires { AllPairs low.IsBefore names.old.items }
     ensures rising { AllPairs low.IsBefore names.new.items }
@@ -164,13 +165,13 @@ pub fn locations_of(alloc: Global, test: &Test) -> Result<Vec<Name>, AllocError>
 }
 
 /// The value, with an address by the number of its location.
-fn value_of(locations: &[Name], value: &litmus_values::Value) -> Value
+fn value_of(locations: &[Name], value: &text_values::Value) -> Value
     requires { AllPairs low.IsBefore locations.now }
     ensures { result ≡ low.value_of locations.now value.now }
 {
     match value {
-        litmus_values::Value::Number(n) => Value::Number(n.cast_unsigned()),
-        litmus_values::Value::Address(name) => Value::Address(number_of(locations, name)),
+        text_values::Value::Number(n) => Value::Number(n.cast_unsigned()),
+        text_values::Value::Address(name) => Value::Address(number_of(locations, name)),
     }
 }
 

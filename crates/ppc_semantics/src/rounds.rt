@@ -14,8 +14,8 @@ ghost use Rattle.ppc_semantics.specs.Lowering as low;
 use crate::fault::{DomainFault, DomainRefusal};
 use crate::lowering::program;
 use bit_relations::MAX_EVENTS;
-use litmus_values::Test;
 use std::alloc::{AllocError, Global};
+use text_values::Test;
 use thread_runs::{
     Domain, Instruction, Line, MANY, MAX_VALUES, Program, State, Value, add_stored, add_value,
     free_count, is_load, run_count,

@@ -5,8 +5,8 @@ ghost use Rattle.thread_runs.specs.Runs.{IsLess};
 ghost use Rattle.ppc_semantics.specs.Lowering as low;
 
 use crate::lowering::program;
-use litmus_values::Test;
 use std::alloc::{AllocError, Global};
+use text_values::Test;
 use thread_runs::{Domain, Run, runs_of};
 
 /// The runs of a thread of the test over the domain, in lexicographic order of their lists of

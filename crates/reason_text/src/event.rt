@@ -9,10 +9,9 @@ ghost use Rattle.reason_text.specs.Events.{lettered, event_name, value_told, acc
 
 use candidates::{Action, Event};
 use litmus_printing::put_value;
-use litmus_values::{Fence, Value};
 use ppc_semantics::{Instruction, Value as RunValue};
-use source_text::{Name, put_bytes, put_decimal};
 use std::alloc::AllocError;
+use text_values::{Fence, Name, Value, put_bytes, put_decimal};
 
 /// An event as it is told.
 #[derive(Clone, Copy)]

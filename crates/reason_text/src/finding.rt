@@ -7,8 +7,8 @@ ghost use Rattle.reason_text.specs.Findings.{reasons_text, count_line, reasons_i
 
 use crate::event::{Telling, ToldEvent, put_events};
 use crate::reason::{Reason, put_reason};
-use source_text::{Name, put_bytes, put_decimal};
 use std::alloc::{AllocError, Global};
+use text_values::{Name, put_bytes, put_decimal};
 
 /// What is found of the executions that satisfy a proposition.
 #[derive(Drop)]

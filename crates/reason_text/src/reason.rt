@@ -5,8 +5,8 @@ ghost use Rattle.std.specs.List.{flat_map};
 ghost use Rattle.reason_text.specs.Reasons.{check_line, step_text, walk_line, reason_text};
 
 use crate::event::{Telling, ToldEvent, put_events, put_name};
-use source_text::put_bytes;
 use std::alloc::AllocError;
+use text_values::put_bytes;
 
 /// A step as it is told.
 #[derive(Drop)]

@@ -13,14 +13,14 @@ use Rattle.candidates.specs.declared.candidate.Space.{Space}
 use Rattle.candidates.specs.declared.execution.Execution.{Execution}
 use Rattle.candidates.specs.Listed.{ListsExecutions, Shows}
 use Rattle.candidates.specs.Space.{Candidate, IsShown, Shown, candidate_count, candidates_in, shown_by, shown_in, shown_of}
-use Rattle.cat_values.specs.declared.model.ModelText.{ModelText}
-use Rattle.cat_values.specs.declared.predefined.TheConstants.{PREDEFINED}
+use Rattle.text_values.specs.declared.model.ModelText.{ModelText}
+use Rattle.text_values.specs.declared.predefined.TheConstants.{PREDEFINED}
 use Rattle.execution_graph.specs.declared.drawing.Cluster.{Cluster}
 use Rattle.execution_graph.specs.declared.drawing.Drawing.{Drawing}
 use Rattle.execution_graph.specs.Drawn.{IsDrawnEvent}
 use Rattle.execution_graph.specs.Texts.{drawing_text}
-use Rattle.litmus_values.specs.declared.test.Test.{Test}
-use Rattle.litmus_values.specs.Value.{formula_of}
+use Rattle.text_values.specs.declared.test.Test.{Test}
+use Rattle.text_values.specs.TestValue.{formula_of}
 use Rattle.memo_graph.specs.Answers.{AreSound}
 use Rattle.memo_graph.specs.FromScratch.{AreItemsOf, IsFaultless, clauses_of, outermost}
 use Rattle.memo_graph.proofs.Knowing.{item_at}

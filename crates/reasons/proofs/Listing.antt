@@ -2,8 +2,8 @@
 use Rattle.std.proofs.Common.{ℕ, ◌≡◌, ◌<◌, ◌+◌, ◌∙◌, List, [], ◌∷◌, ◌++◌, length, get_or, take, refl, ap, sym, append_assoc, arith, cond, true, false}
 use Rattle.std.proofs.lemmas.List.{append-nil, map-append, take_more, length-take-le}
 use Rattle.std.proofs.lemmas.List.Elements.{filter_more}
-use Rattle.cat_values.specs.PredefinedNames.{is_set}
-use Rattle.cat_values.specs.declared.predefined.Predefined.{Predefined}
+use Rattle.text_values.specs.PredefinedNames.{is_set}
+use Rattle.text_values.specs.declared.predefined.Predefined.{Predefined}
 use Rattle.step_labels.specs.declared.label.PredefinedValue.{PredefinedValue}
 use Rattle.reasons.specs.Language.{is_relation_name, names_in, relation_names}
 use Rattle.binding_graph.specs.declared.resolved.ResolvedItem.{ResolvedItem}

@@ -13,7 +13,7 @@ use Rattle.candidates.specs.Space.{Candidate}
 use Rattle.cat_eval.specs.Columns.{HasValue}
 use Rattle.cat_eval.specs.Executions.{events_of, EventsAt, PairsAt}
 use Rattle.cat_eval.specs.Values.{IsFor, IsMeant}
-use Rattle.cat_values.specs.declared.predefined.Predefined.{Predefined}
+use Rattle.text_values.specs.declared.predefined.Predefined.{Predefined}
 use Rattle.execution_graph.specs.declared.drawing.Edges.{Edges}
 use Rattle.execution_graph.specs.declared.drawing.Ink.{Ink}
 use Rattle.execution_graph.specs.Drawn.{AreEdges, Drawn, DrawnAmong, IsOrder}

@@ -7,7 +7,7 @@ use Rattle.binding_graph.specs.declared.resolved.Role.{Role}
 use Rattle.binding_graph.specs.declared.resolved.Role.TheVariants as roles
 use Rattle.candidates.specs.declared.candidate.Space.{Space}
 use Rattle.cat_eval.specs.declared.column.Column.{Column}
-use Rattle.cat_values.specs.declared.model.CheckWord.TheVariants as words
+use Rattle.text_values.specs.declared.model.CheckWord.TheVariants as words
 use Rattle.check_witness.specs.Refusals.{IsRefusal}
 use Rattle.check_witness.specs.Values.{AreValues}
 use Rattle.factor_walks.specs.Values.{AreFactorValues}

@@ -2,7 +2,7 @@
 use Rattle.std.specs.Prelude.{ℕ, ◌≡◌, ◌<◌, ◌++◌, Bool, true, false, List, Option, length}
 use Rattle.std.specs.List.{All, AllZip}
 use Rattle.cat_eval.specs.Executions.{events_of}
-use Rattle.cat_values.specs.declared.predefined.Predefined.{Predefined}
+use Rattle.text_values.specs.declared.predefined.Predefined.{Predefined}
 use Rattle.candidates.specs.declared.candidate.Space.{Space}
 use Rattle.candidates.specs.Space.{Candidate}
 use Rattle.execution_graph.specs.declared.drawing.Drawing.{Drawing}

@@ -16,13 +16,13 @@ use Rattle.candidates.specs.Faults as refusals
 use Rattle.candidates.specs.Space.{Candidate, candidate_count, candidates_in, shown_of}
 use Rattle.cat_eval.specs.Executions.{events_of, PairsAt}
 use Rattle.cat_printing.specs.Printing.{printed_item}
-use Rattle.cat_values.specs.declared.model.Item.{Item}
-use Rattle.cat_values.specs.declared.model.ModelText.{ModelText}
-use Rattle.cat_values.specs.declared.predefined.Predefined.{Predefined}
-use Rattle.cat_values.specs.declared.predefined.Predefined.TheVariants as names
-use Rattle.cat_values.specs.declared.predefined.TheConstants.{PREDEFINED}
-use Rattle.cat_values.specs.PredefinedNames.{spelling}
-use Rattle.cat_values.specs.Values.{clause_of}
+use Rattle.text_values.specs.declared.model.Item.{Item}
+use Rattle.text_values.specs.declared.model.ModelText.{ModelText}
+use Rattle.text_values.specs.declared.predefined.Predefined.{Predefined}
+use Rattle.text_values.specs.declared.predefined.Predefined.TheVariants as names
+use Rattle.text_values.specs.declared.predefined.TheConstants.{PREDEFINED}
+use Rattle.text_values.specs.PredefinedNames.{spelling}
+use Rattle.text_values.specs.ModelValues.{clause_of}
 use Rattle.event_origins.specs.Origins.{AreInstructions}
 use Rattle.check_witness.specs.Pairs.{HasPair}
 use Rattle.execution_graph.specs.declared.drawing.Cluster.{Cluster}
@@ -32,8 +32,8 @@ use Rattle.execution_graph.specs.declared.drawing.Ink.{Ink}
 use Rattle.execution_graph.specs.declared.drawing.Ink.TheVariants as inks
 use Rattle.execution_graph.specs.Drawn.{AreEdges, DrawnAmong, IsDrawnEvent}
 use Rattle.execution_graph.specs.Texts.{drawing_text}
-use Rattle.litmus_values.specs.declared.test.Test.{Test}
-use Rattle.litmus_values.specs.Value.{formula_of}
+use Rattle.text_values.specs.declared.test.Test.{Test}
+use Rattle.text_values.specs.TestValue.{formula_of}
 use Rattle.memo_graph.specs.declared.cell.ItemAnswers.{ItemAnswers}
 use Rattle.memo_graph.specs.FromScratch.{AreItemsOf, IsFaultOf, IsFaultless}
 use Rattle.memo_graph.specs.Known.{HasAllColumns}

@@ -3,7 +3,7 @@ use Rattle.std.specs.Prelude.{◌≡◌, List}
 use Rattle.std.specs.List.{All}
 use Rattle.binding_graph.specs.declared.resolved.ResolvedItem.{ResolvedItem}
 use Rattle.candidates.specs.declared.candidate.Space.{Space}
-use Rattle.cat_values.specs.declared.predefined.TheConstants.{PREDEFINED}
+use Rattle.text_values.specs.declared.predefined.TheConstants.{PREDEFINED}
 use Rattle.memo_graph.specs.Answers.{AreSound}
 use Rattle.memo_graph.specs.Known.{HasAllColumns}
 use Rattle.reasons.specs.declared.evaluated.Evaluated.{Evaluated}

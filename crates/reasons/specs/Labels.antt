@@ -4,8 +4,8 @@ use Rattle.binding_kinds.specs.declared.scope.Input.{Input}
 use Rattle.binding_graph.specs.declared.resolved.Body.{Body}
 use Rattle.binding_graph.specs.declared.resolved.Code.{Code}
 use Rattle.binding_graph.specs.declared.resolved.ResolvedItem.{ResolvedItem}
-use Rattle.cat_values.specs.declared.model.Item.{Item}
-use Rattle.cat_values.specs.PredefinedNames.{spelling}
+use Rattle.text_values.specs.declared.model.Item.{Item}
+use Rattle.text_values.specs.PredefinedNames.{spelling}
 use Rattle.step_labels.specs.declared.label.EventPair.{EventPair}
 use Rattle.step_labels.specs.declared.label.NameValues.{NameValues}
 use Rattle.step_labels.specs.declared.unions.ModelName.{ModelName}

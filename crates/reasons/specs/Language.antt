@@ -4,8 +4,8 @@ use Rattle.binding_kinds.specs.declared.kinds.Kind.TheVariants as kinds
 use Rattle.binding_graph.specs.declared.resolved.Code.{Code}
 use Rattle.binding_graph.specs.declared.resolved.Source.TheVariants as sources
 use Rattle.binding_graph.specs.declared.resolved.Step.TheVariants as steps
-use Rattle.cat_values.specs.PredefinedNames.{is_set}
-use Rattle.cat_values.specs.declared.predefined.Predefined.{Predefined}
+use Rattle.text_values.specs.PredefinedNames.{is_set}
+use Rattle.text_values.specs.declared.predefined.Predefined.{Predefined}
 use Rattle.candidates.specs.declared.candidate.Space.{Space}
 use Rattle.check_witness.specs.Values.{AreValues}
 use Rattle.step_labels.specs.declared.label.PredefinedValue.{PredefinedValue}

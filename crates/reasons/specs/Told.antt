@@ -2,8 +2,8 @@
 use Rattle.std.specs.Prelude.{ℕ, ◌≡◌, ◌+◌, ◌-◌, zero, suc, length, List, [], ◌∷◌, Option, Some, None, slice_get, slice_index_or}
 use Rattle.std.specs.List.{filter_map}
 use Rattle.std.specs.Option.{option_map}
-use Rattle.cat_values.specs.declared.model.Item.{Item}
-use Rattle.cat_values.specs.Values.{clause_of}
+use Rattle.text_values.specs.declared.model.Item.{Item}
+use Rattle.text_values.specs.ModelValues.{clause_of}
 use Rattle.cat_printing.specs.Printing.{printed_item}
 use Rattle.check_witness.specs.declared.witness.Witness.{Witness}
 use Rattle.reason_text.specs.declared.event.ToldEvent.{ToldEvent}

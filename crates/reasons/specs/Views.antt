@@ -1,6 +1,6 @@
 -- What the code keeps of a case, as the definitions name it.
 use Rattle.std.specs.Prelude.{ℕ, ◌≡◌, ◌+◌, List, [], ◌∷◌, ◌++◌, Bool, true, Option}
-use Rattle.litmus_values.specs.declared.test.Test.{Test}
+use Rattle.text_values.specs.declared.test.Test.{Test}
 use Rattle.candidates.specs.declared.candidate.Space.{Space}
 use Rattle.reason_text.specs.declared.event.ToldEvent.{ToldEvent}
 use Rattle.reason_text.specs.declared.finding.Findings.{Findings}

@@ -1,11 +1,11 @@
 -- The bytes of `why`. Read Outcomes first, and `findings_text` of reason_text.
 use Rattle.std.specs.Prelude.{ℕ, ◌≡◌, ◌⊎◌, ◌++◌, List, decimal, codes}
 use Rattle.std.specs.List.{All}
-use Rattle.litmus_values.specs.declared.test.Test.{Test}
-use Rattle.litmus_values.specs.Value.{formula_of}
+use Rattle.text_values.specs.declared.test.Test.{Test}
+use Rattle.text_values.specs.TestValue.{formula_of}
 use Rattle.litmus_printing.specs.Printing.{condition_text}
-use Rattle.cat_values.specs.declared.model.ModelText.{ModelText}
-use Rattle.cat_values.specs.declared.predefined.TheConstants.{PREDEFINED}
+use Rattle.text_values.specs.declared.model.ModelText.{ModelText}
+use Rattle.text_values.specs.declared.predefined.TheConstants.{PREDEFINED}
 use Rattle.binding_kinds.specs.declared.fault.ModelFault.{ModelFault}
 use Rattle.binding_kinds.specs.Numbers as model_faults
 use Rattle.binding_graph.specs.declared.resolved.ResolvedItem.{ResolvedItem}

@@ -15,15 +15,13 @@ use crate::evaluated::Evaluated;
 use crate::telling::{Judged, Told, reason_told, told_events};
 use binding_graph::{ResolveFault, Resolved, resolve};
 use candidates::{Execution, Space, SpaceFault, space};
-use cat_values::ModelText;
 use event_origins::{all_runs, instructions_of};
 use litmus_printing::print_condition;
-use litmus_values::Test;
 use ppc_semantics::Run;
 use reason_text::{Findings, Reason, ToldEvent, put_findings};
 use satisfaction::is_satisfied;
-use source_text::{put_bytes, put_decimal};
 use std::alloc::{AllocError, Global};
+use text_values::{ModelText, Test, put_bytes, put_decimal};
 
 /// What is asked of `why`.
 #[derive(Clone, Copy, Debug, PartialEq, Eq)]

@@ -9,11 +9,11 @@ ghost use Rattle.reasons.specs.Checked.{AcceptBelow, IsChecked, IsFirstRefusal, 
 use binding_graph::{CheckCode, ResolvedItem, Role};
 use candidates::Space;
 use cat_eval::Column;
-use cat_values::CheckWord;
 use check_witness::{Witness, expression_column, refusal_of};
 use factor_walks::{FactorValues, factor_values};
 use memo_graph::inputs;
 use std::alloc::{AllocError, Global};
+use text_values::CheckWord;
 
 /// A check of a model, which is no flag.
 pub struct CheckValues<'a> {

@@ -23,16 +23,14 @@ use binding_graph::{ResolveFault, Resolved, resolve};
 use bit_relations::EventSet;
 use candidates::{Execution, Space, SpaceFault, space};
 use cat_printing::print_item;
-use cat_values::ModelText;
 use event_origins::{all_runs, instructions_of};
 use execution_graph::{Drawing, Edges, drawn_events, put_drawing};
-use litmus_values::Test;
 use ppc_semantics::Run;
 use reason_text::{Telling, ToldStep};
 use satisfaction::is_satisfied;
 use shown_relations::{ShownValues, shown_values};
-use source_text::{put_bytes, put_decimal};
 use std::alloc::{AllocError, Global};
+use text_values::{ModelText, Test, put_bytes, put_decimal};
 
 /// Which executions are drawn.
 #[derive(Clone, Copy)]

@@ -8,10 +8,10 @@ use crate::labels::predefined_values;
 use crate::telling::Judged;
 use binding_graph::Resolved;
 use candidates::Space;
-use cat_values::ModelText;
 use memo_graph::{ItemAnswers, answers};
 use std::alloc::{AllocError, Global};
 use step_labels::{NameValues, PredefinedValue};
+use text_values::ModelText;
 
 /// The values of the names and the checks of a model in each candidate.
 pub struct Evaluated<'a> {

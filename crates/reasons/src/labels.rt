@@ -2,7 +2,7 @@
 
 ghost use Rattle.std.specs.Prelude.{◌≡◌, ◌++◌, IfOk, codes, slice_get};
 ghost use Rattle.std.specs.List.{All};
-ghost use Rattle.cat_values.specs.declared.predefined.TheConstants.{PREDEFINED};
+ghost use Rattle.text_values.specs.declared.predefined.TheConstants.{PREDEFINED};
 ghost use Rattle.reasons.specs.Labels.{IsBehind, IsInner, IsLabel, IsNamed, inputs_of, names_within, spelled};
 ghost use Rattle.reasons.specs.Language.{IsOfLanguage, names_in, relation_names};
 ghost use Rattle.reasons.specs.Views.{IsInnermostOf, judgement_of};
@@ -11,13 +11,12 @@ ghost use Rattle.step_labels.specs.Inside.{names_inside};
 use crate::telling::Judged;
 use binding_graph::{Code, Input, Kind, ResolvedItem, Source, Step};
 use candidates::Space;
-use cat_values::{PREDEFINED, Predefined};
 use check_witness::expression_column;
-use source_text::put_bytes;
 use std::alloc::{AllocError, Global};
 use step_labels::{
     EventPair, ModelName, PredefinedValue, body_at, innermost, names_inside, operands,
 };
+use text_values::{PREDEFINED, Predefined, put_bytes};
 
 /// The values of a name of the language that stands for a relation. Errors: want of memory.
 pub fn predefined_value(

@@ -19,12 +19,12 @@ use crate::labels::predefined_value;
 use bit_relations::{EventSet, Rel};
 use candidates::Space;
 use cat_eval::Column;
-use cat_values::Predefined;
 use columns::Cursor;
 use execution_graph::{Edges, Ink, edges};
 use shown_relations::ShownValues;
 use std::alloc::{AllocError, Global};
 use step_labels::PredefinedValue;
+use text_values::Predefined;
 
 /// A relation that is drawn.
 #[derive(Drop)]

@@ -13,13 +13,13 @@ use binding_graph::{Code, ResolvedItem};
 use bit_relations::MAX_EVENTS;
 use candidates::Event;
 use cat_printing::print_item;
-use cat_values::Item;
 use check_witness::Witness;
 use factor_walks::{FactorValues, links_at, walk};
 use ppc_semantics::Instruction;
 use reason_text::{Reason, ToldEvent, ToldStep};
 use std::alloc::{AllocError, Global};
 use step_labels::{EventPair, NameValues};
+use text_values::Item;
 
 /// A model over the candidates of a test.
 #[derive(Clone, Copy)]

@@ -4,7 +4,7 @@ use Rattle.std.specs.Prelude.{ℕ, ◌≡◌, ◌<◌, ◌+◌, ◌⊎◌, Bool,
 use Rattle.std.specs.List.{flat_map, list_any}
 use Rattle.thread_runs.specs.declared.value.Value.{Value}
 use Rattle.thread_runs.specs.declared.value.Value.TheVariants.{Address}
-use Rattle.litmus_values.specs.declared.instruction.Fence as kinds
+use Rattle.text_values.specs.declared.instruction.Fence as kinds
 use Rattle.thread_runs.specs.Machine as machine
 use Rattle.thread_runs.specs.declared.instruction.Instruction.{Instruction}
 use Rattle.thread_runs.specs.declared.instruction.Instruction.TheVariants.{Store, StoreIndexed, Barrier}

@@ -3,7 +3,7 @@ ghost use Rattle.std.specs.Prelude.{◌≡◌, ◌-◌, ◌^◌, ◌<◌, ◌≤
 
 use crate::store_orders::StoreOrders;
 use dataflow::Dependencies;
-use litmus_values::Fence;
+use text_values::Fence;
 use thread_runs::Value;
 
 /// What an event does.

@@ -16,8 +16,8 @@ use crate::combination::{Action, Event};
 use crate::keys::KeySet;
 use crate::part::{Part, Sketch, add_keys, join_writes, parts, sift, sketches};
 use dataflow::Workspace;
-use source_text::Name;
 use std::alloc::{AllocError, Global};
+use text_values::Name;
 use thread_runs::{Domain, Program, Run, Value, held_values, served_runs_of};
 
 /// The runs of a thread that may be part of a candidate.

@@ -24,9 +24,9 @@ use Rattle.board.specs.declared.operation.BoardOp.{BoardOp}
 use Rattle.board.specs.Contents.{BoardContent}
 use Rattle.board.specs.Operations.{board_after}
 use Rattle.desk.specs.Boards.{HoldsAbove}
-use Rattle.stamped_texts.specs.declared.texts.StampedTexts.{StampedTexts}
-use Rattle.stamped_texts.specs.Texts.{IsSound, net_of, verdict_of}
-use Rattle.stamped_texts.specs.CellProofs.{cell_in}
+use Rattle.running_bench.specs.declared.stamped_texts.StampedTexts.{StampedTexts}
+use Rattle.running_bench.specs.StampedTexts.{IsSound, net_of, verdict_of}
+use Rattle.running_bench.specs.CellProofs.{cell_in}
 use Rattle.running_bench.specs.Cells.{board_cells, IsRowRange}
 use Rattle.running_bench.specs.Laws.{cells_are_in_rows, is_below}
 use Rattle.running_bench.specs.Texts.{AreAfter}

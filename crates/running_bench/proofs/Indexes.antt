@@ -4,8 +4,8 @@ use Rattle.std.proofs.Common.{refl, sym, ap, subst, ◌∙◌, arith}
 use Rattle.std.specs.Prelude.{nat_lt, if◌then◌else◌, slice_get, IsSome, IfSome, IfNone, SomeIff}
 use Rattle.std.proofs.Math.Nat.{mul-zero}
 use Rattle.std.proofs.lemmas.Bool.{ltb-true}
-use Rattle.litmus_values.specs.declared.test.Test.{Test}
-use Rattle.litmus_values.specs.Value.{content_of}
+use Rattle.text_values.specs.declared.test.Test.{Test}
+use Rattle.text_values.specs.TestValue.{content_of}
 use Rattle.verdict.specs.declared.answer.Outcome.{Outcome}
 use Rattle.bench_texts.specs.BenchTexts.{BenchTexts}
 use Rattle.bench_texts.specs.Held.{texts_of}
@@ -23,8 +23,8 @@ use Rattle.board.specs.declared.operation.BoardEdit.{BoardEdit}
 use Rattle.board.specs.declared.operation.BoardOp.TheVariants as ops
 use Rattle.board.specs.Legal.{Held, held_of}
 use Rattle.board.specs.Contents.{RowContent, ColumnContent, BoardContent, cell_at, cells_of, shown_cell}
-use Rattle.stamped_texts.specs.declared.texts.PreparedEdit.{PreparedEdit}
-use Rattle.stamped_texts.specs.declared.texts.StampedTexts.{StampedTexts}
+use Rattle.running_bench.specs.declared.stamped_texts.PreparedEdit.{PreparedEdit}
+use Rattle.running_bench.specs.declared.stamped_texts.StampedTexts.{StampedTexts}
 use Rattle.running_bench.specs.Cells.{cell_with, all_cells, IsCountable, board_cells, IsIndexOf, IsNamedAt, HasNoNames}
 use Rattle.running_bench.specs.Listing.{are_all, all_length, all_get, cell_of_row, row_cell, outcome_at}
 use Rattle.board.specs.Histories.{no_contents}

@@ -7,8 +7,8 @@ use Rattle.std.proofs.Math.Nat.{mul-le-mul_left}
 use Rattle.std.proofs.lemmas.Bool.{ltb-false}
 use Rattle.std.proofs.lemmas.Option.{none-some}
 use Rattle.std.proofs.lemmas.List.{length-map}
-use Rattle.litmus_values.specs.declared.test.Test.{Test}
-use Rattle.litmus_values.specs.Value.{Content, content_of}
+use Rattle.text_values.specs.declared.test.Test.{Test}
+use Rattle.text_values.specs.TestValue.{Content, content_of}
 use Rattle.verdict.specs.declared.answer.Outcome.{Outcome}
 use Rattle.memo_core.specs.declared.keys.Node.{Node}
 use Rattle.memo_graph.specs.FromScratch.{IsFromScratch}
@@ -35,12 +35,12 @@ use Rattle.board.specs.Operations.{with_cell, settled, after_operation, no_board
 use Rattle.board.specs.Right.{HasNamesOf}
 use Rattle.board.proofs.Names.{IsNamed, as_many, names_from, one_more_is_legal}
 use Rattle.board.proofs.Changed.{map-kept}
-use Rattle.stamped_texts.specs.declared.texts.StampedTexts.{StampedTexts}
-use Rattle.stamped_texts.specs.declared.texts.PreparedEdit.{PreparedEdit}
-use Rattle.stamped_texts.specs.Texts.{IsSound, IsSince, verdict_of}
-use Rattle.stamped_texts.specs.Edited.{IsPrepared, IsCommitted}
-use Rattle.stamped_texts.specs.Cells.{from_scratch, scratch_by, test_of, model_of}
-use Rattle.stamped_texts.specs.CellProofs.{cell_in, is_named, stands_there, tests_apart, models_apart}
+use Rattle.running_bench.specs.declared.stamped_texts.StampedTexts.{StampedTexts}
+use Rattle.running_bench.specs.declared.stamped_texts.PreparedEdit.{PreparedEdit}
+use Rattle.running_bench.specs.StampedTexts.{IsSound, IsSince, verdict_of}
+use Rattle.running_bench.specs.Edited.{IsPrepared, IsCommitted}
+use Rattle.running_bench.specs.StampedCells.{from_scratch, scratch_by, test_of, model_of}
+use Rattle.running_bench.specs.CellProofs.{cell_in, is_named, stands_there, tests_apart, models_apart}
 use Rattle.running_bench.specs.Cells.{cell_with, all_cells, IsCountable, board_cells}
 use Rattle.board.specs.Histories.{no_contents, contents_with, contents_after, IsMadeOn, AreMadeFrom, IsHistory, MayComeNext, IsEditAfter, IsSettle}
 use Rattle.running_bench.specs.Texts.{AreAfter}

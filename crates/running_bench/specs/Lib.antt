@@ -1,4 +1,13 @@
+pub mod StampedTexts
+pub mod Edited
+pub mod StampedLaws
+pub mod Commits
+pub mod StampedCells
+pub mod CellProofs
+pub mod LeftCells
 pub mod Cells
 pub mod Texts
 pub mod Listing
 pub mod Laws
+pub mod Posted
+pub mod Contents

@@ -13,8 +13,8 @@ use Rattle.board.specs.Legal as legal
 use Rattle.board.specs.Legal.{Held, held_of, texts_after, MayFollow}
 use Rattle.board.specs.Right.{HasNamesOf}
 use Rattle.board.specs.Histories.{contents_after}
-use Rattle.stamped_texts.specs.declared.texts.StampedTexts.{StampedTexts}
-use Rattle.stamped_texts.specs.declared.texts.PreparedEdit.{PreparedEdit}
+use Rattle.running_bench.specs.declared.stamped_texts.StampedTexts.{StampedTexts}
+use Rattle.running_bench.specs.declared.stamped_texts.PreparedEdit.{PreparedEdit}
 use Rattle.running_bench.specs.Cells.{IsCellAt}
 
 -- the texts are those after the edits among these operations, whose board has their names, and no more than the bench takes

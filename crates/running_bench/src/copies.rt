@@ -2,8 +2,8 @@
 
 ghost use Rattle.std.specs.Prelude.{◌≡◌, IfOk};
 
-use source_text::Name;
 use std::alloc::{AllocError, Global};
+use text_values::Name;
 use verdict::{CountedState, Evaluation, Outcome, OutcomeResult};
 
 fn copied_state(alloc: Global, state: &CountedState) -> Result<CountedState, AllocError>

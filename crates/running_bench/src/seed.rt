@@ -1,7 +1,7 @@
 //! What a desk is made of.
 
 ghost use Rattle.std.specs.Prelude.{◌≡◌, [], IfOk, min};
-ghost use Rattle.stamped_texts.specs.Texts.{IsSound};
+ghost use Rattle.running_bench.specs.StampedTexts.{IsSound};
 ghost use Rattle.running_bench.specs.Texts.{AreAfter};
 
 use crate::texts::RunningTexts;

@@ -4,6 +4,7 @@ ghost use Rattle.std.specs.Prelude.{◌<◌, length, IfSome, IfNone, IsTrue};
 ghost use Rattle.running_bench.specs.Cells.{HasCell, IsIndexOf, IsNamedAt, HasNoNames, IsRowRange};
 
 use crate::copies::copied;
+use crate::stamped_texts::{PreparedEdit, StampedTexts};
 use bench_texts::{Edit, EditFault};
 use board::{Board, BoardEdit, BoardOp, CellIndex};
 use cells::texts::CellTexts;
@@ -13,7 +14,6 @@ use desk_rule::Operations;
 use memo_core::keys::{Key, Node, Output};
 use memo_core::texts::Texts;
 use node_values::{Given, NodeValue};
-use stamped_texts::{PreparedEdit, StampedTexts};
 use std::alloc::{AllocError, Global};
 use std::marker::Model;
 use std::sync::Arc;
@@ -31,8 +31,8 @@ impl Drop for RunningTexts {
 }
 
 impl Model for RunningTexts {
-    ghost use Rattle.stamped_texts.specs.declared.texts.StampedTexts.{StampedTexts as StampedRecord};
-    ghost use Rattle.stamped_texts.specs.contracts.texts.StampedTexts as stamped;
+    ghost use Rattle.running_bench.specs.declared.stamped_texts.StampedTexts.{StampedTexts as StampedRecord};
+    ghost use Rattle.running_bench.specs.contracts.stamped_texts.StampedTexts as stamped;
 
     ghost Value = { StampedRecord };
 
@@ -59,11 +59,11 @@ impl Texts for RunningTexts {
     ghost use Rattle.stamped_parts.specs.Equal.{same_value};
     ghost use Rattle.stamped_parts.specs.States.{makes, keeps};
     ghost use Rattle.stamped_parts.proofs.Equality.{value_exact};
-    ghost use Rattle.stamped_texts.specs.Texts.{IsSound, IsSince, IsThere, net_of};
-    ghost use Rattle.stamped_texts.specs.Edited.{IsEdited, IsPrepared, IsReady, IsCommitted};
-    ghost use Rattle.stamped_texts.specs.Commits.{commits_edit};
-    ghost use Rattle.stamped_texts.specs.Laws.{texts_are_sound, since_itself, since_edited, given_stays, valid_edited, goes_on};
-    ghost use Rattle.stamped_texts.specs.Laws.{used_there, used_closed, users_listed, ranks_fall};
+    ghost use Rattle.running_bench.specs.StampedTexts.{IsSound, IsSince, IsThere, net_of};
+    ghost use Rattle.running_bench.specs.Edited.{IsEdited, IsPrepared, IsReady, IsCommitted};
+    ghost use Rattle.running_bench.specs.Commits.{commits_edit};
+    ghost use Rattle.running_bench.specs.StampedLaws.{texts_are_sound, since_itself, since_edited, given_stays, valid_edited, goes_on};
+    ghost use Rattle.running_bench.specs.StampedLaws.{used_there, used_closed, users_listed, ranks_fall};
 
     ghost is_valid = { IsSound };
 
@@ -207,10 +207,10 @@ impl CellTexts for RunningTexts {
     ghost use Rattle.std.specs.Prelude.{◌≡◌, true, Some};
     ghost use Rattle.bench_texts.specs.Edits.{edit_of};
     ghost use Rattle.node_values.specs.Values.{outcome_in};
-    ghost use Rattle.stamped_texts.specs.Texts.{verdict_of};
-    ghost use Rattle.stamped_texts.specs.Cells.{from_scratch, Reaches};
-    ghost use Rattle.stamped_texts.specs.CellProofs.{edited_alike, refused_alike, verdicts_used, all_needed, cells_solved};
-    ghost use Rattle.stamped_texts.specs.LeftCells.{cells_left};
+    ghost use Rattle.running_bench.specs.StampedTexts.{verdict_of};
+    ghost use Rattle.running_bench.specs.StampedCells.{from_scratch, Reaches};
+    ghost use Rattle.running_bench.specs.CellProofs.{edited_alike, refused_alike, verdicts_used, all_needed, cells_solved};
+    ghost use Rattle.running_bench.specs.LeftCells.{cells_left};
 
     ghost verdict_of = { verdict_of };
 

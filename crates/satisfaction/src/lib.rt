@@ -4,15 +4,14 @@
 
 ghost use Rattle.std.specs.Prelude.{◌≡◌, option_map};
 ghost use Rattle.candidates.specs.Space.{shown_by};
-ghost use Rattle.litmus_values.specs.Value.{formula_of};
+ghost use Rattle.text_values.specs.TestValue.{formula_of};
 ghost use Rattle.verdict.specs.Evaluated.{is_satisfied};
 ghost use Rattle.verdict.specs.Final as ends;
 ghost use Rattle.verdict.specs.Meaning.{is_held, joined_by, known_place, known_value, location_of};
 
 use candidates::{Action, Execution};
-use litmus_values::{Connective, Place, Proposition, Value};
 use ppc_semantics::Value as RunValue;
-use source_text::Name;
+use text_values::{Connective, Name, Place, Proposition, Value};
 use verdict::FinalValue;
 
 fn location_of(locations: &[Name], name: &Name) -> Option<usize>

@@ -1,9 +1,9 @@
 -- Models by their names.
 use Rattle.std.proofs.Common.{◌≡◌, ℕ, List, [], ◌∷◌, ◌++◌, length, map, Option, refl, arith}
 use Rattle.std.specs.Prelude.{option_map}
-use Rattle.cat_values.specs.declared.model.Item.{Item}
-use Rattle.cat_values.specs.declared.model.ModelText.{ModelText}
-use Rattle.cat_values.specs.Values.{clauses_of}
+use Rattle.text_values.specs.declared.model.Item.{Item}
+use Rattle.text_values.specs.declared.model.ModelText.{ModelText}
+use Rattle.text_values.specs.ModelValues.{clauses_of}
 use Rattle.bench_texts.specs.BenchTexts.{PlainModel, items_of}
 
 -- what the items of a model say is what its numbered items say

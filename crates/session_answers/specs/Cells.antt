@@ -1,10 +1,10 @@
 -- What the texts of a session say: a test under a model. Read this file first, then Rows, Questions and Sessions.
 use Rattle.std.specs.Prelude.{◌≡◌, ℕ, List, [], ◌∷◌, map, Option, Some, None, slice_get}
 use Rattle.std.specs.List.{AllZip}
-use Rattle.litmus_values.specs.declared.test.Test.{Test}
-use Rattle.litmus_values.specs.Value.{Content, content_of}
-use Rattle.cat_values.specs.declared.model.ModelText.{ModelText}
-use Rattle.cat_values.specs.Values.{clauses_of}
+use Rattle.text_values.specs.declared.test.Test.{Test}
+use Rattle.text_values.specs.TestValue.{Content, content_of}
+use Rattle.text_values.specs.declared.model.ModelText.{ModelText}
+use Rattle.text_values.specs.ModelValues.{clauses_of}
 use Rattle.verdict.specs.declared.answer.Outcome.{Outcome}
 use Rattle.memo_graph.specs.FromScratch.{IsFromScratch}
 use Rattle.compare_report.specs.Cells.{Cell, NoCell, Open, Settled}

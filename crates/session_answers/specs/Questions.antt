@@ -1,7 +1,7 @@
 -- What a session says to a question. A name that is not there is X1 of a test, X2 of a model; the first word is judged first.
 use Rattle.std.specs.Prelude.{◌≡◌, ℕ, List, [], ◌∷◌, map, Option, Some, None}
 use Rattle.std.specs.List.{AllZip}
-use Rattle.litmus_values.specs.Value.{Content}
+use Rattle.text_values.specs.TestValue.{Content}
 use Rattle.verdict.specs.declared.answer.Outcome.{Outcome}
 use Rattle.compare_report.specs.Cells.{Settled, cell_log, cell_counts}
 use Rattle.compare_report.specs.Columns.{Row, table_of}

@@ -1,8 +1,8 @@
 -- The outcomes of a test as a row of settled cells.
 use Rattle.std.specs.Prelude.{◌≡◌, List, map, slice_index_or}
 use denote.Ref.{Bor}
-use Rattle.litmus_values.specs.declared.test.Test.{Test}
-use Rattle.cat_values.specs.declared.model.ModelText.{ModelText}
+use Rattle.text_values.specs.declared.test.Test.{Test}
+use Rattle.text_values.specs.declared.model.ModelText.{ModelText}
 use Rattle.memo_graph.specs.Suites.{AreOutcomes}
 use Rattle.compare_report.specs.Cells.{NoCell, Settled}
 use Rattle.compare_report.specs.Columns.{Row}

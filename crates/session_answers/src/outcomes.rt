@@ -9,10 +9,9 @@ ghost use Rattle.session_answers.specs.Rows.{HasOutcomes};
 use crate::progress::{Progress, ProgressListener};
 use crate::rows::TestOutcomes;
 use binding_graph::{ModelFault, Resolved};
-use cat_values::ModelText;
-use litmus_values::Test;
 use memo_graph::{eval_row, resolved_models};
 use std::alloc::{AllocError, Global};
+use text_values::{ModelText, Test};
 
 fn outcomes_of(
     alloc: Global,

@@ -8,8 +8,8 @@ ghost use Rattle.compare_report.specs.Differences.{pair_of};
 ghost use Rattle.session_answers.specs.Rows.{row_said, pair_in};
 
 use compare_report::{Shown, TestPair, TestRow};
-use source_text::Name;
 use std::alloc::{AllocError, Global};
+use text_values::Name;
 use verdict::Outcome;
 
 /// The outcomes of a test, in the order of the models.

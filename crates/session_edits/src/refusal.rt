@@ -8,8 +8,8 @@ use crate::answer::Answer;
 use bench_texts::EditFault;
 use cat_syntax::CatFault;
 use litmus_ppc::LitmusFault;
-use source_text::{put_bytes, put_decimal};
 use std::alloc::{AllocError, Global};
+use text_values::{put_bytes, put_decimal};
 
 // The word, and the letter and the number of the rule.
 fn put_head(text: &mut Vec<u8>, letter: u8, number: u8) -> Result<(), AllocError>

@@ -2,14 +2,14 @@
 use Rattle.std.proofs.Common.{◌≡◌, ℕ, List, [], ◌∷◌, map, Some, None, refl, sym, ap, ◌∙◌, subst}
 use Rattle.std.proofs.lemmas.Simd.{map-map}
 use Rattle.std.specs.List.{AllZip}
-use Rattle.litmus_values.specs.declared.test.Test.{Test}
-use Rattle.litmus_values.specs.Value.{Content}
-use Rattle.cat_values.specs.declared.model.Item as code_item
-use Rattle.cat_values.specs.declared.model.Item.TheVariants as items
-use Rattle.cat_values.specs.declared.model.ModelText.{ModelText}
-use Rattle.cat_values.specs.Value as said
-use Rattle.cat_values.specs.Value.{Term}
-use Rattle.cat_values.specs.Values as values
+use Rattle.text_values.specs.declared.test.Test.{Test}
+use Rattle.text_values.specs.TestValue.{Content}
+use Rattle.text_values.specs.declared.model.Item as code_item
+use Rattle.text_values.specs.declared.model.Item.TheVariants as items
+use Rattle.text_values.specs.declared.model.ModelText.{ModelText}
+use Rattle.text_values.specs.ModelValue as said
+use Rattle.text_values.specs.ModelValue.{Term}
+use Rattle.text_values.specs.ModelValues as values
 use Rattle.binding_kinds.specs.Value.{Bound, Clause, Group, Check, Mute, Defined, clause_of}
 use Rattle.binding_kinds.specs.Faults.{HasNoFault, FirstFault}
 use Rattle.binding_graph.specs.declared.resolved.ResolvedItem.{ResolvedItem}
@@ -21,7 +21,7 @@ use Rattle.verdict.specs.declared.answer.Refusal.TheVariants as refusals
 use Rattle.memo_graph.specs.FromScratch.{outermost, IsResultOf, IsFromScratch}
 use Rattle.bench_texts.specs.BenchTexts.{PlainModel}
 use Rattle.evaluation_laws.proofs.Saying.{one_outcome}
-use Rattle.slice_laws.proofs.Tests.{equal_tests}
+use Rattle.evaluation_laws.proofs.Tests.{equal_tests}
 use Rattle.session_laws.specs.Laws.{HasOneOutcome}
 
 -- ---- what an item binds and checks, from what it says

@@ -1,7 +1,7 @@
 -- A question has one answer.
 use Rattle.std.proofs.Common.{◌≡◌, ℕ, List, [], ◌∷◌, map, Option, Some, None, refl, sym, ap, ◌∙◌}
 use Rattle.std.specs.List.{AllZip}
-use Rattle.litmus_values.specs.Value.{Content}
+use Rattle.text_values.specs.TestValue.{Content}
 use Rattle.verdict.specs.declared.answer.Outcome.{Outcome}
 use Rattle.compare_report.specs.Cells.{Cell, NoCell, Open, Settled, cell_log, cell_counts}
 use Rattle.compare_report.specs.Columns.{Row, table_of}

@@ -1,6 +1,6 @@
 -- Laws of what a session says, each the contract of a call of this crate. Read `Cells` and `Questions` of session_answers first.
 use Rattle.std.specs.Prelude.{◌≡◌, ℕ, List, ◌++◌, false}
-use Rattle.litmus_values.specs.Value.{Content}
+use Rattle.text_values.specs.TestValue.{Content}
 use Rattle.verdict.specs.declared.answer.Outcome.{Outcome}
 use Rattle.bench_texts.specs.BenchTexts.{BenchTexts, PlainModel}
 use Rattle.session_edits.specs.Answer.{Said}

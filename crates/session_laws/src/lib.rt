@@ -3,7 +3,7 @@
 #![tactic(auto)]
 
 ghost use Rattle.std.specs.Prelude.{List};
-ghost use Rattle.litmus_values.specs.Value.{Content};
+ghost use Rattle.text_values.specs.TestValue.{Content};
 ghost use Rattle.bench_texts.specs.BenchTexts.{PlainModel, BenchTexts};
 ghost use Rattle.session_edits.specs.declared.request.Question.{Question};
 ghost use Rattle.session_script.specs.declared.command.Command.{Command};

@@ -5,7 +5,7 @@ use Rattle.std.specs.List.{position_or_len}
 use Rattle.std.proofs.lemmas.List.{take-append-drop, take_all}
 use Rattle.std.proofs.lemmas.List.Sums.{fails_before_first, passes_at_first}
 use Rattle.std.proofs.lemmas.Grind.{common_steps}
-use Rattle.source_text.specs.Layout.{is_line_end}
+use Rattle.text_values.specs.Layout.{is_line_end}
 use Rattle.session_script.specs.Lines.{onto_first, lines_of, IsUnbroken, without_return}
 
 second_false : (a b : Bool) → b ≡ false → (a && b) ≡ false

@@ -6,7 +6,7 @@ use Rattle.std.specs.declared.vec.Vec.{Vec}
 use Rattle.std.specs.Io.KnownBytes.{prepend_known, Consumes, IsAtEnd}
 use Rattle.std.specs.List.{position_or_len}
 use Rattle.std.proofs.lemmas.List.{take_all, length-drop, drop-drop, append-nil}
-use Rattle.source_text.specs.Layout.{is_line_end}
+use Rattle.text_values.specs.Layout.{is_line_end}
 use Rattle.session_script.specs.Lines.{lines_of, IsUnbroken, without_return}
 use Rattle.session_script.specs.Reading.{IsPart, IsPaid, IsLine, HasText, IsSaid, IsNext}
 use Rattle.session_script.specs.Commands.{commands_from, commands_of, Between, Within, is_dot, skips, is_skipped, kept_text, said_by, stage_behind}

@@ -1,6 +1,6 @@
 -- The lines of a script. Read this first, then Words, Requests and Commands.
 use Rattle.std.specs.Prelude.{◌≡◌, ℕ, List, [], ◌∷◌, false, ◌==◌, ◌&&◌, if◌then◌else◌, slice_index}
-use Rattle.source_text.specs.Layout.{is_line_end}
+use Rattle.text_values.specs.Layout.{is_line_end}
 
 -- the byte at the front of the first of these
 abbrev pub onto_first : ℕ → List (List ℕ) → List (List ℕ)

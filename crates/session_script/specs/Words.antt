@@ -1,6 +1,6 @@
 -- The words of a line, and numbers.
 use Rattle.std.specs.Prelude.{ℕ, ◌+◌, ◌*◌, ◌-◌, ◌^◌, List, [], ◌∷◌, Bool, true, ◌==◌, ◌&&◌, ◌||◌, if◌then◌else◌, nat_lt, Option, Some, None}
-use Rattle.source_text.specs.Letters.{is_digit}
+use Rattle.text_values.specs.Letters.{is_digit}
 use Rattle.session_script.specs.Lines.{onto_first}
 
 -- spaces and tabs part words

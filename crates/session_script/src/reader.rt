@@ -12,8 +12,8 @@ use crate::request::{Request, ScriptText};
 use crate::source::{ByteSource, ReadFault, put_front};
 use crate::state::ScriptReader;
 use crate::words::words_of;
-use source_text::{byte_at, line_length, put_bytes};
 use std::alloc::{AllocError, Global};
+use text_values::{byte_at, line_length, put_bytes};
 
 const MAX_TURNS: u32 = 16_777_216;
 

@@ -2,12 +2,12 @@
 
 ghost use Rattle.std.specs.Prelude.{◌≡◌, ◌≤◌, ◌++◌, ◌∷◌, [], length, IfOk, OnOk, Some, None};
 ghost use Rattle.std.specs.List.{position_or_len};
-ghost use Rattle.source_text.specs.Letters.{is_digit};
+ghost use Rattle.text_values.specs.Letters.{is_digit};
 ghost use Rattle.session_script.specs.Words.{is_gap, words_of, with_digit, number_of};
 
 use crate::request::ScriptText;
-use source_text::is_digit;
 use std::alloc::{AllocError, Global};
+use text_values::is_digit;
 
 // Whether the byte parts words.
 #[tactic(auto, unfolding(crate::specs::Words::is_gap))]

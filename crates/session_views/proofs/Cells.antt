@@ -1,12 +1,12 @@
 -- A cell that is settled on a board is right for the texts that the board shows.
 use Rattle.std.proofs.Common.{◌≡◌, ℕ, zero, suc, List, [], ◌∷◌, length, map, Option, Some, None, IfSome, Bor, refl, sym, ap, ◌∙◌, subst, arith}
 use Rattle.std.specs.Prelude.{slice_get}
-use Rattle.litmus_values.specs.Value.{Content, content_of}
+use Rattle.text_values.specs.TestValue.{Content, content_of}
 use Rattle.verdict.specs.declared.answer.Outcome.{Outcome}
 use Rattle.bench_texts.specs.BenchTexts.{BenchTexts, PlainModel}
 use Rattle.bench_texts.specs.Held.{model_of}
-use Rattle.slice_laws.proofs.Deciding.{decide}
-use Rattle.slice_laws.proofs.Models.{items_suffice}
+use Rattle.evaluation_laws.proofs.Deciding.{decide}
+use Rattle.evaluation_laws.proofs.SliceModels.{items_suffice}
 use Rattle.compare_report.specs.Cells.{Settled}
 use Rattle.board.specs.Contents.{BoardContent, cell_at, shown_cell}
 use Rattle.board.specs.Legal.{texts_after, IsRightAt}

@@ -5,7 +5,7 @@ use Rattle.bench_texts.specs.declared.edit.Edit.{Edit}
 use Rattle.desk.specs.Held.{HasEdit}
 use Rattle.board.specs.declared.operation.BoardOp.{BoardOp}
 use Rattle.board.specs.Histories.{contents_after, IsHistory, IsEditAfter, IsSettle}
-use Rattle.view_laws.specs.Edits.{edits_in}
+use Rattle.board.specs.Edits.{edits_in}
 
 -- The operations that were seen, and all that go on from them, have at least so many edits; where they have no more, these are
 -- the texts after them.

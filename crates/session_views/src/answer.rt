@@ -1,7 +1,7 @@
 //! The answers to questions, from a board.
 
 ghost use Rattle.std.specs.Prelude.{◌≡◌, IfOk, IfSome, All, Some, map, option_map, slice_get};
-ghost use Rattle.litmus_values.specs.Value.{content_of};
+ghost use Rattle.text_values.specs.TestValue.{content_of};
 ghost use Rattle.bench_texts.specs.Held.{texts_of};
 ghost use Rattle.session_answers.specs.Cells.{models_named};
 ghost use Rattle.session_answers.specs.Questions.{IsItems, IsLog, IsCounts, IsTable, IsDifference, IsReply};
@@ -13,11 +13,10 @@ use crate::rows::{asked_rows, row_pairs};
 use bench_texts::{EditFault, Texts};
 use board::Board;
 use compare_report::{Shown, counts_text, difference_text, log_text, table_text};
-use litmus_values::Test;
 use session_edits::{Answer, Question, refused_edit};
 use session_script::ScriptText;
-use source_text::Name;
 use std::alloc::{AllocError, Global};
+use text_values::{Name, Test};
 
 fn items(alloc: Global, model: Option<AskedModel<'_>>) -> Result<Answer, AllocError>
     ensures { IfOk result (IsItems (option_map asked_model model.entry)) }

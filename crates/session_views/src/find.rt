@@ -1,7 +1,7 @@
 //! Tests and models by their names, and the outcomes of their cells.
 
 ghost use Rattle.std.specs.Prelude.{◌≡◌, IfOk, IfSome, All, Some, map, option_map, slice_get};
-ghost use Rattle.litmus_values.specs.Value.{content_of};
+ghost use Rattle.text_values.specs.TestValue.{content_of};
 ghost use Rattle.bench_texts.specs.Held.{model_of, texts_of};
 ghost use Rattle.board.specs.Contents.{cell_at};
 ghost use Rattle.session_answers.specs.Cells.{IsOutcome, test_named, model_named, models_named};
@@ -11,9 +11,9 @@ ghost use Rattle.session_views.specs.Shown.{ShowsTexts};
 use bench_texts::{NamedModel, Texts};
 use board::{Board, CellIndex};
 use compare_report::Shown;
-use litmus_values::Test;
 use session_script::ScriptText;
 use std::alloc::{AllocError, Global};
+use text_values::Test;
 use verdict::Outcome;
 
 /// A model of the texts, and its index.

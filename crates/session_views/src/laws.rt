@@ -2,7 +2,7 @@
 
 ghost use Rattle.std.specs.Prelude.{◌≡◌, ◌<◌, ◌+◌, ◌-◌, ◌^◌, ℕ, List, [], Some, false, slice_get};
 ghost use mathlib.Core.List.{IsPrefix};
-ghost use Rattle.litmus_values.specs.Value.{Content};
+ghost use Rattle.text_values.specs.TestValue.{Content};
 ghost use Rattle.verdict.specs.declared.answer.Outcome.{Outcome};
 ghost use Rattle.bench_texts.specs.declared.edit.Edit.{Edit as CodeEdit};
 ghost use Rattle.bench_texts.specs.BenchTexts.{BenchTexts, PlainModel};
@@ -14,7 +14,7 @@ ghost use Rattle.board.specs.Operations.{board_after};
 ghost use Rattle.board.specs.Legal.{IsLegal};
 ghost use Rattle.board.specs.Histories.{no_contents};
 ghost use Rattle.session_answers.specs.Cells.{IsOutcome};
-ghost use Rattle.view_laws.specs.Edits.{edit_count};
+ghost use Rattle.board.specs.Edits.{edit_count};
 ghost use Rattle.session_views.specs.Knowing.{KnowsOwn, HasOwnEdit};
 ghost use Rattle.session_views.specs.Shown.{ShowsTexts};
 

@@ -1,7 +1,7 @@
 //! Settled cells of a board as rows of a table, and as pairs of cells.
 
 ghost use Rattle.std.specs.Prelude.{◌≡◌, IfOk, IfSome, All, Some, map, slice_get, slice_index_or};
-ghost use Rattle.litmus_values.specs.Value.{content_of};
+ghost use Rattle.text_values.specs.TestValue.{content_of};
 ghost use Rattle.bench_texts.specs.Held.{texts_of};
 ghost use Rattle.compare_report.specs.Cells.{cell_of, NoCell};
 ghost use Rattle.compare_report.specs.Columns.{row_of};
@@ -16,8 +16,8 @@ use crate::find::{AskedModel, asked_outcome};
 use bench_texts::Texts;
 use board::Board;
 use compare_report::{Shown, TestPair, TestRow};
-use litmus_values::Test;
 use std::alloc::{AllocError, Global};
+use text_values::Test;
 
 // The cell of a test, by its index, under a model, if it is settled.
 fn asked_cell<'t>(

@@ -6,9 +6,9 @@ ghost use Rattle.shared_items.specs.Naming.{role_at, with_role_names};
 
 use crate::names::{first_history, grown_history, item_outputs};
 use binding_graph::{Resolved, ResolvedItem, Role};
-use source_text::Name;
 use std::alloc::{AllocError, Global};
 use std::sync::Arc;
+use text_values::Name;
 
 /// An item of a model without fault, with its history, both of which it shares with others. Contracts see what the item does
 /// and the names that it has had.

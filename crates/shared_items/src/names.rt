@@ -8,9 +8,9 @@ ghost use Rattle.shared_items.specs.Naming.{names_in, body_names, number_of, num
 ghost use Rattle.shared_items.specs.Naming.{item_outputs};
 
 use binding_graph::{Body, Role};
-use source_text::Name;
 use std::alloc::{AllocError, Global};
 use std::sync::Arc;
+use text_values::Name;
 
 /// Copies of names, in order. Errors: out of memory.
 pub fn copied_names(alloc: Global, names: &[Name]) -> Result<Vec<Name>, AllocError>

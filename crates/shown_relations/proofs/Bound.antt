@@ -2,9 +2,9 @@
 use Rattle.std.proofs.Common.{ℕ, zero, suc, ◌≡◌, ◌∙◌, List, [], ◌∷◌, ◌++◌, ap, refl, take}
 use Rattle.std.specs.Prelude.{filter}
 use Rattle.std.proofs.lemmas.List.{map-append}
-use Rattle.cat_values.specs.declared.model.Item.{Item}
-use Rattle.cat_values.specs.Value.{Clause, Term}
-use Rattle.cat_values.specs.Values.{clause_of, clauses_of}
+use Rattle.text_values.specs.declared.model.Item.{Item}
+use Rattle.text_values.specs.ModelValue.{Clause, Term}
+use Rattle.text_values.specs.ModelValues.{clause_of, clauses_of}
 use Rattle.shown_relations.specs.declared.names.ShownName.{ShownName}
 use Rattle.shown_relations.specs.Shown.{check_on, clauses_for, is_binding}
 

@@ -30,14 +30,14 @@ use Rattle.cat_eval.specs.declared.column.Column.TheVariants as columns
 use Rattle.cat_eval.specs.Columns.{HasValue}
 use Rattle.cat_eval.specs.Executions.{events_of, EventsAt, PairsAt}
 use Rattle.cat_eval.specs.Values.{IsFor, IsMeant}
-use Rattle.cat_values.specs.declared.model.CheckWord.{CheckWord}
-use Rattle.cat_values.specs.declared.model.Item.{Item}
-use Rattle.cat_values.specs.declared.model.Item.TheVariants as items
-use Rattle.cat_values.specs.declared.model.CheckWord.TheVariants as words
-use Rattle.cat_values.specs.declared.model.ModelText.{ModelText}
-use Rattle.cat_values.specs.Value.{Clause, Term, Checking, Checked}
-use Rattle.cat_values.specs.Values as means
-use Rattle.cat_values.specs.declared.predefined.TheConstants.{PREDEFINED}
+use Rattle.text_values.specs.declared.model.CheckWord.{CheckWord}
+use Rattle.text_values.specs.declared.model.Item.{Item}
+use Rattle.text_values.specs.declared.model.Item.TheVariants as items
+use Rattle.text_values.specs.declared.model.CheckWord.TheVariants as words
+use Rattle.text_values.specs.declared.model.ModelText.{ModelText}
+use Rattle.text_values.specs.ModelValue.{Clause, Term, Checking, Checked}
+use Rattle.text_values.specs.ModelValues as means
+use Rattle.text_values.specs.declared.predefined.TheConstants.{PREDEFINED}
 use Rattle.memo_graph.specs.declared.cell.ItemAnswers.{ItemAnswers}
 use Rattle.memo_graph.specs.Answers.{AreSound}
 use Rattle.memo_graph.specs.FromScratch.{AreItemsOf, IsFaultless, outermost}

@@ -3,10 +3,10 @@ use Rattle.std.specs.Prelude.{ℕ, ◌≡◌, ◌+◌, List, [], ◌∷◌, ◌+
 use Rattle.std.specs.Prelude.{filter, nat_eq, slice_get, take}
 use Rattle.std.specs.Cmp.Lexicographic.{pointwise}
 use Rattle.std.specs.Option.{option_map}
-use Rattle.cat_values.specs.declared.model.CheckWord.TheVariants as words
-use Rattle.cat_values.specs.declared.model.Item.{Item}
-use Rattle.cat_values.specs.Value.{Term, Atom, Clause, Binding, Function, Checking, Showing}
-use Rattle.cat_values.specs.Values.{clauses_of}
+use Rattle.text_values.specs.declared.model.CheckWord.TheVariants as words
+use Rattle.text_values.specs.declared.model.Item.{Item}
+use Rattle.text_values.specs.ModelValue.{Term, Atom, Clause, Binding, Function, Checking, Showing}
+use Rattle.text_values.specs.ModelValues.{clauses_of}
 use Rattle.shown_relations.specs.declared.names.ShownName.{ShownName}
 
 -- the name of a shown expression: the one after `as`, or else the name that the expression is

@@ -13,9 +13,9 @@ use Rattle.candidates.specs.Space.{Candidate, candidates_in}
 use Rattle.cat_eval.specs.declared.column.Column.{Column}
 use Rattle.cat_eval.specs.declared.column.Column.TheVariants as columns
 use Rattle.cat_eval.specs.Executions.{events_of}
-use Rattle.cat_values.specs.declared.model.ModelText.{ModelText}
-use Rattle.cat_values.specs.Value.{Clause}
-use Rattle.cat_values.specs.Values.{clauses_of}
+use Rattle.text_values.specs.declared.model.ModelText.{ModelText}
+use Rattle.text_values.specs.ModelValue.{Clause}
+use Rattle.text_values.specs.ModelValues.{clauses_of}
 use Rattle.check_witness.specs.Values.{AreValues}
 use Rattle.memo_graph.specs.declared.cell.ItemAnswers.{ItemAnswers}
 use Rattle.memo_graph.specs.FromScratch.{AreItemsOf, IsFaultOf, IsFaultless}

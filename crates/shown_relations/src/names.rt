@@ -2,12 +2,11 @@
 
 ghost use Rattle.std.specs.Prelude.{◌≡◌, IfOk, filter, map};
 ghost use Rattle.std.specs.Option.{option_map};
-ghost use Rattle.cat_values.specs.Values.{clause_of, clauses_of, shown_of};
+ghost use Rattle.text_values.specs.ModelValues.{clause_of, clauses_of, shown_of};
 ghost use Rattle.shown_relations.specs.Shown.{after_clause, after_name, after_named, after_show, is_other, name_of, names_shown};
 
-use cat_values::{Expression, Item, ShownExpression};
-use source_text::Name;
 use std::alloc::{AllocError, Global};
+use text_values::{Expression, Item, Name, ShownExpression};
 
 /// A relation that a model shows.
 #[derive(Drop)]

@@ -2,13 +2,13 @@
 
 ghost use Rattle.std.specs.Prelude.{◌≡◌, IfOk, MatchOption, None, filter, map, slice_get};
 ghost use Rattle.std.specs.Option.{option_map};
-ghost use Rattle.cat_values.specs.Values.{clause_of, clauses_of, shown_of, term_of};
+ghost use Rattle.text_values.specs.ModelValues.{clause_of, clauses_of, shown_of, term_of};
 ghost use Rattle.shown_relations.specs.Shown.{IsTextFor, body_at, body_of, check_on, is_binding};
 
 use crate::names::ShownName;
-use cat_values::{Check, CheckWord, Expression, Item, ModelText, ShownExpression};
 use item_copies::copied_item;
 use std::alloc::{AllocError, Global};
+use text_values::{Check, CheckWord, Expression, Item, ModelText, ShownExpression};
 
 fn is_binding(item: &Item) -> bool
     ensures { result ≡ is_binding (clause_of item.now) }

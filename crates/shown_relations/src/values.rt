@@ -2,7 +2,7 @@
 
 ghost use Rattle.std.specs.Prelude.{◌≡◌, ◌++◌, IfOk, MatchOption, None, OnOk, Some, length, option_to_list};
 ghost use Rattle.std.specs.List.{All};
-ghost use Rattle.cat_values.specs.Values.{clauses_of};
+ghost use Rattle.text_values.specs.ModelValues.{clauses_of};
 ghost use Rattle.memo_graph.specs.FromScratch.{AreItemsOf, IsFaultless};
 ghost use Rattle.shown_relations.specs.Values.{AreAllShown, AreShown, HasNoLastCheck, HasNoValue, IsCheckValue, IsLastValue, IsNoCheck, IsShownValue, IsSized};
 ghost use Rattle.shown_relations.specs.Shown.{IsTextFor};
@@ -12,11 +12,10 @@ use crate::texts::text_of;
 use binding_graph::{ResolveFault, Resolved, ResolvedItem, Role, resolve};
 use candidates::Space;
 use cat_eval::Column;
-use cat_values::{Item, ModelText};
 use check_witness::expression_column;
 use memo_graph::{answers, inputs};
-use source_text::Name;
 use std::alloc::{AllocError, Global};
+use text_values::{Item, ModelText, Name};
 
 /// A relation that a model shows, with its values.
 #[derive(Drop)]

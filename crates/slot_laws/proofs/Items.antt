@@ -4,8 +4,8 @@ use Rattle.std.specs.Prelude.{nat_le, slice_get}
 use Rattle.std.specs.List.{AllByRecursion as Each}
 use Rattle.std.proofs.lemmas.Bool.{leb-false}
 use Rattle.std.proofs.lemmas.Option.{none-some}
-use Rattle.cat_values.specs.declared.predefined.TheConstants.{PREDEFINED}
-use Rattle.cat_values.specs.Value.{Term}
+use Rattle.text_values.specs.declared.predefined.TheConstants.{PREDEFINED}
+use Rattle.text_values.specs.ModelValue.{Term}
 use Rattle.memo_core.specs.Step.{Has}
 use Rattle.binding_kinds.specs.declared.kinds.Kind.TheVariants.{OfAny}
 use Rattle.binding_kinds.specs.declared.scope.Binder.TheVariants as binders

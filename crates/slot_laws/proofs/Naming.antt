@@ -4,7 +4,7 @@ use Rattle.std.specs.Prelude.{◌==◌, bytes_eq, if◌then◌else◌}
 use Rattle.std.specs.List.{AllByRecursion as Each}
 use Rattle.std.proofs.lemmas.Bool.{cases_Bool}
 use Rattle.std.proofs.lemmas.Option.{none-some}
-use Rattle.cat_values.specs.declared.predefined.Predefined.{Predefined}
+use Rattle.text_values.specs.declared.predefined.Predefined.{Predefined}
 use Rattle.model_slots.proofs.Lists.{each_reverse}
 use Rattle.binding_kinds.specs.declared.kinds.Kind.TheVariants.{OfRelation}
 use Rattle.binding_kinds.specs.declared.scope.Binder.{Binder}

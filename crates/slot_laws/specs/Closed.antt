@@ -2,7 +2,7 @@
 -- says that the items of a model without fault owe it.
 use Rattle.std.specs.Prelude.{◌≡◌, ℕ, ◌<◌, suc, List, [], ◌∷◌, ◌++◌, map, reverse, Some, slice_get}
 use Rattle.std.specs.List.{AllByRecursion as Each}
-use Rattle.cat_values.specs.declared.predefined.TheConstants.{PREDEFINED}
+use Rattle.text_values.specs.declared.predefined.TheConstants.{PREDEFINED}
 use Rattle.memo_core.specs.Step.{Has}
 use Rattle.binding_kinds.specs.Value.{Naming}
 use Rattle.binding_kinds.specs.Outermost.{naming_of}

@@ -10,3 +10,9 @@ pub mod Rows
 pub mod Same
 pub mod SpaceParts
 pub mod Stamping
+pub mod ModelRows
+pub mod TestRows
+pub mod ItemStamps
+pub mod Histories
+pub mod ItemRows
+pub mod ItemKinds

@@ -2,10 +2,10 @@
 use Rattle.std.proofs.Common.{ℕ, suc, ◌+◌, ◌-◌, inl, inr, ◌<◌, ◌≤◌, ◌≡◌, ◌≢◌, List, [], ◌∷◌, ◌++◌, length, map, take, drop, Option, Some, None, option_map, slice_get, refl, ap, sym, ◌∙◌, ne_eqb, arith}
 use Rattle.std.proofs.lemmas.List.{append_assoc, append-nil, length-map, take-map}
 use Rattle.std.proofs.lemmas.Option.{slice_get_cases}
-use Rattle.litmus_values.specs.declared.test.InitEntry.{InitEntry}
-use Rattle.litmus_values.specs.declared.test.Step.{Step}
-use Rattle.litmus_values.specs.declared.test.Test.{Test}
-use Rattle.litmus_values.specs.Value.{steps_of}
+use Rattle.text_values.specs.declared.test.InitEntry.{InitEntry}
+use Rattle.text_values.specs.declared.test.Step.{Step}
+use Rattle.text_values.specs.declared.test.Test.{Test}
+use Rattle.text_values.specs.TestValue.{steps_of}
 use Rattle.memo_core.specs.declared.keys.Key.{Key}
 use Rattle.memo_core.specs.declared.keys.Key.TheVariants.{Part}
 use Rattle.memo_core.proofs.Inputs.{drop_get}

@@ -5,3 +5,9 @@ pub mod Kept
 pub mod Stamps
 pub mod States
 pub mod Views
+pub mod TableLaws
+pub mod Models
+pub mod Tests
+pub mod Items
+pub mod Held
+pub mod ItemLaws

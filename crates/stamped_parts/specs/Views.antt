@@ -2,8 +2,8 @@
 use Rattle.std.specs.Prelude.{ℕ, ◌==◌, List, [], ◌∷◌, Vec, Option, Some, None, option_map, if◌then◌else◌}
 use Rattle.std.specs.Option.{option_or}
 use Rattle.std.specs.declared.alloc.Global.{Global}
-use Rattle.litmus_values.specs.declared.test.Test.{Test}
-use Rattle.litmus_values.specs.Value.{formula_of, steps_of}
+use Rattle.text_values.specs.declared.test.Test.{Test}
+use Rattle.text_values.specs.TestValue.{formula_of, steps_of}
 use Rattle.memo_core.specs.declared.keys.Key.{Key}
 use Rattle.bench_nodes.specs.declared.table.SlotKey.{SlotKey}
 use Rattle.bench_nodes.specs.declared.table.SlotKey.TheVariants as slots

@@ -1,7 +1,7 @@
 //! What a part holds, where it lies.
 
 ghost use Rattle.std.specs.Prelude.{◌≡◌, map, option_map, slice_get};
-ghost use Rattle.litmus_values.specs.Value.{steps_of};
+ghost use Rattle.text_values.specs.TestValue.{steps_of};
 ghost use Rattle.stamped_parts.specs.Contents.{OfThread, item_content, fault_content, test_part, test_content, content, state_of};
 ghost use Rattle.stamped_parts.specs.Views.{content_of};
 
@@ -9,9 +9,8 @@ use crate::find::{item_index, model_index, test_at};
 use crate::parts::Parts;
 use bench_nodes::{CONDITION, FAULT, INIT, ITEM, ItemRow, LOCATIONS, ModelRow, OBSERVED, THREAD};
 use binding_graph::ModelFault;
-use litmus_values::{Condition, InitEntry, Place, Test, Thread};
 use shared_items::SharedItem;
-use source_text::Name;
+use text_values::{Condition, InitEntry, Name, Place, Test, Thread};
 
 /// What a part holds.
 #[derive(Clone, Copy)]

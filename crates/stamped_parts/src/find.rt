@@ -6,9 +6,8 @@ ghost use Rattle.stamped_parts.specs.States.{has_kind, has_model, is_kind};
 ghost use Rattle.stamped_parts.specs.Views.{test_view, view_of};
 
 use bench_nodes::{ItemRow, ModelRow, TestRow};
-use litmus_values::Test;
 use memo_core::keys::Kind;
-use source_text::Name;
+use text_values::{Name, Test};
 
 pub(crate) fn model_index(models: &[ModelRow], id: u64) -> usize
     ensures found { result ≡ position_or_len (λ m. m.id == id) models.now }

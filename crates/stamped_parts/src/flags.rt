@@ -12,10 +12,9 @@ use crate::content::{Content, content_at};
 use crate::parts::Parts;
 use bench_nodes::{ITEM, SlotKey};
 use binding_graph::Role;
-use litmus_values::Test;
 use memo_core::keys::Kind;
-use source_text::Name;
 use std::alloc::{AllocError, Global};
+use text_values::{Name, Test};
 
 /// A check or a flag, with its name where it is a flag, and the inputs behind it.
 #[derive(Clone, Copy)]

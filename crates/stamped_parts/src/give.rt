@@ -9,10 +9,10 @@ use crate::find::{has_kind, has_model};
 use crate::flags::{copied_flags, has_flags};
 use crate::nodes::{NodeParts, node_parts};
 use crate::parts::Parts;
-use litmus_values::Test;
 use memo_core::keys::{Kind, Node};
 use node_values::Given;
 use std::alloc::{AllocError, Global};
+use text_values::Test;
 
 fn given_from(
     alloc: Global,

@@ -1,7 +1,7 @@
 //! What a job of a node is given, where it lies.
 
 ghost use Rattle.std.specs.Prelude.{◌≡◌, option_map};
-ghost use Rattle.litmus_values.specs.Value.{formula_of};
+ghost use Rattle.text_values.specs.TestValue.{formula_of};
 ghost use Rattle.bench_nodes.specs.Nodes.{keys_at, space_keys};
 ghost use Rattle.stamped_parts.specs.Contents.{state_of};
 ghost use Rattle.stamped_parts.specs.States.{contents, flags_read, given_space, given_item, given_verdict, verdict_given, given};
@@ -12,10 +12,9 @@ use crate::find::test_at;
 use crate::parts::Parts;
 use bench_nodes::{FAULT, ITEM, SlotKey};
 use binding_graph::ModelFault;
-use litmus_values::{Condition, InitEntry, Place, Test, Thread};
 use memo_core::keys::{Kind, Node};
 use shared_items::SharedItem;
-use source_text::Name;
+use text_values::{Condition, InitEntry, Name, Place, Test, Thread};
 
 /// What a job is given, by the kind of its node.
 #[derive(Clone, Copy)]

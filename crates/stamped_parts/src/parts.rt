@@ -5,8 +5,8 @@ use bench_nodes::NodeTable;
 use binding_graph::ModelFault;
 use memo_core::keys::Kind;
 use shared_items::SharedItem;
-use source_text::Name;
 use std::alloc::Global;
+use text_values::Name;
 
 /// The stamps of the parts, with what the parts hold that the tests do not.
 pub struct Parts {

@@ -4,7 +4,7 @@ use Rattle.std.specs.List.{Any}
 use Rattle.binding_kinds.specs.declared.scope.Input.{Input}
 use Rattle.binding_graph.specs.declared.resolved.ResolvedItem.{ResolvedItem}
 use Rattle.cat_eval.specs.declared.column.Column.{Column}
-use Rattle.cat_values.specs.declared.predefined.Predefined.{Predefined}
+use Rattle.text_values.specs.declared.predefined.Predefined.{Predefined}
 use Rattle.check_witness.specs.Pairs.{HasPair}
 use Rattle.step_labels.specs.declared.label.EventPair.{EventPair}
 use Rattle.step_labels.specs.declared.label.NameValues.{NameValues}

@@ -7,9 +7,9 @@ ghost use Rattle.step_labels.specs.Operands.{AreEarlier};
 use crate::unions::{ModelName, operands_of};
 use binding_graph::{Input, ResolvedItem};
 use cat_eval::Column;
-use cat_values::Predefined;
 use check_witness::has_pair;
 use std::alloc::{AllocError, Global};
+use text_values::Predefined;
 
 /// The values of a name of the language in each candidate.
 #[derive(Drop)]

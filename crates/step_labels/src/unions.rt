@@ -6,8 +6,8 @@ ghost use Rattle.step_labels.specs.Operands.{AreEarlier, AreOperands, AreOperand
 ghost use Rattle.step_labels.specs.Scanning.{is_operand, name_at, next_inside, next_twice, open_after, without_next};
 
 use binding_graph::{Blend, Body, Code, Input, ResolvedItem, Role, Source, Step};
-use cat_values::Predefined;
 use std::alloc::{AllocError, Global};
+use text_values::Predefined;
 
 /// A name of a model that stands for a relation.
 #[derive(Clone, Copy)]

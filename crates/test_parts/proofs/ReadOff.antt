@@ -1,13 +1,13 @@
 -- Instructions of one shape and one label are equal: the instruction can be read off.
 use Rattle.std.proofs.Common.{◌≡◌, ℕ, List, [], Option, ◌==◌, if◌then◌else◌, refl, sym, ap, ◌∙◌, unwrap_or}
-use Rattle.litmus_values.specs.declared.instruction.Instruction.{Instruction}
-use Rattle.litmus_values.specs.declared.instruction.Instruction.TheVariants as instructions
-use Rattle.litmus_values.specs.declared.instruction.Operation.{Operation}
-use Rattle.litmus_values.specs.declared.instruction.Operation.TheVariants as operations
-use Rattle.litmus_values.specs.declared.instruction.BranchCondition.{BranchCondition}
-use Rattle.litmus_values.specs.declared.instruction.BranchCondition.TheVariants as branches
-use Rattle.litmus_values.specs.declared.instruction.Fence.{Fence}
-use Rattle.litmus_values.specs.declared.instruction.Fence.TheVariants as fences
+use Rattle.text_values.specs.declared.instruction.Instruction.{Instruction}
+use Rattle.text_values.specs.declared.instruction.Instruction.TheVariants as instructions
+use Rattle.text_values.specs.declared.instruction.Operation.{Operation}
+use Rattle.text_values.specs.declared.instruction.Operation.TheVariants as operations
+use Rattle.text_values.specs.declared.instruction.BranchCondition.{BranchCondition}
+use Rattle.text_values.specs.declared.instruction.BranchCondition.TheVariants as branches
+use Rattle.text_values.specs.declared.instruction.Fence.{Fence}
+use Rattle.text_values.specs.declared.instruction.Fence.TheVariants as fences
 use Rattle.test_parts.specs.declared.shapes.Shape.{Shape}
 use Rattle.test_parts.specs.Shapes.{shape_of, label_of}
 

@@ -1,14 +1,14 @@
 -- An instruction is known by its shape and its label: which kind it is, which operation, condition or fence, its
 -- registers and its number.
 use Rattle.std.specs.Prelude.{ℕ, List, Option, Some, None, ℤ, pos}
-use Rattle.litmus_values.specs.declared.instruction.Instruction.{Instruction}
-use Rattle.litmus_values.specs.declared.instruction.Instruction.TheVariants as instructions
-use Rattle.litmus_values.specs.declared.instruction.Operation.{Operation}
-use Rattle.litmus_values.specs.declared.instruction.Operation.TheVariants as operations
-use Rattle.litmus_values.specs.declared.instruction.BranchCondition.{BranchCondition}
-use Rattle.litmus_values.specs.declared.instruction.BranchCondition.TheVariants as branches
-use Rattle.litmus_values.specs.declared.instruction.Fence.{Fence}
-use Rattle.litmus_values.specs.declared.instruction.Fence.TheVariants as fences
+use Rattle.text_values.specs.declared.instruction.Instruction.{Instruction}
+use Rattle.text_values.specs.declared.instruction.Instruction.TheVariants as instructions
+use Rattle.text_values.specs.declared.instruction.Operation.{Operation}
+use Rattle.text_values.specs.declared.instruction.Operation.TheVariants as operations
+use Rattle.text_values.specs.declared.instruction.BranchCondition.{BranchCondition}
+use Rattle.text_values.specs.declared.instruction.BranchCondition.TheVariants as branches
+use Rattle.text_values.specs.declared.instruction.Fence.{Fence}
+use Rattle.text_values.specs.declared.instruction.Fence.TheVariants as fences
 use Rattle.test_parts.specs.declared.shapes.Shape.{Shape}
 
 abbrev pub operation_number : Operation → ℕ

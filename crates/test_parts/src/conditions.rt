@@ -1,10 +1,10 @@
 //! Conditions.
 
 ghost use Rattle.std.specs.Prelude.{◌≡◌, ◌↔◌, IsTrue};
-ghost use Rattle.litmus_values.specs.Value.{formula_of};
+ghost use Rattle.text_values.specs.TestValue.{formula_of};
 
 use crate::places::{is_same_place, is_same_value};
-use litmus_values::{Condition, Proposition};
+use text_values::{Condition, Proposition};
 
 /// Whether two propositions are equal, wherever they lie in memory. It goes as deep as the first one does.
 pub(crate) fn is_same_proposition(first: &Proposition, second: &Proposition) -> bool

@@ -2,7 +2,7 @@
 
 ghost use Rattle.std.specs.Prelude.{◌≡◌, ◌↔◌, IsTrue};
 
-use litmus_values::{InitEntry, Place, Value};
+use text_values::{InitEntry, Place, Value};
 
 pub(crate) fn is_same_place(first: &Place, second: &Place) -> bool
     ensures { IsTrue result ↔ (first.now ≡ second.now) }

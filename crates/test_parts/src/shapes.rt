@@ -3,8 +3,7 @@
 ghost use Rattle.std.specs.Prelude.{◌≡◌, ◌↔◌, IsTrue, option_map, pos};
 ghost use Rattle.test_parts.specs.Shapes as shapes;
 
-use litmus_values::{BranchCondition, Fence, Instruction, Operation, Register};
-use source_text::Name;
+use text_values::{BranchCondition, Fence, Instruction, Name, Operation, Register};
 
 /// An instruction without its label. What it lacks is 0.
 #[derive(Clone, Copy)]

@@ -3,7 +3,7 @@
 ghost use Rattle.std.specs.Prelude.{◌≡◌, ◌↔◌, IsTrue};
 
 use crate::shapes::is_same_instruction;
-use litmus_values::Step;
+use text_values::Step;
 
 fn is_same_step(first: &Step, second: &Step) -> bool
     ensures { IsTrue result ↔ (first.now ≡ second.now) }

@@ -2,7 +2,7 @@
 use Rattle.std.proofs.Common.{◌≡◌, ℕ, zero, suc, ◌+◌, ◌-◌, ◌<◌, ◌≤◌, Bool, true, false, List, [], ◌∷◌, length, drop, refl, sym, ap, ◌∙◌, subst, arith}
 use Rattle.std.specs.Prelude.{Option, Some, None, slice_index, ◌==◌, ◌&&◌, ◌||◌, if◌then◌else◌}
 use Rattle.std.proofs.lemmas.Bool.Decides.{nat_tests}
-use Rattle.source_text.specs.Layout.{comment_from, comment_through, comment_of}
+use Rattle.text_values.specs.Layout.{comment_from, comment_through, comment_of}
 use Rattle.text_laws.specs.Comments.{begins_comment, ends_comment, Inside, Nothing, Byte, Nested, spelled, IsPlain, BeginsWithComment}
 use Rattle.std.proofs.lemmas.Bool.{or_parts}
 

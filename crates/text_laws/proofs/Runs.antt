@@ -6,7 +6,7 @@ use Rattle.std.proofs.lemmas.Bool.{cases_lt}
 use Rattle.std.proofs.lemmas.Bool.Decides.{nat_tests}
 use Rattle.std.proofs.lemmas.List.{length-take, length-append, get_or-take, get_or_append_left, take_more}
 use Rattle.std.proofs.lemmas.List.Sums.{fails_before_first, passes_at_first, prefix_len-le-length, position_or_len_is}
-use Rattle.source_text.specs.Layout.{is_quote}
+use Rattle.text_values.specs.Layout.{is_quote}
 use Rattle.text_laws.specs.Comments.{LacksQuote}
 use Rattle.text_laws.proofs.Nesting.{equal}
 

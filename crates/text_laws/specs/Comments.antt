@@ -1,6 +1,6 @@
 -- Comments as they nest: what a comment holds is a tree, whose brackets are `(*` and `*)`. And what a string holds.
 use Rattle.std.specs.Prelude.{◌≡◌, ℕ, ◌+◌, ◌<◌, List, ◌∷◌, Bool, false, ◌||◌, ◌&&◌, ◌==◌, length, slice_index}
-use Rattle.source_text.specs.Layout.{is_quote}
+use Rattle.text_values.specs.Layout.{is_quote}
 
 abbrev pub begins_comment : List ℕ → Bool
 begins_comment bs = slice_index bs 0 == 40 && slice_index bs 1 == 42

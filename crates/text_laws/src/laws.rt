@@ -1,7 +1,7 @@
 //! Laws of the definitions.
 
 ghost use Rattle.std.specs.Prelude.{◌≡◌, List, ℕ, true, Some, None};
-ghost use Rattle.source_text.specs.Layout.{comment_of};
+ghost use Rattle.text_values.specs.Layout.{comment_of};
 ghost use Rattle.text_laws.specs.Comments.{begins_comment, BeginsWithComment};
 
 /// Comments nest: the comment that a text begins with, after `(*`, holds whole comments and bytes that begin neither

@@ -8,13 +8,13 @@ use Rattle.cat_grammar.specs.ItemMachine.{start as cat_start}
 use Rattle.cat_grammar.specs.Running.{run as cat_run, items_of}
 use Rattle.cat_grammar.proofs.Outcomes.{fault_found, items_only, no_fault}
 use Rattle.cat_syntax.specs.Reads.{Reads}
-use Rattle.cat_values.specs.Value.{Clause}
+use Rattle.text_values.specs.ModelValue.{Clause}
 use Rattle.litmus_tokens.specs.Texts.{lexed}
-use Rattle.litmus_values.specs.declared.test.InitEntry.{InitEntry}
-use Rattle.litmus_values.specs.declared.test.Place.{Place}
-use Rattle.litmus_values.specs.declared.test.Step.{Step}
-use Rattle.litmus_values.specs.declared.test.Quantifier.{Quantifier}
-use Rattle.litmus_values.specs.Value.{Content, Formula}
+use Rattle.text_values.specs.declared.test.InitEntry.{InitEntry}
+use Rattle.text_values.specs.declared.test.Place.{Place}
+use Rattle.text_values.specs.declared.test.Step.{Step}
+use Rattle.text_values.specs.declared.test.Quantifier.{Quantifier}
+use Rattle.text_values.specs.TestValue.{Content, Formula}
 use Rattle.litmus_grammar.specs.declared.parts.TextKind.{TextKind}
 use Rattle.litmus_grammar.specs.declared.parts.TextKind.TheVariants as kinds
 use Rattle.litmus_grammar.specs.TextMachine.{Ran, run, start, first_stage}

@@ -5,7 +5,7 @@
 ghost use Rattle.std.specs.Prelude.{◌<◌, ℕ, List, length};
 ghost use Rattle.cat_grammar.specs.declared.form.Form.{Form};
 ghost use Rattle.litmus_grammar.specs.Texts.{ReadsTest, ReadsInit, ReadsThread, ReadsCondition, ReadsLocations};
-ghost use Rattle.litmus_values.specs.Value.{Content};
+ghost use Rattle.text_values.specs.TestValue.{Content};
 ghost use Rattle.cat_syntax.specs.Reads.{Reads};
 ghost use Rattle.text_meanings.specs.Laws.{MeansOne};
 

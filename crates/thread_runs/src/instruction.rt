@@ -1,8 +1,7 @@
 //! Programs: threads whose locations and labels are numbers.
 
 use crate::value::Value;
-use litmus_values::{BranchCondition, Fence, Operation};
-use source_text::Name;
+use text_values::{BranchCondition, Fence, Name, Operation};
 
 /// An instruction (Power ISA, books I and II). Its first register is the one that it writes, or stores.
 #[derive(Clone, Copy)]

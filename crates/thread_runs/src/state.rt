@@ -7,7 +7,7 @@ use crate::value::{
     Comparison, Value, compare, conjunction, difference, disjunction, exclusive, is_address,
     is_value, sum,
 };
-use litmus_values::{BranchCondition, Operation};
+use text_values::{BranchCondition, Operation};
 
 /// The registers and CR0.
 #[derive(Clone, Copy)]

@@ -3,12 +3,12 @@
 use bench_texts::Edit;
 use cells::bench::Bench;
 use cells::texts::CellTexts;
-use source_text::put_decimal;
 use std::alloc::{AllocError, Global};
 use std::io;
 use std::rt::Clock;
 use std::sync::Wait;
 use std::time::Instant;
+use text_values::put_decimal;
 use value_store::StoreName;
 
 /// More jobs than a bench of this program ever has.

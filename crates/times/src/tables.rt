@@ -6,7 +6,7 @@ use crate::player::{Played, edit_of_dp, edits_of, fill, play};
 use cells::bench::Bench;
 use cells::texts::CellTexts;
 use node_values::NodeValue;
-use stamped_texts::StampedTexts;
+use running_bench::StampedTexts;
 use std::alloc::Global;
 use std::io;
 use std::rt::Clock;

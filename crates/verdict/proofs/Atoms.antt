@@ -8,12 +8,12 @@ use Rattle.std.proofs.lemmas.List.Sums.{fails_before_first}
 use Rattle.std.proofs.lemmas.List.Folds.{Any-from_list_any}
 use Rattle.std.proofs.lemmas.List.Quantifiers.{position-Some}
 use Rattle.std.proofs.lemmas.Option.{slice_get-map, slice_get-get_or}
-use Rattle.litmus_values.specs.declared.test.Place.{Place}
-use Rattle.litmus_values.specs.declared.test.Value as text
+use Rattle.text_values.specs.declared.test.Place.{Place}
+use Rattle.text_values.specs.declared.test.Value as text
 use Rattle.std.proofs.lemmas.List.Folds.{list_any-append}
 use Rattle.std.proofs.lemmas.List.Elements.{filter_map-append}
-use Rattle.litmus_values.specs.declared.test.Connective.{Connective}
-use Rattle.litmus_values.specs.Value.{Formula, Join}
+use Rattle.text_values.specs.declared.test.Connective.{Connective}
+use Rattle.text_values.specs.TestValue.{Formula, Join}
 use Rattle.verdict.specs.declared.formula.Formula as code
 use Rattle.verdict.specs.Compiled.{is_there, value_of, Shows, Means}
 use Rattle.verdict.specs.Meaning.{known_place, known_value, is_held, joined_by, satisfies, places_of}

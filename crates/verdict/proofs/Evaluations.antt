@@ -14,9 +14,9 @@ use Rattle.std.proofs.lemmas.List.Elements.{All-weaker, All-head, All-tail}
 use Rattle.std.proofs.lemmas.List.Sums.{sum_by-cons}
 use Rattle.std.proofs.lemmas.Map.Keys.{IsDistinct-from_sorted}
 use Rattle.std.proofs.lemmas.Map.Views.{Contains-from_any}
-use Rattle.litmus_values.specs.declared.test.Quantifier.{Quantifier}
-use Rattle.litmus_values.specs.declared.test.Place.{Place}
-use Rattle.litmus_values.specs.Value.{Formula}
+use Rattle.text_values.specs.declared.test.Quantifier.{Quantifier}
+use Rattle.text_values.specs.declared.test.Place.{Place}
+use Rattle.text_values.specs.TestValue.{Formula}
 use Rattle.candidates.specs.Space.{Shown}
 use Rattle.verdict.specs.Compiled.{value_of, Shows, Means}
 use Rattle.verdict.specs.Counting.{count_kept, tally, AreAbove, pairs_of, pairs_in}

@@ -2,8 +2,8 @@
 use Rattle.std.proofs.Common.{◌≡◌, ℕ, ◌+◌, ◌<◌, ◌≤◌, List, [], ◌∷◌, ◌++◌, length, get_or, map, drop, refl, sym, ap, ◌∙◌, arith, append_assoc}
 use Rattle.std.specs.List.{zip}
 use Rattle.std.proofs.lemmas.List.{at_drop_more, at_drop_all}
-use Rattle.source_text.specs.Joined.{between}
-use Rattle.source_text.proofs.Separated.{from}
+use Rattle.text_values.specs.Joined.{between}
+use Rattle.text_values.proofs.Separated.{from}
 use Rattle.verdict.specs.Text.{held_text}
 use Rattle.verdict.specs.declared.answer.FinalValue.{FinalValue}
 use Rattle.verdict.specs.declared.shown_place.ShownPlace.{ShownPlace}

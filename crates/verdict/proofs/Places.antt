@@ -11,7 +11,7 @@ use Rattle.std.specs.List.Sorted.{IsStrictlySortedBy}
 use Rattle.std.proofs.lemmas.List.{take_more, take_all, append_assoc}
 use Rattle.std.proofs.lemmas.List.Folds.{list_any-append}
 use Rattle.std.proofs.lemmas.List.Elements.{filter_map-append}
-use Rattle.litmus_values.specs.declared.test.Place.{Place}
+use Rattle.text_values.specs.declared.test.Place.{Place}
 use Rattle.verdict.specs.Order.{is_place}
 use Rattle.verdict.specs.Shown.{is_among, Adds, known_places, AreShown}
 use Rattle.verdict.specs.declared.shown_place.ShownPlace.{ShownPlace}

@@ -1,7 +1,7 @@
 -- What a proposition over the places of a state says of it.
 use Rattle.std.specs.Prelude.{ℕ, ◌≡◌, Bool, true, false, not, List, Option, Some, None, map, slice_get}
-use Rattle.litmus_values.specs.declared.test.Place.{Place}
-use Rattle.litmus_values.specs.Value as text
+use Rattle.text_values.specs.declared.test.Place.{Place}
+use Rattle.text_values.specs.TestValue as text
 use Rattle.verdict.specs.Meaning.{is_value, joined_by, satisfies, places_of}
 use Rattle.verdict.specs.Shown.{known_places, is_among}
 use Rattle.verdict.specs.declared.answer.FinalValue.{FinalValue}

@@ -1,7 +1,7 @@
 -- What the numbers of kept candidates say of a condition.
 use Rattle.std.specs.Prelude.{◌≡◌, ℕ, Bool, true, false, not, List, sum_by, ◌==◌, nat_lt, if◌then◌else◌}
-use Rattle.litmus_values.specs.declared.test.Quantifier.{Quantifier}
-use Rattle.litmus_values.specs.declared.test.Quantifier.TheVariants.{Exists, NotExists, Forall}
+use Rattle.text_values.specs.declared.test.Quantifier.{Quantifier}
+use Rattle.text_values.specs.declared.test.Quantifier.TheVariants.{Exists, NotExists, Forall}
 use Rattle.verdict.specs.declared.answer.CountedState.{CountedState}
 use Rattle.verdict.specs.declared.answer.Evaluation.{Evaluation}
 use Rattle.verdict.specs.declared.answer.Observation.{Observation}

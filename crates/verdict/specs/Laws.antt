@@ -1,8 +1,8 @@
 -- LAWS of outcomes: what `laws` states.
 use Rattle.std.specs.Prelude.{ℕ, ◌≡◌, Bool, List}
-use Rattle.litmus_values.specs.declared.test.Place.{Place}
-use Rattle.litmus_values.specs.declared.test.Quantifier.{Quantifier}
-use Rattle.litmus_values.specs.Value.{Formula}
+use Rattle.text_values.specs.declared.test.Place.{Place}
+use Rattle.text_values.specs.declared.test.Quantifier.{Quantifier}
+use Rattle.text_values.specs.TestValue.{Formula}
 use Rattle.candidates.specs.Space.{Shown}
 use Rattle.verdict.specs.Evaluated.{IsOutcome}
 use Rattle.verdict.specs.Kept.{Flag}

@@ -2,13 +2,13 @@
 use Rattle.std.specs.Prelude.{ℕ, Bool, true, false, not, ◌&&◌, ◌||◌, ◌==◌, List, [], ◌∷◌, ◌++◌, Option, Some, None, position}
 use Rattle.std.specs.Option.{option_map}
 use Rattle.std.specs.Ordering.{int_eq}
-use Rattle.litmus_values.specs.declared.test.Connective.{Connective}
-use Rattle.litmus_values.specs.declared.test.Connective.TheVariants.{And, Or, Implies}
-use Rattle.litmus_values.specs.declared.test.Place.{Place}
-use Rattle.litmus_values.specs.declared.test.Place.TheVariants as places
-use Rattle.litmus_values.specs.declared.test.Value as text
-use Rattle.litmus_values.specs.declared.test.Value.TheVariants as texts
-use Rattle.litmus_values.specs.Value.{Formula, Constant, Holds, Not, Join}
+use Rattle.text_values.specs.declared.test.Connective.{Connective}
+use Rattle.text_values.specs.declared.test.Connective.TheVariants.{And, Or, Implies}
+use Rattle.text_values.specs.declared.test.Place.{Place}
+use Rattle.text_values.specs.declared.test.Place.TheVariants as places
+use Rattle.text_values.specs.declared.test.Value as text
+use Rattle.text_values.specs.declared.test.Value.TheVariants as texts
+use Rattle.text_values.specs.TestValue.{Formula, Constant, Holds, Not, Join}
 use Rattle.verdict.specs.Names.{is_name}
 use Rattle.verdict.specs.declared.answer.FinalValue.{FinalValue}
 use Rattle.verdict.specs.declared.answer.FinalValue.TheVariants as values

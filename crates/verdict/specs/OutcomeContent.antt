@@ -1,6 +1,6 @@
 -- What an outcome says, without its layout in memory: contracts see an outcome so.
 use Rattle.std.specs.Prelude.{ℕ, List}
-use Rattle.litmus_values.specs.declared.test.Quantifier.{Quantifier}
+use Rattle.text_values.specs.declared.test.Quantifier.{Quantifier}
 use Rattle.verdict.specs.declared.answer.OutcomeResult.{OutcomeResult}
 
 -- the quantifier of the condition, the condition as it is printed, and the evaluation or the refusal

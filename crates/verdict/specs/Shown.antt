@@ -2,7 +2,7 @@
 use Rattle.std.specs.Prelude.{ℕ, ◌≡◌, Bool, ◌||◌, List}
 use Rattle.std.specs.List.{list_any, filter_map}
 use Rattle.std.specs.List.Sorted.{IsStrictlySortedBy}
-use Rattle.litmus_values.specs.declared.test.Place.{Place}
+use Rattle.text_values.specs.declared.test.Place.{Place}
 use Rattle.verdict.specs.Meaning.{known_place}
 use Rattle.verdict.specs.Order.{place_cmp, is_place}
 use Rattle.verdict.specs.declared.shown_place.ShownPlace.{ShownPlace}

@@ -2,9 +2,8 @@
 
 use binding_graph::ModelFault;
 use candidates::EvalRefusal;
-use litmus_values::Quantifier;
-use source_text::Name;
 use std::marker::Model;
+use text_values::{Name, Quantifier};
 
 /// The final value of a register or a location. Their order: numbers, rising; then addresses, by the
 /// names of their locations; then no value.

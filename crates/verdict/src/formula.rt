@@ -1,17 +1,16 @@
 //! Propositions over final states.
 
 ghost use Rattle.std.specs.Prelude.{◌≡◌, IfOk, position};
-ghost use Rattle.litmus_values.specs.Value as text;
-ghost use Rattle.litmus_values.specs.Value.{formula_of};
+ghost use Rattle.text_values.specs.TestValue as text;
+ghost use Rattle.text_values.specs.TestValue.{formula_of};
 ghost use Rattle.verdict.specs.Compiled.{value_of, Means};
 ghost use Rattle.verdict.specs.Meaning.{known_value};
 ghost use Rattle.verdict.specs.Order.{is_place};
 
 use crate::answer::FinalValue;
 use crate::shown_place::{ShownPlace, location_of, shown_place};
-use litmus_values::{Connective, Place, Proposition, Value};
-use source_text::Name;
 use std::alloc::{AllocError, Global};
+use text_values::{Connective, Name, Place, Proposition, Value};
 
 /// A proposition whose observables are indices of a state.
 #[derive(Drop)]

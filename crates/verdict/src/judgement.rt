@@ -4,7 +4,7 @@ ghost use Rattle.std.specs.Prelude.{◌≡◌, ℕ, ◌<◌, ◌&&◌, ◌++◌,
 ghost use Rattle.std.specs.List.{list_any, All};
 ghost use Rattle.std.specs.List.Sorted.{IsStrictlySortedBy};
 ghost use Rattle.candidates.specs.Space.{shown_in};
-ghost use Rattle.litmus_values.specs.Value.{formula_of};
+ghost use Rattle.text_values.specs.TestValue.{formula_of};
 ghost use Rattle.verdict.specs.Counting.{pairs_of, pairs_in};
 ghost use Rattle.verdict.specs.Kept.{holds_at, is_kept, AreKeptBy, holds_on_some, of_raised, names_of};
 ghost use Rattle.verdict.specs.Names.{is_name};
@@ -19,9 +19,8 @@ use crate::shown_place::{ShownPlace, shown_places};
 use crate::state_text::state_text;
 use candidates::Space;
 use litmus_printing::print_condition;
-use litmus_values::{Condition, Place, Quantifier};
-use source_text::Name;
 use std::alloc::{AllocError, Global};
+use text_values::{Condition, Name, Place, Quantifier};
 
 /// A flag: its name, and whether its check holds on each candidate.
 #[derive(Clone, Copy)]

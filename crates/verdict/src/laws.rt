@@ -1,9 +1,9 @@
 //! Laws of outcomes.
 
 ghost use Rattle.std.specs.Prelude.{ℕ, Bool, List};
-ghost use Rattle.litmus_values.specs.declared.test.Place.{Place};
-ghost use Rattle.litmus_values.specs.declared.test.Quantifier.{Quantifier};
-ghost use Rattle.litmus_values.specs.Value.{Formula};
+ghost use Rattle.text_values.specs.declared.test.Place.{Place};
+ghost use Rattle.text_values.specs.declared.test.Quantifier.{Quantifier};
+ghost use Rattle.text_values.specs.TestValue.{Formula};
 ghost use Rattle.candidates.specs.Space.{Shown};
 ghost use Rattle.verdict.specs.Kept.{Flag};
 ghost use Rattle.verdict.specs.Laws.{HasOneOutcome};

@@ -4,7 +4,7 @@ ghost use Rattle.std.specs.Prelude.{◌≡◌, ◌↔◌, IsTrue};
 ghost use Rattle.verdict.specs.declared.answer.OutcomeResult.TheVariants as results;
 
 use crate::answer::{CountedState, Evaluation, FinalValue, Outcome, OutcomeResult, Refusal};
-use source_text::Name;
+use text_values::Name;
 
 fn same_values(left: &[FinalValue], right: &[FinalValue]) -> bool
     ensures { IsTrue result ↔ (left.now ≡ right.now) }

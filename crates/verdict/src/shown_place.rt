@@ -1,14 +1,13 @@
 //! The observables of a state.
 
 ghost use Rattle.std.specs.Prelude.{◌≡◌, ◌++◌, [], ◌∷◌, IfOk, OnOk};
-ghost use Rattle.litmus_values.specs.Value.{formula_of};
+ghost use Rattle.text_values.specs.TestValue.{formula_of};
 ghost use Rattle.verdict.specs.Meaning.{location_of, known_place, places_of};
 ghost use Rattle.verdict.specs.Shown.{known_places, Adds, AreShown};
 
-use litmus_values::{Place, Proposition};
-use source_text::Name;
 use std::alloc::{AllocError, Global};
 use std::collections::BTreeSet;
+use text_values::{Name, Place, Proposition};
 
 /// An observable of a state: a register by its thread and number, or a location by its index among those of the test.
 #[derive(Clone, Copy, PartialEq, Eq, PartialOrd, Ord)]

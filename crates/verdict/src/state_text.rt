@@ -2,15 +2,14 @@
 
 ghost use Rattle.std.specs.Prelude.{◌≡◌, ◌++◌, IfOk, OnOk, codes};
 ghost use Rattle.litmus_printing.specs.Printing.{place_text};
-ghost use Rattle.source_text.specs.Joined.{between};
+ghost use Rattle.text_values.specs.Joined.{between};
 ghost use Rattle.verdict.specs.Text.{name_at, place_of, value_text, held_text, state_text};
 
 use crate::answer::FinalValue;
 use crate::shown_place::ShownPlace;
 use litmus_printing::put_value;
-use litmus_values::Value;
-use source_text::{Name, put_bytes, put_decimal};
 use std::alloc::{AllocError, Global};
+use text_values::{Name, Value, put_bytes, put_decimal};
 
 fn put_location(text: &mut Vec<u8>, locations: &[Name], location: usize) -> Result<(), AllocError>
     ensures { OnOk result (text.new.items ≡ text.old.items ++ name_at locations.now location) }

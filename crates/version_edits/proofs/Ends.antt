@@ -3,11 +3,11 @@ use Rattle.std.proofs.Common.{◌≡◌, ℕ, zero, suc, ◌+◌, ◌-◌, ◌<�
 use Rattle.std.proofs.lemmas.Bool.{cases_lt}
 use Rattle.std.specs.List.{flat_map}
 use Rattle.std.proofs.lemmas.List.{length-map, append-nil, drop-drop}
-use Rattle.litmus_values.specs.declared.test.Thread.{Thread}
-use Rattle.litmus_values.specs.Value.{steps_of}
-use Rattle.cat_values.specs.declared.model.Item.{Item}
-use Rattle.cat_values.specs.Value.{Clause}
-use Rattle.cat_values.specs.Values.{clause_of, clauses_of}
+use Rattle.text_values.specs.declared.test.Thread.{Thread}
+use Rattle.text_values.specs.TestValue.{steps_of}
+use Rattle.text_values.specs.declared.model.Item.{Item}
+use Rattle.text_values.specs.ModelValue.{Clause}
+use Rattle.text_values.specs.ModelValues.{clause_of, clauses_of}
 use Rattle.cat_printing.specs.Printing.{printed_item}
 use Rattle.version_edits.specs.Changes.{element_at, IsCommonEnd}
 

@@ -1,9 +1,9 @@
 -- What one change more makes of the items of two versions.
 use Rattle.std.proofs.Common.{◌≡◌, ℕ, ◌+◌, ◌<◌, ◌≤◌, List, [], ◌∷◌, ◌++◌, add-one, length, take, drop, ap, sym, arith, ◌∙◌}
 use Rattle.std.proofs.lemmas.List.{length-map}
-use Rattle.litmus_values.specs.declared.test.Step.{Step}
-use Rattle.cat_values.specs.declared.model.Item.{Item}
-use Rattle.cat_values.specs.Values.{clause_of, clauses_of}
+use Rattle.text_values.specs.declared.test.Step.{Step}
+use Rattle.text_values.specs.declared.model.Item.{Item}
+use Rattle.text_values.specs.ModelValues.{clause_of, clauses_of}
 use Rattle.version_edits.specs.declared.items.ItemChange.{ItemChange}
 use Rattle.version_edits.specs.declared.items.ItemChange.TheVariants.{Set, Insert, Remove}
 use Rattle.version_edits.specs.Changes.{element_at, set_at, applied, all_applied}

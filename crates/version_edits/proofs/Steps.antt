@@ -1,8 +1,8 @@
 -- Lists that are new before an index and old from there on, after one change more.
 use Rattle.std.proofs.Common.{◌≡◌, ℕ, zero, suc, ◌+◌, ◌-◌, ◌<◌, ◌≤◌, List, [], ◌∷◌, ◌++◌, length, take, drop, refl, ap, arith}
-use Rattle.cat_values.specs.Value.{Clause}
+use Rattle.text_values.specs.ModelValue.{Clause}
 use Rattle.version_edits.specs.declared.items.ItemChange.{ItemChange}
-use Rattle.litmus_values.specs.Value.{Content}
+use Rattle.text_values.specs.TestValue.{Content}
 use Rattle.version_edits.specs.declared.parts.TestPart.{TestPart}
 use Rattle.version_edits.specs.Parts.{put, all_put}
 use Rattle.version_edits.specs.Changes.{element_at, set_at, applied, all_applied}

@@ -1,6 +1,6 @@
 -- Read this first: what changes of items make of a model, and which changes leave alone what both versions have in common.
 use Rattle.std.specs.Prelude.{◌≡◌, ℕ, suc, ◌+◌, ◌-◌, ◌<◌, ◌≤◌, List, [], ◌∷◌, ◌++◌, length, take, drop}
-use Rattle.cat_values.specs.Value.{Clause}
+use Rattle.text_values.specs.ModelValue.{Clause}
 use Rattle.version_edits.specs.declared.items.ItemChange.{ItemChange}
 use Rattle.version_edits.specs.declared.items.ItemChange.TheVariants.{Set, Insert, Remove}
 

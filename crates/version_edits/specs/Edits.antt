@@ -1,7 +1,7 @@
 -- Which edits of the bench make changes.
 use Rattle.std.specs.Prelude.{ℕ, List, slice_index}
 use Rattle.std.specs.List.{flat_map}
-use Rattle.cat_values.specs.Value.{Clause}
+use Rattle.text_values.specs.ModelValue.{Clause}
 use Rattle.cat_printing.specs.Printing.{printed_item}
 use Rattle.bench_texts.specs.Edits.{Edit, SetItem, InsertItem, RemoveItem}
 use Rattle.version_edits.specs.declared.items.ItemChange.{ItemChange}

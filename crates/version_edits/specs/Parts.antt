@@ -1,7 +1,7 @@
 -- What changed parts make of a test.
 use Rattle.std.specs.Prelude.{◌≡◌, List, [], ◌∷◌, length}
-use Rattle.litmus_values.specs.declared.test.Step.{Step}
-use Rattle.litmus_values.specs.Value.{Content}
+use Rattle.text_values.specs.declared.test.Step.{Step}
+use Rattle.text_values.specs.TestValue.{Content}
 use Rattle.bench_texts.specs.BenchTexts.{with_init, with_condition, with_observed}
 use Rattle.version_edits.specs.declared.parts.TestPart.{TestPart}
 use Rattle.version_edits.specs.declared.parts.TestPart.TheVariants.{Init, Thread, Condition, Locations}

@@ -1,7 +1,7 @@
 //! The edit of the bench that makes a change of a model's items.
 
 ghost use Rattle.std.specs.Prelude.{◌≡◌, IfOk, slice_index};
-ghost use Rattle.cat_values.specs.Values.{clauses_of};
+ghost use Rattle.text_values.specs.ModelValues.{clauses_of};
 ghost use Rattle.bench_texts.specs.Edits.{edit_of};
 ghost use Rattle.bench_texts.specs.Held.{model_of};
 ghost use Rattle.version_edits.specs.Edits.{item_text, item_edit};
@@ -9,8 +9,8 @@ ghost use Rattle.version_edits.specs.Edits.{item_text, item_edit};
 use crate::items::ItemChange;
 use bench_texts::{Edit, NamedModel};
 use cat_printing::print_item;
-use cat_values::Item;
 use std::alloc::{AllocError, Global};
+use text_values::Item;
 
 // The number at an index, or 0 behind the last.
 fn number_at(numbers: &[u64], index: usize) -> u64

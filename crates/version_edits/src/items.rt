@@ -1,11 +1,11 @@
 //! The items that differ between two versions of a model.
 
 ghost use Rattle.std.specs.Prelude.{◌≡◌, ◌≤◌, ◌<◌, ◌+◌, ◌-◌, ◌++◌, ℕ, [], min, All, IfOk, OnOk, IsTrue, IsFalse, length, take, drop};
-ghost use Rattle.cat_values.specs.Values.{clauses_of};
+ghost use Rattle.text_values.specs.ModelValues.{clauses_of};
 ghost use Rattle.version_edits.specs.Changes.{element_at, all_applied, IsCommonEnd, IsBefore, IsNeeded};
 
-use cat_values::Item;
 use std::alloc::{AllocError, Global};
+use text_values::Item;
 
 /// A change of the items of a model. Its index is that in the list which the changes before it made, and an item that it puts
 /// is the one that the new version has at the same index.

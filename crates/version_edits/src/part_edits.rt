@@ -4,8 +4,8 @@ use crate::part_texts::{init_text, locations_text, thread_text};
 use crate::parts::TestPart;
 use bench_texts::Edit;
 use litmus_printing::print_condition;
-use litmus_values::Test;
 use std::alloc::{AllocError, Global};
+use text_values::Test;
 
 // The edit that puts a thread. The text of a thread that is not there is empty.
 fn thread_edit(alloc: Global, name: Vec<u8>, new: &Test, index: usize) -> Result<Edit, AllocError> {

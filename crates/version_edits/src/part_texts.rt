@@ -1,10 +1,11 @@
 //! The texts of the parts of a test.
 
 use litmus_printing::{print_test, put_place, put_value};
-use litmus_values::{Condition, InitEntry, Place, Proposition, Quantifier, Test, Thread};
 use part_copies::copied_threads;
-use source_text::{Name, put_bytes};
 use std::alloc::{AllocError, Global};
+use text_values::{
+    Condition, InitEntry, Name, Place, Proposition, Quantifier, Test, Thread, put_bytes,
+};
 
 // What stands before and behind the rows of a printed test of one thread without initial values.
 const BEFORE_ROWS: &[u8] = b"PPC T\n{\n}\nP0 ;\n";

@@ -1,14 +1,14 @@
 //! The parts that differ between two versions of a test.
 
 ghost use Rattle.std.specs.Prelude.{◌≡◌, ◌<◌, ◌+◌, ◌++◌, [], length, take, drop, All, IfOk, OnOk, IfSome, IfNone, IsTrue, IsFalse};
-ghost use Rattle.litmus_values.specs.Value.{content_of};
+ghost use Rattle.text_values.specs.TestValue.{content_of};
 ghost use Rattle.bench_texts.specs.BenchTexts.{with_init, with_condition};
 ghost use Rattle.version_edits.specs.Changes.{element_at};
 ghost use Rattle.version_edits.specs.Parts.{all_put, with_threads, Differs, HasSameShape};
 
-use litmus_values::Test;
 use std::alloc::{AllocError, Global};
 use test_parts::{are_same_entries, are_same_places, are_same_steps, is_same_condition};
+use text_values::Test;
 
 /// A part of a test.
 #[derive(Clone, Copy, Debug, PartialEq, Eq)]

@@ -5,8 +5,8 @@ use binding_graph::{
     used,
 };
 use cat_syntax::{Predefined, read_model};
-use source_text::{put_between, put_bytes, put_decimal};
 use std::alloc::{AllocError, Global};
+use text_values::{put_between, put_bytes, put_decimal};
 
 fn put_list(answer: &mut Vec<u8>, numbers: &[usize]) -> Result<(), AllocError> {
     for (index, number) in numbers.iter().enumerate() {

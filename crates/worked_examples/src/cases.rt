@@ -2,11 +2,11 @@
 //! were worked out by hand.
 
 use crate::{bindings, cells, nodes, outcomes, streams, told, values};
-use source_text::put_bytes;
 use std::alloc::{AllocError, Global};
 use std::rt::Files;
 use std::{fs, io};
 use test_cases::text_of;
+use text_values::put_bytes;
 
 /// Appends `true` or `false`.
 pub fn put_bool(answer: &mut Vec<u8>, holds: bool) -> Result<(), AllocError> {

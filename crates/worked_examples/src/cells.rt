@@ -5,8 +5,8 @@ use cat_syntax::{ModelText, read_model};
 use litmus_ppc::{Quantifier, Test, read_test};
 use litmusbench::{Drawn, Form, form_of};
 use memo_graph::{eval_cell, eval_suite};
-use source_text::{put_bytes, put_decimal};
 use std::alloc::{AllocError, Global};
+use text_values::{put_bytes, put_decimal};
 use verdict::{Outcome, OutcomeResult};
 
 /// Appends an outcome: its kind, its condition, its states and counts.

@@ -7,9 +7,9 @@ use litmus_ppc::{Name, Test, read_test};
 use node_values::{FaultParts, Given, GivenParts, NodeValue, SpaceParts, VerdictParts, run_node};
 use ppc_semantics::program;
 use shared_items::SharedItem;
-use source_text::put_bytes;
 use std::alloc::{AllocError, Global};
 use std::sync::Arc;
+use text_values::put_bytes;
 
 /// The values of some names, where they are known, behind the space.
 fn inputs_of<'v>(

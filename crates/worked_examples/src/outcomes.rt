@@ -3,8 +3,8 @@
 use crate::cases::put_bool;
 use candidates::space;
 use litmus_ppc::{Name, Test, read_test};
-use source_text::{put_bytes, put_decimal};
 use std::alloc::{AllocError, Global};
+use text_values::{put_bytes, put_decimal};
 use verdict::{CountedState, Evaluation, Observation, OutcomeResult, Raised, outcome};
 
 /// A flag's name, and for each candidate whether it is raised.

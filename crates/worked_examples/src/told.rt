@@ -1,8 +1,8 @@
 //! What is told of the fault of a model.
 
 use litmusbench::{TextFile, model_fault};
-use source_text::put_bytes;
 use std::alloc::{AllocError, Global};
+use text_values::put_bytes;
 
 /// Appends what is told of a model's file of this text.
 pub fn put_told(alloc: Global, answer: &mut Vec<u8>, text: &[u8]) -> Result<(), AllocError> {

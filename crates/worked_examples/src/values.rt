@@ -8,8 +8,8 @@ use cat_eval::{Column, eval_check, eval_group};
 use cat_syntax::read_model;
 use columns::{Cursor, RunColumn, SetRuns};
 use litmus_ppc::read_test;
-use source_text::{put_between, put_bytes, put_decimal};
 use std::alloc::{AllocError, Global};
+use text_values::{put_between, put_bytes, put_decimal};
 
 /// Events: 0 the initial store, 1 the store, 2 the load. The load reads 0 in the first candidate
 /// and 1 in the second.

@@ -14,10 +14,10 @@ use cells::events::Reply;
 use cells::shown::Shown;
 use compare_report::{Shown as Cell, counts_text};
 use memo_core::claims::Finish;
-use source_text::{put_bytes, put_decimal};
 use std::alloc::{AllocError, Global};
 use std::sync::Wait;
 use test_cases::text_of;
+use text_values::{put_bytes, put_decimal};
 use value_store::StoreFault;
 use verdict::{Outcome, OutcomeResult};
 

@@ -11,10 +11,10 @@ use crate::rows::threads::{finish, finish_twice, lose};
 use bench_workers::Tally;
 use desk::Taken;
 use memo_core::claims::Finish;
-use source_text::{put_bytes, put_decimal};
 use std::alloc::{AllocError, Global};
 use std::sync::Wait;
 use std::thread::Threads;
+use text_values::{put_bytes, put_decimal};
 
 /// What a line asks of a desk.
 #[derive(Clone, Copy)]

@@ -9,8 +9,8 @@ use compare_report::{Shown, outcome_log};
 use desk::{Accepted, DeskFault, Posted, Taken};
 use litmus_ppc::LitmusFault;
 use memo_core::claims::{ClaimFault, Finish};
-use source_text::{put_bytes, put_decimal};
 use std::alloc::{AllocError, Global};
+use text_values::{put_bytes, put_decimal};
 use value_store::StoreFault;
 
 fn put_numbered(answer: &mut Vec<u8>, word: &[u8], number: u64) -> Result<(), AllocError> {

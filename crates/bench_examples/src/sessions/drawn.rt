@@ -1,8 +1,8 @@
 //! Scripts that are drawn from a seed.
 
 use crate::walk::draw::Draw;
-use source_text::put_bytes;
 use std::alloc::{AllocError, Global};
+use text_values::put_bytes;
 
 const HEAD: &[u8] =
     b"test\nPPC MP\n{ 0:r2=x; 0:r4=y; 1:r2=y; 1:r4=x; }\nP0 | P1 ;\nli r1,1 | lwz r1,0(r2) ;\nstw r1,0(r2) | lwz r3,0(r4) ;\nli r3,1 | ;\nstw r3,0(r4) | ;\nexists (1:r1=1 /\\ 1:r3=0)\n.\nmodel sc\nacyclic po|rf|fr|co as sc\n.\n";

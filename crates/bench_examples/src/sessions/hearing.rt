@@ -1,7 +1,7 @@
 //! A listener that hears how far a table is whenever it is asked.
 
-use cat_values::Item;
 use litmusbench::{AnswerListener, Progress, ProgressListener};
+use text_values::Item;
 
 /// What was heard: how often of how far a table is and what the last time, how many tables ended, and of how many models.
 #[derive(Drop)]

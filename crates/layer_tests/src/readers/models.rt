@@ -2,8 +2,8 @@
 
 use crate::readers::put_refusal;
 use cat_syntax::{CatFault, CatRule, print_model, read_item, read_model};
-use source_text::{put_bytes, put_decimal};
 use std::alloc::{AllocError, Global};
+use text_values::{put_bytes, put_decimal};
 
 fn put_fault(answer: &mut Vec<u8>, fault: CatFault) -> Result<(), AllocError> {
     match fault {

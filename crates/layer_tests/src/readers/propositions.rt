@@ -1,10 +1,10 @@
 //! Propositions as `litmus_conditions` reads them, token by token, in a test of two threads.
 
-use litmus_conditions::{Expectation, PropositionStep, StepError, proposition_step};
-use litmus_tokens::{Front, Stage, Token, front_of};
-use litmus_values::{Connective, Place, Proposition, Value};
-use source_text::{put_bytes, put_decimal};
+use litmus_tokens::{
+    Expectation, Front, PropositionStep, Stage, StepError, Token, front_of, proposition_step,
+};
 use std::alloc::{AllocError, Global};
+use text_values::{Connective, Place, Proposition, Value, put_bytes, put_decimal};
 
 /// What became of a text.
 #[derive(Drop)]

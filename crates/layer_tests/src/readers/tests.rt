@@ -2,8 +2,8 @@
 
 use crate::readers::{put_comparison, put_refusal};
 use litmus_ppc::*;
-use source_text::{put_bytes, put_decimal};
 use std::alloc::{AllocError, Global};
+use text_values::{put_bytes, put_decimal};
 
 /// Appends whether a text is read, or its refusal.
 fn put_outcome<T: Drop>(

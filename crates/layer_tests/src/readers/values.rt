@@ -1,7 +1,7 @@
-//! Values of `litmus_values` whose parts are known.
+//! Values of tests whose parts are known.
 
-use litmus_values::{Connective, Register};
 use std::io;
+use text_values::{Connective, Register};
 
 /// Prints the number of the last register, and how tightly each connective binds.
 pub fn show<R: Print>(rt: &R) -> io::Result<()> {

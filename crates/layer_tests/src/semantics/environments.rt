@@ -3,8 +3,8 @@
 use crate::semantics::put_item;
 use bit_relations::{EventSet, Rel};
 use execution_env::BaseEnv;
-use source_text::put_bytes;
 use std::alloc::AllocError;
+use text_values::put_bytes;
 
 /// Appends the events of a set.
 fn put_set(answer: &mut Vec<u8>, set: &EventSet) -> Result<(), AllocError> {

@@ -4,8 +4,8 @@ use crate::semantics::put_pairs;
 use dataflow::links;
 use litmus_ppc::{Fence, Test};
 use ppc_semantics::{Domain, DomainFault, Event, Run, Value, domain, runs};
-use source_text::{put_between, put_bytes, put_decimal};
 use std::alloc::{AllocError, Global};
+use text_values::{put_between, put_bytes, put_decimal};
 
 /// Appends the number of a refusal.
 fn put_fault(answer: &mut Vec<u8>, fault: DomainFault) -> Result<(), AllocError> {

@@ -5,8 +5,8 @@ use crate::semantics::put_item;
 use candidates::{Execution, SpaceFault, space};
 use execution_env::base;
 use litmus_ppc::Test;
-use source_text::{put_bytes, put_decimal};
 use std::alloc::{AllocError, Global};
+use text_values::{put_bytes, put_decimal};
 
 /// Appends how many candidates a test has, or its refusal.
 pub fn put_count(alloc: Global, answer: &mut Vec<u8>, test: &Test) -> Result<(), AllocError> {

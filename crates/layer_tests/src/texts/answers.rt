@@ -3,8 +3,8 @@
 use bench_texts::{EditFault, NamedModel, Reading, Texts};
 use cat_syntax::{CatFault, print_item};
 use litmus_ppc::{LitmusFault, print_test};
-use source_text::{put_bytes, put_decimal};
 use std::alloc::{AllocError, Global};
+use text_values::{put_bytes, put_decimal};
 
 // Appends a refusal of a text: the letter and the number of its rule, and its offset.
 fn put_refusal(

@@ -1,8 +1,8 @@
 //! Edits by their words.
 
 use bench_texts::Edit;
-use source_text::{put_bytes, put_decimal};
 use std::alloc::{AllocError, Global};
+use text_values::{put_bytes, put_decimal};
 
 /// The edit of a word, with the name, the number and the text that it takes.
 pub fn named(

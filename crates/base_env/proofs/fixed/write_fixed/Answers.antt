@@ -1,5 +1,5 @@
-use Rattle.cat_values.specs.declared.predefined.Predefined.TheVariants as names
-use Rattle.litmus_values.specs.declared.instruction.Fence.TheVariants.{Sync, LightweightSync, Eieio, Isync}
+use Rattle.text_values.specs.declared.predefined.Predefined.TheVariants as names
+use Rattle.text_values.specs.declared.instruction.Fence.TheVariants.{Sync, LightweightSync, Eieio, Isync}
 use Rattle.base_env.specs.Events.{Listed, Fenced}
 use Rattle.base_env.proofs.Named.{from_nothing, nothing_is, linked_is, identity_is, external_is, links_program, links_both}
 use Rattle.base_env.proofs.fixed.write_fixed.Goals as goal

@@ -1,7 +1,7 @@
 use Rattle.std.proofs.Common.{ℕ, ◌≡◌, ◌<◌, ◌+◌, ◌↔◌, ◌∙◌, inl, inr, List, ◌∷◌, length, get_or, drop, ap, sym, subst, rules}
 use Rattle.std.proofs.lemmas.List.{drop_more, drop_all}
 use Rattle.bit_relations.specs.Relation.{Has}
-use Rattle.cat_values.specs.declared.predefined.Predefined.{Predefined}
+use Rattle.text_values.specs.declared.predefined.Predefined.{Predefined}
 use Rattle.base_env.specs.declared.names.Shared.{Shared}
 use Rattle.base_env.specs.Known.{PairsUnder}
 use Rattle.base_env.proofs.names.find_shared.Goals as goal

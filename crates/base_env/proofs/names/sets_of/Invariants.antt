@@ -1,5 +1,5 @@
 use Rattle.std.proofs.Common.{◌≡◌, ◌++◌, drop, filter}
-use Rattle.cat_values.specs.PredefinedNames.{is_set}
+use Rattle.text_values.specs.PredefinedNames.{is_set}
 use Rattle.base_env.specs.Known.{set_names}
 use Rattle.base_env.proofs.names.sets_of.Given as goal
 

@@ -1,5 +1,5 @@
 use Rattle.std.proofs.Common.{◌≡◌, ◌↔◌, map, length, drop}
-use Rattle.litmus_values.specs.Value.{steps_of}
+use Rattle.text_values.specs.TestValue.{steps_of}
 use Rattle.bench_slices.proofs.cells.are_same_threads.Given as goal
 
 abbrev pub invariant-loop-this : goal.invariant-loop-this

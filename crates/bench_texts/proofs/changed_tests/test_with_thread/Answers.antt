@@ -1,5 +1,5 @@
 use Rattle.std.proofs.Common.{ap, ◌∙◌}
-use Rattle.litmus_values.specs.Value.{steps_of}
+use Rattle.text_values.specs.TestValue.{steps_of}
 use Rattle.bench_texts.specs.BenchTexts.{with_thread}
 use Rattle.bench_texts.proofs.changed_tests.test_with_thread.Goals as goal
 

@@ -1,6 +1,6 @@
 use Rattle.std.proofs.Common.{◌≡◌, ◌-◌, ◌^◌, min, take}
 use Rattle.std.specs.List.{sum_by}
-use Rattle.cat_values.specs.Values.{clause_of}
+use Rattle.text_values.specs.ModelValues.{clause_of}
 use Rattle.bench_texts.specs.Limits.{clause_outputs}
 use Rattle.bench_texts.proofs.count.count_items.Given as goal
 

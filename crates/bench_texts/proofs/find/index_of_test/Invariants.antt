@@ -1,5 +1,5 @@
 use Rattle.std.specs.Str.{bytes_eq}
-use Rattle.litmus_values.specs.Value.{content_of}
+use Rattle.text_values.specs.TestValue.{content_of}
 use Rattle.bench_texts.proofs.Lists.{IsSearched}
 use Rattle.bench_texts.proofs.find.index_of_test.Given as goal
 

@@ -1,5 +1,5 @@
 use Rattle.std.proofs.Common.{◌≡◌, ◌<◌, length, arith, refl, sym, ◌∙◌, None}
-use Rattle.cat_values.specs.Values.{term_of}
+use Rattle.text_values.specs.ModelValues.{term_of}
 use Rattle.binding_kinds.specs.Verdict.{or_else}
 use Rattle.binding_kinds.proofs.Fitting.{none_later}
 use Rattle.binding_kinds.proofs.Fitted.{fit}

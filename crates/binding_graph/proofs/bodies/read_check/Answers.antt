@@ -1,5 +1,5 @@
 use Rattle.std.proofs.Common.{sym, ◌∙◌, refl}
-use Rattle.cat_values.specs.Values.{term_of}
+use Rattle.text_values.specs.ModelValues.{term_of}
 use Rattle.binding_kinds.proofs.Fitting.{none_later}
 use Rattle.binding_kinds.proofs.Fitted.{fit}
 use Rattle.binding_graph.proofs.Groups.{inputs_made, functions_made}

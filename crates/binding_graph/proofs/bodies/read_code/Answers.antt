@@ -1,5 +1,5 @@
 use Rattle.std.proofs.Common.{ℕ, reverse, map, subst, List}
-use Rattle.cat_values.specs.Values.{term_of}
+use Rattle.text_values.specs.ModelValues.{term_of}
 use Rattle.binding_kinds.specs.Value.{entry_of}
 use Rattle.binding_kinds.proofs.Fitted.{fit_typed}
 use Rattle.binding_functions.specs.Templates.{pieces_in, HasLarge, IsGrown}

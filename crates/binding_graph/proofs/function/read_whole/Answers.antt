@@ -1,5 +1,5 @@
 use Rattle.std.proofs.Common.{ℕ, map, reverse, ap, ◌∙◌, subst, refl, false}
-use Rattle.cat_values.specs.Values.{term_of}
+use Rattle.text_values.specs.ModelValues.{term_of}
 use Rattle.binding_kinds.specs.Value.{entry_of}
 use Rattle.binding_functions.specs.Parts.{IsBodyPart}
 use Rattle.binding_functions.proofs.Filling.{whole_template, large_whole, some_pieces}

@@ -1,9 +1,9 @@
 use Rattle.std.proofs.Common.{◌≡◌, ◌<◌, List, [], ◌∷◌, ◌++◌, length, map, take, reverse, ap, sym, ◌∙◌, subst, arith, ◌||◌, Bool, length-take}
 use Rattle.std.proofs.lemmas.List.{take_more, take_all}
-use Rattle.cat_values.specs.declared.model.Expression.{Expression}
-use Rattle.cat_values.specs.Values.{term_of}
-use Rattle.cat_values.specs.Value.{AllEvents, EmptyRelation, EmptySet, Join, Mark, Not, On, Apply, gathered}
-use Rattle.cat_values.proofs.Arguments.{applied_term}
+use Rattle.text_values.specs.declared.model.Expression.{Expression}
+use Rattle.text_values.specs.ModelValues.{term_of}
+use Rattle.text_values.specs.ModelValue.{AllEvents, EmptyRelation, EmptySet, Join, Mark, Not, On, Apply, gathered}
+use Rattle.text_values.proofs.Arguments.{applied_term}
 use Rattle.binding_kinds.specs.Value.{entry_of}
 use Rattle.binding_functions.proofs.Filling.{grown_as, more_arguments, whole_template, large_whole, some_pieces, unfit_pieces, all_arguments}
 use Rattle.binding_functions.specs.Parts.{IsBodyPart, AreBodyParts}

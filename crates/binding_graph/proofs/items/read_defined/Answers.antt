@@ -1,5 +1,5 @@
 use Rattle.std.proofs.Common.{length, map, reverse, refl}
-use Rattle.cat_values.specs.Values.{term_of}
+use Rattle.text_values.specs.ModelValues.{term_of}
 use Rattle.binding_kinds.specs.Value.{entry_of}
 use Rattle.binding_graph.specs.Usages.{usage_of}
 use Rattle.binding_graph.proofs.Declared.{function_resolved}

@@ -1,8 +1,8 @@
 use Rattle.std.proofs.Common.{ℕ, ◌≡◌, ◌<◌, List, length, map, reverse, min, ap, sym, ◌∙◌, arith, ◌||◌, Bool}
-use Rattle.cat_values.specs.declared.model.Expression.{Expression}
-use Rattle.cat_values.specs.Values.{term_of}
-use Rattle.cat_values.specs.Value.{Atom, Join, Mark, Not, On, Apply, gathered}
-use Rattle.cat_values.proofs.Arguments.{applied_term}
+use Rattle.text_values.specs.declared.model.Expression.{Expression}
+use Rattle.text_values.specs.ModelValues.{term_of}
+use Rattle.text_values.specs.ModelValue.{Atom, Join, Mark, Not, On, Apply, gathered}
+use Rattle.text_values.proofs.Arguments.{applied_term}
 use Rattle.binding_kinds.specs.Value.{entry_of}
 use Rattle.binding_functions.proofs.Filling.{grown_as, more_arguments, whole_template, large_whole, some_pieces, unfit_pieces, all_arguments, on_ok_as}
 use Rattle.binding_graph.proofs.Meant.{if_as, if_same, on_ok}

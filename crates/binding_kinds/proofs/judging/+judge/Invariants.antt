@@ -1,6 +1,6 @@
 use Rattle.std.proofs.Common.{◌≡◌, ◌+◌, ◌*◌, ◌^◌, List, length, map, drop, reverse, false}
-use Rattle.cat_values.specs.Value.{gathered}
-use Rattle.cat_values.specs.Values as values
+use Rattle.text_values.specs.ModelValue.{gathered}
+use Rattle.text_values.specs.ModelValues as values
 use Rattle.binding_kinds.specs.Value.{entry_of}
 use Rattle.binding_kinds.specs.Combinations.{number_of}
 use Rattle.binding_kinds.specs.Formula.{factor_of}

@@ -1,6 +1,6 @@
 use Rattle.std.proofs.Common.{◌≡◌, ◌<◌, ℕ, true, rules, ap, sym, ◌∙◌, bytes_eq, get_or}
 use Rattle.std.proofs.lemmas.Bool.{le-leb}
-use Rattle.source_text.specs.Names.{key_of}
+use Rattle.text_values.specs.Names.{key_of}
 use Rattle.binding_kinds.proofs.Scopes.{keys_same}
 use Rattle.binding_kinds.proofs.scope.is_keyed.Goals as goal
 

@@ -1,5 +1,5 @@
-use Rattle.slice_laws.proofs.Deciding.{decide}
-use Rattle.slice_laws.proofs.Models.{items_suffice}
+use Rattle.evaluation_laws.proofs.Deciding.{decide}
+use Rattle.evaluation_laws.proofs.SliceModels.{items_suffice}
 use Rattle.board.proofs.Legal as proof
 use Rattle.board.proofs.laws.legal_is_right.Goals as goal
 

@@ -1,7 +1,7 @@
 use Rattle.std.proofs.Common.{ℕ, ◌≡◌, ◌<◌, ◌+◌, ◌↔◌, ◌∙◌, inl, inr, List, ◌∷◌, length, get_or, drop, ap, sym, subst, rules}
 use Rattle.std.specs.Prelude.{map}
 use Rattle.std.proofs.lemmas.List.{drop_more, drop_all}
-use Rattle.cat_values.specs.declared.predefined.Predefined.{Predefined}
+use Rattle.text_values.specs.declared.predefined.Predefined.{Predefined}
 use Rattle.cat_eval.specs.declared.seen.NamedColumn.{NamedColumn}
 use Rattle.cat_eval.specs.Named.{ColumnEvents, ColumnPairs}
 use Rattle.cat_eval.specs.Seen.{EventsAmong, PairsAmong, value_at}

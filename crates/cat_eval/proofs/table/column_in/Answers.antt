@@ -1,7 +1,7 @@
 use Rattle.std.proofs.Common.{rules, ◌≡◌, ◌∙◌, inl, inr, get_or, Contains, ap, sym, subst, arith}
 use Rattle.std.proofs.lemmas.Bool.{cases_eq}
 use Rattle.std.proofs.lemmas.List.{get_or_default}
-use Rattle.cat_values.specs.declared.predefined.Predefined.{Predefined}
+use Rattle.text_values.specs.declared.predefined.Predefined.{Predefined}
 use Rattle.cat_eval.specs.declared.table.Entry.{Entry}
 use Rattle.cat_eval.specs.Tables.{IsColumnOf, entry_names}
 use Rattle.cat_eval.proofs.Blocks.{some_of}

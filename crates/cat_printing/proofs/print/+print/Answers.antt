@@ -1,6 +1,6 @@
 use Rattle.std.proofs.Common.{◌≡◌, ap, ◌++◌, subst, List, ℕ}
 use Rattle.std.specs.Prelude.{codes, OnOk}
-use Rattle.cat_values.specs.Values.{term_of}
+use Rattle.text_values.specs.ModelValues.{term_of}
 use Rattle.cat_printing.specs.Printing.{printed_term}
 use Rattle.cat_printing.proofs.Separated.{from_all_of}
 use Rattle.cat_printing.proofs.Applied.{applied_whole}

@@ -1,9 +1,9 @@
 use Rattle.std.proofs.Common.{◌≡◌, ◌++◌, drop}
 use Rattle.std.specs.Prelude.{codes, map}
-use Rattle.cat_values.specs.Values.{term_of}
+use Rattle.text_values.specs.ModelValues.{term_of}
 use Rattle.cat_printing.specs.Printing.{printed_term}
-use Rattle.source_text.specs.Joined.{joined}
-use Rattle.source_text.proofs.Separated.{from}
+use Rattle.text_values.specs.Joined.{joined}
+use Rattle.text_values.proofs.Separated.{from}
 use Rattle.cat_printing.proofs.print.+print.Given as goal
 
 abbrev pub invariant-put_arguments-loop-i : goal.invariant-put_arguments-loop-i

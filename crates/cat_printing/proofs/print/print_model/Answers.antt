@@ -1,5 +1,5 @@
 use Rattle.std.proofs.Common.{ap, ◌++◌}
-use Rattle.cat_values.specs.Values.{clause_of}
+use Rattle.text_values.specs.ModelValues.{clause_of}
 use Rattle.cat_printing.specs.Printing.{lines, printed_item}
 use Rattle.cat_printing.proofs.Separated.{map_both}
 use Rattle.cat_printing.proofs.print.print_model.Goals as goal

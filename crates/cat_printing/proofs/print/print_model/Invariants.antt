@@ -1,6 +1,6 @@
 use Rattle.std.proofs.Common.{◌≡◌, ◌++◌, drop}
 use Rattle.std.specs.Prelude.{map}
-use Rattle.cat_values.specs.Values.{clause_of, clauses_of}
+use Rattle.text_values.specs.ModelValues.{clause_of, clauses_of}
 use Rattle.cat_printing.specs.Printing.{lines, printed_item, printed_model}
 use Rattle.cat_printing.proofs.print.print_model.Given as goal
 

@@ -1,6 +1,6 @@
 use Rattle.std.proofs.Common.{ap, ◌++◌}
 use Rattle.std.specs.Prelude.{codes}
-use Rattle.cat_values.specs.Values.{binding_of}
+use Rattle.text_values.specs.ModelValues.{binding_of}
 use Rattle.cat_printing.specs.Printing.{binding_text}
 use Rattle.cat_printing.proofs.Separated.{from_all_of}
 use Rattle.cat_printing.proofs.print.put_bindings.Goals as goal

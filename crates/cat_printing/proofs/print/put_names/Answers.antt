@@ -1,8 +1,8 @@
 use Rattle.std.proofs.Common.{ap, ◌∙◌, ◌++◌}
 use Rattle.std.specs.Prelude.{codes, map}
 use Rattle.std.proofs.lemmas.List.{map-id}
-use Rattle.source_text.specs.Joined.{joined}
-use Rattle.source_text.proofs.Separated.{from_first}
+use Rattle.text_values.specs.Joined.{joined}
+use Rattle.text_values.proofs.Separated.{from_first}
 use Rattle.cat_printing.proofs.print.put_names.Goals as goal
 
 pub loop-i-init : goal.loop-i-init

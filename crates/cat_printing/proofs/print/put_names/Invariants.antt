@@ -1,7 +1,7 @@
 use Rattle.std.proofs.Common.{◌≡◌, ◌++◌, drop}
 use Rattle.std.specs.Prelude.{codes, map}
-use Rattle.source_text.specs.Joined.{joined}
-use Rattle.source_text.proofs.Separated.{from}
+use Rattle.text_values.specs.Joined.{joined}
+use Rattle.text_values.proofs.Separated.{from}
 use Rattle.cat_printing.proofs.print.put_names.Given as goal
 
 abbrev pub invariant-loop-i : goal.invariant-loop-i

@@ -1,6 +1,6 @@
 use Rattle.std.proofs.Common.{ap, ◌++◌}
 use Rattle.std.specs.Prelude.{codes}
-use Rattle.cat_values.specs.Values.{shown_of}
+use Rattle.text_values.specs.ModelValues.{shown_of}
 use Rattle.cat_printing.specs.Printing.{shown_text}
 use Rattle.cat_printing.proofs.Separated.{from_all_of}
 use Rattle.cat_printing.proofs.print.put_shown.Goals as goal

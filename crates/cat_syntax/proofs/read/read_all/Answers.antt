@@ -2,7 +2,7 @@ use Rattle.std.proofs.Common.{List, Ok, ap, sym, subst, ◌∙◌, arith}
 use Rattle.cat_syntax.specs.ParserState.{state_of}
 use Rattle.cat_syntax.specs.ReadingTexts.{FailsAt}
 use Rattle.cat_grammar.specs.Running.{Ran, items_of}
-use Rattle.cat_values.specs.Value.{Clause}
+use Rattle.text_values.specs.ModelValue.{Clause}
 use Rattle.cat_syntax.proofs.Texts.{at_start, too_long, fits, refused}
 use Rattle.cat_syntax.proofs.read.read_all.Goals as goal
 

@@ -1,7 +1,7 @@
 use Rattle.std.proofs.Common.{◌≡◌, ap, sym, ◌∙◌, List, true}
 use Rattle.cat_terms.specs.declared.frames.Frame as code_frame
 use Rattle.cat_terms.specs.declared.frames.Frame.TheVariants as frames
-use Rattle.cat_values.specs.Values.{term_of}
+use Rattle.text_values.specs.ModelValues.{term_of}
 use Rattle.cat_terms.specs.Reading.{stack_of, takes_operand}
 use Rattle.cat_terms.proofs.Stack.{popped_prefix, popped_left, popped_takes}
 use Rattle.cat_terms.proofs.frames.join.Goals as goal

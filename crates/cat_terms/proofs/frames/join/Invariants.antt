@@ -1,6 +1,6 @@
 use Rattle.std.proofs.Common.{◌≡◌, vec_len}
 use Rattle.cat_grammar.specs.Machine.{fold_to}
-use Rattle.cat_values.specs.Values.{term_of}
+use Rattle.text_values.specs.ModelValues.{term_of}
 use Rattle.cat_terms.specs.Reading.{stack_of}
 use Rattle.cat_terms.proofs.frames.join.Given as goal
 

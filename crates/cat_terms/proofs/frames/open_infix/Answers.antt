@@ -2,7 +2,7 @@ use Rattle.std.proofs.Common.{ap, sym, ◌∙◌}
 use Rattle.cat_terms.specs.declared.frames.Frame.TheVariants.{Left}
 use Rattle.cat_grammar.specs.Machine.{fold_to, left_frames}
 use Rattle.cat_terms.specs.Reading.{stack_of}
-use Rattle.cat_values.specs.Values.{term_of}
+use Rattle.text_values.specs.ModelValues.{term_of}
 use Rattle.cat_terms.proofs.Stack.{stack_of-push}
 use Rattle.cat_terms.proofs.frames.open_infix.Goals as goal
 

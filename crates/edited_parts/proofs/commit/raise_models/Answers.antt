@@ -1,6 +1,6 @@
 use Rattle.std.proofs.Common.{arith}
 use Rattle.bench_nodes.specs.declared.table.ModelRow.{ModelRow}
-use Rattle.edited_tables.specs.Models.{raised_model}
+use Rattle.stamped_parts.specs.Models.{raised_model}
 use Rattle.stamped_parts.proofs.Stamping.{changed_more}
 use Rattle.edited_parts.proofs.commit.raise_models.Goals as goal
 

@@ -1,5 +1,5 @@
 use Rattle.std.proofs.Common.{◌≡◌, ◌++◌, map, take, drop}
-use Rattle.edited_tables.specs.Models.{raised_model}
+use Rattle.stamped_parts.specs.Models.{raised_model}
 use Rattle.edited_parts.proofs.commit.raise_models.Given as goal
 
 abbrev pub invariant-loop-row : goal.invariant-loop-row

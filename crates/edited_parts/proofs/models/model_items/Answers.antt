@@ -1,6 +1,6 @@
 use Rattle.std.proofs.Common.{List, map, take, subst, arith}
 use Rattle.bench_texts.specs.declared.model.NamedModel.{NamedModel}
-use Rattle.edited_items.specs.Items.{AreListsOf}
+use Rattle.stamped_parts.specs.Items.{AreListsOf}
 use Rattle.edited_parts.specs.Readings.{all_facts}
 use Rattle.edited_parts.proofs.Making.{facts_more, taken_all}
 use Rattle.edited_parts.proofs.models.model_items.Goals as goal

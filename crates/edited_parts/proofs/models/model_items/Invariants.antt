@@ -1,5 +1,5 @@
 use Rattle.std.proofs.Common.{map, take}
-use Rattle.edited_items.specs.Items.{AreListsOf}
+use Rattle.stamped_parts.specs.Items.{AreListsOf}
 use Rattle.edited_parts.specs.Readings.{all_facts}
 use Rattle.edited_parts.proofs.models.model_items.Given as goal
 

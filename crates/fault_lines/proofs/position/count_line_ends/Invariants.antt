@@ -1,6 +1,6 @@
 use Rattle.std.proofs.Common.{◌≡◌, ◌≤◌, take, length}
 use Rattle.std.specs.List.{filter}
-use Rattle.source_text.specs.Layout.{is_line_end}
+use Rattle.text_values.specs.Layout.{is_line_end}
 use Rattle.fault_lines.proofs.position.count_line_ends.Given as goal
 
 abbrev pub invariant-loop-byte : goal.invariant-loop-byte

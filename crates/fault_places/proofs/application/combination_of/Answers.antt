@@ -1,6 +1,6 @@
 use Rattle.std.proofs.Common.{◌≡◌, ℕ, ◌+◌, ◌-◌, map, reverse, drop, ap, ◌∙◌, arith}
-use Rattle.cat_values.specs.Value.{gathered}
-use Rattle.cat_values.specs.Values.{term_of}
+use Rattle.text_values.specs.ModelValue.{gathered}
+use Rattle.text_values.specs.ModelValues.{term_of}
 use Rattle.binding_kinds.specs.Value.{entry_of}
 use Rattle.binding_kinds.specs.Combinations.{number_of}
 use Rattle.binding_kinds.specs.Senses.{kinds_in}

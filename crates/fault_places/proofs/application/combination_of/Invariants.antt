@@ -1,6 +1,6 @@
 use Rattle.std.proofs.Common.{◌≡◌, ◌≤◌, List, length, map, drop, reverse}
-use Rattle.cat_values.specs.Value.{gathered}
-use Rattle.cat_values.specs.Values.{term_of}
+use Rattle.text_values.specs.ModelValue.{gathered}
+use Rattle.text_values.specs.ModelValues.{term_of}
 use Rattle.binding_kinds.specs.Value.{entry_of}
 use Rattle.binding_kinds.specs.Combinations.{number_of}
 use Rattle.binding_kinds.specs.Senses.{Sense, AreKept, kinds_in}

@@ -1,7 +1,7 @@
 use Rattle.std.proofs.Common.{◌≡◌, List, map, drop, reverse}
 use Rattle.std.specs.Prelude.{option_map}
-use Rattle.cat_values.specs.Value.{gathered}
-use Rattle.cat_values.specs.Values.{term_of}
+use Rattle.text_values.specs.ModelValue.{gathered}
+use Rattle.text_values.specs.ModelValues.{term_of}
 use Rattle.binding_kinds.specs.Value.{entry_of}
 use Rattle.binding_kinds.specs.Senses.{Sense, AreKept}
 use Rattle.fault_places.specs.Search.{signed_fault_of, or_later, first_fault_in_body, first_fault_in_bodies}

@@ -1,5 +1,5 @@
 use Rattle.std.proofs.Common.{◌≡◌, map, take}
-use Rattle.cat_values.specs.Values.{term_of}
+use Rattle.text_values.specs.ModelValues.{term_of}
 use Rattle.item_copies.proofs.expressions.+copies.Given as goal
 
 abbrev pub invariant-copied_expressions-loop-expression : goal.invariant-copied_expressions-loop-expression

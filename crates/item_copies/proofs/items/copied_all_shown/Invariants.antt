@@ -1,5 +1,5 @@
 use Rattle.std.proofs.Common.{◌≡◌, map, take}
-use Rattle.cat_values.specs.Values.{shown_of}
+use Rattle.text_values.specs.ModelValues.{shown_of}
 use Rattle.item_copies.proofs.items.copied_all_shown.Given as goal
 
 abbrev pub invariant-loop-one : goal.invariant-loop-one

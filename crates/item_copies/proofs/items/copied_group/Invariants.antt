@@ -1,5 +1,5 @@
 use Rattle.std.proofs.Common.{◌≡◌, map, take}
-use Rattle.cat_values.specs.Values.{binding_of}
+use Rattle.text_values.specs.ModelValues.{binding_of}
 use Rattle.item_copies.proofs.items.copied_group.Given as goal
 
 abbrev pub invariant-loop-binding : goal.invariant-loop-binding

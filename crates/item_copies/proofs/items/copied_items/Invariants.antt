@@ -1,5 +1,5 @@
 use Rattle.std.proofs.Common.{◌≡◌, map, take}
-use Rattle.cat_values.specs.Values.{clause_of}
+use Rattle.text_values.specs.ModelValues.{clause_of}
 use Rattle.item_copies.proofs.items.copied_items.Given as goal
 
 abbrev pub invariant-loop-item : goal.invariant-loop-item

@@ -1,4 +1,4 @@
-use Rattle.litmus_conditions.specs.Grammar.{limits, IsConditionText}
+use Rattle.litmus_tokens.specs.Conditions.{limits, IsConditionText}
 use Rattle.litmus_grammar.specs.declared.parts.TextKind.TheVariants as kinds
 use Rattle.litmus_grammar.proofs.Conditions.{condition_whole, condition_taken, condition_reading}
 use Rattle.litmus_grammar.proofs.Outcomes.{fault_found}

@@ -3,7 +3,7 @@ use Rattle.std.specs.Prelude.{codes}
 use Rattle.std.specs.Fmt.{decimal}
 use Rattle.litmus_printing.specs.Printing.{names}
 use Rattle.litmus_printing.proofs.Separated.{header_begins, header_more}
-use Rattle.source_text.proofs.Separated.{from}
+use Rattle.text_values.proofs.Separated.{from}
 use Rattle.litmus_printing.proofs.print_table.put_header.Goals as goal
 
 pub loop-thread-init : goal.loop-thread-init

@@ -1,8 +1,8 @@
 use Rattle.std.proofs.Common.{◌≡◌, ◌++◌, ◌-◌}
 use Rattle.std.specs.Prelude.{codes}
 use Rattle.litmus_printing.specs.Printing.{names}
-use Rattle.source_text.specs.Joined.{joined}
-use Rattle.source_text.proofs.Separated.{from}
+use Rattle.text_values.specs.Joined.{joined}
+use Rattle.text_values.proofs.Separated.{from}
 use Rattle.litmus_printing.proofs.print_table.put_header.Given as goal
 
 abbrev pub invariant-loop-thread : goal.invariant-loop-thread

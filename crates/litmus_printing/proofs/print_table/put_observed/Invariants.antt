@@ -1,8 +1,8 @@
 use Rattle.std.proofs.Common.{◌≡◌, ◌++◌, drop}
 use Rattle.std.specs.Prelude.{codes, map}
 use Rattle.litmus_printing.specs.Printing.{item_text}
-use Rattle.source_text.specs.Joined.{joined}
-use Rattle.source_text.proofs.Separated.{from}
+use Rattle.text_values.specs.Joined.{joined}
+use Rattle.text_values.proofs.Separated.{from}
 use Rattle.litmus_printing.proofs.print_table.put_observed.Given as goal
 
 abbrev pub invariant-loop-i : goal.invariant-loop-i

@@ -1,8 +1,8 @@
 use Rattle.std.proofs.Common.{◌≡◌, ◌++◌, drop}
 use Rattle.std.specs.Prelude.{codes}
-use Rattle.source_text.specs.Joined.{joined}
+use Rattle.text_values.specs.Joined.{joined}
 use Rattle.litmus_printing.proofs.Separated.{cells}
-use Rattle.source_text.proofs.Separated.{from}
+use Rattle.text_values.proofs.Separated.{from}
 use Rattle.litmus_printing.proofs.print_table.put_row.Given as goal
 
 abbrev pub invariant-loop-i : goal.invariant-loop-i

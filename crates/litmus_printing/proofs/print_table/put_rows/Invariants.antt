@@ -1,6 +1,6 @@
 use Rattle.std.proofs.Common.{◌≡◌, ◌++◌, ◌-◌}
 use Rattle.std.specs.Prelude.{map}
-use Rattle.litmus_values.specs.Value.{steps_of}
+use Rattle.text_values.specs.TestValue.{steps_of}
 use Rattle.litmus_printing.specs.Printing.{rows_text}
 use Rattle.litmus_printing.proofs.print_table.put_rows.Given as goal
 

@@ -1,7 +1,7 @@
 use Rattle.std.proofs.Common.{ℕ, List, Bor, nat_cmp, sym, ap, ◌∙◌}
 use Rattle.std.specs.BTreeMap.{get_by}
 use Rattle.std.specs.Cmp.Lexicographic.{slice_cmp}
-use Rattle.litmus_values.specs.declared.instruction.Instruction.{Instruction}
+use Rattle.text_values.specs.declared.instruction.Instruction.{Instruction}
 use Rattle.litmus_table.specs.Checks.{instruction_rule}
 use Rattle.litmus_table.proofs.late.instruction_rule.Goals as goal
 

@@ -1,5 +1,5 @@
 use Rattle.std.proofs.Common.{List, Bor, take}
-use Rattle.cat_values.specs.declared.model.ModelText.{ModelText}
+use Rattle.text_values.specs.declared.model.ModelText.{ModelText}
 use Rattle.std.specs.Result.{ForOk}
 use Rattle.cat_eval.specs.Tables.{IsOver}
 use Rattle.memo_graph.specs.Suites.{AreOutcomes, AreResolvedAs}

@@ -1,5 +1,5 @@
 use Rattle.std.proofs.Common.{List, Bor, take}
-use Rattle.cat_values.specs.declared.model.ModelText.{ModelText}
+use Rattle.text_values.specs.declared.model.ModelText.{ModelText}
 use Rattle.memo_graph.specs.Suites.{AreRows, AreResolvedAs}
 use Rattle.memo_graph.proofs.suite.each_test.Given as goal
 

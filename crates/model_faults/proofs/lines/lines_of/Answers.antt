@@ -1,6 +1,6 @@
 use Rattle.std.proofs.Common.{ℕ, List, ◌++◌, length, ap, ◌∙◌, refl}
 use Rattle.std.proofs.lemmas.Option.{slice_get_read}
-use Rattle.cat_values.specs.Values.{clause_of}
+use Rattle.text_values.specs.ModelValues.{clause_of}
 use Rattle.model_faults.specs.Told.{fault_told, IsFaulty}
 use Rattle.model_faults.proofs.Below.{place_below}
 use Rattle.model_faults.proofs.lines.lines_of.Goals as goal

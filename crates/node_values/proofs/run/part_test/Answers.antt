@@ -1,5 +1,5 @@
 use Rattle.std.proofs.Common.{ap, ◌∙◌, map}
-use Rattle.litmus_values.specs.Value.{steps_of}
+use Rattle.text_values.specs.TestValue.{steps_of}
 use Rattle.node_values.proofs.Making.{part_names}
 use Rattle.node_values.proofs.run.part_test.Goals as goal
 

@@ -1,5 +1,5 @@
 use Rattle.std.proofs.Common.{◌≡◌, map, take}
-use Rattle.litmus_values.specs.declared.test.Place.TheVariants.{Location}
+use Rattle.text_values.specs.declared.test.Place.TheVariants.{Location}
 use Rattle.node_values.proofs.run.places_of.Given as goal
 
 abbrev pub invariant-loop-name : goal.invariant-loop-name

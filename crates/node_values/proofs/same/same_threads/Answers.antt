@@ -1,5 +1,5 @@
 use Rattle.std.proofs.Common.{arith, rules, tests}
-use Rattle.litmus_values.specs.Value.{steps_of}
+use Rattle.text_values.specs.TestValue.{steps_of}
 use Rattle.node_values.proofs.Compared.{same_more, same_through, same_here}
 use Rattle.node_values.proofs.same.same_threads.Goals as goal
 

@@ -1,4 +1,4 @@
-use Rattle.litmus_values.specs.Value.{steps_of}
+use Rattle.text_values.specs.TestValue.{steps_of}
 use Rattle.node_values.proofs.Compared.{AreSameTo}
 use Rattle.node_values.proofs.same.same_threads.Given as goal
 

@@ -1,5 +1,5 @@
 use Rattle.std.proofs.Common.{◌≡◌, map, take}
-use Rattle.litmus_values.specs.Value.{steps_of}
+use Rattle.text_values.specs.TestValue.{steps_of}
 use Rattle.part_copies.proofs.threads.copied_threads.Given as goal
 
 abbrev pub invariant-loop-thread : goal.invariant-loop-thread

@@ -1,7 +1,7 @@
 use Rattle.std.proofs.Common.{OnOk, sym, subst, List, ℕ}
 use Rattle.std.proofs.lemmas.Result.{on_ok_weaker}
-use Rattle.litmus_values.specs.declared.test.Proposition.{Proposition}
-use Rattle.litmus_values.specs.Value.{formula_of}
+use Rattle.text_values.specs.declared.test.Proposition.{Proposition}
+use Rattle.text_values.specs.TestValue.{formula_of}
 use Rattle.ppc_semantics.specs.Lowering.{Adds, formula_names}
 use Rattle.ppc_semantics.proofs.Sorting.{adds_after}
 use Rattle.ppc_semantics.proofs.lowering.+note_proposition.Goals as goal

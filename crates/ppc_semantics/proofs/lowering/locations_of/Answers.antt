@@ -1,6 +1,6 @@
 use Rattle.std.proofs.Common.{rules, []}
 use Rattle.std.specs.List.{flat_map}
-use Rattle.litmus_values.specs.Value.{formula_of}
+use Rattle.text_values.specs.TestValue.{formula_of}
 use Rattle.ppc_semantics.specs.Lowering.{Adds, entry_names, formula_names, place_names}
 use Rattle.ppc_semantics.proofs.Sorting.{adds_after, are_names}
 use Rattle.ppc_semantics.proofs.lowering.locations_of.Goals as goal

@@ -1,5 +1,5 @@
 use Rattle.std.proofs.Common.{OnOk, sym, subst}
-use Rattle.litmus_values.specs.declared.test.Step.{Step}
+use Rattle.text_values.specs.declared.test.Step.{Step}
 use Rattle.ppc_semantics.specs.Lowering.{Adds, labels_in}
 use Rattle.ppc_semantics.proofs.lowering.note_label.Goals as goal
 

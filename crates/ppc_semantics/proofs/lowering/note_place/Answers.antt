@@ -1,5 +1,5 @@
 use Rattle.std.proofs.Common.{OnOk, sym, subst}
-use Rattle.litmus_values.specs.declared.test.Place.{Place}
+use Rattle.text_values.specs.declared.test.Place.{Place}
 use Rattle.ppc_semantics.specs.Lowering.{Adds, place_names}
 use Rattle.ppc_semantics.proofs.lowering.note_place.Goals as goal
 

@@ -1,5 +1,5 @@
 use Rattle.std.proofs.Common.{OnOk, sym, subst}
-use Rattle.litmus_values.specs.declared.test.Value.{Value}
+use Rattle.text_values.specs.declared.test.Value.{Value}
 use Rattle.ppc_semantics.specs.Lowering.{Adds, value_names}
 use Rattle.ppc_semantics.proofs.lowering.note_value.Goals as goal
 

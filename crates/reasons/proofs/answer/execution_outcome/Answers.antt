@@ -1,5 +1,5 @@
 use Rattle.std.proofs.Common.{◌∙◌, List, ℕ, [], ap, sym, refl}
-use Rattle.litmus_values.specs.Value.{formula_of}
+use Rattle.text_values.specs.TestValue.{formula_of}
 use Rattle.candidates.specs.Space.{shown_by}
 use Rattle.verdict.specs.Evaluated.{is_satisfied}
 use Rattle.reasons.proofs.answer.execution_outcome.Goals as goal

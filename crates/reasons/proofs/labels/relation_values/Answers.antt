@@ -2,7 +2,7 @@ use Rattle.std.proofs.Common.{ℕ, ◌≡◌, ◌∙◌, ◌+◌, List, [], ◌�
 use Rattle.std.specs.List.{All}
 use Rattle.std.proofs.lemmas.List.{append-nil, take_all}
 use Rattle.std.proofs.lemmas.List.Elements.{All-push}
-use Rattle.cat_values.specs.declared.predefined.Predefined.{Predefined}
+use Rattle.text_values.specs.declared.predefined.Predefined.{Predefined}
 use Rattle.step_labels.specs.declared.label.PredefinedValue.{PredefinedValue}
 use Rattle.reasons.specs.Language.{IsOfLanguage, names_in, relation_names}
 use Rattle.reasons.proofs.Listing.{adds, adds_none, named}

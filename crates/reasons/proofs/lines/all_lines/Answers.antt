@@ -3,8 +3,8 @@ use Rattle.std.specs.List.{AllZip}
 use Rattle.std.proofs.lemmas.List.{take_all}
 use Rattle.std.proofs.lemmas.Slice.Zip.{AllZip-long}
 use Rattle.bit_relations.specs.Relation.{IsMember}
-use Rattle.cat_values.specs.declared.predefined.Predefined.{Predefined}
-use Rattle.cat_values.specs.declared.predefined.Predefined.TheVariants as names
+use Rattle.text_values.specs.declared.predefined.Predefined.{Predefined}
+use Rattle.text_values.specs.declared.predefined.Predefined.TheVariants as names
 use Rattle.execution_graph.specs.declared.drawing.Edges.{Edges}
 use Rattle.execution_graph.specs.declared.drawing.Ink.{Ink}
 use Rattle.execution_graph.specs.declared.drawing.Ink.TheVariants as inks

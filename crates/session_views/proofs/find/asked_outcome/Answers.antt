@@ -1,4 +1,4 @@
-use Rattle.litmus_values.specs.Value.{content_of}
+use Rattle.text_values.specs.TestValue.{content_of}
 use Rattle.bench_texts.specs.Held.{texts_of}
 use Rattle.session_views.specs.Asked.{asked_model}
 use Rattle.session_views.proofs.Cells.{outcome_shown}

@@ -1,6 +1,6 @@
 use Rattle.std.proofs.Common.{rules}
 use Rattle.compare_report.specs.Cells.{cell_of}
-use Rattle.litmus_values.specs.Value.{content_of}
+use Rattle.text_values.specs.TestValue.{content_of}
 use Rattle.session_answers.specs.Cells.{IsCell}
 use Rattle.session_answers.proofs.Joined.{zip_more}
 use Rattle.session_views.specs.Asked.{asked_model}

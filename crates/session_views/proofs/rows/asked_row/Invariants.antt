@@ -1,7 +1,7 @@
 use Rattle.std.proofs.Common.{take, map}
 use Rattle.std.specs.List.{AllZip}
 use Rattle.compare_report.specs.Cells.{cell_of}
-use Rattle.litmus_values.specs.Value.{content_of}
+use Rattle.text_values.specs.TestValue.{content_of}
 use Rattle.session_answers.specs.Cells.{IsCell}
 use Rattle.session_views.specs.Asked.{asked_model}
 use Rattle.session_views.proofs.rows.asked_row.Given as goal

@@ -1,7 +1,7 @@
 use Rattle.std.proofs.Common.{rules, map, Option, IfSome, subst}
 use Rattle.compare_report.specs.Columns.{row_of}
 use Rattle.compare_report.specs.declared.table.TestRow.{TestRow}
-use Rattle.litmus_values.specs.Value.{content_of}
+use Rattle.text_values.specs.TestValue.{content_of}
 use Rattle.session_answers.specs.Cells.{IsRow}
 use Rattle.session_answers.proofs.Joined.{zip_more}
 use Rattle.session_views.specs.Asked.{asked_model}

@@ -1,5 +1,5 @@
 use Rattle.std.proofs.Common.{◌≡◌, map, drop}
-use Rattle.cat_values.specs.Values.{shown_of}
+use Rattle.text_values.specs.ModelValues.{shown_of}
 use Rattle.shown_relations.specs.Shown.{after_show}
 use Rattle.shown_relations.proofs.names.after_show.Given as goal
 

@@ -1,5 +1,5 @@
 use Rattle.std.proofs.Common.{◌≡◌, [], drop}
-use Rattle.cat_values.specs.Values.{clauses_of}
+use Rattle.text_values.specs.ModelValues.{clauses_of}
 use Rattle.shown_relations.specs.Shown.{after_clauses}
 use Rattle.shown_relations.proofs.names.shown_names.Given as goal
 

@@ -1,6 +1,6 @@
 use Rattle.std.proofs.Common.{◌≡◌, List, sym, subst}
-use Rattle.cat_values.specs.declared.model.Item.{Item}
-use Rattle.cat_values.specs.Values.{clauses_of, term_of}
+use Rattle.text_values.specs.declared.model.Item.{Item}
+use Rattle.text_values.specs.ModelValues.{clauses_of, term_of}
 use Rattle.shown_relations.specs.Shown.{clauses_for}
 use Rattle.shown_relations.proofs.Bound.{clauses_are}
 use Rattle.shown_relations.proofs.texts.text_of.Goals as goal

@@ -1,5 +1,5 @@
 use Rattle.std.proofs.Common.{ℕ, ◌≡◌, length, arith, subst}
-use Rattle.cat_values.specs.Values.{clauses_of}
+use Rattle.text_values.specs.ModelValues.{clauses_of}
 use Rattle.shown_relations.specs.Values.{AreShown, NoName}
 use Rattle.shown_relations.proofs.Coding.{shown_step, sized_step}
 use Rattle.shown_relations.proofs.values.found_values.Goals as goal

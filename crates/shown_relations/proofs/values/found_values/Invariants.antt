@@ -1,5 +1,5 @@
 use Rattle.std.specs.List.{All}
-use Rattle.cat_values.specs.Values.{clauses_of}
+use Rattle.text_values.specs.ModelValues.{clauses_of}
 use Rattle.shown_relations.specs.Values.{AreShown, IsSized}
 use Rattle.shown_relations.proofs.values.found_values.Given as goal
 

@@ -1,6 +1,6 @@
 use Rattle.std.proofs.Common.{◌≡◌, List, length, subst}
 use Rattle.std.proofs.lemmas.Result.{IfOk-weaker}
-use Rattle.cat_values.specs.Values.{clauses_of}
+use Rattle.text_values.specs.ModelValues.{clauses_of}
 use Rattle.shown_relations.specs.declared.names.ShownName.{ShownName}
 use Rattle.shown_relations.specs.Shown.{names_shown}
 use Rattle.shown_relations.specs.Values.{AreShown}

@@ -1,6 +1,6 @@
 use Rattle.std.proofs.Common.{inl}
 use Rattle.std.proofs.lemmas.Result.{IfOk-weaker}
-use Rattle.cat_values.specs.Values.{clauses_of}
+use Rattle.text_values.specs.ModelValues.{clauses_of}
 use Rattle.memo_graph.specs.FromScratch.{AreItemsOf, IsFaultOf}
 use Rattle.shown_relations.proofs.Coding.{named_shown}
 use Rattle.shown_relations.proofs.values.text_values.Goals as goal

@@ -1,6 +1,6 @@
 use Rattle.std.proofs.Common.{◌≡◌, sym, subst, ap, ◌∙◌}
-use Rattle.litmus_values.specs.Value.{Join, formula_of}
-use Rattle.litmus_values.specs.declared.test.Proposition as text
+use Rattle.text_values.specs.TestValue.{Join, formula_of}
+use Rattle.text_values.specs.declared.test.Proposition as text
 use Rattle.verdict.specs.Compiled.{Means}
 use Rattle.verdict.specs.declared.formula.Formula as code
 use Rattle.verdict.proofs.Atoms.{both_meant}

@@ -1,6 +1,6 @@
 use Rattle.std.proofs.Common.{◌≡◌, ℕ, ◌-◌, ◌^◌, ◌++◌, min, List, ap, ◌∙◌, subst}
 use Rattle.std.specs.List.{All}
-use Rattle.litmus_values.specs.Value.{Formula, formula_of}
+use Rattle.text_values.specs.TestValue.{Formula, formula_of}
 use Rattle.candidates.specs.Space.{shown_in}
 use Rattle.verdict.specs.Compiled.{Means}
 use Rattle.verdict.specs.Counting.{count_kept, tally}

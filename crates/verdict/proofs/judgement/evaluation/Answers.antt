@@ -1,5 +1,5 @@
 use Rattle.std.proofs.Common.{◌-◌, ◌^◌, ◌≤◌, min, List, true, false, length, ap, ◌∙◌, arith}
-use Rattle.litmus_values.specs.Value.{Formula, formula_of}
+use Rattle.text_values.specs.TestValue.{Formula, formula_of}
 use Rattle.candidates.specs.Space.{shown_in}
 use Rattle.verdict.specs.Evaluated.{AreEndStates}
 use Rattle.verdict.specs.Judgement.{is_same, total_of}

@@ -1,8 +1,8 @@
 use Rattle.std.proofs.Common.{◌≡◌, ◌++◌, List, subst, sym, ap, ◌∙◌}
 use Rattle.std.proofs.lemmas.Result.{on_ok_weaker}
-use Rattle.litmus_values.specs.Value.{formula_of}
-use Rattle.litmus_values.specs.declared.test.Place.{Place}
-use Rattle.litmus_values.specs.declared.test.Proposition as code
+use Rattle.text_values.specs.TestValue.{formula_of}
+use Rattle.text_values.specs.declared.test.Place.{Place}
+use Rattle.text_values.specs.declared.test.Proposition as code
 use Rattle.verdict.specs.Meaning.{places_of}
 use Rattle.verdict.specs.Shown.{known_places, Adds}
 use Rattle.verdict.proofs.Places.{added_twice}

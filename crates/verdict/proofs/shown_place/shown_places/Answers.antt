@@ -1,7 +1,7 @@
 use Rattle.std.proofs.Common.{rules, arith, ◌≡◌, [], ◌∷◌, IfOk, subst, Vec, Global}
 use Rattle.std.proofs.lemmas.Result.{IfOk-weaker}
-use Rattle.litmus_values.specs.Value.{formula_of}
-use Rattle.litmus_values.specs.declared.test.Place.{Place}
+use Rattle.text_values.specs.TestValue.{formula_of}
+use Rattle.text_values.specs.declared.test.Place.{Place}
 use Rattle.verdict.specs.Meaning.{places_of}
 use Rattle.verdict.specs.Shown.{known_places, Adds}
 use Rattle.verdict.specs.declared.shown_place.ShownPlace.{ShownPlace}

@@ -1,5 +1,5 @@
 use Rattle.std.proofs.Common.{[], ◌++◌, take}
-use Rattle.litmus_values.specs.Value.{formula_of}
+use Rattle.text_values.specs.TestValue.{formula_of}
 use Rattle.verdict.specs.Meaning.{places_of}
 use Rattle.verdict.specs.Shown.{known_places, Adds}
 use Rattle.verdict.proofs.shown_place.shown_places.Given as goal

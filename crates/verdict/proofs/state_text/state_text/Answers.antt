@@ -1,6 +1,6 @@
 use Rattle.std.proofs.Common.{arith, ◌++◌, codes, ap, ◌∙◌, List, ℕ}
 use Rattle.std.proofs.lemmas.Grind.{common_steps}
-use Rattle.source_text.proofs.Separated.{from, from_first}
+use Rattle.text_values.proofs.Separated.{from, from_first}
 use Rattle.verdict.specs.declared.shown_place.ShownPlace.TheVariants.{Register}
 use Rattle.verdict.proofs.HeldTexts.{texts, one_printed, none_printed}
 use Rattle.verdict.proofs.state_text.state_text.Goals as goal

@@ -1,6 +1,6 @@
 use Rattle.std.proofs.Common.{◌≡◌, ◌++◌, drop}
 use Rattle.std.specs.Prelude.{codes}
-use Rattle.source_text.proofs.Separated.{from}
+use Rattle.text_values.proofs.Separated.{from}
 use Rattle.verdict.specs.Text.{state_text}
 use Rattle.verdict.proofs.HeldTexts.{texts}
 use Rattle.verdict.proofs.state_text.state_text.Given as goal

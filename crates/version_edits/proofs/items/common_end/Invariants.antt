@@ -1,5 +1,5 @@
 use Rattle.std.proofs.Common.{◌-◌}
-use Rattle.cat_values.specs.Values.{clauses_of}
+use Rattle.text_values.specs.ModelValues.{clauses_of}
 use Rattle.version_edits.specs.Changes.{IsCommonEnd}
 use Rattle.version_edits.proofs.items.common_end.Given as goal
 

@@ -1,5 +1,5 @@
 use Rattle.std.proofs.Common.{◌≡◌, ℕ, ◌≤◌, ◌++◌, take, drop, length, All}
-use Rattle.cat_values.specs.Values.{clauses_of}
+use Rattle.text_values.specs.ModelValues.{clauses_of}
 use Rattle.version_edits.specs.Changes.{all_applied, IsBefore, IsNeeded}
 use Rattle.version_edits.proofs.items.set_items.Given as goal
 

@@ -1,5 +1,5 @@
 use Rattle.std.proofs.Common.{◌≡◌, ◌++◌, take, drop, All}
-use Rattle.litmus_values.specs.Value.{content_of}
+use Rattle.text_values.specs.TestValue.{content_of}
 use Rattle.bench_texts.specs.BenchTexts.{with_init}
 use Rattle.version_edits.specs.Parts.{all_put, with_threads, Differs}
 use Rattle.version_edits.proofs.parts.push_threads.Given as goal

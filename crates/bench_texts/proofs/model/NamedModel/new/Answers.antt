@@ -1,5 +1,5 @@
 use Rattle.std.proofs.Common.{◌≡◌, IfOk, length, arith, subst}
-use Rattle.cat_values.specs.Values.{clauses_of}
+use Rattle.text_values.specs.ModelValues.{clauses_of}
 use Rattle.bench_texts.specs.BenchTexts.{numbered_items}
 use Rattle.bench_texts.specs.Held.{model_of}
 use Rattle.bench_texts.proofs.Numbered.{items_of-numbered}

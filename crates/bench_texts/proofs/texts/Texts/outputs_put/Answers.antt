@@ -1,6 +1,6 @@
 use Rattle.std.proofs.Common.{◌≡◌, ◌+◌, min, length, refl, ap, sym, ◌∙◌, arith}
 use Rattle.std.proofs.lemmas.Grind.{common_steps}
-use Rattle.cat_values.specs.Values.{clauses_of}
+use Rattle.text_values.specs.ModelValues.{clauses_of}
 use Rattle.bench_texts.specs.BenchTexts.{PlainModel, numbered_items}
 use Rattle.bench_texts.specs.Limits.{items_outputs}
 use Rattle.bench_texts.specs.Held.{texts_of}

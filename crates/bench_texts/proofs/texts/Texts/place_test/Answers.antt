@@ -1,5 +1,5 @@
 use Rattle.std.proofs.Common.{refl, ap}
-use Rattle.litmus_values.specs.Value.{content_of}
+use Rattle.text_values.specs.TestValue.{content_of}
 use Rattle.bench_texts.specs.declared.change.Change.TheVariants as changes
 use Rattle.bench_texts.specs.BenchTexts.{with_tests}
 use Rattle.bench_texts.specs.Held.{texts_of}

@@ -1,5 +1,5 @@
 use Rattle.std.proofs.Common.{refl, ap}
-use Rattle.litmus_values.specs.Value.{formula_of}
+use Rattle.text_values.specs.TestValue.{formula_of}
 use Rattle.bench_texts.specs.declared.change.Change.TheVariants as changes
 use Rattle.bench_texts.specs.BenchTexts.{changed_at, with_condition, with_tests}
 use Rattle.bench_texts.specs.Held.{texts_of}

@@ -1,6 +1,6 @@
 use Rattle.std.proofs.Common.{◌≡◌, ◌<◌, ◌+◌, length, get_or, min, insert, refl, ap, sym, ◌∙◌, arith, [], inr}
 use Rattle.std.proofs.lemmas.Grind.{common_steps}
-use Rattle.cat_values.specs.Values.{clause_of}
+use Rattle.text_values.specs.ModelValues.{clause_of}
 use Rattle.bench_texts.specs.declared.change.Change.TheVariants as changes
 use Rattle.bench_texts.specs.BenchTexts.{NumberedItem, model_index, changed_at, with_items, with_models}
 use Rattle.bench_texts.specs.Limits.{items_outputs}

@@ -1,6 +1,6 @@
 use Rattle.std.proofs.Common.{◌≡◌, ◌+◌, length, true, None, refl, ap, sym, subst, ◌∙◌, arith}
 use Rattle.std.proofs.lemmas.Grind.{common_steps}
-use Rattle.cat_values.specs.Values.{clauses_of}
+use Rattle.text_values.specs.ModelValues.{clauses_of}
 use Rattle.bench_texts.specs.BenchTexts.{PlainModel, numbered_items, put_at, with_models}
 use Rattle.bench_texts.specs.Limits.{is_model_name}
 use Rattle.bench_texts.specs.Held.{texts_of}

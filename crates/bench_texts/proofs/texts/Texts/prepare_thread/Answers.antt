@@ -1,5 +1,5 @@
 use Rattle.std.proofs.Common.{refl, ap, length}
-use Rattle.litmus_values.specs.Value.{steps_of}
+use Rattle.text_values.specs.TestValue.{steps_of}
 use Rattle.bench_texts.specs.declared.change.Change.TheVariants as changes
 use Rattle.bench_texts.specs.BenchTexts.{changed_at, with_thread, with_tests}
 use Rattle.bench_texts.specs.Held.{texts_of}

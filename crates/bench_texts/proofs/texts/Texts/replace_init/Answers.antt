@@ -1,5 +1,5 @@
 use Rattle.std.proofs.Common.{arith, ap}
-use Rattle.litmus_values.specs.Value.{content_of}
+use Rattle.text_values.specs.TestValue.{content_of}
 use Rattle.bench_texts.specs.BenchTexts.{with_init, with_tests}
 use Rattle.bench_texts.specs.Held.{texts_of}
 use Rattle.bench_texts.proofs.Lists.{put_at-changed}

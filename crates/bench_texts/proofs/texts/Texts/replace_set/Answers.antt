@@ -1,5 +1,5 @@
 use Rattle.std.proofs.Common.{◌<◌, length, arith, ap}
-use Rattle.cat_values.specs.Values.{clause_of}
+use Rattle.text_values.specs.ModelValues.{clause_of}
 use Rattle.bench_texts.specs.BenchTexts.{put_at, with_items, with_models}
 use Rattle.bench_texts.specs.Held.{model_of, texts_of}
 use Rattle.bench_texts.proofs.Lists.{held_at, put_at-changed}

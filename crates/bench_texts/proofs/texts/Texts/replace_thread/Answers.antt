@@ -1,5 +1,5 @@
 use Rattle.std.proofs.Common.{◌<◌, length, arith, ap}
-use Rattle.litmus_values.specs.Value.{content_of, steps_of}
+use Rattle.text_values.specs.TestValue.{content_of, steps_of}
 use Rattle.bench_texts.specs.BenchTexts.{with_thread, with_tests}
 use Rattle.bench_texts.specs.Held.{texts_of}
 use Rattle.bench_texts.proofs.Lists.{held_at, put_at-changed}

@@ -1,5 +1,5 @@
 use Rattle.std.proofs.Common.{length, arith}
-use Rattle.litmus_values.specs.Value.{content_of}
+use Rattle.text_values.specs.TestValue.{content_of}
 use Rattle.std.proofs.lemmas.Grind.{common_steps}
 use Rattle.bench_texts.proofs.Lists.{index-map}
 use Rattle.bench_texts.proofs.texts.Texts.threads_at.Goals as goal

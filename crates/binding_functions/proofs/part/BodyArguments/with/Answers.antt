@@ -1,5 +1,5 @@
 use Rattle.std.proofs.Common.{length, arith}
-use Rattle.cat_values.specs.Values.{term_of}
+use Rattle.text_values.specs.ModelValues.{term_of}
 use Rattle.binding_kinds.specs.Columns.{signature_in, gathered_in}
 use Rattle.binding_kinds.proofs.Tables.{gathered_small}
 use Rattle.binding_functions.proofs.Applied.{terms_in}

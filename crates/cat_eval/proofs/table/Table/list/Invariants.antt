@@ -1,5 +1,5 @@
 use Rattle.std.proofs.Common.{List, Contains, take}
-use Rattle.cat_values.specs.declared.predefined.Predefined.{Predefined}
+use Rattle.text_values.specs.declared.predefined.Predefined.{Predefined}
 use Rattle.candidates.specs.Space.{Candidate}
 use Rattle.cat_eval.specs.Tables.{AreBlocks, AreColumnsFor, HasName, column_names}
 use Rattle.cat_eval.proofs.table.Table.list.Given as goal

@@ -1,7 +1,7 @@
 use Rattle.std.proofs.Common.{List, ap}
 use Rattle.cat_grammar.specs.ItemMachine.{State, Part}
-use Rattle.cat_values.specs.Value.{Clause}
-use Rattle.cat_values.specs.Values.{clauses_of}
+use Rattle.text_values.specs.ModelValue.{Clause}
+use Rattle.text_values.specs.ModelValues.{clauses_of}
 use Rattle.cat_syntax.proofs.Restarted.{part_restarted}
 use Rattle.cat_syntax.proofs.items.Parser.go_to.Goals as goal
 

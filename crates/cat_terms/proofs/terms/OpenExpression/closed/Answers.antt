@@ -1,9 +1,9 @@
 use Rattle.std.proofs.Common.{ap, ◌∙◌, ◌∷◌}
 use Rattle.cat_tokens.specs.declared.token.Token.TheVariants.{Close}
 use Rattle.cat_grammar.specs.Machine.{closed, Goes, Has}
-use Rattle.cat_values.specs.Value.{Term}
+use Rattle.text_values.specs.ModelValue.{Term}
 use Rattle.cat_terms.specs.Reading.{frame_of, stack_of}
-use Rattle.cat_values.specs.Values.{term_of}
+use Rattle.text_values.specs.ModelValues.{term_of}
 use Rattle.cat_terms.specs.declared.frames.Frame as code_frame
 use Rattle.cat_terms.proofs.Stack.{popped_of, steps_same, applied_pushed}
 use Rattle.cat_terms.proofs.terms.OpenExpression.closed.Goals as goal

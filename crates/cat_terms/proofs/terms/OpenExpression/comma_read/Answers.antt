@@ -2,7 +2,7 @@ use Rattle.std.proofs.Common.{ap, ◌∙◌, ◌∷◌, List}
 use Rattle.cat_tokens.specs.declared.token.Token.TheVariants.{Comma}
 use Rattle.cat_grammar.specs.Machine.{comma_read, Goes, Wants, Frame}
 use Rattle.cat_terms.specs.Reading.{frame_of, stack_of}
-use Rattle.cat_values.specs.Values.{term_of}
+use Rattle.text_values.specs.ModelValues.{term_of}
 use Rattle.cat_terms.specs.declared.frames.Frame as code_frame
 use Rattle.cat_terms.proofs.Stack.{popped_of, steps_same, comma_pushed}
 use Rattle.cat_terms.proofs.terms.OpenExpression.comma_read.Goals as goal

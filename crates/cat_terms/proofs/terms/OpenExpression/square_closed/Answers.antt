@@ -1,9 +1,9 @@
 use Rattle.std.proofs.Common.{ap, sym, ◌∙◌}
 use Rattle.cat_tokens.specs.declared.token.Token.TheVariants.{CloseSquare}
 use Rattle.cat_grammar.specs.Machine.{square_closed, Goes, Has}
-use Rattle.cat_values.specs.Value.{Term, On}
+use Rattle.text_values.specs.ModelValue.{Term, On}
 use Rattle.cat_terms.specs.Reading.{stack_of}
-use Rattle.cat_values.specs.Values.{term_of}
+use Rattle.text_values.specs.ModelValues.{term_of}
 use Rattle.cat_terms.proofs.Stack.{popped_of, square_refused, square_matched, steps_same}
 use Rattle.cat_terms.proofs.terms.OpenExpression.square_closed.Goals as goal
 

@@ -2,7 +2,7 @@ use Rattle.std.proofs.Common.{◌≡◌, ◌<◌, ◌+◌, ℕ, List, Bor, lengt
 use Rattle.std.specs.BTreeMap.{get_by}
 use Rattle.std.specs.Cmp.Lexicographic.{slice_cmp}
 use Rattle.litmus_tokens.specs.declared.rule.LitmusRule.{LitmusRule}
-use Rattle.litmus_values.specs.declared.test.Step.{Step}
+use Rattle.text_values.specs.declared.test.Step.{Step}
 use Rattle.litmus_table.specs.Checks.{first_from, step_rule, or_later, first_fault}
 use Rattle.litmus_table.proofs.First.{step_rule-same, checked_here}
 use Rattle.litmus_table.proofs.late.PlacedThread.check_labels.Goals as goal

@@ -1,5 +1,5 @@
 use Rattle.std.proofs.Common.{ap, ◌∙◌}
-use Rattle.stamped_texts.specs.declared.texts.StampedTexts.{StampedTexts}
+use Rattle.running_bench.specs.declared.stamped_texts.StampedTexts.{StampedTexts}
 use Rattle.running_bench.proofs.Indexes.{is_announced}
 use Rattle.running_bench.proofs.texts.RunningTextsBoardTexts.announce.Goals as goal
 

@@ -3,8 +3,8 @@ use Rattle.std.specs.List.{position_or_len}
 use Rattle.bench_nodes.specs.declared.table.TestRow.{TestRow}
 use Rattle.board.specs.Contents.{BoardContent}
 use Rattle.desk.specs.Boards.{HoldsAbove}
-use Rattle.stamped_texts.specs.declared.texts.StampedTexts.{StampedTexts}
-use Rattle.stamped_texts.specs.Texts.{net_of, verdict_of}
+use Rattle.running_bench.specs.declared.stamped_texts.StampedTexts.{StampedTexts}
+use Rattle.running_bench.specs.StampedTexts.{net_of, verdict_of}
 use Rattle.running_bench.specs.Cells.{board_cells}
 use Rattle.running_bench.proofs.Above.{holds_above}
 use Rattle.running_bench.proofs.texts.RunningTextsBoardTexts.cells_above.Goals as goal

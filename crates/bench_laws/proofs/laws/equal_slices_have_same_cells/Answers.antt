@@ -1,5 +1,0 @@
-use Rattle.bench_laws.proofs.SliceCells.{same_cells}
-use Rattle.bench_laws.proofs.laws.equal_slices_have_same_cells.Goals as goal
-
-pub returns : goal.returns
-returns c = same_cells

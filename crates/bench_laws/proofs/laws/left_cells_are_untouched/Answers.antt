@@ -1,5 +1,0 @@
-use Rattle.bench_laws.proofs.Untouched.{left_untouched}
-use Rattle.bench_laws.proofs.laws.left_cells_are_untouched.Goals as goal
-
-pub returns : goal.returns
-returns c = left_untouched

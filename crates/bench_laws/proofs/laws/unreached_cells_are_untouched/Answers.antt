@@ -1,5 +1,0 @@
-use Rattle.bench_laws.proofs.Untouched.{unreached_untouched}
-use Rattle.bench_laws.proofs.laws.unreached_cells_are_untouched.Goals as goal
-
-pub returns : goal.returns
-returns c = unreached_untouched

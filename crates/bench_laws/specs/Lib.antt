@@ -1,4 +1,0 @@
-pub mod Kept
-pub mod Cells
-pub mod Left
-pub mod Slices

@@ -1,7 +1,0 @@
-use Rattle.std.proofs.Common.{◌≡◌, ◌↔◌, map, length, drop}
-use Rattle.cat_values.specs.Values.{binding_of}
-use Rattle.cat_values.proofs.same.are_same_bindings.Given as goal
-
-abbrev pub invariant-loop-this : goal.invariant-loop-this
-invariant-loop-this l =
-    (map binding_of l.these ≡ map binding_of l.those) ↔ (map binding_of (drop (length l.yielded) l.these) ≡ map binding_of (drop (length l.yielded) l.those))

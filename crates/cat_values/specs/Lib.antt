@@ -1,4 +1,0 @@
-pub mod Parts
-pub mod PredefinedNames
-pub mod Value
-pub mod Values

@@ -1,4 +1,0 @@
-pub mod Named
-pub mod Reached
-pub mod Held
-pub mod Cells

@@ -1,4 +1,0 @@
-pub mod Rows
-pub mod Histories
-pub mod ItemRows
-pub mod ItemKinds

@@ -1,0 +1,100 @@
+-- Items that are read alike are the same to a cell.
+use Rattle.std.proofs.Common.{ℕ, ◌≡◌, zero, suc, List, [], ◌∷◌, map, Option, Some, None, refl, sym, ap, ◌∙◌}
+use Rattle.std.specs.Prelude.{slice_get, option_map, unwrap_or}
+use Rattle.std.specs.Arc.{arc_value}
+use Rattle.text_values.specs.TestValue.{Content, Formula}
+use Rattle.text_values.specs.declared.test.Quantifier.{Quantifier}
+use Rattle.text_values.specs.ModelValue.{Clause}
+use Rattle.binding_kinds.specs.declared.fault.ModelFault.{ModelFault}
+use Rattle.binding_kinds.specs.declared.scope.Input.{Input}
+use Rattle.binding_graph.specs.declared.resolved.ResolvedItem.{ResolvedItem}
+use Rattle.bench_texts.specs.declared.model.NamedModel.{NamedModel}
+use Rattle.bench_texts.specs.declared.reading.Reading.{Reading}
+use Rattle.bench_texts.specs.declared.reading.Reading.TheVariants as readings
+use Rattle.bench_slices.specs.Slices.{BoundName, Uses, OfFault, OfItems, bound_name, slice_by}
+use Rattle.model_slots.specs.Slots.{number_at}
+use Rattle.edited_parts.specs.Readings.{reading_by}
+use Rattle.edited_parts.specs.BenchCells.{CellItem, name_of, cell_item, cell_items, HaveSameCells}
+use Rattle.evaluation_laws.specs.Readings.{ReadItem, read_item, read_items, items_read_by}
+use Rattle.evaluation_laws.proofs.Slices.{read_alike}
+use Rattle.edited_parts.specs.Slices.{EqualSlicesHaveSameCells}
+
+-- ---- numbers
+
+number_by : (ns : List ℕ) (k : ℕ) → number_at ns k ≡ unwrap_or (slice_get ns k) 0
+number_by [] k = refl
+number_by (n ∷ ns) zero = refl
+number_by (n ∷ ns) (suc k) = number_by ns k
+
+abbrev name_by : BoundName → ℕ × ℕ
+name_by b = (unwrap_or b.item 0, b.position)
+
+names_by : (ns : List ℕ) (is : List Input) → map (name_of ns) is ≡ map name_by (map (bound_name ns) is)
+names_by ns [] = refl
+names_by ns (i ∷ is) = let e = number_by ns i.item in let rest = names_by ns is in λ k. (e k, i.position) ∷ rest k
+
+abbrev number_in : Option ℕ → ℕ
+number_in o = unwrap_or o 0
+
+functions_by : (ns fs : List ℕ) → map (number_at ns) fs ≡ map number_in (map (slice_get ns) fs)
+functions_by ns [] = refl
+functions_by ns (f ∷ fs) = let e = number_by ns f in let rest = functions_by ns fs in λ k. e k ∷ rest k
+
+-- ---- items
+
+some_item : {a b : ReadItem} → Some a ≡ Some b → a ≡ b
+some_item e = cc
+
+module _ (ns ms : List ℕ) where
+  cell_same : (k l : ℕ) (r q : ResolvedItem) → k ≡ l → read_item ns r ≡ read_item ms q → cell_item ns k r ≡ cell_item ms l q
+  cell_same k l r q number e =
+      let role = ap (λ (x : ReadItem). x.role) e in
+      let names : map (name_of ns) r.inputs.items ≡ map (name_of ms) q.inputs.items = names_by ns r.inputs.items ∙ (ap (λ (x : ReadItem). map name_by x.uses.names) e ∙ sym (names_by ms q.inputs.items)) in
+      let functions : map (number_at ns) r.functions.items ≡ map (number_at ms) q.functions.items = functions_by ns r.functions.items ∙ (ap (λ (x : ReadItem). map number_in x.uses.functions) e ∙ sym (functions_by ms q.functions.items)) in
+      λ i. record { number = number i; role = role i; functions = functions i; names = names i }
+
+  item_same : (k l : ℕ) (o p : Option ResolvedItem) → k ≡ l → option_map (read_item ns) o ≡ option_map (read_item ms) p → option_map (cell_item ns k) o ≡ option_map (cell_item ms l) p
+  item_same k l None None number e = refl
+  item_same k l None (Some q) number e = absurd (let n : None ≡ Some (read_item ms q) = e in cc)
+  item_same k l (Some r) None number e = absurd (let n : Some (read_item ns r) ≡ None = e in cc)
+  item_same k l (Some r) (Some q) number e = ap (λ (c : CellItem). Some c) (cell_same k l r q number (some_item e))
+
+  first_number : (a b : Option ℕ) (ls ks : List (Option ℕ)) → a ∷ ls ≡ b ∷ ks → a ≡ b
+  first_number a b ls ks e = cc
+
+  rest_numbers : (a b : Option ℕ) (ls ks : List (Option ℕ)) → a ∷ ls ≡ b ∷ ks → ls ≡ ks
+  rest_numbers a b ls ks e = cc
+
+  first_item : (a b : Option ReadItem) (ls ks : List (Option ReadItem)) → a ∷ ls ≡ b ∷ ks → a ≡ b
+  first_item a b ls ks e = cc
+
+  rest_items : (a b : Option ReadItem) (ls ks : List (Option ReadItem)) → a ∷ ls ≡ b ∷ ks → ls ≡ ks
+  rest_items a b ls ks e = cc
+
+  cells_same : (rs qs : List ResolvedItem) (us vs : List ℕ) → map (slice_get ns) us ≡ map (slice_get ms) vs → read_items ns rs us ≡ read_items ms qs vs → cell_items ns rs us ≡ cell_items ms qs vs
+  cells_same rs qs [] [] numbers items = refl
+  cells_same rs qs [] (v ∷ vs) numbers items = absurd (let n : [] ≡ slice_get ms v ∷ map (slice_get ms) vs = numbers in cc)
+  cells_same rs qs (u ∷ us) [] numbers items = absurd (let n : slice_get ns u ∷ map (slice_get ns) us ≡ [] = numbers in cc)
+  cells_same rs qs (u ∷ us) (v ∷ vs) numbers items =
+      let number : number_at ns u ≡ number_at ms v = number_by ns u ∙ (ap number_in (first_number _ _ _ _ numbers) ∙ sym (number_by ms v)) in
+      let first = item_same (number_at ns u) (number_at ms v) (slice_get rs u) (slice_get qs v) number (first_item _ _ _ _ items) in
+      let rest = cells_same rs qs us vs (rest_numbers _ _ _ _ numbers) (rest_items _ _ _ _ items) in
+      λ i. first i ∷ rest i
+
+-- ---- models
+
+numbers_same : (c d : Content) (ns ms : List (Option ℕ)) (cs ds : List (Option Clause)) (us vs : List (Option Uses)) → OfItems c ns cs us ≡ OfItems d ms ds vs → ns ≡ ms
+numbers_same c d ns ms cs ds us vs e = cc
+
+fault_same : (f g : ModelFault) (q p : Quantifier) (c d : Formula) → OfFault f q c ≡ OfFault g p d → f ≡ g
+fault_same f g q p c d e = cc
+
+by_readings : (test other : Content) (m n : NamedModel) (id : ℕ) (r q : Reading) → slice_by test m r ≡ slice_by other n q → items_read_by m r ≡ items_read_by n q → HaveSameCells (reading_by id m.numbers.items r) (reading_by id n.numbers.items q)
+by_readings test other m n id (readings.Faulty f) (readings.Faulty g) e items = (refl, fault_same _ _ _ _ _ _ e)
+by_readings test other m n id (readings.Faulty f) (readings.Sound resolved used) e items = cc
+by_readings test other m n id (readings.Sound resolved used) (readings.Faulty g) e items = cc
+by_readings test other m n id (readings.Sound resolved used) (readings.Sound others reached) e items =
+    (refl, cells_same m.numbers.items n.numbers.items (arc_value resolved).items.items (arc_value others).items.items used.items reached.items (numbers_same _ _ _ _ _ _ _ _ e) items)
+
+pub same_cells : EqualSlicesHaveSameCells
+same_cells test other m n id a b e = by_readings test other m n id m.reading n.reading e (read_alike test other m n a b e)

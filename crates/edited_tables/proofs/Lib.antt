@@ -1,2 +1,0 @@
-pub mod ModelRows
-pub mod TestRows

@@ -1,0 +1,428 @@
+-- The names that an item sees and uses are of items that are used.
+use Rattle.std.proofs.Common.{ℕ, ◌≡◌, zero, suc, List, [], ◌∷◌, map, reverse, Bool, true, false, Option, Some, None, Result, Ok, Err, refl, sym, ap, ◌∙◌, subst, inl, inr, eqb-true, arith}
+use Rattle.std.specs.Prelude.{◌==◌, is_some, nat_le, nat_eq, slice_get, if◌then◌else◌}
+use Rattle.std.specs.List.{AllByRecursion as Each}
+use Rattle.std.proofs.lemmas.Bool.{cases_Bool}
+use Rattle.std.proofs.lemmas.Bool.Decides.{nat_tests}
+use Rattle.std.proofs.lemmas.Option.{none-some}
+use Rattle.text_values.specs.ModelValue.{Term, Terms, Atom, AllEvents, EmptyRelation, EmptySet, Join, Mark, Not, On, Apply, NoTerm, OneMore}
+use Rattle.memo_core.specs.Step.{Has}
+use Rattle.binding_kinds.specs.declared.fault.ModelFault.{ModelFault}
+use Rattle.binding_kinds.specs.declared.fault.ModelFault.TheVariants as faults
+use Rattle.binding_kinds.specs.declared.scope.Binder.{Binder}
+use Rattle.binding_kinds.specs.declared.scope.Binder.TheVariants as binders
+use Rattle.binding_kinds.specs.declared.scope.Found.{Found}
+use Rattle.binding_kinds.specs.declared.scope.Input.{Input}
+use Rattle.binding_kinds.specs.declared.scope.Used.{Used}
+use Rattle.binding_kinds.specs.Value.{Naming}
+use Rattle.binding_kinds.specs.Kinds.{found}
+use Rattle.binding_kinds.specs.Meanings.{parameter_of}
+use Rattle.binding_kinds.specs.Applicable.{applied_of}
+use Rattle.binding_kinds.specs.Senses.{Sense, sense_of, sense_of_binder, with_arity, count_of}
+use Rattle.binding_graph.specs.Inputs.{index_of, noted, with_binder, with_found, with_name}
+use Rattle.binding_graph.specs.Usages.{Usage, all_noted, is_among, with_item, with_items, usage_at, usage_seen, values_of, functions_of, with_meaning, with_values, with_values_among, with_functions, with_functions_among}
+use Rattle.evaluation_laws.specs.ItemLaws.{Scope}
+use Rattle.slot_laws.proofs.Naming.{binder_at}
+use Rattle.slot_laws.proofs.Using.{IsBoundBy, items_in}
+
+-- ---- what an expression may see
+
+abbrev pub IsValue : Binder → Type 0
+IsValue (binders.Predefined p) = Unit {0}
+IsValue (binders.Bound i) = Unit {0}
+IsValue (binders.Applicable g) = ⊥
+
+-- the items that are used, and the items of all functions, in the order of the text
+pub record Reach : Type 0 where
+  pub items : List ℕ
+  pub functions : List ℕ
+
+-- the name is predefined, or of an item that is used
+abbrev pub IsKept : Reach → Binder → Type 0
+IsKept u (binders.Predefined p) = Unit {0}
+IsKept u (binders.Bound i) = Has u.items i.item
+IsKept u (binders.Applicable g) = (k : ℕ) × (slice_get u.functions g ≡ Some k) × Has u.items k
+
+-- the name stands for a value
+pub record IsNamed (names : List Naming) (x : List ℕ) : Type 0 where
+  pub now : Found
+  pub there : found names x ≡ Some now
+  pub value : IsValue now.binder
+
+pub record IsNameKept (u : Reach) (names : List Naming) (x : List ℕ) : Type 0 where
+  pub now : Found
+  pub there : found names x ≡ Some now
+  pub value : IsValue now.binder
+  pub kept : IsKept u now.binder
+
+-- the name stands for a function of so many parameters
+pub record IsApplied (s : Scope) (count : ℕ) (x : List ℕ) : Type 0 where
+  pub now : Found
+  pub there : found s.names x ≡ Some now
+  pub at : ℕ
+  pub binder : now.binder ≡ binders.Applicable at
+  pub sense : Sense
+  pub has_sense : slice_get s.senses at ≡ Some sense
+  pub known : sense_of s.senses count (found s.names x) ≡ Ok sense
+  pub usage : Usage
+  pub has_usage : slice_get s.usages at ≡ Some usage
+  pub many : usage.arity ≡ count
+
+pub record IsFunctionKept (u : Reach) (s : Scope) (count : ℕ) (x : List ℕ) : Type 0 where
+  pub applied : IsApplied s count x
+  pub kept : IsKept u (binders.Applicable applied.at)
+
+abbrev mutual
+  -- each name of an expression that sees these parameters stands for something of its sort
+  pub HasNames : Scope → List (List ℕ) → Term → Type 0
+  HasNames s ps (Atom x) = parameter_of (reverse ps) x ≡ None → IsNamed s.names x
+  HasNames s ps AllEvents = Unit {0}
+  HasNames s ps EmptyRelation = Unit {0}
+  HasNames s ps EmptySet = Unit {0}
+  HasNames s ps (Join op a b) = HasNames s ps a × HasNames s ps b
+  HasNames s ps (Mark op a) = HasNames s ps a
+  HasNames s ps (Not a) = HasNames s ps a
+  HasNames s ps (On a) = HasNames s ps a
+  HasNames s ps (Apply x ts) = (parameter_of (reverse ps) x ≡ None) × IsApplied s (count_of ts) x × HaveNames s ps ts
+
+  pub HaveNames : Scope → List (List ℕ) → Terms → Type 0
+  HaveNames s ps NoTerm = Unit {0}
+  HaveNames s ps (OneMore a others) = HasNames s ps a × HaveNames s ps others
+
+abbrev mutual
+  -- likewise, and for what is used
+  pub HasKeptNames : Reach → Scope → List (List ℕ) → Term → Type 0
+  HasKeptNames u s ps (Atom x) = parameter_of (reverse ps) x ≡ None → IsNameKept u s.names x
+  HasKeptNames u s ps AllEvents = Unit {0}
+  HasKeptNames u s ps EmptyRelation = Unit {0}
+  HasKeptNames u s ps EmptySet = Unit {0}
+  HasKeptNames u s ps (Join op a b) = HasKeptNames u s ps a × HasKeptNames u s ps b
+  HasKeptNames u s ps (Mark op a) = HasKeptNames u s ps a
+  HasKeptNames u s ps (Not a) = HasKeptNames u s ps a
+  HasKeptNames u s ps (On a) = HasKeptNames u s ps a
+  HasKeptNames u s ps (Apply x ts) = (parameter_of (reverse ps) x ≡ None) × IsFunctionKept u s (count_of ts) x × HaveKeptNames u s ps ts
+
+  pub HaveKeptNames : Reach → Scope → List (List ℕ) → Terms → Type 0
+  HaveKeptNames u s ps NoTerm = Unit {0}
+  HaveKeptNames u s ps (OneMore a others) = HasKeptNames u s ps a × HaveKeptNames u s ps others
+
+-- ---- what is noted stays
+
+abbrev pub Grows : List ℕ → List ℕ → Type 0
+Grows ks ls = (k : ℕ) → Has ks k → Has ls k
+
+noted_by : (P : List Used → Type 0) (vs : List Used) (u : Used) → P vs → P (u ∷ vs) → P (noted vs u)
+noted_by P vs u old new = at_test (is_some (index_of vs u.slot))
+  where
+    at_test : (b : Bool) → P (if b then vs else u ∷ vs)
+    at_test true = old
+    at_test false = new
+
+noted_grows : (vs : List Used) (u : Used) → Grows (items_in vs) (items_in (noted vs u))
+noted_grows vs u k h = noted_by (λ ws. Has (items_in ws) k) vs u h (inr h)
+
+all_grow : (ws vs : List Used) → Grows (items_in vs) (items_in (all_noted vs ws))
+all_grow [] vs k h = h
+all_grow (w ∷ ws) vs k h = all_grow ws (noted vs w) k (noted_grows vs w k h)
+
+binder_grows : (vs : List Used) (slot : ℕ) (b : Binder) → Grows (items_in vs) (items_in (with_binder vs slot b))
+binder_grows vs slot (binders.Predefined p) k h = h
+binder_grows vs slot (binders.Bound i) k h = noted_grows vs (record { slot = slot; input = i }) k h
+binder_grows vs slot (binders.Applicable f) k h = h
+
+found_grows : (vs : List Used) (from : ℕ) (f : Found) → Grows (items_in vs) (items_in (with_found vs from f))
+found_grows vs from f k h = at_test (nat_le from f.slot)
+  where
+    at_test : (b : Bool) → Has (items_in (if b then vs else with_binder vs f.slot f.binder)) k
+    at_test true = h
+    at_test false = binder_grows vs f.slot f.binder k h
+
+meaning_grows : (vs : List Used) (from : ℕ) (p : Option ℕ) (o : Option Found) → Grows (items_in vs) (items_in (with_meaning vs from p o))
+meaning_grows vs from (Some p) o k h = h
+meaning_grows vs from None None k h = h
+meaning_grows vs from None (Some f) k h = found_grows vs from f k h
+
+item_grows : (fs : List ℕ) (item : ℕ) → Grows fs (with_item fs item)
+item_grows fs item k h = at_test (is_among fs item)
+  where
+    at_test : (b : Bool) → Has (if b then fs else item ∷ fs) k
+    at_test true = h
+    at_test false = inr h
+
+items_grow : (is fs : List ℕ) → Grows fs (with_items fs is)
+items_grow [] fs k h = h
+items_grow (i ∷ is) fs k h = items_grow is (with_item fs i) k (item_grows fs i k h)
+
+among_has : (fs : List ℕ) (item : ℕ) → is_among fs item ≡ true → Has fs item
+among_has [] item e = cc
+among_has (f ∷ fs) item e = elim (cases_Bool (f == item)) [
+  | inl s ↦ inl (eqb-true f item s)
+  | inr d ↦ inr (among_has fs item (rw d at e))
+]
+
+item_there : (fs : List ℕ) (item : ℕ) → Has (with_item fs item) item
+item_there fs item = at_test (is_among fs item) refl
+  where
+    at_test : (b : Bool) → is_among fs item ≡ b → Has (if b then fs else item ∷ fs) item
+    at_test true e = among_has fs item e
+    at_test false e = inl refl
+
+module _ (us : List Usage) (names : List Naming) (ps : List (List ℕ)) where
+  module _ (from : ℕ) where
+    mutual
+      pub values_grow : (t : Term) (vs : List Used) → Grows (items_in vs) (items_in (with_values us names ps from t vs))
+      values_grow (Atom x) vs k h = meaning_grows vs from (parameter_of (reverse ps) x) (found names x) k h
+      values_grow AllEvents vs k h = h
+      values_grow EmptyRelation vs k h = h
+      values_grow EmptySet vs k h = h
+      values_grow (Join op a b) vs k h = values_grow b (with_values us names ps from a vs) k (values_grow a vs k h)
+      values_grow (Mark op a) vs k h = values_grow a vs k h
+      values_grow (Not a) vs k h = values_grow a vs k h
+      values_grow (On a) vs k h = values_grow a vs k h
+      values_grow (Apply x ts) vs k h =
+          all_values_grow ts (all_noted vs (values_of (usage_seen us names ps (count_of ts) x))) k (all_grow (values_of (usage_seen us names ps (count_of ts) x)) vs k h)
+
+      all_values_grow : (ts : Terms) (vs : List Used) → Grows (items_in vs) (items_in (with_values_among us names ps from ts vs))
+      all_values_grow NoTerm vs k h = h
+      all_values_grow (OneMore a others) vs k h = all_values_grow others (with_values us names ps from a vs) k (values_grow a vs k h)
+
+  mutual
+    pub functions_grow : (t : Term) (fs : List ℕ) → Grows fs (with_functions us names ps t fs)
+    functions_grow (Atom x) fs k h = h
+    functions_grow AllEvents fs k h = h
+    functions_grow EmptyRelation fs k h = h
+    functions_grow EmptySet fs k h = h
+    functions_grow (Join op a b) fs k h = functions_grow b (with_functions us names ps a fs) k (functions_grow a fs k h)
+    functions_grow (Mark op a) fs k h = functions_grow a fs k h
+    functions_grow (Not a) fs k h = functions_grow a fs k h
+    functions_grow (On a) fs k h = functions_grow a fs k h
+    functions_grow (Apply x ts) fs k h =
+        all_functions_grow ts (with_items fs (functions_of (usage_seen us names ps (count_of ts) x))) k (items_grow (functions_of (usage_seen us names ps (count_of ts) x)) fs k h)
+
+    all_functions_grow : (ts : Terms) (fs : List ℕ) → Grows fs (with_functions_among us names ps ts fs)
+    all_functions_grow NoTerm fs k h = h
+    all_functions_grow (OneMore a others) fs k h = all_functions_grow others (with_functions us names ps a fs) k (functions_grow a fs k h)
+
+-- ---- functions that are applied
+
+same_found : {a b : Found} → Some a ≡ Some b → a ≡ b
+same_found e = cc
+
+same_usage : {a b : Usage} → Some a ≡ Some b → a ≡ b
+same_usage e = cc
+
+-- what a name that is applied stands for
+record IsSense (ss : List Sense) (n : ℕ) (o : Option Found) (a : Sense) : Type 0 where
+  pub now : Found
+  pub there : o ≡ Some now
+  pub at : ℕ
+  pub binder : now.binder ≡ binders.Applicable at
+  pub has : slice_get ss at ≡ Some a
+  pub many : a.arity ≡ n
+
+abbrev sense_in : Sense → Result Sense ModelFault → Sense
+sense_in s (Ok a) = a
+sense_in s (Err k) = s
+
+arity_sense : (ss : List Sense) (n g : ℕ) (o : Option Sense) (a : Sense) → slice_get ss g ≡ o → with_arity n o ≡ Ok a → (slice_get ss g ≡ Some a) × (a.arity ≡ n)
+arity_sense ss n g None a is e = absurd (let f : Err faults.Arity ≡ Ok a = e in cc)
+arity_sense ss n g (Some b) a is e = at_test (nat_eq b.arity n) refl e
+  where
+    at_test : (t : Bool) → nat_eq b.arity n ≡ t → (if t then Ok b else Err faults.Arity) ≡ Ok a → (slice_get ss g ≡ Some a) × (a.arity ≡ n)
+    at_test true t h =
+        let one : b ≡ a = ap (sense_in b) h in
+        let many : b.arity ≡ n = grind (arith, nat_tests, t) in
+        (is ∙ ap (λ (c : Sense). Some c) one, ap (λ (c : Sense). c.arity) (sym one) ∙ many)
+    at_test false t h = absurd (let f : Err faults.Arity ≡ Ok a = h in cc)
+
+binder_sense : (ss : List Sense) (n : ℕ) (f : Found) (b : Binder) (a : Sense) → f.binder ≡ b → sense_of_binder ss n b ≡ Ok a → IsSense ss n (Some f) a
+binder_sense ss n f (binders.Predefined p) a is e = cc
+binder_sense ss n f (binders.Bound i) a is e = cc
+binder_sense ss n f (binders.Applicable g) a is e =
+    let both = arity_sense ss n g (slice_get ss g) a refl e in
+    record { now = f; there = refl; at = g; binder = is; has = both.0; many = both.1 }
+
+sense_found : (ss : List Sense) (n : ℕ) (o : Option Found) (a : Sense) → sense_of ss n o ≡ Ok a → IsSense ss n o a
+sense_found ss n None a e = cc
+sense_found ss n (Some f) a e = binder_sense ss n f f.binder a refl e
+
+-- a list that has the same values at the index
+same_at : {X Y Z : Type 0} (f : X → Z) (g : Y → Z) (xs : List X) (ys : List Y) (k : ℕ) (y : Y) → map f xs ≡ map g ys → slice_get ys k ≡ Some y → (x : X) × (slice_get xs k ≡ Some x) × (f x ≡ g y)
+same_at f g [] [] k y e h = absurd (none-some y h)
+same_at f g [] (z ∷ ys) k y e h = cc
+same_at f g (x ∷ xs) [] k y e h = absurd (none-some y h)
+same_at f g (x ∷ xs) (z ∷ ys) zero y e h =
+    let first : f x ≡ g z = cc in
+    let is : z ≡ y = cc in
+    (x, refl, first ∙ ap g is)
+same_at f g (x ∷ xs) (z ∷ ys) (suc k) y e h =
+    let rest : map f xs ≡ map g ys = cc in
+    same_at f g xs ys k y rest h
+
+pub applied_by : (s : Scope) (n : ℕ) (x : List ℕ) (a : Sense) → map (λ (u : Usage). u.arity) s.usages ≡ map (λ (b : Sense). b.arity) s.senses → sense_of s.senses n (found s.names x) ≡ Ok a → IsApplied s n x
+applied_by s n x a counts e =
+    let is = sense_found s.senses n (found s.names x) a e in
+    let at = same_at (λ (u : Usage). u.arity) (λ (b : Sense). b.arity) s.usages s.senses is.at a counts is.has in
+    record { now = is.now; there = is.there; at = is.at; binder = is.binder; sense = a; has_sense = is.has; known = e; usage = at.0; has_usage = at.1; many = at.2 ∙ is.many }
+
+pub map_at : {X Y : Type 0} (f : X → Y) (xs : List X) (k : ℕ) (x : X) → slice_get xs k ≡ Some x → slice_get (map f xs) k ≡ Some (f x)
+map_at f [] k x e = absurd (none-some x e)
+map_at f (z ∷ xs) zero x e = let is : z ≡ x = cc in ap (λ y. Some (f y)) is
+map_at f (z ∷ xs) (suc k) x e = map_at f xs k x e
+
+-- what is seen of the function that is applied
+pub seen_usage : (s : Scope) (n : ℕ) (ps : List (List ℕ)) (x : List ℕ) → parameter_of (reverse ps) x ≡ None → (h : IsApplied s n x) → usage_seen s.usages s.names ps n x ≡ Some h.usage
+seen_usage s n ps x none h =
+    let there = h.there in
+    let binder = h.binder in
+    let arity : slice_get (map (λ (u : Usage). u.arity) s.usages) h.at ≡ Some n = map_at (λ (u : Usage). u.arity) s.usages h.at h.usage h.has_usage ∙ ap (λ (k : ℕ). Some k) h.many in
+    let equal : nat_eq n n ≡ true = grind (arith, nat_tests) in
+    rw none (rw there (rw binder (rw arity (rw equal h.has_usage))))
+
+-- ---- what is used is kept
+
+same_bound : (i j : Input) → Some (binders.Bound i) ≡ Some (binders.Bound j) → i.item ≡ j.item
+same_bound i j e = ap (λ (k : Input). k.item) (bound (some e))
+  where
+    some : {a b : Binder} → Some a ≡ Some b → a ≡ b
+    some e = cc
+
+    bound : binders.Bound i ≡ binders.Bound j → i ≡ j
+    bound e = cc
+
+module _ (names : List Naming) where
+  there_already : (vs : List Used) (u : Used) → Each (IsBoundBy names) vs → IsBoundBy names u → is_some (index_of vs u.slot) ≡ true → Has (items_in vs) u.input.item
+  there_already [] u h b e = cc
+  there_already (v ∷ vs) u h b e = elim (cases_Bool (v.slot == u.slot)) [
+    | inl s ↦ inl (same_bound v.input u.input (sym h.0 ∙ ap (binder_at names) (eqb-true v.slot u.slot s) ∙ b))
+    | inr f ↦ inr (there_already vs u h.1 b (rw f at e))
+  ]
+
+  noted_has : (vs : List Used) (u : Used) → Each (IsBoundBy names) vs → IsBoundBy names u → Has (items_in (noted vs u)) u.input.item
+  noted_has vs u h b = at_test (is_some (index_of vs u.slot)) refl
+    where
+      at_test : (t : Bool) → is_some (index_of vs u.slot) ≡ t → Has (items_in (if t then vs else u ∷ vs)) u.input.item
+      at_test true e = there_already vs u h b e
+      at_test false e = inl refl
+
+  noted_bound : (vs : List Used) (u : Used) → Each (IsBoundBy names) vs → IsBoundBy names u → Each (IsBoundBy names) (noted vs u)
+  noted_bound vs u h b = noted_by (Each (IsBoundBy names)) vs u h (b, h)
+
+  all_bound : (ws vs : List Used) → Each (IsBoundBy names) vs → Each (IsBoundBy names) ws → Each (IsBoundBy names) (all_noted vs ws)
+  all_bound [] vs h g = h
+  all_bound (w ∷ ws) vs h g = all_bound ws (noted vs w) (noted_bound vs w h g.0) g.1
+
+  -- the names that an expression sees, of which those of the item itself have the slot `from` and those behind it
+  module _ (u : Reach) (s : Scope) (ps : List (List ℕ)) (from : ℕ)
+      (seen : (x : List ℕ) (f : Found) → found s.names x ≡ Some f → nat_le from f.slot ≡ false → binder_at names f.slot ≡ Some f.binder)
+      (own : (x : List ℕ) (f : Found) → found s.names x ≡ Some f → nat_le from f.slot ≡ true → IsKept u f.binder)
+      (values : (w : Usage) → Has s.usages w → Each (IsBoundBy names) w.values)
+      (functions : (k : ℕ) (w : Usage) → slice_get s.usages k ≡ Some w → slice_get u.functions k ≡ Some w.item) where
+    abbrev noted_in : Term → List Used → List Used
+    noted_in t vs = with_values s.usages s.names ps from t vs
+
+    abbrev applied_in : Term → List ℕ → List ℕ
+    applied_in t fs = with_functions s.usages s.names ps t fs
+
+    has_at : (xs : List Usage) (i : ℕ) (w : Usage) → slice_get xs i ≡ Some w → Has xs w
+    has_at [] i w e = absurd (none-some w e)
+    has_at (x ∷ xs) zero w e = inl (same_usage e)
+    has_at (x ∷ xs) (suc i) w e = inr (has_at xs i w e)
+
+    usage_there : (r : Result ℕ ModelFault) (w : Usage) → usage_at s.usages r ≡ Some w → Has s.usages w
+    usage_there (Ok f) w e = has_at s.usages f w e
+    usage_there (Err k) w e = absurd (none-some w e)
+
+    values_bound : (o : Option Usage) → ((w : Usage) → o ≡ Some w → Has s.usages w) → Each (IsBoundBy names) (values_of o)
+    values_bound None h = tt
+    values_bound (Some w) h = values w (h w refl)
+
+    seen_there : (n : ℕ) (x : List ℕ) (w : Usage) → usage_seen s.usages s.names ps n x ≡ Some w → Has s.usages w
+    seen_there n x w e = usage_there (applied_of (λ f. slice_get (map (λ u. u.arity) s.usages) f) n (parameter_of (reverse ps) x) (found s.names x)) w e
+
+    binder_bound : (slot : ℕ) (b : Binder) (vs : List Used) → binder_at names slot ≡ Some b → Each (IsBoundBy names) vs → Each (IsBoundBy names) (with_binder vs slot b)
+    binder_bound slot (binders.Predefined p) vs e h = h
+    binder_bound slot (binders.Bound i) vs e h = noted_bound vs (record { slot = slot; input = i }) h e
+    binder_bound slot (binders.Applicable f) vs e h = h
+
+    found_bound : (x : List ℕ) (f : Found) (vs : List Used) → found s.names x ≡ Some f → Each (IsBoundBy names) vs → Each (IsBoundBy names) (with_found vs from f)
+    found_bound x f vs e h = at_test (nat_le from f.slot) refl
+      where
+        at_test : (b : Bool) → nat_le from f.slot ≡ b → Each (IsBoundBy names) (if b then vs else with_binder vs f.slot f.binder)
+        at_test true t = h
+        at_test false t = binder_bound f.slot f.binder vs (seen x f e t) h
+
+    name_bound : (x : List ℕ) (o : Option Found) (vs : List Used) → found s.names x ≡ o → Each (IsBoundBy names) vs → Each (IsBoundBy names) (with_name vs from o)
+    name_bound x None vs e h = h
+    name_bound x (Some f) vs e h = found_bound x f vs e h
+
+    meaning_bound : (p : Option ℕ) (x : List ℕ) (vs : List Used) → Each (IsBoundBy names) vs → Each (IsBoundBy names) (with_meaning vs from p (found s.names x))
+    meaning_bound (Some i) x vs h = h
+    meaning_bound None x vs h = name_bound x (found s.names x) vs refl h
+
+    mutual
+      pub term_bound : (t : Term) (vs : List Used) → Each (IsBoundBy names) vs → Each (IsBoundBy names) (noted_in t vs)
+      term_bound (Atom x) vs h = meaning_bound (parameter_of (reverse ps) x) x vs h
+      term_bound AllEvents vs h = h
+      term_bound EmptyRelation vs h = h
+      term_bound EmptySet vs h = h
+      term_bound (Join op a b) vs h = term_bound b (noted_in a vs) (term_bound a vs h)
+      term_bound (Mark op a) vs h = term_bound a vs h
+      term_bound (Not a) vs h = term_bound a vs h
+      term_bound (On a) vs h = term_bound a vs h
+      term_bound (Apply x ts) vs h = terms_bound ts (all_noted vs (values_of (usage_seen s.usages s.names ps (count_of ts) x))) (all_bound (values_of (usage_seen s.usages s.names ps (count_of ts) x)) vs h (values_bound (usage_seen s.usages s.names ps (count_of ts) x) (seen_there (count_of ts) x)))
+
+      pub terms_bound : (ts : Terms) (vs : List Used) → Each (IsBoundBy names) vs → Each (IsBoundBy names) (with_values_among s.usages s.names ps from ts vs)
+      terms_bound NoTerm vs h = h
+      terms_bound (OneMore a others) vs h = terms_bound others (noted_in a vs) (term_bound a vs h)
+
+    binder_kept : (slot : ℕ) (b : Binder) (vs : List Used) → IsValue b → binder_at names slot ≡ Some b → Each (IsBoundBy names) vs → Grows (items_in (with_binder vs slot b)) u.items → IsKept u b
+    binder_kept slot (binders.Predefined p) vs v e h all = tt
+    binder_kept slot (binders.Bound i) vs v e h all = all i.item (noted_has vs (record { slot = slot; input = i }) h e)
+    binder_kept slot (binders.Applicable f) vs v e h all = absurd v
+
+    found_kept : (x : List ℕ) (f : Found) (vs : List Used) → IsValue f.binder → found s.names x ≡ Some f → Each (IsBoundBy names) vs → Grows (items_in (with_found vs from f)) u.items → IsKept u f.binder
+    found_kept x f vs v e h all = at_test (nat_le from f.slot) refl all
+      where
+        at_test : (b : Bool) → nat_le from f.slot ≡ b → Grows (items_in (if b then vs else with_binder vs f.slot f.binder)) u.items → IsKept u f.binder
+        at_test true t g = own x f e t
+        at_test false t g = binder_kept f.slot f.binder vs v (seen x f e t) h g
+
+    atom_kept : (x : List ℕ) (vs : List Used) → parameter_of (reverse ps) x ≡ None → IsNamed s.names x → Each (IsBoundBy names) vs → Grows (items_in (with_meaning vs from (parameter_of (reverse ps) x) (found s.names x))) u.items → IsNameKept u s.names x
+    atom_kept x vs none n h all =
+        let there = n.there in
+        let given : Grows (items_in (with_found vs from n.now)) u.items = rw there at (rw none at all) in
+        record { now = n.now; there = n.there; value = n.value; kept = found_kept x n.now vs n.value n.there h given }
+
+    function_kept : (n : ℕ) (x : List ℕ) (fs : List ℕ) → parameter_of (reverse ps) x ≡ None → (h : IsApplied s n x) → Grows (with_items fs (functions_of (usage_seen s.usages s.names ps n x))) u.items → IsFunctionKept u s n x
+    function_kept n x fs none h all =
+        let given : Grows (with_items fs (functions_of (Some h.usage))) u.items = subst (λ (o : Option Usage). Grows (with_items fs (functions_of o)) u.items) (seen_usage s n ps x none h) all in
+        let there : Has (with_items fs (functions_of (Some h.usage))) h.usage.item = items_grow h.usage.functions (with_item fs h.usage.item) h.usage.item (item_there fs h.usage.item) in
+        record { applied = h; kept = (h.usage.item, functions h.at h.usage h.has_usage, given h.usage.item there) }
+
+    mutual
+      pub term_kept : (t : Term) (vs : List Used) (fs : List ℕ) → HasNames s ps t → Each (IsBoundBy names) vs → Grows (items_in (noted_in t vs)) u.items → Grows (applied_in t fs) u.items → HasKeptNames u s ps t
+      term_kept (Atom x) vs fs n h all apps = λ none. atom_kept x vs none (n none) h all
+      term_kept AllEvents vs fs n h all apps = tt
+      term_kept EmptyRelation vs fs n h all apps = tt
+      term_kept EmptySet vs fs n h all apps = tt
+      term_kept (Join op a b) vs fs n h all apps = (
+        term_kept a vs fs n.0 h (λ k g. all k (values_grow s.usages s.names ps from b (noted_in a vs) k g)) (λ k g. apps k (functions_grow s.usages s.names ps b (applied_in a fs) k g)),
+        term_kept b (noted_in a vs) (applied_in a fs) n.1 (term_bound a vs h) all apps,
+      )
+      term_kept (Mark op a) vs fs n h all apps = term_kept a vs fs n h all apps
+      term_kept (Not a) vs fs n h all apps = term_kept a vs fs n h all apps
+      term_kept (On a) vs fs n h all apps = term_kept a vs fs n h all apps
+      term_kept (Apply x ts) vs fs n h all apps =
+          let o : Option Usage = usage_seen s.usages s.names ps (count_of ts) x in (
+            n.0,
+            function_kept (count_of ts) x fs n.0 n.1 (λ k g. apps k (all_functions_grow s.usages s.names ps ts (with_items fs (functions_of o)) k g)),
+            terms_kept ts (all_noted vs (values_of o)) (with_items fs (functions_of o)) n.2 (all_bound (values_of o) vs h (values_bound o (seen_there (count_of ts) x))) all apps,
+          )
+
+      pub terms_kept : (ts : Terms) (vs : List Used) (fs : List ℕ) → HaveNames s ps ts → Each (IsBoundBy names) vs → Grows (items_in (with_values_among s.usages s.names ps from ts vs)) u.items → Grows (with_functions_among s.usages s.names ps ts fs) u.items → HaveKeptNames u s ps ts
+      terms_kept NoTerm vs fs n h all apps = tt
+      terms_kept (OneMore a others) vs fs n h all apps = (
+        term_kept a vs fs n.0 h (λ k g. all k (all_values_grow s.usages s.names ps from others (noted_in a vs) k g)) (λ k g. apps k (all_functions_grow s.usages s.names ps others (applied_in a fs) k g)),
+        terms_kept others (noted_in a vs) (applied_in a fs) n.1 (term_bound a vs h) all apps,
+      )

@@ -1,2 +1,0 @@
-pub mod InitReading
-pub mod PartReading

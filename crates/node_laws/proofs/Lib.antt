@@ -1,5 +1,0 @@
-pub mod FromScratch
-pub mod Kept
-pub mod Latest
-pub mod Said
-pub mod Valued

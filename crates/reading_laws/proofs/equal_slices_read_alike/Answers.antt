@@ -1,5 +1,0 @@
-use Rattle.reading_laws.proofs.Slices.{read_alike}
-use Rattle.reading_laws.proofs.equal_slices_read_alike.Goals as goal
-
-pub returns : goal.returns
-returns c = read_alike

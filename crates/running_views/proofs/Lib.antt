@@ -1,2 +1,0 @@
-pub mod Posted
-pub mod Contents

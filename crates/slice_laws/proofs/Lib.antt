@@ -1,4 +1,0 @@
-pub mod Tests
-pub mod Models
-pub mod Saying
-pub mod Deciding

@@ -1,6 +1,0 @@
-use Rattle.std.proofs.Common.{arith}
-use Rattle.source_text.proofs.Bytes.{no_comment}
-use Rattle.source_text.proofs.layout.comment_length.Goals as goal
-
-pub returns-then-bytes-lt2-clause-value : goal.returns-then-bytes-lt2-clause-value
-returns-then-bytes-lt2-clause-value c = no_comment c.args.bytes.now (omega arith)

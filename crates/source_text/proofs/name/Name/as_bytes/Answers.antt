@@ -1,9 +1,0 @@
-use Rattle.std.proofs.Common.{ap, sym, ◌∙◌, ℕ, Vec, Global}
-use Rattle.source_text.specs.Names.{bytes_of}
-use Rattle.source_text.proofs.name.Name.as_bytes.Goals as goal
-
-pub returns-in-Short : goal.returns-in-Short
-returns-in-Short c = sym (ap bytes_of c.in-Short.is) ∙ c.self.view_is
-
-pub returns-in-Long : goal.returns-in-Long
-returns-in-Long c = c.as_slice.ensures.value ∙ ap (λ (v : Vec ℕ Global). v.items) c.deref.ensures ∙ sym (ap bytes_of c.in-Long.is) ∙ c.self.view_is

@@ -1,4 +1,0 @@
-pub mod Joined
-pub mod Layout
-pub mod Letters
-pub mod Names

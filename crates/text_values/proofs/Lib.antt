@@ -1,0 +1,4 @@
+pub mod Bytes
+pub mod InPlace
+pub mod Separated
+pub mod Arguments

@@ -1,5 +1,0 @@
-pub mod Names
-pub mod Widths
-pub mod Rights
-pub mod Counts
-pub mod Items
