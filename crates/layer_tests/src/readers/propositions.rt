@@ -1,4 +1,4 @@
-//! Propositions as `litmus_conditions` reads them, token by token, in a test of two threads.
+//! Propositions as `litmus_tokens` reads them, token by token, in a test of two threads.
 
 use litmus_tokens::{
     Expectation, Front, PropositionStep, Stage, StepError, Token, front_of, proposition_step,
