@@ -11,12 +11,12 @@ use Rattle.binding_kinds.specs.declared.scope.Binder.{Binder}
 use Rattle.binding_kinds.specs.declared.scope.Binder.TheVariants as binders
 use Rattle.text_values.specs.ModelValue.{Term, Terms, Atom, AllEvents, EmptyRelation, EmptySet, Join, Mark, Not, On, Apply, NoTerm, OneMore}
 use Rattle.binding_kinds.specs.Value.{Naming, Bound, Clause, Group, Check, Mute, Defined}
-use Rattle.binding_kinds.specs.Kinds.{found, takes, takes_body, is_relation, is_set, is_turned, joined, marked, narrowed, kind_found}
+use Rattle.binding_kinds.specs.Kinds.{found, takes, is_relation, is_set, is_turned, joined, marked, narrowed, kind_found}
 use Rattle.binding_kinds.specs.Senses.{Sense, size_with, sense_of, count_of, sizes_in, kind_in, kinds_in, kind_applied, fault_applied, first_within, first_among, under_of}
 use Rattle.binding_kinds.specs.Faults.{with_own, with_all, extended, senses_after}
 use Rattle.binding_kinds.specs.Verdict.{or_else, unless, of_parameters}
 use Rattle.binding_kinds.specs.First.{of_binding, first_in, first_of_body, first_of_item}
-use Rattle.binding_kinds.specs.Fits.{IsKnown, IsValue, IsKnownValue, IsFitApplied, IsFit, AreFitArguments, AreFit, AreSound, kind_of, IsTyped, AreKnown, IsFitClause}
+use Rattle.binding_kinds.specs.Fits.{IsKnown, IsValue, IsKnownValue, IsFitApplied, IsFit, AreFitArguments, AreFit, AreSound, kind_of, IsTyped, AreKnown}
 use Rattle.binding_kinds.specs.Formula.{Formula}
 use Rattle.binding_kinds.specs.Functions.{sense_seen, bound_formula, named_formula, applied_formula, formula_in, formulas_in, sense_of_function}
 use Rattle.binding_kinds.proofs.Applications.{found_arity, long_kinds}
@@ -144,14 +144,6 @@ known_all ss outer item at [] names sound h f = h
 known_all ss outer item at (b ∷ bs) names sound h f =
     let n : Naming = record { name = b.name; kind = kind_in ss outer b.body; binder = binders.Bound (record { item = item; position = at }) } in
     known_all ss outer item (suc at) bs (n ∷ names) sound (fit_known ss outer b.body sound f.0, h) f.1
-
--- an item without fault fits
-pub fit_item : (ss : List Sense) (names : List Naming) (item : ℕ) (c : Clause) → AreKnown names → first_of_item ss names item c ≡ None → IsFitClause ss names (extended ss names item c) c
-fit_item ss names item (Group true bs) h e = fit_in ss (with_own names item 0 bs) (length names) true [] bs (known_own names item 0 bs h) e
-fit_item ss names item (Group false bs) h e = fit_in ss names (length names) false [] bs h e
-fit_item ss names item (Check w b) h e = fit ss names (length names) false b h (none_later (unless (takes_body w (kind_in ss names b)) faults.Kind) _ e)
-fit_item ss names item Mute h e = tt
-fit_item ss names item (Defined n ps b) h e = tt
 
 -- its names are known
 pub known_item : (ss : List Sense) (names : List Naming) (item : ℕ) (c : Clause) → AreSound ss → AreKnown names → first_of_item ss names item c ≡ None → AreKnown (extended ss names item c)

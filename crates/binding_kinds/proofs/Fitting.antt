@@ -1,5 +1,5 @@
 -- Expressions without fault fit.
-use Rattle.std.proofs.Common.{ℕ, ◌≡◌, ◌<◌, List, [], ◌∷◌, length, Bool, true, false, IsTrue, Option, Some, None, refl, arith, rules}
+use Rattle.std.proofs.Common.{ℕ, ◌≡◌, List, [], ◌∷◌, length, Bool, true, false, IsTrue, Option, Some, None, refl, rules}
 use Rattle.std.specs.Prelude.{if◌then◌else◌, bytes_eq}
 use Rattle.text_values.specs.declared.model.Infix.{Infix}
 use Rattle.text_values.specs.declared.model.Infix.TheVariants.{Union, Sequence, Difference, Intersection, Product}
@@ -28,18 +28,6 @@ none_later (Some k) q e = absurd (let f : Some k ≡ None = e in cc)
 pub holds : (b : Bool) (k : ModelFault) → unless b k ≡ None → IsTrue b
 holds true k e = search rules
 holds false k e = absurd (let f : Some k ≡ None = e in cc)
-
--- the slot of a name is that of a name that is seen
-pub found_below : (names : List Naming) (x : List ℕ) (f : Found) → found names x ≡ Some f → f.slot < length names
-found_below [] x f e = absurd (let g : None ≡ Some f = e in cc)
-found_below (n ∷ ns) x f e = at_test (bytes_eq n.name x) (found_below ns x f) e
-  where
-    at_test : (b : Bool) → (found ns x ≡ Some f → f.slot < length ns) → (if b then Some (record { slot = length ns; kind = n.kind; binder = n.binder }) else found ns x) ≡ Some f → f.slot < length (n ∷ ns)
-    at_test true below e =
-        let g : Found = record { slot = length ns; kind = n.kind; binder = n.binder } in
-        let s : g ≡ f = let same : Some g ≡ Some f = e in cc in
-        rw (← s) (omega arith)
-    at_test false below e = let lt = below e in omega arith
 
 -- a name is known among known names, unless it is a function
 pub known_found : (names : List Naming) (x : List ℕ) (f : Found) → AreKnown names → found names x ≡ Some f → IsKnownUnlessFunction f.binder f.kind

@@ -1,5 +1,5 @@
 -- Expressions without fault, whose kinds are known.
-use Rattle.std.specs.Prelude.{◌≡◌, ℕ, ◌≤◌, List, [], ◌∷◌, length, true, false, IsTrue, Option, Some, None, Result, Ok, Err, get_or}
+use Rattle.std.specs.Prelude.{◌≡◌, ℕ, ◌≤◌, List, [], ◌∷◌, length, false, IsTrue, Option, Some, None, Result, Ok, Err, get_or}
 use Rattle.text_values.specs.ModelValue.{Term, Terms, Atom, AllEvents, EmptyRelation, EmptySet, Join, Mark, Not, On, Apply, NoTerm, OneMore}
 use Rattle.binding_kinds.specs.declared.fault.ModelFault.{ModelFault}
 use Rattle.binding_kinds.specs.declared.kinds.Kind.{Kind}
@@ -7,7 +7,7 @@ use Rattle.binding_kinds.specs.declared.kinds.Kind.TheVariants.{OfSet, OfRelatio
 use Rattle.binding_kinds.specs.declared.scope.Found.{Found}
 use Rattle.binding_kinds.specs.declared.scope.Binder.{Binder}
 use Rattle.binding_kinds.specs.declared.scope.Binder.TheVariants as binders
-use Rattle.binding_kinds.specs.Value.{Naming, Bound, Clause, Group, Check, Mute, Defined}
+use Rattle.binding_kinds.specs.Value.{Naming, Bound}
 use Rattle.binding_kinds.specs.Kinds.{found, takes, joined, marked, narrowed, is_relation, is_set}
 use Rattle.binding_kinds.specs.Formula.{Formula, Value, Parameter, Everything, NoPairs, NoEvents, Joined, Marked, Complement, Identity}
 use Rattle.binding_kinds.specs.Senses.{Sense, sense_of, count_of, size_with, sizes_in, kind_in, kinds_in}
@@ -103,11 +103,3 @@ IsKnownUnlessFunction (binders.Applicable f) k = Unit {0}
 abbrev pub AreKnown : List Naming → Type 0
 AreKnown [] = Unit {0}
 AreKnown (n ∷ ns) = IsKnownUnlessFunction n.binder n.kind × AreKnown ns
-
--- The bodies of a recursive group see its names, and other bodies the names before the item.
-abbrev pub IsFitClause : List Sense → List Naming → List Naming → Clause → Type 0
-IsFitClause ss names own (Group true bs) = AreFit ss own bs
-IsFitClause ss names own (Group false bs) = AreFit ss names bs
-IsFitClause ss names own (Check w e) = IsFit ss names e
-IsFitClause ss names own Mute = Unit {0}
-IsFitClause ss names own (Defined n ps b) = Unit {0}

@@ -1,6 +1,5 @@
 -- Elements that are changed or removed, seen through a function, at any index.
 use Rattle.std.proofs.Common.{◌≡◌, ℕ, zero, suc, ◌<◌, ◌≤◌, List, [], ◌∷◌, length, map, get_or, take, drop, Option, ◌+◌, ◌++◌, add-one, subst, refl, sym, ap, ◌∙◌, arith}
-use Rattle.std.specs.Prelude.{remove}
 use Rattle.std.proofs.Math.ListN.{set}
 use Rattle.verdict.specs.declared.answer.Outcome.{Outcome}
 use Rattle.bench_texts.specs.BenchTexts.{changed_at, put_at}
@@ -15,12 +14,6 @@ pub changed-past : {A : Type 0} (f : A → A) (xs : List A) (i : ℕ) → length
 changed-past f [] i le = refl
 changed-past f (x ∷ xs) zero le = absurd (omega arith)
 changed-past f (x ∷ xs) (suc i) le = ap (λ r. x ∷ r) (changed-past f xs i (omega arith))
-
-pub removed-past : {A : Type 0} (xs : List A) (i : ℕ) → length xs ≤ i → remove xs i ≡ xs
-removed-past [] zero le = refl
-removed-past [] (suc i) le = refl
-removed-past (x ∷ xs) zero le = absurd (omega arith)
-removed-past (x ∷ xs) (suc i) le = ap (λ r. x ∷ r) (removed-past xs i (omega arith))
 
 pub changed-by : {A : Type 0} (f : A → A) (xs : List A) (i : ℕ) (x y : A) → i < length xs → x ≡ get_or xs i x → y ≡ f x → set xs i y ≡ changed_at i f xs
 changed-by f [] i x y lt e h = absurd (omega arith)

@@ -1,4 +1,4 @@
-use Rattle.std.proofs.Common.{◌≡◌, ℕ, ◌+◌, Bool, List, [], ◌∷◌, ◌++◌, length, sym, subst, arith}
+use Rattle.std.proofs.Common.{ℕ, ◌+◌, Bool, List, [], ◌∷◌, ◌++◌, sym, subst}
 use Rattle.std.specs.Prelude.{Result, Ok, Err}
 use Rattle.std.specs.List.{AllZip}
 use Rattle.memo_core.specs.Run.{Bench, Meaning}
@@ -45,9 +45,3 @@ module _ {T E V G F : Type 0} (means : Meaning T E V G) (refuses : Refusing T E 
   answered_same old new given after (e ∷ es) [] rs z h = absurd z
   answered_same old new given after (e ∷ es) (f ∷ fs) [] z h = absurd h
   answered_same old new given after (e ∷ es) (f ∷ fs) (r ∷ rs) z h = (h.0, h.1, one_same old h.0 given h.1 e f r z.0 h.2, answered_same h.0 new h.1 after es fs rs z.1 h.3)
-
-pub zip_length : {A B : Type 0} (R : A → B → Type 0) (xs : List A) (ys : List B) → AllZip R xs ys → length xs ≡ length ys
-zip_length R [] [] z = omega arith
-zip_length R [] (y ∷ ys) z = absurd z
-zip_length R (x ∷ xs) [] z = absurd z
-zip_length R (x ∷ xs) (y ∷ ys) z = omega (arith, zip_length R xs ys z.1)

@@ -7,10 +7,6 @@ pub fold_push : {A B : Type 0} (f : B → A → B) (b : B) (xs : List A) (x : A)
 fold_push f b [] x = refl
 fold_push f b (y ∷ xs) x = fold_push f (f b y) xs x
 
-pub fold_append : {A B : Type 0} (f : B → A → B) (b : B) (xs ys : List A) → fold f b (xs ++ ys) ≡ fold f (fold f b xs) ys
-fold_append f b [] ys = refl
-fold_append f b (x ∷ xs) ys = fold_append f (f b x) xs ys
-
 -- what a list with one element more begins with, if it is just one shorter, is all but that element
 pub all_but_last : {A : Type 0} (xs ys : List A) (y : A) → IsPrefix xs (ys ++ y ∷ []) → length (ys ++ y ∷ []) ≡ suc (length xs) → xs ≡ ys
 all_but_last [] [] y p n = refl

@@ -104,10 +104,6 @@ has_put fresh (suc at) n (r ∷ rs) (t ∷ ts) (l ∷ ls) new last h id has = el
   | inr later ↦ elim (has_put fresh at n rs ts ls new last h.1 id later) [ inl was ↦ inl (inr was) | inr e ↦ inr e ]
 ]
 
-low_has : (last : ℕ) (rs : List TestRow) (n : ℕ) → Each (λ r. r.id ≤ last) rs → Has (ids rs) n → n ≤ last
-low_has last [] n low has = absurd has
-low_has last (r ∷ rs) n low has = elim has [ inl e ↦ omega (arith, low.0, e) | inr later ↦ low_has last rs n low.1 later ]
-
 pub apart_put : (fresh at last : ℕ) (rs : List TestRow) (ts : List Test) (ls : List Names) (new : TestRow) → AreTestRows last rs ts ls → new.id ≡ test_id fresh (entry_in rs ts ls at) → last < fresh → Each (λ r. r.id ≤ last) rs → AreApart (ids rs) → AreApart (ids (put_at at new rs))
 apart_put fresh zero last [] [] [] new h id lt low apart = ((λ gone. gone), tt)
 apart_put fresh (suc at) last [] [] [] new h id lt low apart = ((λ gone. gone), tt)

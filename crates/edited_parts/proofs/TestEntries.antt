@@ -1,5 +1,5 @@
 -- Tests with their rows and locations, before an edit and after it.
-use Rattle.std.proofs.Common.{◌≡◌, ◌≢◌, ℕ, zero, suc, ◌-◌, inl, inr, true, List, [], ◌∷◌, map, Some, None, Vec, Global, slice_get, refl, sym, ap, subst, eq-eqb, ne_eqb}
+use Rattle.std.proofs.Common.{◌≡◌, ◌≢◌, ℕ, zero, suc, inl, inr, true, List, [], ◌∷◌, map, Some, None, Vec, Global, slice_get, refl, sym, ap, subst, eq-eqb, ne_eqb}
 use Rattle.std.specs.List.{AllZip, remove}
 use Rattle.text_values.specs.declared.test.Test.{Test}
 use Rattle.text_values.specs.TestValue.{Content, content_of, formula_of, steps_of}
@@ -54,14 +54,6 @@ entry_is last at (q ∷ rs) [] ls h = absurd h
 entry_is last at (q ∷ rs) (u ∷ ts) [] h = absurd h
 entry_is last zero (q ∷ rs) (u ∷ ts) (m ∷ ls) h = refl
 entry_is last (suc at) (q ∷ rs) (u ∷ ts) (m ∷ ls) h = entry_is last at rs ts ls h.1
-
-pub entry_ids : (last : ℕ) (rs : List TestRow) (ts : List Test) (ls : List Names) → AreTestRows last rs ts ls → map (λ e. e.row.id) (entries rs ts ls) ≡ map (λ r. r.id) rs
-entry_ids last [] [] [] h = refl
-entry_ids last [] [] (m ∷ ls) h = absurd h
-entry_ids last [] (u ∷ ts) ls h = absurd h
-entry_ids last (q ∷ rs) [] ls h = absurd h
-entry_ids last (q ∷ rs) (u ∷ ts) [] h = absurd h
-entry_ids last (q ∷ rs) (u ∷ ts) (m ∷ ls) h = ap (λ (ns : List ℕ). q.id ∷ ns) (entry_ids last rs ts ls h.1)
 
 abbrev pub entry_name : TestEntry → List ℕ
 entry_name e = e.test.name

@@ -1,5 +1,5 @@
 -- What a bench keeps of its tests and models (`IsKept`), and the nodes of its cells. Read it after stamped_parts' specs/Built and
--- cell_laws' specs/Settled.
+-- `Settled`.
 use Rattle.std.specs.Prelude.{◌≡◌, ⊤, ℕ, List, [], length, Option, Some, None, slice_get, AllPairs}
 use Rattle.std.specs.List.{AllZip, AllByRecursion as Each}
 use Rattle.text_values.specs.declared.test.Test.{Test}

@@ -1,5 +1,5 @@
 -- The parts of the bench before an edit and after it (`IsOrderlyEdit`), and what the edit leaves of a cell (`CellsAreLeft`). Read it
--- after edited_parts' specs/Laws and `Cells`.
+-- after `Laws` and `BenchCells`.
 use Rattle.std.specs.Prelude.{◌≡◌, ℕ, List, map, Some, slice_get, All}
 use Rattle.std.specs.List.{AllByRecursion as Each}
 use Rattle.text_values.specs.declared.test.Test.{Test}

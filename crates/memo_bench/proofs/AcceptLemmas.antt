@@ -112,6 +112,3 @@ finishes old new r names (Stale stamp) t a e = absurd t
 pub no_items : (xs : List ℕ) → length xs ≡ 0 → xs ≡ []
 no_items [] h = refl
 no_items (x ∷ xs) h = absurd (omega arith)
-
-pub some_items : (xs : List ℕ) → length xs ≢ 0 → xs ≢ []
-some_items xs h e = h (ap length e)

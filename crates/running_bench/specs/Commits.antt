@@ -87,10 +87,6 @@ apart_of : (ns : List ℕ) → AreApart ns → owed.AreApart ns
 apart_of [] h = tt
 apart_of (n ∷ ns) h = (h.0, apart_of ns h.1)
 
-pub apart_back : {A : Type 0} (xs : List A) → owed.AreApart xs → AreApart xs
-apart_back [] h = tt
-apart_back (x ∷ xs) h = (h.0, apart_back xs h.1)
-
 -- ---- the edit
 
 module _ (keep : EditsKeepParts) (go : EditsGoOn) (t u w : StampedTexts) (e : Edit) (p : PreparedEdit) (number : ℕ) (h : IsPrepared t e p u) (c : IsCommitted u p number w) where

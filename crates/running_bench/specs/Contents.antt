@@ -1,4 +1,4 @@
--- The texts after some operations as they are read, and with the numbers of their items. Read it after those of `running_bench`.
+-- The texts after some operations as they are read, and with the numbers of their items. Read it after Cells and Texts.
 use Rattle.std.specs.Prelude.{◌≡◌, ◌≤◌, ℕ, false, List, [], ◌∷◌, ◌++◌, length}
 use Rattle.verdict.specs.declared.answer.Outcome.{Outcome}
 use Rattle.bench_texts.specs.Edits as edits

@@ -1,4 +1,4 @@
--- What an edit makes of texts with stamps, and how it is prepared and put in place. Read it after Texts.
+-- What an edit makes of texts with stamps, and how it is prepared and put in place. Read it after StampedTexts.
 use Rattle.std.specs.Prelude.{◌≡◌, ℕ, ◌+◌, ◌*◌, ◌<◌, ◌≤◌, ◌^◌, length, false}
 use Rattle.bench_texts.specs.declared.edit.Edit as code
 use Rattle.bench_texts.specs.Edits.{edit_of, Applies}

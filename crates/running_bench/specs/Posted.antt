@@ -1,4 +1,4 @@
--- Cells that the desk lists as settled, and what is shown of them. Read Results first.
+-- Cells that the desk lists as settled, and what is shown of them. Read board's Results first.
 use Rattle.std.specs.Prelude.{◌≡◌, ℕ, List}
 use Rattle.verdict.specs.declared.answer.Outcome.{Outcome}
 use Rattle.compare_report.specs.Cells.{Settled}

@@ -1,7 +1,7 @@
 -- Names keep their numbers as a history grows.
-use Rattle.std.proofs.Common.{ℕ, suc, ◌+◌, ◌≤◌, ◌≡◌, ◌==◌, true, false, List, [], ◌∷◌, ◌++◌, Some, length, inl, inr, refl, sym, ap, subst, ◌∙◌, append_assoc, length-append, eq-eqb, ne_eqb, arith}
+use Rattle.std.proofs.Common.{ℕ, ◌+◌, ◌≤◌, ◌≡◌, ◌==◌, true, false, List, [], ◌∷◌, ◌++◌, length, inl, inr, refl, sym, ap, subst, ◌∙◌, append_assoc, length-append, eq-eqb, ne_eqb, arith}
 use Rattle.std.specs.Str.{bytes_eq}
-use Rattle.std.specs.List.{slice_get, AllByRecursion as Each}
+use Rattle.std.specs.List.{AllByRecursion as Each}
 use Rattle.std.proofs.lemmas.Bool.{cases_Bool}
 use Rattle.std.proofs.lemmas.List.{append-nil}
 use Rattle.std.proofs.lemmas.Slice.Eq.{bytes_eq-Decides}
@@ -21,16 +21,6 @@ number_within (n ∷ h) a = elim (cases_Bool (bytes_eq n a)) [
   | inr f ↦ rw f (let within = number_within h a in omega (arith, within))
 ]
 
--- a name stands at its number
-pub name_at_number : (h : List (List ℕ)) (a : List ℕ) → IsNamed h a → slice_get h (number_of h a) ≡ Some a
-name_at_number [] a lt = absurd (omega (arith, lt))
-name_at_number (n ∷ h) a lt = elim (cases_Bool (bytes_eq n a)) [
-  | inl e ↦ rw e (ap Some ((bytes_eq-Decides n a).0 e))
-  | inr f ↦ (
-      let here = rw f at lt in
-      let next = name_at_number h a (omega (arith, here)) in
-      let moved : 1 + number_of h a ≡ suc (number_of h a) = omega arith in
-      rw f (rw moved next))
 ]
 
 -- a name keeps its number where names are added behind
