@@ -21,8 +21,6 @@ number_within (n ∷ h) a = elim (cases_Bool (bytes_eq n a)) [
   | inr f ↦ rw f (let within = number_within h a in omega (arith, within))
 ]
 
-]
-
 -- a name keeps its number where names are added behind
 pub number_stays : (h rest : List (List ℕ)) (a : List ℕ) → IsNamed h a → number_of (h ++ rest) a ≡ number_of h a
 number_stays [] rest a lt = absurd (omega (arith, lt))
