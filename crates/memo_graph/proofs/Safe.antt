@@ -1,7 +1,7 @@
 -- Functions put no name of a recursive group where it may not stand: with arguments that hold none their bodies hold none, and
 -- where a parameter stands under no complement its argument may hold one.
-use Rattle.std.proofs.Common.{ℕ, ◌≡◌, ◌≤◌, ◌+◌, zero, suc, List, [], ◌∷◌, ◌++◌, length, map, reverse, Bool, true, false, nat_le, Option, Some, None, Result, Ok, Err, refl, sym, ap, ◌∙◌, subst, arith, get_or}
-use Rattle.std.specs.Prelude.{◌&&◌, is_some, nat_eq, if◌then◌else◌, slice_get}
+use Rattle.std.proofs.Common.{ℕ, ◌≡◌, ◌<◌, ◌≤◌, ◌+◌, zero, suc, List, [], ◌∷◌, ◌++◌, length, map, reverse, Bool, true, false, nat_le, Option, Some, None, Result, Ok, Err, refl, sym, ap, ◌∙◌, subst, arith, get_or}
+use Rattle.std.specs.Prelude.{◌&&◌, is_some, nat_eq, bytes_eq, if◌then◌else◌, slice_get}
 use Rattle.std.specs.List.{AllByRecursion}
 use Rattle.std.proofs.lemmas.Bool.{leb-true, or_left, or_right}
 use Rattle.std.proofs.lemmas.Bool.Decides.{nat_tests}
@@ -21,11 +21,22 @@ use Rattle.binding_kinds.specs.declared.kinds.Kind.TheVariants.{OfRelation}
 use Rattle.binding_kinds.specs.Senses.{Sense, kind_in, with_arity, sense_of_binder, sense_of, count_of}
 use Rattle.binding_kinds.specs.Functions.{sense_seen, is_at, under_at, is_under_in, is_under_among, bound_formula, named_formula, applied_formula, formula_in, formulas_in, sense_of_function}
 use Rattle.binding_kinds.specs.Faults.{with_own, with_all, extended, senses_after}
-use Rattle.binding_kinds.proofs.Fitting.{found_below}
 use Rattle.binding_graph.specs.declared.resolved.Blend.TheVariants as blends
 use Rattle.binding_graph.specs.Meaning.{source_of, source_of_binder, relation_of}
 use Rattle.binding_graph.specs.Trees.{RelTree, RelName, NoPair, RelBlend, Then, Cross, OnSet, Close, RelNot}
 use Rattle.cat_eval.specs.Least.{IsOutside, IsFixed, IsMonotone}
+
+-- the slot of a name is that of a name that is seen
+found_below : (names : List Naming) (x : List ℕ) (f : Found) → found names x ≡ Some f → f.slot < length names
+found_below [] x f e = absurd (let g : None ≡ Some f = e in cc)
+found_below (n ∷ ns) x f e = at_test (bytes_eq n.name x) (found_below ns x f) e
+  where
+    at_test : (b : Bool) → (found ns x ≡ Some f → f.slot < length ns) → (if b then Some (record { slot = length ns; kind = n.kind; binder = n.binder }) else found ns x) ≡ Some f → f.slot < length (n ∷ ns)
+    at_test true below e =
+        let g : Found = record { slot = length ns; kind = n.kind; binder = n.binder } in
+        let s : g ≡ f = let same : Some g ≡ Some f = e in cc in
+        rw (← s) (omega arith)
+    at_test false below e = let lt = below e in omega arith
 
 -- ---- expressions that hold no name of a group, and those that rise with the names of a group
 
