@@ -3,7 +3,7 @@ use Rattle.std.specs.Prelude.{◌≡◌, false, ℕ, List, [], ◌∷◌, fold, 
 use Rattle.text_values.specs.TestValue.{content_of}
 use Rattle.bench_texts.specs.declared.edit.Edit as code
 use Rattle.bench_texts.specs.BenchTexts.{BenchTexts}
-use Rattle.bench_texts.specs.Edits.{Edit, edit_of, Applies}
+use Rattle.bench_texts.specs.Edits.{Edit, edit_of, is_whole, Applies}
 use Rattle.bench_texts.specs.Held.{model_of}
 use Rattle.bench_texts.specs.Replacements.{texts_with}
 use Rattle.board.specs.declared.operation.BoardOp.{BoardOp}
@@ -63,7 +63,8 @@ MayComeNext all op = MayFollow (texts_after all) (legal.last_number all) op × I
 
 -- the operation is that of the edit of these texts, under that number
 abbrev pub IsEditOf : BenchTexts → BoardOp → Edit → ℕ → Type 0
-IsEditOf t (ops.Edit edit) e number = (edit.number ≡ number) × Applies t false e (texts_with edit.prepared.value.replacement t)
+IsEditOf t (ops.Edit edit) e number =
+    (edit.number ≡ number) × Applies t false e (texts_with edit.prepared.value.replacement t) × (edit.prepared.value.whole ≡ is_whole e)
 IsEditOf t (ops.Settle at outcome) e number = ⊥
 
 -- the operation is that of the edit of the texts after these, under that number

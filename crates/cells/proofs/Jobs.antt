@@ -81,17 +81,17 @@ made_given (Ok d) ts t o one is made = is ∙ ap Some (some_task t (task_answere
 made_given (Err f) ts t o one is made = tt
 
 -- a return that is offered is one event
-pub returned : {T E V G F : Type 0} (means : Meaning T E V G) (refuses : Refusing T E F) (old new : Bench T V) (o : Option (Task V G)) (answer : Finish) (r : Returning V G) → o ≡ Some (task_answered r) → Step means old (core.Returned r answer) new
-    → IsReturned means refuses old o (Ok answer) new
-returned means refuses old new o answer r h step = rw h (r, refl, step)
+pub returned : {T E V G F : Type 0} (means : Meaning T E V G) (refuses : Refusing T E F) (last : T → ℕ) (old new : Bench T V) (o : Option (Task V G)) (answer : Finish) (r : Returning V G) → o ≡ Some (task_answered r) → Step means old (core.Returned r answer) new
+    → IsReturned means refuses last old o (Ok answer) new
+returned means refuses last old new o answer r h step = rw h (r, refl, step)
 
 -- one event more, with its reply
-pub answered_last : {T E V G F : Type 0} (means : Meaning T E V G) (refuses : Refusing T E F) (old mid new : Bench T V) (given later after : List (Task V G)) (es : List (Event E)) (rs : List (Reply F)) (e : Event E) (r : Reply F)
-    → AreAnswered means refuses old given es rs mid later → IsAnswered means refuses mid later e r new after → AreAnswered means refuses old given (es ++ e ∷ []) (rs ++ r ∷ []) new after
-answered_last means refuses old mid new given later after [] [] e r h a = (new, after, (rw (h.0, h.1) at a), (refl, refl))
-answered_last means refuses old mid new given later after [] (x ∷ rs) e r h a = absurd h
-answered_last means refuses old mid new given later after (x ∷ es) [] e r h a = absurd h
-answered_last means refuses old mid new given later after (x ∷ es) (y ∷ rs) e r h a = (h.0, h.1, h.2, answered_last means refuses h.0 mid new h.1 later after es rs e r h.3 a)
+pub answered_last : {T E V G F : Type 0} (means : Meaning T E V G) (refuses : Refusing T E F) (last : T → ℕ) (old mid new : Bench T V) (given later after : List (Task V G)) (es : List (Event E)) (rs : List (Reply F)) (e : Event E) (r : Reply F)
+    → AreAnswered means refuses last old given es rs mid later → IsAnswered means refuses last mid later e r new after → AreAnswered means refuses last old given (es ++ e ∷ []) (rs ++ r ∷ []) new after
+answered_last means refuses last old mid new given later after [] [] e r h a = (new, after, (rw (h.0, h.1) at a), (refl, refl))
+answered_last means refuses last old mid new given later after [] (x ∷ rs) e r h a = absurd h
+answered_last means refuses last old mid new given later after (x ∷ es) [] e r h a = absurd h
+answered_last means refuses last old mid new given later after (x ∷ es) (y ∷ rs) e r h a = (h.0, h.1, h.2, answered_last means refuses last h.0 mid new h.1 later after es rs e r h.3 a)
 
 pub length_last : {X : Type 0} (xs : List X) (x : X) → length (xs ++ x ∷ []) ≡ length xs + 1
 length_last [] x = refl

@@ -110,12 +110,12 @@ module _ {T E V G : Type 0} (means : Meaning T E V G) where
         counts = λ ns g h. let x = one.counts ns g (left ns h) in let y = rest.counts ns (one.after_in ns g (left ns h)) (right ns h) in let z = count_on ns one.run rest.run in omega (arith, x, y, z);
       }
 
-module _ {T E V G F : Type 0} (means : Meaning T E V G) (refuses : Refusing T E F) where
-  edited_run : (old new : Bench T V) (given after : List (Task V G)) (e : E) (r : Result ℕ F) → IsEdited means refuses old e r new → after ≡ given → HasRun means ⊥ given after 0 old new
+module _ {T E V G F : Type 0} (means : Meaning T E V G) (refuses : Refusing T E F) (last : T → ℕ) where
+  edited_run : (old new : Bench T V) (given after : List (Task V G)) (e : E) (r : Result ℕ F) → IsEdited means refuses last old e r new → after ≡ given → HasRun means ⊥ given after 0 old new
   edited_run old new given after e (Ok number) h same = step_run means ⊥ given after 0 old new (core.Edit e) h.1 same (λ j. absurd j) (λ ns g. refl)
   edited_run old new given after e (Err fault) h same = step_run means ⊥ given after 0 old new core.Refused h.1 same (λ j. absurd j) (λ ns g. refl)
 
-  claimed_run : (old new : Bench T V) (given after : List (Task V G)) (r : Result (Option ℕ) ClaimFault) → IsClaimed means refuses old given r new after → HasRun means ⊤ given after 0 old new
+  claimed_run : (old new : Bench T V) (given after : List (Task V G)) (r : Result (Option ℕ) ClaimFault) → IsClaimed means refuses last old given r new after → HasRun means ⊤ given after 0 old new
   claimed_run old new given after (Ok (Some number)) h = record {
     run = core.Claim (h.0).claim (h.0).node (h.0).given (h.0).keys (h.0).values ∷ [];
     is = (new, h.2, refl);
@@ -124,9 +124,9 @@ module _ {T E V G F : Type 0} (means : Meaning T E V G) (refuses : Refusing T E 
     counts = λ ns g k. refl;
   }
   claimed_run old new given after (Ok None) h = step_run means ⊤ given after 0 old new core.NoClaim h.0 h.1 (λ j. tt) (λ ns g. refl)
-  claimed_run old new given after (Err fault) h = step_run means ⊤ given after 0 old new core.Refused h.1 h.2 (λ j. tt) (λ ns g. refl)
+  claimed_run old new given after (Err fault) h = step_run means ⊤ given after 0 old new core.Refused h.1 h.3 (λ j. tt) (λ ns g. refl)
 
-  returned_run : (old new : Bench T V) (given after : List (Task V G)) (claim : ℕ) (o : Option (Task V G)) (r : Result Finish StoreFault) → task_given claim given ≡ o → IsReturned means refuses old o r new → after ≡ given
+  returned_run : (old new : Bench T V) (given after : List (Task V G)) (claim : ℕ) (o : Option (Task V G)) (r : Result Finish StoreFault) → task_given claim given ≡ o → IsReturned means refuses last old o r new → after ≡ given
       → HasRun means ⊤ given after (accepted_in {F = F} (Returned r)) old new
   returned_run old new given after claim None (Ok Unknown) is h same = none_run means ⊤ given after old new h same
   returned_run old new given after claim None (Ok (Stale stamp)) is h same = absurd h
@@ -138,7 +138,7 @@ module _ {T E V G F : Type 0} (means : Meaning T E V G) (refuses : Refusing T E 
       (λ ns g. if_and (is_accepted answer) (has_number (h.0).claim ns) (subst (λ (u : Task V G). has_number u.claim ns ≡ true) (sym h.1) (given_in ns claim given t g is)))
   returned_run old new given after claim (Some t) (Err fault) is h same = none_run means ⊤ given after old new h same
 
-  answered_run : (old new : Bench T V) (given after : List (Task V G)) (e : Event E) (r : Reply F) → IsAnswered means refuses old given e r new after → HasRun means (IsJob e) given after (accepted_in r) old new
+  answered_run : (old new : Bench T V) (given after : List (Task V G)) (e : Event E) (r : Reply F) → IsAnswered means refuses last old given e r new after → HasRun means (IsJob e) given after (accepted_in r) old new
   answered_run old new given after (Edit e) (Edited r) h = edited_run old new given after e r h.0 h.1
   answered_run old new given after (Edit e) (Claimed r) h = absurd h
   answered_run old new given after (Edit e) (Returned r) h = absurd h
@@ -166,14 +166,14 @@ module _ {T E V G F : Type 0} (means : Meaning T E V G) (refuses : Refusing T E 
   answered_run old new given after Renew Renewed h = step_run means ⊥ given after 0 old new core.Renew h.0 h.1 (λ j. absurd j) (λ ns g. refl)
 
   -- events with their replies are a run
-  pub lists_run : (old new : Bench T V) (given after : List (Task V G)) (es : List (Event E)) (rs : List (Reply F)) → AreAnswered means refuses old given es rs new after → HasRun means (Each IsJob es) given after (accepted_among rs) old new
+  pub lists_run : (old new : Bench T V) (given after : List (Task V G)) (es : List (Event E)) (rs : List (Reply F)) → AreAnswered means refuses last old given es rs new after → HasRun means (Each IsJob es) given after (accepted_among rs) old new
   lists_run old new given after [] [] h = none_run means ⊤ given after old new h.0 h.1
   lists_run old new given after [] (r ∷ rs) h = absurd h
   lists_run old new given after (e ∷ es) [] h = absurd h
   lists_run old new given after (e ∷ es) (r ∷ rs) h =
       two_runs means (IsJob e) (Each IsJob es) given h.1 after (accepted_in r) (accepted_among rs) old h.0 new (answered_run old h.0 given h.1 e r h.2) (lists_run h.0 new h.1 after es rs h.3)
 
-  pub list_bounds : WorkIsBounded means → ListBoundsWork means refuses
+  pub list_bounds : WorkIsBounded means → ListBoundsWork means refuses last
   list_bounds bounded earlier first start end events replies before after s run answers jobs was is =
       let all = lists_run start end [] answers.0 events replies answers.1 in
       let low = bounded earlier all.run first start end before after s run all.is (all.are_jobs jobs) was is in

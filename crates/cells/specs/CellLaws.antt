@@ -53,13 +53,13 @@ QuietCellsAreSettled {T} {E} {V} {G} means of =
     → (test model : List ℕ) (n : Node) → of.verdict_of end.texts test model ≡ Some n → IsSettled (means.net end.texts) end.memos n
 
 -- a list of events with its replies is a run, of which all these speak
-abbrev pub ListsAreRuns : {T E V G F : Type 0} → Meaning T E V G → Refusing T E F → Type 0
-ListsAreRuns {T} {E} {V} {G} {F} means refuses =
-    (old new : Bench T V) (events : List (Event E)) (replies : List (Reply F)) → Answers means refuses old events replies new → (run : List (core.Event E V G)) × Run means old run new
+abbrev pub ListsAreRuns : {T E V G F : Type 0} → Meaning T E V G → Refusing T E F → (T → ℕ) → Type 0
+ListsAreRuns {T} {E} {V} {G} {F} means refuses last =
+    (old new : Bench T V) (events : List (Event E)) (replies : List (Reply F)) → Answers means refuses last old events replies new → (run : List (core.Event E V G)) × Run means old run new
 
 -- after any list of events, no more returns of a list of claims, returns and losses are accepted than it settles used nodes
-abbrev pub ListBoundsWork : {T E V G F : Type 0} → Meaning T E V G → Refusing T E F → Type 0
-ListBoundsWork {T} {E} {V} {G} {F} means refuses =
+abbrev pub ListBoundsWork : {T E V G F : Type 0} → Meaning T E V G → Refusing T E F → (T → ℕ) → Type 0
+ListBoundsWork {T} {E} {V} {G} {F} means refuses last =
     (earlier : List (core.Event E V G)) (first start end : Bench T V) (events : List (Event E)) (replies : List (Reply F)) (before after : Node → Bool) → IsStart means.is_valid means.net first → Run means first earlier start
-    → Answers means refuses start events replies end → Each IsJob events → DecidesSettled (state_in means start) before → DecidesSettled (state_in means end) after
+    → Answers means refuses last start events replies end → Each IsJob events → DecidesSettled (state_in means start) before → DecidesSettled (state_in means end) after
     → accepted_among replies + count_unsettled after (means.net end.texts).used ≤ count_unsettled before (means.net start.texts).used

@@ -61,11 +61,11 @@ accepted_among (r ∷ rs) = accepted_in r + accepted_among rs
 abbrev pub Refusing : Type 0 → Type 0 → Type 0 → Type 1
 Refusing T E F = T → E → Bool → F → Type 0
 
-module _ {T E V G F : Type 0} (means : Meaning T E V G) (refuses : Refusing T E F) where
-  -- an edit takes the next number, or is refused
+module _ {T E V G F : Type 0} (means : Meaning T E V G) (refuses : Refusing T E F) (last : T → ℕ) where
+  -- an edit takes the next number, or is refused: then the last edit of the texts is the one that it was
   abbrev pub IsEdited : Bench T V → E → Result ℕ F → Bench T V → Type 0
   IsEdited old e (Ok number) new = (number ≡ old.taken + 1) × Step means old (core.Edit e) new
-  IsEdited old e (Err fault) new = refuses old.texts e (leb LAST old.taken) fault × Step means old core.Refused new
+  IsEdited old e (Err fault) new = refuses old.texts e (leb LAST old.taken) fault × Step means old core.Refused new × (last new.texts ≡ last old.texts)
 
   -- the numbers are spent where so many are taken, and only there
   abbrev pub IsClaimFault : ℕ → ClaimFault → Type 0
@@ -76,7 +76,7 @@ module _ {T E V G F : Type 0} (means : Meaning T E V G) (refuses : Refusing T E 
   IsClaimed old given (Ok (Some number)) new after =
       (t : Task V G) × (number ≡ t.claim) × Step means old (core.Claim t.claim t.node t.given t.keys t.values) new × (after ≡ given ++ t ∷ [])
   IsClaimed old given (Ok None) new after = Step means old core.NoClaim new × (after ≡ given)
-  IsClaimed old given (Err fault) new after = IsClaimFault old.taken fault × Step means old core.Refused new × (after ≡ given)
+  IsClaimed old given (Err fault) new after = IsClaimFault old.taken fault × Step means old core.Refused new × (new.texts ≡ old.texts) × (after ≡ given)
 
   -- the job of the claim is run and its return offered, or memory is refused; without such a job, nothing is done
   abbrev pub IsReturned : Bench T V → Option (Task V G) → Result Finish StoreFault → Bench T V → Type 0

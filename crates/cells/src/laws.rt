@@ -38,8 +38,8 @@ pub fn exact_work<T: CellTexts>()
 /// What `run_events` does is such a run, so all of this holds of it. Of a list of claims, returns and losses no more returns
 /// are accepted than it settles used nodes.
 pub fn listed<T: CellTexts>()
-    ensures runs { ListsAreRuns (meaning T.net T.is_valid T.since T.makes T.keeps T.edited) T.refuses }
-    ensures bounded { ListBoundsWork (meaning T.net T.is_valid T.since T.makes T.keeps T.edited) T.refuses }
+    ensures runs { ListsAreRuns (meaning T.net T.is_valid T.since T.makes T.keeps T.edited) T.refuses T.last }
+    ensures bounded { ListBoundsWork (meaning T.net T.is_valid T.since T.makes T.keeps T.edited) T.refuses T.last }
 {
     memo_core::laws::exact_work::<T>();
 }

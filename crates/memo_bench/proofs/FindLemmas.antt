@@ -1,4 +1,4 @@
-use Rattle.std.proofs.Common.{◌≡◌, ◌≢◌, ◌<◌, ◌≤◌, ◌==◌, ℕ, ◌+◌, Bool, true, false, ◌&&◌, if◌then◌else◌, List, ◌∷◌, length, drop, get_or, refl, sym, ◌∙◌, eq-eqb, ne_eqb}
+use Rattle.std.proofs.Common.{◌≡◌, ◌≢◌, ◌<◌, ◌≤◌, ◌==◌, ℕ, ◌+◌, Bool, true, false, ◌&&◌, if◌then◌else◌, List, ◌∷◌, length, drop, get_or, refl, eq-eqb, ne_eqb}
 use Rattle.std.proofs.lemmas.List.{at_drop_more, drop_all}
 use Rattle.value_store.specs.Tokens.{Shown}
 use Rattle.memo_core.specs.declared.keys.Node.{Node}

@@ -8,7 +8,7 @@ use Rattle.memo_core.specs.declared.table.Kept.{Kept}
 use Rattle.memo_core.specs.Names.{same_node}
 use Rattle.memo_core.specs.Equality.{same_node_exact, same_node_refl}
 use Rattle.memo_core.specs.Graph.{Memo, memo_of, put_memo}
-use Rattle.memo_core.specs.Views.{Slot, as_memo, as_memos}
+use Rattle.memo_core.specs.Views.{Slot, as_memo, as_memos, tokens_of}
 use Rattle.memo_core.specs.Marks.{mark_in, mark_of, with_mark_at, without_mark}
 use Rattle.memo_core.proofs.Theory.{either}
 
@@ -34,6 +34,24 @@ found_memo {V} n ks o h = go o ∙ ap (option_map (λ (k : Kept (Shown V)). as_m
 
 some_inj : {X : Type 0} (x y : X) → Some x ≡ Some y → x ≡ y
 some_inj x y h = cc
+
+-- what is found at a node holds its tokens
+pub tokens_found : {V : Type 0} (n : Node) (ks : List (Slot V)) (k : Kept (Shown V)) → Some k ≡ lookup (same_node n) ks → k.outputs.items ≡ tokens_of n ks
+tokens_found n [] k h = cc
+tokens_found {V} n (x ∷ ks) k h = elim (either (same_node n x.0)) [
+  | inl t ↦ rw t (ap (λ (k : Kept (Shown V)). k.outputs.items) (some_inj k x.1 (rw t at h)))
+  | inr f ↦ rw f (tokens_found n ks k (rw f at h))
+]
+
+pub no_tokens : {V : Type 0} (n : Node) (ks : List (Slot V)) → None ≡ lookup (same_node n) ks → tokens_of n ks ≡ []
+no_tokens n [] h = refl
+no_tokens {V} n (x ∷ ks) h = elim (either (same_node n x.0)) [
+  | inl t ↦ absurd (none_some x.1 (rw t at h))
+  | inr f ↦ rw f (no_tokens n ks (rw f at h))
+]
+  where
+    none_some : (k : Kept (Shown V)) → None ≡ Some k → ⊥
+    none_some k h = cc
 
 -- what is written at a node is its mark
 pub mark_written : {V : Type 0} (n : Node) (ks : List (Slot V)) (k : Kept (Shown V)) → Some k ≡ lookup (same_node n) ks → set_value (same_node n) ks (record { inputs = k.inputs; outputs = k.outputs; settled = true }) ≡ with_mark_at n ks

@@ -3,8 +3,8 @@ use Rattle.std.specs.Prelude.{◌≡◌, ◌<◌, ◌↔◌, ℕ, List, [], Bool
 use Rattle.std.specs.List.{AllByRecursion as Each}
 use Rattle.memo_core.specs.declared.keys.Node.{Node}
 use Rattle.memo_core.specs.declared.keys.Key.{Key}
-use Rattle.memo_core.specs.Graph.{Net, IsSettled, at, input_nodes, memo_of, present_inputs, outputs_among}
-use Rattle.memo_core.specs.Right.{Making, ArePresent, IsPinned, IsSolved, IsSamePart, IsUntouchedBy}
+use Rattle.memo_core.specs.Graph.{Net, Matches, IsSettled, at, input_nodes, memo_of, present_inputs, outputs_among}
+use Rattle.memo_core.specs.Right.{Making, ArePresent, IsPinned, IsSolved, IsMadeOfPresent, IsSamePart, IsUntouchedBy}
 use Rattle.memo_core.specs.Step.{State, Return, Has, IsWork, Accepts, Gives, Edits}
 use Rattle.memo_core.specs.Run.{Bench, Event, Meaning, Run, IsStart, IsFreshFrom, IsProgress, count_unsettled}
 
@@ -34,6 +34,12 @@ abbrev pub SettledIsSolved : {T E V G : Type 0} → Meaning T E V G → (T → N
 SettledIsSolved {T} {E} {V} {G} means is_there =
     (events : List (Event E V G)) (start end : Bench T V) → IsStart means.is_valid means.net start → Run means start events end
     → (n : Node) → is_there end.texts n → IsSettled (means.net end.texts) end.memos n → IsSolved means.makes (means.net end.texts) end.memos n
+
+-- so does a node that is not settled, where its memo's inputs and stamps are the present ones, as far as its inputs have values
+abbrev pub MatchingIsMade : {T E V G : Type 0} → Meaning T E V G → Type 0
+MatchingIsMade {T} {E} {V} {G} means =
+    (events : List (Event E V G)) (start end : Bench T V) → IsStart means.is_valid means.net start → Run means start events end
+    → (n : Node) → Matches (means.net end.texts) end.memos n → IsMadeOfPresent means.makes (means.net end.texts) end.memos n
 
 -- a return that is taken at a node with settled inputs settles that node, and unsettles none
 abbrev pub ReturnsSettle : (V G : Type 0) → Type 0

@@ -1,7 +1,7 @@
 -- What an edit makes of texts with stamps, and how it is prepared and put in place. Read it after StampedTexts.
 use Rattle.std.specs.Prelude.{◌≡◌, ℕ, ◌+◌, ◌*◌, ◌<◌, ◌≤◌, ◌^◌, length, false}
 use Rattle.bench_texts.specs.declared.edit.Edit as code
-use Rattle.bench_texts.specs.Edits.{edit_of, Applies}
+use Rattle.bench_texts.specs.Edits.{edit_of, is_whole, Applies}
 use Rattle.bench_texts.specs.Held.{texts_of, AreRead}
 use Rattle.bench_texts.specs.Replacements.{texts_with, tests_with, models_with, IsReplaceable}
 use Rattle.stamped_parts.specs.declared.parts.Parts.{Parts}
@@ -41,11 +41,13 @@ pub record IsSame (t u : StampedTexts) : Type 0 where
   pub read : AreRead t.texts → AreRead u.texts
   pub state : IsSameState (state_of t) (state_of u)
 
--- the edit is accepted, there is room for what it puts, and its parts are made of that
+-- the edit is accepted, there is room for what it puts, its parts are made of that, and it is known whether it puts or drops a
+-- test or a model as a whole
 pub record IsPrepared (t : StampedTexts) (e : code.Edit) (p : PreparedEdit) (u : StampedTexts) : Type 0 where
   pub applies : Applies (texts_of t.texts) false (edit_of e) (texts_with p.texts.replacement (texts_of t.texts))
   pub fits : IsReplaceable u.texts p.texts.replacement
   pub made : parts.IsMade t.parts t.texts.tests.items t.texts.models.items p.texts.replacement p.parts
+  pub whole : p.texts.whole ≡ is_whole (edit_of e)
   pub same : IsSame t u
 
 -- at least as many nodes as are used with those parts
