@@ -1,4 +1,4 @@
-use Rattle.std.proofs.Common.{◌≡◌, ◌∙◌, ◌+◌, [], length, refl, sym, ap, arith, rules}
+use Rattle.std.proofs.Common.{◌≡◌, ◌∙◌, [], length, refl, sym, ap, arith, rules}
 use Rattle.memo_core.specs.Laws.{meaning}
 use Rattle.cells.specs.Stages.{tasks_in}
 use Rattle.cells.proofs.Jobs.{answered_last, length_last, no_items, rest_step, rest_total, rest_end}
