@@ -1,6 +1,7 @@
 -- The init block of a test, and what stands behind it.
 use Rattle.std.proofs.Common.{◌≡◌, ℕ, ◌+◌, ◌<◌, ◌⊎◌, inl, inr, Bool, true, false, List, [], ◌∷◌, ◌++◌, map, length, append_assoc, Option, Some, None, Ok, refl, sym, ap, ◌∙◌, subst, arith}
 use Rattle.std.proofs.lemmas.List.{length-append}
+use Rattle.std.proofs.lemmas.Bool.{false≢true}
 use Rattle.litmus_tokens.specs.declared.stage.Stage.{Stage}
 use Rattle.litmus_tokens.specs.declared.stage.Stage.TheVariants as stages
 use Rattle.litmus_tokens.specs.declared.token.Token.{Token}
@@ -144,7 +145,7 @@ module _ (name : List ℕ) where
 
   block_alike : (p : Part) (h : Draft) (x : Token) (offset : ℕ) → in_block p ≡ true → AlikeBlock (part_step kinds.Init 0 h p x offset) (part_step kinds.Test 0 (with_block h) p x offset)
   block_alike (text.Init expected) h x offset i = init_result_alike h (init.step h.init expected x offset)
-  block_alike p h x offset i = absurd cc
+  block_alike p h x offset i = absurd (false≢true i)
 
   abbrev first_draft : Draft
   first_draft = nothing kinds.Init

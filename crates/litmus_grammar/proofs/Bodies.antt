@@ -4,6 +4,7 @@ use Rattle.std.specs.Prelude.{◌&&◌, if◌then◌else◌}
 use Rattle.std.proofs.Math.Numerals.{add-one}
 use Rattle.std.proofs.lemmas.Slice.Eq.{bytes_eq-Decides}
 use Rattle.std.proofs.lemmas.Bool.{and_parts}
+use Rattle.std.proofs.lemmas.Option.{none-some, same_Some}
 use Rattle.litmus_tokens.specs.declared.stage.Stage.{Stage}
 use Rattle.litmus_tokens.specs.declared.token.Token.{Token}
 use Rattle.litmus_tokens.specs.declared.token.Token.TheVariants as tokens
@@ -26,8 +27,10 @@ use Rattle.litmus_grammar.specs.Grammar.{members, AreItems}
 use Rattle.litmus_grammar.specs.InitMachine as init
 use Rattle.litmus_grammar.specs.TextMachine as text
 use Rattle.litmus_grammar.specs.TextMachine.{Draft, Next, State, Ran, with_offset, and_then, stepped, run}
+use Rattle.litmus_grammar.proofs.Equations.{no_first, same_first, same_others}
+use Rattle.litmus_grammar.proofs.Outcomes.{not_both}
 use Rattle.litmus_grammar.proofs.Passing.{test_at}
-use Rattle.litmus_grammar.proofs.Runs.{tokens_of-append, run-append}
+use Rattle.litmus_grammar.proofs.Runs.{tokens_of-append, run-append, same_state}
 use Rattle.litmus_grammar.proofs.Spelled.{rows-append}
 use Rattle.litmus_grammar.proofs.Splits.{split}
 use Rattle.litmus_grammar.proofs.Tails.{early, with_all, IsTail, any_tail, tail_begins, tail_led}
@@ -143,13 +146,13 @@ module _ (name : List ℕ) (block : init.Block) where
 
   rows_pass : (ps : List TokenAt) (u : table.State) (g : Stage) (s : State) → run (rows_at g u) ps ≡ Ok s → Within g u ps s ⊎ Behind g u ps s
   rows_pass [] u g s e =
-      let same : rows_at g u ≡ s = cc in
+      let same : rows_at g u ≡ s = same_state _ _ e in
       inl (record { reached = u; by = refl; same = sym same })
   rows_pass (p ∷ ps) u g s e = by_tail (table.is_row_start u && begins_tail p.token) refl e (λ v k. rows_pass ps v (after g p.token) s k)
     where
       by_step : (o : Option table.State) → table.step u p.token p.offset ≡ o → row_step g u p ps (text.table_result (draft_at u) text.Rows o) ≡ Ok s
           → ((v : table.State) → run (rows_at (after g p.token) v) ps ≡ Ok s → Within (after g p.token) v ps s ⊎ Behind (after g p.token) v ps s) → Within g u (p ∷ ps) s ⊎ Behind g u (p ∷ ps) s
-      by_step None c k later = absurd cc
+      by_step None c k later = absurd (not_both _ _ k)
       by_step (Some v) c k later = within_on g u v p ps s c (later v k)
 
       by_tail : (b : Bool) → (table.is_row_start u && begins_tail p.token) ≡ b → row_step g u p ps (if b then text.next_at (draft_at u) (text.tail_start p.token) else text.table_result (draft_at u) text.Rows (table.step u p.token p.offset)) ≡ Ok s
@@ -165,18 +168,18 @@ module _ (name : List ℕ) (block : init.Block) where
       choose true c =
           let b = and_parts (table.is_row_start u) (begins_tail t) c in
           let none = apart u t offset b.0 b.1 in
-          absurd (let no : Some v ≡ None = sym e ∙ none in cc)
+          absurd (none-some v (sym none ∙ e))
       choose false c = ap (text.table_result (draft_at u) text.Rows) e
 
   rows_run : (ps : List TokenAt) (u v : table.State) (g : Stage) → laws.run u ps ≡ Some v → run (rows_at g u) ps ≡ Ok (rows_at (stage_after g (tokens_of ps)) v)
   rows_run [] u v g e =
-      let same : u ≡ v = cc in
+      let same : u ≡ v = same_Some u v e in
       ap (λ (x : table.State). Ok (rows_at g x)) same
   rows_run (p ∷ ps) u v g e = by_step (table.step u p.token p.offset) refl e (λ w k. rows_run ps w v (after g p.token) k)
     where
       by_step : (o : Option table.State) → table.step u p.token p.offset ≡ o → then_on (λ x. laws.run x ps) o ≡ Some v
           → ((w : table.State) → laws.run w ps ≡ Some v → run (rows_at (after g p.token) w) ps ≡ Ok (rows_at (stage_after (after g p.token) (tokens_of ps)) v)) → run (rows_at g u) (p ∷ ps) ≡ Ok (rows_at (stage_after g (tokens_of (p ∷ ps))) v)
-      by_step None c k later = absurd cc
+      by_step None c k later = absurd (none-some v k)
       by_step (Some w) c k later = ap (row_step g u p ps) (row_goes u w p.token p.offset c) ∙ later w k
 
   -- ---- what is taken begins some rows
@@ -281,12 +284,12 @@ module _ (name : List ℕ) (block : init.Block) where
           let b = later true k (after g (tokens.Word w)) (let h : k + length ps + 1 < 18446744073709551616 = omega (arith, few) in h) l in
           let same : w ≡ column_name k = (bytes_eq-Decides w (column_name (length (names k).threads))).0 c ∙ ap column_name (length-names k) in
           record { rest = b.rest; text = subst (λ (v : List ℕ). IsName k (tokens.Word v ∷ (tokens_of ps ++ b.rest))) (sym same) (one_name k (tokens_of ps ++ b.rest) b.text) }
-      by_word w n false c l later = absurd cc
+      by_word w n false c l later = absurd (not_both _ _ l)
 
       by_part : (b : Bool) (t : Token) (n : ℕ) → run (header_at b g k) (record { token = t; offset = n } ∷ ps) ≡ Ok s
           → ((more : Bool) (j : ℕ) (f : Stage) → j + length ps + 1 < 18446744073709551616 → run (header_at more f j) ps ≡ Ok s → Begins (IsHeader more j) (tokens_of ps)) → Begins (IsHeader b k) (t ∷ tokens_of ps)
       by_part false (tokens.Word w) n l later = by_word w n (names_column (length (names k).threads) w) refl l later
-      by_part false t n l later = absurd cc
+      by_part false t n l later = absurd (not_both _ _ l)
       by_part true (tokens.Mark marks.Bar) n l later =
           let b = later false (suc k) (after g (tokens.Mark marks.Bar)) (let h : suc k + length ps + 1 < 18446744073709551616 = omega (arith, few) in h) l in
           record { rest = b.rest; text = next_name k (tokens_of ps ++ b.rest) b.text }
@@ -294,7 +297,7 @@ module _ (name : List ℕ) (block : init.Block) where
           let g' = after g (tokens.Mark marks.Semicolon) in
           let b = rows_begin k (let h : k + 1 < 18446744073709551616 = omega (arith, few) in h) ps g' s (ap (λ (u : table.State). run (rows_at g' u) ps) (names_are k) ∙ l) in
           record { rest = b.rest; text = last_name k (tokens_of ps ++ b.rest) b.text }
-      by_part true t n l later = absurd cc
+      by_part true t n l later = absurd (not_both _ _ l)
 
   -- ---- all headers are taken
 
@@ -314,10 +317,10 @@ module _ (name : List ℕ) (block : init.Block) where
   name_step k n ps g = ap (λ (b : Bool). and_then (with_offset n (stepped (header_at false g k) (tokens.Word (column_name k)) (text.table_result (draft_at (names k)) text.HasColumn (if b then Some (table.widened (names k)) else None)))) (λ x. run x ps)) (is_named k)
 
   pub names_led : (m k : ℕ) (ps : List TokenAt) (behind : List Token) (g : Stage) → tokens_of ps ≡ spelled_names (k + 1) m behind → TakesNames k m ps behind g
-  names_led zero k [] behind g e = absurd cc
+  names_led zero k [] behind g e = absurd (no_first e)
   names_led zero k (p ∷ ps) behind g e =
-      let t : p.token ≡ tokens.Mark marks.Semicolon = cc in
-      let others : tokens_of ps ≡ behind = cc in
+      let t : p.token ≡ tokens.Mark marks.Semicolon = same_first e in
+      let others : tokens_of ps ≡ behind = same_others e in
       let z : k ≡ k + 0 = omega arith in
       let g' = after g (tokens.Mark marks.Semicolon) in
       record {
@@ -331,12 +334,13 @@ module _ (name : List ℕ) (block : init.Block) where
             ap (λ (x : Token). run (header_at true g k) (record { token = x; offset = p.offset } ∷ [])) t
             ∙ ap (λ (u : table.State). Ok (rows_at g' u)) (sym (names_are k)) ∙ ap (λ (j : ℕ). Ok (rows_at g' (columns j))) z;
       }
-  names_led (suc m) k [] behind g e = absurd cc
-  names_led (suc m) k (p ∷ []) behind g e = absurd cc
+  names_led (suc m) k [] behind g e = absurd (no_first e)
+  names_led (suc m) k (p ∷ []) behind g e = absurd (no_first (same_others e))
   names_led (suc m) k (p ∷ q ∷ ps) behind g e =
-      let t : p.token ≡ tokens.Mark marks.Bar = cc in
-      let w : q.token ≡ tokens.Word (column_name (k + 1)) = cc in
-      let others : tokens_of ps ≡ spelled_names (k + 1 + 1) m behind = cc in
+      let t : p.token ≡ tokens.Mark marks.Bar = same_first e in
+      let from_name = same_others e in
+      let w : q.token ≡ tokens.Word (column_name (k + 1)) = same_first from_name in
+      let others : tokens_of ps ≡ spelled_names (k + 1 + 1) m behind = same_others from_name in
       let next : tokens.Word (column_name (k + 1)) ≡ tokens.Word (column_name (suc k)) = ap (λ (j : ℕ). tokens.Word (column_name j)) (add-one k) in
       let g1 = after g (tokens.Mark marks.Bar) in
       let g2 = after g1 (tokens.Word (column_name (suc k))) in

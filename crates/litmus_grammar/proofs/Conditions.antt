@@ -3,6 +3,8 @@ use Rattle.std.proofs.Common.{◌≡◌, ℕ, ◌<◌, Bool, true, false, List, 
 use Rattle.std.specs.Prelude.{codes, if◌then◌else◌}
 use Rattle.std.specs.Str.{bytes_eq}
 use Rattle.std.proofs.lemmas.Slice.Eq.{bytes_eq-Decides}
+use Rattle.std.proofs.lemmas.Bool.{false≢true}
+use Rattle.std.proofs.lemmas.Option.{none-some, same_Some}
 use Rattle.litmus_tokens.specs.declared.rule.LitmusRule.TheVariants as rules
 use Rattle.litmus_tokens.specs.declared.stage.Stage.{Stage}
 use Rattle.litmus_tokens.specs.declared.stage.Stage.TheVariants.{Tail}
@@ -27,8 +29,9 @@ use Rattle.litmus_grammar.specs.declared.parts.TextKind.{TextKind}
 use Rattle.litmus_grammar.specs.declared.parts.TextKind.TheVariants as kinds
 use Rattle.litmus_grammar.specs.TextMachine as text
 use Rattle.litmus_grammar.specs.TextMachine.{Part, Draft, State, Ran, with_offset, and_then, stepped, proposition_result, with_condition, nothing, start, run, rule_at}
+use Rattle.litmus_grammar.proofs.Equations.{no_first, same_first, same_others}
 use Rattle.litmus_grammar.proofs.Runs.{follows}
-use Rattle.litmus_grammar.proofs.Outcomes.{Reading}
+use Rattle.litmus_grammar.proofs.Outcomes.{Reading, not_both}
 
 -- ---- the part behind the table is one to its end
 
@@ -56,7 +59,7 @@ module _ (threads : ℕ) (few : threads < 18446744073709551616) where
 
   done_takes : (g : Stage) (h : Draft) (ps : List TokenAt) (s : State) → run (standing g text.Done h) ps ≡ Ok s → are_none (tokens_of ps) ≡ true
   done_takes g h [] s e = refl
-  done_takes g h (p ∷ ps) s e = absurd cc
+  done_takes g h (p ∷ ps) s e = absurd (not_both _ _ e)
 
   prop_takes : (ps : List TokenAt) (g : Stage) (q : Quantifier) (fs : List Frame) (used : ℕ) (expected : Expectation) (h : Draft) (s : State) → run (standing g (text.Proposition q fs used expected) h) ps ≡ Ok s → takes limits threads fs used expected (tokens_of ps) ≡ true
   prop_takes [] g q fs used expected h s e = refl
@@ -65,11 +68,11 @@ module _ (threads : ℕ) (few : threads < 18446744073709551616) where
       by_result : (f : StepResult) → and_then (went_on g q h p.token p.offset f) (λ x. run x ps) ≡ Ok s → ((gs : List Frame) (u : ℕ) (o : Expectation) → run (standing (after g p.token) (text.Proposition q gs u o) h) ps ≡ Ok s → takes limits threads gs u o (tokens_of ps) ≡ true) → takes_on (λ gs u o. takes limits threads gs u o (tokens_of ps)) (tokens_of ps) f ≡ true
       by_result (Goes gs u o) k later = later gs u o k
       by_result (Ends v) k later = done_takes (after g p.token) (with_condition h q v) ps s k
-      by_result Refuses k later = absurd cc
+      by_result Refuses k later = absurd (not_both _ _ k)
 
   done_ends : (g : Stage) (h : Draft) (ps : List TokenAt) (s : State) (v : Formula) → run (standing g text.Done h) ps ≡ Ok s → whole_at v (tokens_of ps) ≡ Some v
   done_ends g h [] s v e = refl
-  done_ends g h (p ∷ ps) s v e = absurd cc
+  done_ends g h (p ∷ ps) s v e = absurd (not_both _ _ e)
 
   abbrev is_done : Part → Bool
   is_done text.Done = true
@@ -81,14 +84,13 @@ module _ (threads : ℕ) (few : threads < 18446744073709551616) where
 
   prop_ends : (ps : List TokenAt) (g : Stage) (q : Quantifier) (fs : List Frame) (used : ℕ) (expected : Expectation) (h : Draft) (s : State) → run (standing g (text.Proposition q fs used expected) h) ps ≡ Ok s → s.part ≡ text.Done → (v : Formula) × (proposition limits threads fs used expected (tokens_of ps) ≡ Some v)
   prop_ends [] g q fs used expected h s e d =
-      let no : false ≡ true = ap done_in e ∙ ap is_done d in
-      absurd cc
+      absurd (false≢true (ap done_in e ∙ ap is_done d))
   prop_ends (p ∷ ps) g q fs used expected h s e d = by_result (proposition_step limits threads fs used expected p.token) e (λ gs u o k. prop_ends ps (after g p.token) q gs u o h s k d)
     where
       by_result : (f : StepResult) → and_then (went_on g q h p.token p.offset f) (λ x. run x ps) ≡ Ok s → ((gs : List Frame) (u : ℕ) (o : Expectation) → run (standing (after g p.token) (text.Proposition q gs u o) h) ps ≡ Ok s → (v : Formula) × (proposition limits threads gs u o (tokens_of ps) ≡ Some v)) → (v : Formula) × (go_on (λ gs u o. proposition limits threads gs u o (tokens_of ps)) (tokens_of ps) f ≡ Some v)
       by_result (Goes gs u o) k later = later gs u o k
       by_result (Ends v) k later = (v, done_ends (after g p.token) (with_condition h q v) ps s v k)
-      by_result Refuses k later = absurd cc
+      by_result Refuses k later = absurd (not_both _ _ k)
 
   record IsAccepted (from : State) (ps : List TokenAt) (q : Quantifier) (v : Formula) : Type 0 where
     state : State
@@ -97,19 +99,19 @@ module _ (threads : ℕ) (few : threads < 18446744073709551616) where
     formula : state.draft.formula ≡ v
 
   prop_runs : (ps : List TokenAt) (g : Stage) (q : Quantifier) (fs : List Frame) (used : ℕ) (expected : Expectation) (h : Draft) (v : Formula) → proposition limits threads fs used expected (tokens_of ps) ≡ Some v → IsAccepted (standing g (text.Proposition q fs used expected) h) ps q v
-  prop_runs [] g q fs used expected h v e = absurd cc
+  prop_runs [] g q fs used expected h v e = absurd (none-some v e)
   prop_runs (p ∷ ps) g q fs used expected h v e =
       let r = by_result (proposition_step limits threads fs used expected p.token) e (λ gs u o k. let t = prop_runs ps (after g p.token) q gs u o h v k in (t.state, t.by, t.quantifier, t.formula)) in
       record { state = r.0; by = r.1; quantifier = r.2; formula = r.3 }
     where
       by_end : (w : Formula) (qs : List TokenAt) → whole_at w (tokens_of qs) ≡ Some v → (s : State) × (run (standing (after g p.token) text.Done (with_condition h q w)) qs ≡ Ok s) × (s.draft.quantifier ≡ q) × (s.draft.formula ≡ v)
-      by_end w [] k = (standing (after g p.token) text.Done (with_condition h q w), refl, refl, cc)
-      by_end w (x ∷ qs) k = absurd cc
+      by_end w [] k = (standing (after g p.token) text.Done (with_condition h q w), refl, refl, same_Some w v k)
+      by_end w (x ∷ qs) k = absurd (none-some v k)
 
       by_result : (f : StepResult) → go_on (λ gs u o. proposition limits threads gs u o (tokens_of ps)) (tokens_of ps) f ≡ Some v → ((gs : List Frame) (u : ℕ) (o : Expectation) → proposition limits threads gs u o (tokens_of ps) ≡ Some v → (s : State) × (run (standing (after g p.token) (text.Proposition q gs u o) h) ps ≡ Ok s) × (s.draft.quantifier ≡ q) × (s.draft.formula ≡ v)) → (s : State) × (and_then (went_on g q h p.token p.offset f) (λ x. run x ps) ≡ Ok s) × (s.draft.quantifier ≡ q) × (s.draft.formula ≡ v)
       by_result (Goes gs u o) k later = later gs u o k
       by_result (Ends w) k later = by_end w ps k
-      by_result Refuses k later = absurd cc
+      by_result Refuses k later = absurd (none-some v k)
 
   -- ---- the quantifier
 
@@ -140,13 +142,13 @@ module _ (threads : ℕ) (few : threads < 18446744073709551616) where
       → Standing (record { token = tokens.Word w; offset = n } ∷ ps) s
   word_stands g w n ps s true b ea eb e = Behind Exists (after g (tokens.Word w)) ps (ap (λ (x : List ℕ). tokens.Word x ∷ tokens_of ps) (same_word w (codes "exists") ea)) e
   word_stands g w n ps s false true ea eb e = Behind Forall (after g (tokens.Word w)) ps (ap (λ (x : List ℕ). tokens.Word x ∷ tokens_of ps) (same_word w (codes "forall") eb)) e
-  word_stands g w n ps s false false ea eb e = absurd cc
+  word_stands g w n ps s false false ea eb e = absurd (not_both _ _ e)
 
   exists_stands : (g : Stage) (m n : ℕ) (w : List ℕ) (ps : List TokenAt) (s : State) (a : Bool) → bytes_eq w (codes "exists") ≡ a
       → and_then (with_offset n (stepped (standing g text.AfterTilde nothing_yet) (tokens.Word w) (text.next_at nothing_yet (if a then Some (text.proposition NotExists) else None)))) (λ x. run x ps) ≡ Ok s
       → Standing (record { token = tokens.Mark marks.Tilde; offset = m } ∷ record { token = tokens.Word w; offset = n } ∷ ps) s
   exists_stands g m n w ps s true ea e = Behind NotExists (after g (tokens.Word w)) ps (ap (λ (x : List ℕ). tokens.Mark marks.Tilde ∷ tokens.Word x ∷ tokens_of ps) (same_word w (codes "exists") ea)) e
-  exists_stands g m n w ps s false ea e = absurd cc
+  exists_stands g m n w ps s false ea e = absurd (not_both _ _ e)
 
   tilde_stands : (g : Stage) (m : ℕ) (ps : List TokenAt) (s : State) → run (standing g text.AfterTilde nothing_yet) ps ≡ Ok s → Standing (record { token = tokens.Mark marks.Tilde; offset = m } ∷ ps) s
   tilde_stands g m [] s e = AfterTilde refl (sym (ap part_in e))
@@ -154,7 +156,7 @@ module _ (threads : ℕ) (few : threads < 18446744073709551616) where
     where
       by_token : (t : Token) (n : ℕ) → run (standing g text.AfterTilde nothing_yet) (record { token = t; offset = n } ∷ ps) ≡ Ok s → Standing (record { token = tokens.Mark marks.Tilde; offset = m } ∷ record { token = t; offset = n } ∷ ps) s
       by_token (tokens.Word w) n k = exists_stands g m n w ps s (bytes_eq w (codes "exists")) refl k
-      by_token t n k = absurd cc
+      by_token t n k = absurd (not_both _ _ k)
 
   stands : (g : Stage) (ps : List TokenAt) (s : State) → run (standing g text.WantsQuantifier nothing_yet) ps ≡ Ok s → Standing ps s
   stands g [] s e = Before refl (sym (ap part_in e))
@@ -163,7 +165,7 @@ module _ (threads : ℕ) (few : threads < 18446744073709551616) where
       by_token : (t : Token) (n : ℕ) → run (standing g text.WantsQuantifier nothing_yet) (record { token = t; offset = n } ∷ ps) ≡ Ok s → Standing (record { token = t; offset = n } ∷ ps) s
       by_token (tokens.Mark marks.Tilde) n k = tilde_stands (after g (tokens.Mark marks.Tilde)) n ps s k
       by_token (tokens.Word w) n k = word_stands g w n ps s (bytes_eq w (codes "exists")) (bytes_eq w (codes "forall")) refl refl k
-      by_token t n k = absurd cc
+      by_token t n k = absurd (not_both _ _ k)
 
   -- ---- what is taken begins a text
 
@@ -185,8 +187,8 @@ module _ (threads : ℕ) (few : threads < 18446744073709551616) where
 
   -- and with its end it is one
   whole_by : (ps : List TokenAt) (s : State) → Standing ps s → s.part ≡ text.Done → IsText (tokens_of ps)
-  whole_by ps s (Before e at_part) d = absurd (let no : false ≡ true = ap is_done (sym at_part ∙ d) in cc)
-  whole_by ps s (AfterTilde e at_part) d = absurd (let no : false ≡ true = ap is_done (sym at_part ∙ d) in cc)
+  whole_by ps s (Before e at_part) d = absurd (false≢true (ap is_done (sym at_part ∙ d)))
+  whole_by ps s (AfterTilde e at_part) d = absurd (false≢true (ap is_done (sym at_part ∙ d)))
   whole_by ps s (Behind q g qs e r) d =
       let w = prop_ends qs g q [] 0 Wants nothing_yet s r d in
       subst IsText (sym e) (to_text q (tokens_of qs) (record { value = w.0; text = sound limits threads few (tokens_of qs) w.0 w.1 }))
@@ -200,20 +202,20 @@ module _ (threads : ℕ) (few : threads < 18446744073709551616) where
   first_draft q g = standing g (text.proposition q) nothing_yet
 
   quantifier_runs : (q : Quantifier) (ps : List TokenAt) (ts : List Token) → tokens_of ps ≡ spelled_quantifier q ts → (g : Stage) × (qs : List TokenAt) × (tokens_of qs ≡ ts) × (run (start kinds.Condition threads) ps ≡ run (first_draft q g) qs)
-  quantifier_runs Exists [] ts e = absurd cc
+  quantifier_runs Exists [] ts e = absurd (no_first e)
   quantifier_runs Exists (p ∷ ps) ts e =
-      let t : p.token ≡ tokens.Word (codes "exists") = cc in
-      (after Tail (tokens.Word (codes "exists")), ps, cc, ap (λ (x : Token). run (standing Tail text.WantsQuantifier nothing_yet) (record { token = x; offset = p.offset } ∷ ps)) t)
-  quantifier_runs Forall [] ts e = absurd cc
+      let t : p.token ≡ tokens.Word (codes "exists") = same_first e in
+      (after Tail (tokens.Word (codes "exists")), ps, same_others e, ap (λ (x : Token). run (standing Tail text.WantsQuantifier nothing_yet) (record { token = x; offset = p.offset } ∷ ps)) t)
+  quantifier_runs Forall [] ts e = absurd (no_first e)
   quantifier_runs Forall (p ∷ ps) ts e =
-      let t : p.token ≡ tokens.Word (codes "forall") = cc in
-      (after Tail (tokens.Word (codes "forall")), ps, cc, ap (λ (x : Token). run (standing Tail text.WantsQuantifier nothing_yet) (record { token = x; offset = p.offset } ∷ ps)) t)
-  quantifier_runs NotExists [] ts e = absurd cc
-  quantifier_runs NotExists (p ∷ []) ts e = absurd cc
+      let t : p.token ≡ tokens.Word (codes "forall") = same_first e in
+      (after Tail (tokens.Word (codes "forall")), ps, same_others e, ap (λ (x : Token). run (standing Tail text.WantsQuantifier nothing_yet) (record { token = x; offset = p.offset } ∷ ps)) t)
+  quantifier_runs NotExists [] ts e = absurd (no_first e)
+  quantifier_runs NotExists (p ∷ []) ts e = absurd (no_first (same_others e))
   quantifier_runs NotExists (p ∷ r ∷ ps) ts e =
-      let t : p.token ≡ tokens.Mark marks.Tilde = cc in
-      let u : r.token ≡ tokens.Word (codes "exists") = cc in
-      (Tail, ps, cc, ap (λ (x : Token). run (standing Tail text.WantsQuantifier nothing_yet) (record { token = x; offset = p.offset } ∷ r ∷ ps)) t ∙ ap (λ (x : Token). run (standing Tail text.AfterTilde nothing_yet) (record { token = x; offset = r.offset } ∷ ps)) u)
+      let t : p.token ≡ tokens.Mark marks.Tilde = same_first e in
+      let u : r.token ≡ tokens.Word (codes "exists") = same_first (same_others e) in
+      (Tail, ps, same_others (same_others e), ap (λ (x : Token). run (standing Tail text.WantsQuantifier nothing_yet) (record { token = x; offset = p.offset } ∷ r ∷ ps)) t ∙ ap (λ (x : Token). run (standing Tail text.AfterTilde nothing_yet) (record { token = x; offset = r.offset } ∷ ps)) u)
 
   pub condition_taken : (ps : List TokenAt) (x : IsText (tokens_of ps)) → (s : State) × (run (start kinds.Condition threads) ps ≡ Ok s) × (s.draft.quantifier ≡ x.quantifier) × (s.draft.formula ≡ meaning x.condition)
   condition_taken ps x =

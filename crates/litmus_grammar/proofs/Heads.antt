@@ -2,6 +2,7 @@
 use Rattle.std.proofs.Common.{◌≡◌, ℕ, zero, suc, ◌+◌, ◌<◌, ◌≤◌, Bool, true, false, List, [], ◌∷◌, ◌++◌, map, length, append-nil, Some, None, Ok, refl, sym, ap, ◌∙◌, subst, arith}
 use Rattle.std.specs.Prelude.{codes, if◌then◌else◌}
 use Rattle.std.specs.Str.{bytes_eq}
+use Rattle.std.proofs.lemmas.Bool.{false≢true}
 use Rattle.std.proofs.lemmas.List.{length-append}
 use Rattle.std.proofs.lemmas.Slice.Eq.{bytes_eq-Decides}
 use Rattle.litmus_tokens.specs.declared.stage.Stage.{Stage}
@@ -27,6 +28,8 @@ use Rattle.litmus_grammar.specs.Texts.{before_entries, before_rows}
 use Rattle.litmus_grammar.proofs.Bodies.{IsRows, any_header}
 use Rattle.litmus_grammar.proofs.Blocks.{IsBody, Opened, IsOne, IsBroken, brace_at, block_at, in_block, block_begins, body_led}
 use Rattle.litmus_grammar.specs.Laws.{AreStarts, entry_kept}
+use Rattle.litmus_grammar.proofs.Equations.{no_first, same_first, same_others}
+use Rattle.litmus_grammar.proofs.Outcomes.{not_both}
 use Rattle.litmus_grammar.proofs.Passing.{test_at, text_at}
 use Rattle.litmus_grammar.proofs.Runs.{tokens_of-append, anywhere, tokens_of-anywhere, run-append}
 use Rattle.litmus_grammar.proofs.Spelled.{init-append}
@@ -64,7 +67,7 @@ module _ (X : List Token → Type 0) (Q : State → Type 0) (any : Begins X [])
           let r = later (after g tokens.Text) k in
           let x = r.text in
           record { rest = r.rest; text = (true, x.0, x.1, x.2, more tokens.Text (tokens_of ps ++ r.rest) _ x.3) }
-      by_token false tokens.Text n k later = absurd cc
+      by_token false tokens.Text n k later = absurd (not_both _ _ k)
       by_token true tokens.Keyline n k later =
           let r = later (after g tokens.Keyline) k in
           let x = r.text in
@@ -79,8 +82,8 @@ module _ (X : List Token → Type 0) (Q : State → Type 0) (any : Begins X [])
       by_token false (tokens.Mark marks.OpenBrace) n k later =
           let r = from name ps n (after g (tokens.Mark marks.OpenBrace)) s (let h : length ps + 1 < 18446744073709551616 = omega (arith, few) in h) k q in
           record { rest = r.rest; text = (0, _, r.text, refl) }
-      by_token true t n k later = absurd cc
-      by_token false t n k later = absurd cc
+      by_token true t n k later = absurd (not_both _ _ k)
+      by_token false t n k later = absurd (not_both _ _ k)
 
   -- the head of a test, and what stands behind it
   pub record IsHeaded (ts : List Token) : Type 0 where
@@ -102,7 +105,7 @@ module _ (X : List Token → Type 0) (Q : State → Type 0) (any : Begins X [])
     where
       by_token : (t : Token) (n : ℕ) → run (in_head name g text.TitleEnd) (record { token = t; offset = n } ∷ ps) ≡ Ok s → Begins IsHeaded (tokens.Word (codes "PPC") ∷ tokens.Word name ∷ t ∷ tokens_of ps)
       by_token tokens.LineEnd n k = headed name i (tokens_of ps) (head_begins ps true name (after g tokens.LineEnd) s (let h : length ps < 18446744073709551616 = omega (arith, few) in h) k q)
-      by_token t n k = absurd cc
+      by_token t n k = absurd (not_both _ _ k)
 
   title : (ps : List TokenAt) (g : Stage) (s : State) → length ps < 18446744073709551616 → run (in_head [] g text.Title) ps ≡ Ok s → Q s → Begins IsHeaded (tokens.Word (codes "PPC") ∷ tokens_of ps)
   title [] g s few e q = let r = any_lines in record { rest = tokens.Word (65 ∷ []) ∷ tokens.LineEnd ∷ r.rest; text = record { name = 65 ∷ []; is_name = refl; lines = r.rest; head = r.text; whole = refl } }
@@ -110,11 +113,11 @@ module _ (X : List Token → Type 0) (Q : State → Type 0) (any : Begins X [])
     where
       by_word : (w : List ℕ) (n : ℕ) (b : Bool) → is_test_name w ≡ b → and_then (with_offset n (stepped (in_head [] g text.Title) (tokens.Word w) (if b then text.at (early w init.start table.start []) text.TitleEnd else None))) (λ x. run x ps) ≡ Ok s → Begins IsHeaded (tokens.Word (codes "PPC") ∷ tokens.Word w ∷ tokens_of ps)
       by_word w n true i k = line_end w i ps (after g (tokens.Word w)) s (let h : length ps < 18446744073709551616 = omega (arith, few) in h) k q
-      by_word w n false i k = absurd cc
+      by_word w n false i k = absurd (not_both _ _ k)
 
       by_token : (t : Token) (n : ℕ) → run (in_head [] g text.Title) (record { token = t; offset = n } ∷ ps) ≡ Ok s → Begins IsHeaded (tokens.Word (codes "PPC") ∷ t ∷ tokens_of ps)
       by_token (tokens.Word w) n k = by_word w n (is_test_name w) refl k
-      by_token t n k = absurd cc
+      by_token t n k = absurd (not_both _ _ k)
 
   pub magic : (ps : List TokenAt) (g : Stage) (s : State) → length ps < 18446744073709551616 → run (in_head [] g text.Magic) ps ≡ Ok s → Q s → Begins IsHeaded (tokens_of ps)
   magic [] g s few e q = let r = any_lines in record { rest = tokens.Word (codes "PPC") ∷ tokens.Word (65 ∷ []) ∷ tokens.LineEnd ∷ r.rest; text = record { name = 65 ∷ []; is_name = refl; lines = r.rest; head = r.text; whole = refl } }
@@ -124,11 +127,11 @@ module _ (X : List Token → Type 0) (Q : State → Type 0) (any : Begins X [])
       by_word w n true i k =
           let same : codes "PPC" ≡ w = sym ((bytes_eq-Decides w (codes "PPC")).0 i) in
           subst (λ (v : List ℕ). Begins IsHeaded (tokens.Word v ∷ tokens_of ps)) same (title ps (after g (tokens.Word w)) s (let h : length ps < 18446744073709551616 = omega (arith, few) in h) k q)
-      by_word w n false i k = absurd cc
+      by_word w n false i k = absurd (not_both _ _ k)
 
       by_token : (t : Token) (n : ℕ) → run (in_head [] g text.Magic) (record { token = t; offset = n } ∷ ps) ≡ Ok s → Begins IsHeaded (t ∷ tokens_of ps)
       by_token (tokens.Word w) n k = by_word w n (bytes_eq w (codes "PPC")) refl k
-      by_token t n k = absurd cc
+      by_token t n k = absurd (not_both _ _ k)
 
 -- ---- each head is taken
 
@@ -144,10 +147,10 @@ record TakesLines (name : List ℕ) (b : Bool) (t : Bool) (k : ℕ) (ps : List T
 
 keys_led : (name : List ℕ) (k : ℕ) (b : Bool) (ps : List TokenAt) (behind : List Token) (g : Stage) → tokens_of ps ≡ spelled_keylines k behind → TakesLines name b false k ps behind g
 keys_led name zero b ps behind g e = record { before = []; left = ps; stage = g; may = b; whole = refl; are_before = refl; are_left = e; by = refl }
-keys_led name (suc k) b [] behind g e = absurd cc
+keys_led name (suc k) b [] behind g e = absurd (no_first e)
 keys_led name (suc k) b (p ∷ ps) behind g e =
-    let t : p.token ≡ tokens.Keyline = cc in
-    let others : tokens_of ps ≡ spelled_keylines k behind = cc in
+    let t : p.token ≡ tokens.Keyline = same_first e in
+    let others : tokens_of ps ≡ spelled_keylines k behind = same_others e in
     let g' = after g tokens.Keyline in
     let r = keys_led name k false ps behind g' others in
     record {
@@ -163,10 +166,10 @@ keys_led name (suc k) b (p ∷ ps) behind g e =
 
 lines_led : (name : List ℕ) (t : Bool) (k : ℕ) (ps : List TokenAt) (behind : List Token) (g : Stage) → tokens_of ps ≡ spelled_text t (spelled_keylines k behind) → TakesLines name true t k ps behind g
 lines_led name false k ps behind g e = keys_led name k true ps behind g e
-lines_led name true k [] behind g e = absurd cc
+lines_led name true k [] behind g e = absurd (no_first e)
 lines_led name true k (p ∷ ps) behind g e =
-    let t : p.token ≡ tokens.Text = cc in
-    let others : tokens_of ps ≡ spelled_keylines k behind = cc in
+    let t : p.token ≡ tokens.Text = same_first e in
+    let others : tokens_of ps ≡ spelled_keylines k behind = same_others e in
     let g' = after g tokens.Text in
     let r = keys_led name k false ps behind g' others in
     record {
@@ -192,14 +195,16 @@ pub record TakesHead (name : List ℕ) (t : Bool) (k : ℕ) (ps : List TokenAt) 
   pub by : run (start kinds.Test 0) before ≡ Ok (in_head name stage (text.Head may))
 
 pub head_led : (name : List ℕ) (t : Bool) (k : ℕ) (ps : List TokenAt) (behind : List Token) → is_test_name name ≡ true → tokens_of ps ≡ tokens.Word (codes "PPC") ∷ tokens.Word name ∷ tokens.LineEnd ∷ spelled_text t (spelled_keylines k behind) → TakesHead name t k ps behind
-head_led name t k [] behind i e = absurd cc
-head_led name t k (a ∷ []) behind i e = absurd cc
-head_led name t k (a ∷ b ∷ []) behind i e = absurd cc
+head_led name t k [] behind i e = absurd (no_first e)
+head_led name t k (a ∷ []) behind i e = absurd (no_first (same_others e))
+head_led name t k (a ∷ b ∷ []) behind i e = absurd (no_first (same_others (same_others e)))
 head_led name t k (a ∷ b ∷ c ∷ ps) behind i e =
-    let ta : a.token ≡ tokens.Word (codes "PPC") = cc in
-    let tb : b.token ≡ tokens.Word name = cc in
-    let tc : c.token ≡ tokens.LineEnd = cc in
-    let others : tokens_of ps ≡ spelled_text t (spelled_keylines k behind) = cc in
+    let ta : a.token ≡ tokens.Word (codes "PPC") = same_first e in
+    let from_name = same_others e in
+    let tb : b.token ≡ tokens.Word name = same_first from_name in
+    let from_end = same_others from_name in
+    let tc : c.token ≡ tokens.LineEnd = same_first from_end in
+    let others : tokens_of ps ≡ spelled_text t (spelled_keylines k behind) = same_others from_end in
     let r = lines_led name t k ps behind stages.Head others in
     record {
       before = a ∷ b ∷ c ∷ r.before;
@@ -257,15 +262,15 @@ module _ (t : TestTree) (fine : IsTest limits t) (few : t.others + 1 < 184467440
   }
 
   body_taken : (ps : List TokenAt) (h : TakesHead t.name t.text t.keylines ps (spelled_init t.init (spelled_header t.others behind_header))) (before behind : List TokenAt) → h.left ≡ before ++ behind → tokens_of before ≡ spelled_init t.init [] → tokens_of behind ≡ spelled_header t.others behind_header → TakesTest ps t
-  body_taken ps h [] behind l e k = absurd cc
-  body_taken ps h (p ∷ q) [] l e k = absurd cc
+  body_taken ps h [] behind l e k = absurd (no_first e)
+  body_taken ps h (p ∷ q) [] l e k = absurd (no_first k)
   body_taken ps h (p ∷ q) (w ∷ b) l e k =
       let n = p.offset in
-      let brace : p.token ≡ tokens.Mark marks.OpenBrace = cc in
+      let brace : p.token ≡ tokens.Mark marks.OpenBrace = same_first e in
       let is_brace : p ≡ brace_at n = ap (λ (x : Token). record { token = x; offset = p.offset }) brace in
       let e' : tokens_of (brace_at n ∷ q) ≡ spelled_init t.init [] = ap (λ (x : TokenAt). tokens_of (x ∷ q)) (sym is_brace) ∙ e in
-      let first : w.token ≡ tokens.Word (column_name 0) = cc in
-      let others : tokens_of b ≡ spelled_names 1 t.others behind_header = cc in
+      let first : w.token ≡ tokens.Word (column_name 0) = same_first k in
+      let others : tokens_of b ≡ spelled_names 1 t.others behind_header = same_others k in
       let left : h.left ≡ brace_at n ∷ (q ++ w ∷ b) = l ∙ ap (λ (x : TokenAt). x ∷ (q ++ w ∷ b)) is_brace in
       let whole : tokens_of (brace_at n ∷ (q ++ w ∷ b)) ≡ spelled_init t.init (spelled_header t.others behind_header) = ap tokens_of (sym left) ∙ h.are_left in
       let g = after h.stage (tokens.Mark marks.OpenBrace) in
@@ -306,7 +311,7 @@ body_from name ps n g s few e d = by_opened (block_begins name ps n g s few e)
   where
     by_opened : Opened name ps n s → Begins IsBody (tokens_of (brace_at n ∷ ps))
     by_opened (IsOne b) = b
-    by_opened (IsBroken i rest x) = absurd (let no : false ≡ true = ap in_block (sym d) ∙ i in cc)
+    by_opened (IsBroken i rest x) = absurd (false≢true (ap in_block (sym d) ∙ i))
 
 pub any_body : Begins IsBody []
 any_body =
@@ -341,7 +346,7 @@ test_of ts x =
 
 nothing_more : (ts : List Token) → anywhere ts ≡ [] → ts ≡ []
 nothing_more [] e = refl
-nothing_more (t ∷ ts) e = absurd cc
+nothing_more (t ∷ ts) e = absurd (no_first (sym e))
 
 pub test_whole : (ps : List TokenAt) (s : State) → length ps < 18446744073709551616 → run (start kinds.Test 0) ps ≡ Ok s → s.part ≡ text.Done → IsFewTest (tokens_of ps)
 test_whole ps s few e d =

@@ -2,6 +2,7 @@
 use Rattle.std.proofs.Common.{◌≡◌, ℕ, Bool, true, false, List, [], ◌∷◌, ◌++◌, map, Option, Some, None, Ok, refl, sym, ap, ◌∙◌, subst, append_assoc}
 use Rattle.std.specs.Prelude.{if◌then◌else◌}
 use Rattle.std.proofs.lemmas.List.{append-nil}
+use Rattle.std.proofs.lemmas.Bool.{false≢true}
 use Rattle.litmus_tokens.specs.declared.stage.Stage.{Stage}
 use Rattle.litmus_tokens.specs.declared.token.Token.{Token}
 use Rattle.litmus_tokens.specs.declared.token.Token.TheVariants as tokens
@@ -24,6 +25,7 @@ use Rattle.litmus_grammar.specs.InitMachine.{Block, has_key, with_key, with_star
 use Rattle.litmus_grammar.specs.Laws.{entry_kept, AreStarts}
 use Rattle.litmus_grammar.specs.TextMachine as text
 use Rattle.litmus_grammar.specs.TextMachine.{Part, Next, State, with_offset, and_then, stepped, part_step, start, run, init_result}
+use Rattle.litmus_grammar.proofs.Equations.{no_first, same_first, same_others}
 use Rattle.litmus_grammar.proofs.InitKeys.{key_of, Keeps, keeps_none, keeps_more, added_new}
 use Rattle.litmus_grammar.proofs.InitLeft.{closing, draft, standing}
 use Rattle.litmus_grammar.proofs.Runs.{tokens_of-append}
@@ -49,9 +51,9 @@ entry_more : (e : EntryTree) (us : List Token) → spelled_entry e [] ++ us ≡ 
 entry_more e us = equals_more e.place (tokens.Mark marks.Equals ∷ spelled_value e.value []) us (tokens.Mark marks.Equals ∷ spelled_value e.value us) (ap (λ (x : List Token). tokens.Mark marks.Equals ∷ x) (value_more e.value us))
 
 no_place : (p : PlaceTree) (ts : List Token) → [] ≡ spelled_place p ts → ⊥
-no_place (Location false n) ts e = absurd cc
-no_place (Location true n) ts e = absurd cc
-no_place (Register t r) ts e = absurd cc
+no_place (Location false n) ts e = absurd (no_first e)
+no_place (Location true n) ts e = absurd (no_first e)
+no_place (Register t r) ts e = absurd (no_first e)
 
 module _ (threads : ℕ) where
   -- the reader goes on from there, with this left
@@ -80,20 +82,20 @@ module _ (threads : ℕ) where
   -- a token that is taken
   first : (g : Stage) (p q : Part) (b c : Block) (x : TokenAt) (t : Token) (ps : List TokenAt) (ts : List Token) → part_step kinds.Init threads (draft b) p t x.offset ≡ Some (record { part = q; draft = draft c }) → x.token ∷ tokens_of ps ≡ t ∷ ts → Leads g p b (x ∷ ps) q c (t ∷ []) ts
   first g p q b c x t ps ts step e =
-      let same : x.token ≡ t = cc in
+      let same : x.token ≡ t = same_first e in
       record {
         stage = after g t;
         front = x ∷ [];
         behind = ps;
         split = refl;
         are = ap (λ (u : Token). u ∷ []) same;
-        rest = cc;
+        rest = same_others e;
         by = ap (λ (u : Token). run (standing threads g p b) (record { token = u; offset = x.offset } ∷ ps)) same
             ∙ ap (λ (o : Option Next). and_then (with_offset x.offset (stepped (standing threads g p b) t o)) (λ y. run y ps)) step;
       }
 
   one : (g : Stage) (p q : Part) (b c : Block) (t : Token) (ps : List TokenAt) (ts : List Token) → ((n : ℕ) → part_step kinds.Init threads (draft b) p t n ≡ Some (record { part = q; draft = draft c })) → tokens_of ps ≡ t ∷ ts → Leads g p b ps q c (t ∷ []) ts
-  one g p q b c t [] ts step e = absurd cc
+  one g p q b c t [] ts step e = absurd (no_first e)
   one g p q b c t (x ∷ ps) ts step e = first g p q b c x t ps ts (step x.offset) e
 
   -- ---- an entry
@@ -106,7 +108,7 @@ module _ (threads : ℕ) where
       ap (λ (x : Option ℕ). init_result kinds.Init (draft b) (and_place (init.added_if b (init.known_key d x)) (register_ends d x))) e
       ∙ ap (λ (x : Option Block). init_result kinds.Init (draft b) (and_place x (register_ends d (Some r)))) (added_new b (key_of place) fresh)
       ∙ ap (λ (x : Option ℕ). text.at (draft (with_key b (key_of (written.Register d (or_zero x))))) (text.Init (expectations.WantsEquals (place_of (written.Register d (or_zero x)))))) (sym e)
-  register_step d w b n None e k new = absurd cc
+  register_step d w b n None e k new = absurd (false≢true k)
 
   abbrev equals_of : PlaceTree → Part
   equals_of p = text.Init (expectations.WantsEquals (place_of (written_place p)))
@@ -191,7 +193,7 @@ module _ (threads : ℕ) where
     where
       done_run : (h : Stage) (c : Block) (qs : List TokenAt) → tokens_of qs ≡ [] → run (standing threads h text.Done c) qs ≡ Ok (standing threads h text.Done c)
       done_run h c [] k = refl
-      done_run h c (x ∷ qs) k = absurd cc
+      done_run h c (x ∷ qs) k = absurd (no_first (sym k))
 
   abbrev OthersTaken : List EntryTree → Bool → Type 0
   OthersTaken os closed = (g : Stage) (b : Block) (before : List WrittenPlace) (qs ps : List TokenAt) → Keeps b.named before → AreEntries before os → tokens_of ps ≡ spelled_others spelled_entry closed os closing → IsAccepted (qs ++ ps) (tokens_of qs ++ semicolon) g (text.Init expectations.HasEntry) b ps os

@@ -1,6 +1,7 @@
 -- What the machine takes to its end is the text of an init block.
 use Rattle.std.proofs.Common.{◌≡◌, ℕ, Bool, true, false, List, [], ◌∷◌, Option, Some, None, Ok, refl, sym, ap, ◌∙◌, subst}
 use Rattle.std.specs.Prelude.{IsTrue, if◌then◌else◌}
+use Rattle.std.proofs.lemmas.Bool.{false≢true}
 use Rattle.litmus_tokens.specs.declared.stage.Stage.{Stage}
 use Rattle.litmus_tokens.specs.declared.token.Token.{Token}
 use Rattle.litmus_tokens.specs.declared.token.Token.TheVariants as tokens
@@ -26,6 +27,7 @@ use Rattle.litmus_grammar.specs.InitMachine.{Block, Did, has_key, with_key, with
 use Rattle.litmus_grammar.specs.TextMachine as text
 use Rattle.litmus_grammar.specs.TextMachine.{Part, Draft, State, Ran, with_offset, and_then, stepped, with_init, nothing, start, run, init_result}
 use Rattle.litmus_grammar.proofs.InitKeys.{key_of, Keeps, keeps_none, keeps_more}
+use Rattle.litmus_grammar.proofs.Outcomes.{not_both}
 
 abbrev pub closing : List Token
 closing = tokens.Mark marks.CloseBrace ∷ tokens.End ∷ []
@@ -150,15 +152,15 @@ after_semicolon before ts (Another f) = record { others = f.first ∷ f.others; 
 module _ (threads : ℕ) where
   only_end : (ps : List TokenAt) (g : Stage) (b : Block) (s : State) → run (standing threads g text.Done b) ps ≡ Ok s → tokens_of ps ≡ []
   only_end [] g b s e = refl
-  only_end (p ∷ ps) g b s e = absurd cc
+  only_end (p ∷ ps) g b s e = absurd (not_both _ _ e)
 
   end_left : (ps : List TokenAt) (g : Stage) (b : Block) (s : State) → run (standing threads g text.WantsEnd b) ps ≡ Ok s → s.part ≡ text.Done → tokens_of ps ≡ tokens.End ∷ []
-  end_left [] g b s e d = absurd (let no_end : false ≡ true = ap done_in e ∙ ap is_done d in cc)
+  end_left [] g b s e d = absurd (false≢true (ap done_in e ∙ ap is_done d))
   end_left (p ∷ ps) g b s e d = by_token p.token p.offset e
     where
       by_token : (t : Token) (n : ℕ) → run (standing threads g text.WantsEnd b) (record { token = t; offset = n } ∷ ps) ≡ Ok s → t ∷ tokens_of ps ≡ tokens.End ∷ []
       by_token tokens.End n k = more tokens.End (tokens_of ps) [] (only_end ps (after g tokens.End) b s k)
-      by_token t n k = absurd cc
+      by_token t n k = absurd (not_both _ _ k)
 
   -- with what is left behind the token
   module _ (ps : List TokenAt) (s : State) (d : s.part ≡ text.Done) (again : (expected : InitExpectation) (g : Stage) (b : Block) (before : List WrittenPlace) → Keeps b.named before → run (standing threads g (text.Init expected) b) ps ≡ Ok s → Left before expected (tokens_of ps)) where
@@ -167,7 +169,7 @@ module _ (threads : ℕ) where
 
     -- a place that is named here was not named before
     once : (g : Stage) (expected : InitExpectation) (c b : Block) (t : Token) (n : ℕ) (k : List ℕ) (o : Option PlaceStep) (x : Bool) → has_key b.named k ≡ x → went_on g expected c t n (and_place (if x then None else Some (with_key b k)) o) ≡ Ok s → (has_key b.named k ≡ false) × (went_on g expected c t n (place_result (with_key b k) o) ≡ Ok s)
-    once g expected c b t n k o true e h = absurd cc
+    once g expected c b t n k o true e h = absurd (not_both _ _ h)
     once g expected c b t n k o false e h = (e, h)
 
     -- the equals sign behind a place that was named
@@ -189,7 +191,7 @@ module _ (threads : ℕ) where
           once = subst (Lacks before) same k.0;
           equals = subst (λ (x : WrittenPlace). EqualsLeft (x ∷ before) (tokens_of ps)) same k.1;
         }
-    register_left g expected b before d w n None e keeps h = absurd cc
+    register_left g expected b before d w n None e keeps h = absurd (not_both _ _ h)
 
     first_draft : (g : Stage) (expected : InitExpectation) (c b : Block) (before : List WrittenPlace) (t : Token) (n : ℕ) → Keeps b.named before → went_on g expected c t n (init.place_read b places.Begins t) ≡ Ok s → PlaceLeft before (t ∷ tokens_of ps)
     first_draft g expected c b before (tokens.Word w) n keeps h =
@@ -204,7 +206,7 @@ module _ (threads : ℕ) where
         let l = again (expectations.InPlace (places.WantsColon d)) (after g (tokens.Number false d)) b before keeps h in
         let r = l.register in
         record { place = Register d r.word; rest = r.rest; fine = r.fine; whole = more (tokens.Number false d) (tokens_of ps) _ (l.whole ∙ more (tokens.Mark marks.Colon) l.rest _ r.whole); once = r.once; equals = r.equals }
-    first_draft g expected c b before t n keeps h = absurd cc
+    first_draft g expected c b before t n keeps h = absurd (not_both _ _ h)
 
     within_left : (g : Stage) (expected : PlaceExpectation) (b : Block) (before : List WrittenPlace) (t : Token) (n : ℕ) → Keeps b.named before → went_on g (expectations.InPlace expected) b t n (init.place_read b expected t) ≡ Ok s → WithinLeft before expected (t ∷ tokens_of ps)
     within_left g places.Begins b before t n keeps h = first_draft g (expectations.InPlace places.Begins) b b before t n keeps h
@@ -213,15 +215,15 @@ module _ (threads : ℕ) where
         let o = once g (expectations.InPlace places.WantsName) b b (tokens.Word w) n (key_of place) (place_step places.WantsName (tokens.Word w)) (has_key b.named (key_of place)) refl h in
         let l = again (expectations.InPlace (places.WantsBracket w)) (after g (tokens.Word w)) (with_key b (key_of place)) (place ∷ before) (keeps_more b.named before place keeps) o.1 in
         record { name = w; rest = l.rest; whole = more (tokens.Word w) (tokens_of ps) _ l.whole; once = (keeps place).0 o.0; equals = l.equals }
-    within_left g places.WantsName b before t n keeps h = absurd cc
+    within_left g places.WantsName b before t n keeps h = absurd (not_both _ _ h)
     within_left g (places.WantsBracket w) b before (tokens.Mark marks.CloseBracket) n keeps h =
         record { rest = tokens_of ps; whole = refl; equals = again (expectations.WantsEquals (place_of (written.Location w))) (after g (tokens.Mark marks.CloseBracket)) b before keeps h }
-    within_left g (places.WantsBracket w) b before t n keeps h = absurd cc
+    within_left g (places.WantsBracket w) b before t n keeps h = absurd (not_both _ _ h)
     within_left g (places.WantsColon d) b before (tokens.Mark marks.Colon) n keeps h =
         record { rest = tokens_of ps; whole = refl; register = again (expectations.InPlace (places.WantsRegister d)) (after g (tokens.Mark marks.Colon)) b before keeps h }
-    within_left g (places.WantsColon d) b before t n keeps h = absurd cc
+    within_left g (places.WantsColon d) b before t n keeps h = absurd (not_both _ _ h)
     within_left g (places.WantsRegister d) b before (tokens.Word w) n keeps h = register_left g (expectations.InPlace (places.WantsRegister d)) b before d w n (register_of w) refl keeps h
-    within_left g (places.WantsRegister d) b before t n keeps h = absurd cc
+    within_left g (places.WantsRegister d) b before t n keeps h = absurd (not_both _ _ h)
 
     entry_left : (g : Stage) (b : Block) (before : List WrittenPlace) (t : Token) (n : ℕ) → Keeps b.named before → went_on g expectations.WantsEntry b t n (init.entry_read b t n) ≡ Ok s → EntryLeft before (t ∷ tokens_of ps)
     entry_left g b before (tokens.Mark marks.CloseBrace) n keeps h = Closes (more (tokens.Mark marks.CloseBrace) (tokens_of ps) _ (end_left ps (after g (tokens.Mark marks.CloseBrace)) b s h d))
@@ -229,29 +231,29 @@ module _ (threads : ℕ) where
 
     open_left : (g : Stage) (b : Block) (before : List WrittenPlace) (t : Token) (n : ℕ) → Keeps b.named before → went_on g expectations.WantsOpen b t n (init.open_read b t) ≡ Ok s → OpenLeft before (t ∷ tokens_of ps)
     open_left g b before (tokens.Mark marks.OpenBrace) n keeps h = record { rest = tokens_of ps; whole = refl; entries = again expectations.WantsEntry (after g (tokens.Mark marks.OpenBrace)) b before keeps h }
-    open_left g b before t n keeps h = absurd cc
+    open_left g b before t n keeps h = absurd (not_both _ _ h)
 
     equals_left : (g : Stage) (p : Place) (b : Block) (before : List WrittenPlace) (t : Token) (n : ℕ) → Keeps b.named before → went_on g (expectations.WantsEquals p) b t n (init.equals_read b p t) ≡ Ok s → EqualsLeft before (t ∷ tokens_of ps)
     equals_left g p b before (tokens.Mark marks.Equals) n keeps h = record { rest = tokens_of ps; whole = refl; value = again (expectations.WantsValue p) (after g (tokens.Mark marks.Equals)) b before keeps h }
-    equals_left g p b before t n keeps h = absurd cc
+    equals_left g p b before t n keeps h = absurd (not_both _ _ h)
 
     number_left : (g : Stage) (p : Place) (b : Block) (before : List WrittenPlace) (negative : Bool) (ds : List ℕ) (n : ℕ) (x : Bool) → is_int negative ds ≡ x → Keeps b.named before
         → went_on g (expectations.WantsValue p) b (tokens.Number negative ds) n (valued b p (number_read (if x then Some (signed negative (decimal ds)) else None))) ≡ Ok s → ValueLeft before (tokens.Number negative ds ∷ tokens_of ps)
     number_left g p b before negative ds n true e keeps h =
         record { value = Number negative ds; rest = tokens_of ps; fine = e; whole = refl; behind = again expectations.HasEntry (after g (tokens.Number negative ds)) (with_entry b p (values.Number (signed negative (decimal ds)))) before keeps h }
-    number_left g p b before negative ds n false e keeps h = absurd cc
+    number_left g p b before negative ds n false e keeps h = absurd (not_both _ _ h)
 
     value_left : (g : Stage) (p : Place) (b : Block) (before : List WrittenPlace) (t : Token) (n : ℕ) → Keeps b.named before → went_on g (expectations.WantsValue p) b t n (init.step b (expectations.WantsValue p) t n) ≡ Ok s → ValueLeft before (t ∷ tokens_of ps)
     value_left g p b before (tokens.Word w) n keeps h =
         record { value = Address w; rest = tokens_of ps; fine = tt; whole = refl; behind = again expectations.HasEntry (after g (tokens.Word w)) (with_entry b p (values.Address w)) before keeps h }
     value_left g p b before (tokens.Number negative ds) n keeps h = number_left g p b before negative ds n (is_int negative ds) refl keeps h
-    value_left g p b before t n keeps h = absurd cc
+    value_left g p b before t n keeps h = absurd (not_both _ _ h)
 
     behind_left : (g : Stage) (b : Block) (before : List WrittenPlace) (t : Token) (n : ℕ) → Keeps b.named before → went_on g expectations.HasEntry b t n (init.behind b t) ≡ Ok s → Behind before (t ∷ tokens_of ps)
     behind_left g b before (tokens.Mark marks.Semicolon) n keeps h = after_semicolon before (tokens_of ps) (again expectations.WantsEntry (after g (tokens.Mark marks.Semicolon)) b before keeps h)
     behind_left g b before (tokens.Mark marks.CloseBrace) n keeps h =
         record { others = []; closed = false; fine = tt; whole = more (tokens.Mark marks.CloseBrace) (tokens_of ps) _ (end_left ps (after g (tokens.Mark marks.CloseBrace)) b s h d) }
-    behind_left g b before t n keeps h = absurd cc
+    behind_left g b before t n keeps h = absurd (not_both _ _ h)
 
     by_expectation : (expected : InitExpectation) (g : Stage) (b : Block) (before : List WrittenPlace) (t : Token) (n : ℕ) → Keeps b.named before → run (standing threads g (text.Init expected) b) (record { token = t; offset = n } ∷ ps) ≡ Ok s → Left before expected (t ∷ tokens_of ps)
     by_expectation expectations.WantsOpen g b before t n keeps h = open_left g b before t n keeps h
@@ -262,7 +264,7 @@ module _ (threads : ℕ) where
     by_expectation expectations.HasEntry g b before t n keeps h = behind_left g b before t n keeps h
 
   left : (ps : List TokenAt) (expected : InitExpectation) (g : Stage) (b : Block) (before : List WrittenPlace) (s : State) → Keeps b.named before → run (standing threads g (text.Init expected) b) ps ≡ Ok s → s.part ≡ text.Done → Left before expected (tokens_of ps)
-  left [] expected g b before s keeps e d = absurd (let no_end : false ≡ true = ap done_in e ∙ ap is_done d in cc)
+  left [] expected g b before s keeps e d = absurd (false≢true (ap done_in e ∙ ap is_done d))
   left (p ∷ ps) expected g b before s keeps e d = by_expectation ps s d (λ o f c more_places k i. left ps o f c more_places s k i d) expected g b before p.token p.offset keeps e
 
   to_text : (ts us : List Token) → ts ≡ tokens.Mark marks.OpenBrace ∷ us → EntryLeft [] us → IsInitText ts

@@ -30,11 +30,12 @@ use Rattle.litmus_grammar.specs.InitMachine.{Block, has_key, with_key, with_star
 use Rattle.litmus_grammar.specs.Texts.{spelled_colon, is_init, IsBrokenOff, IsStart, IsWhole, BreaksOff}
 use Rattle.litmus_grammar.specs.TextMachine as text
 use Rattle.litmus_grammar.specs.TextMachine.{Part, Draft, Next, State, Ran, with_offset, and_then, stepped, part_step, start, run, rule_at, init_result}
+use Rattle.litmus_grammar.proofs.Equations.{no_first, same_first, same_others}
 use Rattle.litmus_grammar.proofs.InitKeys.{key_of, Keeps, keeps_none, keeps_more, added_new, fresh, lacks_fresh}
 use Rattle.litmus_grammar.proofs.InitLeft.{closing, draft, standing, init_whole}
 use Rattle.litmus_grammar.proofs.InitAcceptance.{init_taken}
-use Rattle.litmus_grammar.proofs.Outcomes.{Reading}
-use Rattle.litmus_grammar.proofs.Runs.{anywhere, tokens_of-append, tokens_of-anywhere, run-split, run-append, run_one, follows}
+use Rattle.litmus_grammar.proofs.Outcomes.{Reading, not_both}
+use Rattle.litmus_grammar.proofs.Runs.{anywhere, tokens_of-append, tokens_of-anywhere, run-split, run-append, run_one, follows, same_state}
 
 abbrev first_stage : Stage
 first_stage = text.first_stage kinds.Init
@@ -201,7 +202,7 @@ module _ (threads : ℕ) where
 
   walk : (before rest : List TokenAt) (g : Stage) (p : Part) (b : Block) (s : State) → run (start kinds.Init threads) before ≡ Ok (standing threads g p b) → Known (tokens_of before) p b → run (standing threads g p b) rest ≡ Ok s → Reached (tokens_of (before ++ rest)) s
   walk before [] g p b s reached k e =
-      let same : s ≡ standing threads g p b = cc in
+      let same : s ≡ standing threads g p b = sym (same_state _ _ e) in
       record { stage = g; part = p; block = b; is = same; known = subst (λ (ps : List TokenAt). Known (tokens_of ps) p b) (sym (append-nil before)) k }
   walk before (q ∷ rest) g p b s reached k e =
       by_next (part_step kinds.Init threads (draft b) p q.token q.offset) refl (step_known before g b k.named k.keeps p q.token q.offset k.open_so reached) e
@@ -216,7 +217,7 @@ module _ (threads : ℕ) where
           later known.0 n.part (here ∙ ap (λ (x : Draft). Ok (at_draft x)) known.1)
           (subst (λ (ts : List Token). Known ts n.part known.0) (sym (tokens_of-append before (q ∷ []))) known.2)
           (ap (λ (x : Draft). run (at_draft x) rest) (sym known.1) ∙ h)
-      by_next None step known h later = absurd cc
+      by_next None step known h later = absurd (not_both _ _ h)
 
   reach : (ps : List TokenAt) (s : State) → run (start kinds.Init threads) ps ≡ Ok s → Reached (tokens_of ps) s
   reach ps s e = walk [] ps first_stage (text.Init expectations.WantsOpen) init.start s refl (record { named = []; keeps = keeps_none; open_so = tt }) e
@@ -267,53 +268,53 @@ module _ (threads : ℕ) where
 
   split_at : (ps : List TokenAt) (us vs : List Token) → tokens_of ps ≡ us ++ vs → Split ps us vs
   split_at ps [] vs e = record { front = []; back = ps; split = refl; front_is = refl; back_is = e }
-  split_at [] (u ∷ us) vs e = absurd cc
+  split_at [] (u ∷ us) vs e = absurd (no_first e)
   split_at (p ∷ ps) (u ∷ us) vs e =
-      let same : p.token ≡ u = cc in
-      let s = split_at ps us vs cc in
+      let same : p.token ≡ u = same_first e in
+      let s = split_at ps us vs (same_others e) in
       record { front = p ∷ s.front; back = s.back; split = ap (λ (x : List TokenAt). p ∷ x) s.split; front_is = ap (λ (x : Token). x ∷ tokens_of s.front) same ∙ ap (λ (x : List Token). u ∷ x) s.front_is; back_is = s.back_is }
 
   at_entry : (ts : List Token) (g : Stage) (p : Part) (b : Block) (rest : List TokenAt) (s : State) → Known ts p b → run (standing threads g p b) (record { token = bracket; offset = 0 } ∷ rest) ≡ Ok s → p ≡ text.Init expectations.WantsEntry
-  at_entry ts g (text.Init expectations.WantsOpen) b rest s k e = absurd cc
+  at_entry ts g (text.Init expectations.WantsOpen) b rest s k e = absurd (not_both _ _ e)
   at_entry ts g (text.Init expectations.WantsEntry) b rest s k e = refl
   at_entry ts g (text.Init (expectations.InPlace expected)) b rest s k e = by_place expected k e
     where
       by_place : (expected : PlaceExpectation) → Known ts (text.Init (expectations.InPlace expected)) b → run (standing threads g (text.Init (expectations.InPlace expected)) b) (record { token = bracket; offset = 0 } ∷ rest) ≡ Ok s → text.Init (expectations.InPlace expected) ≡ text.Init expectations.WantsEntry
       by_place places.Begins j h = absurd j.open_so
-      by_place places.WantsName j h = absurd cc
-      by_place (places.WantsBracket n) j h = absurd cc
-      by_place (places.WantsColon d) j h = absurd cc
-      by_place (places.WantsRegister d) j h = absurd cc
-  at_entry ts g (text.Init (expectations.WantsEquals p)) b rest s k e = absurd cc
-  at_entry ts g (text.Init (expectations.WantsValue p)) b rest s k e = absurd cc
-  at_entry ts g (text.Init expectations.HasEntry) b rest s k e = absurd cc
-  at_entry ts g text.WantsEnd b rest s k e = absurd cc
-  at_entry ts g text.Done b rest s k e = absurd cc
+      by_place places.WantsName j h = absurd (not_both _ _ h)
+      by_place (places.WantsBracket n) j h = absurd (not_both _ _ h)
+      by_place (places.WantsColon d) j h = absurd (not_both _ _ h)
+      by_place (places.WantsRegister d) j h = absurd (not_both _ _ h)
+  at_entry ts g (text.Init (expectations.WantsEquals p)) b rest s k e = absurd (not_both _ _ e)
+  at_entry ts g (text.Init (expectations.WantsValue p)) b rest s k e = absurd (not_both _ _ e)
+  at_entry ts g (text.Init expectations.HasEntry) b rest s k e = absurd (not_both _ _ e)
+  at_entry ts g text.WantsEnd b rest s k e = absurd (not_both _ _ e)
+  at_entry ts g text.Done b rest s k e = absurd (not_both _ _ e)
   at_entry ts g p b rest s k e = absurd k.open_so
 
   number_taken : (g : Stage) (b : Block) (d : List ℕ) (colon : Bool) (ps : List TokenAt) → tokens_of ps ≡ tokens.Number false d ∷ spelled_colon colon → (s : State) × (run (standing threads g (text.Init expectations.WantsEntry) b) ps ≡ Ok s)
-  number_taken g b d colon [] e = absurd cc
+  number_taken g b d colon [] e = absurd (no_first e)
   number_taken g b d colon (p ∷ ps) e =
-      let same : p.token ≡ tokens.Number false d = cc in
-      let rest : tokens_of ps ≡ spelled_colon colon = cc in
+      let same : p.token ≡ tokens.Number false d = same_first e in
+      let rest : tokens_of ps ≡ spelled_colon colon = same_others e in
       let r = colon_taken (after g (tokens.Number false d)) (with_start b p.offset) colon ps rest in
       (r.0, ap (λ (x : Token). run (standing threads g (text.Init expectations.WantsEntry) b) (record { token = x; offset = p.offset } ∷ ps)) same ∙ r.1)
     where
       colon_taken : (h : Stage) (c : Block) (x : Bool) (qs : List TokenAt) → tokens_of qs ≡ spelled_colon x → (s : State) × (run (standing threads h (text.Init (expectations.InPlace (places.WantsColon d))) c) qs ≡ Ok s)
       colon_taken h c false [] k = (_, refl)
-      colon_taken h c false (q ∷ qs) k = absurd cc
-      colon_taken h c true [] k = absurd cc
+      colon_taken h c false (q ∷ qs) k = absurd (no_first (sym k))
+      colon_taken h c true [] k = absurd (no_first k)
       colon_taken h c true (q ∷ []) k =
-          let same : q.token ≡ tokens.Mark marks.Colon = cc in
+          let same : q.token ≡ tokens.Mark marks.Colon = same_first k in
           (_, ap (λ (x : Token). run (standing threads h (text.Init (expectations.InPlace (places.WantsColon d))) c) (record { token = x; offset = q.offset } ∷ [])) same)
-      colon_taken h c true (q ∷ r ∷ qs) k = absurd cc
+      colon_taken h c true (q ∷ r ∷ qs) k = absurd (no_first (sym (same_others k)))
 
   part_run : (front : List TokenAt) (rest : List TokenAt) (s : State) → run (start kinds.Init threads) (front ++ rest) ≡ Ok s → (x : State) × (run (start kinds.Init threads) front ≡ Ok x) × (run x rest ≡ Ok s)
   part_run front rest s e = by_run (run (start kinds.Init threads) front) refl (sym (run-split (start kinds.Init threads) front rest) ∙ e)
     where
       by_run : (r : Ran) → run (start kinds.Init threads) front ≡ r → and_then r (λ x. run x rest) ≡ Ok s → (x : State) × (run (start kinds.Init threads) front ≡ Ok x) × (run x rest ≡ Ok s)
       by_run (Ok x) k h = (x, k, h)
-      by_run (Err d) k h = absurd cc
+      by_run (Err d) k h = absurd (not_both _ _ h)
 
   with_bracket : (front : List TokenAt) (before us : List Token) → tokens_of front ≡ before → tokens_of (front ++ anywhere (bracket ∷ us)) ≡ (before ++ bracket ∷ []) ++ us
   with_bracket front before us e =

@@ -3,6 +3,7 @@ pub mod Bodies
 pub mod Bounds
 pub mod Conditions
 pub mod Ends
+pub mod Equations
 pub mod Heads
 pub mod InitKeys
 pub mod InitLeft

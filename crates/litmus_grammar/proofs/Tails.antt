@@ -1,8 +1,9 @@
 -- What stands behind the table of a test.
-use Rattle.std.proofs.Common.{◌≡◌, ℕ, ◌<◌, ◌⊎◌, inl, inr, Bool, true, false, List, [], ◌∷◌, ◌++◌, map, length, append_assoc, append-nil, Option, Some, None, Ok, refl, sym, ap, ◌∙◌, subst}
+use Rattle.std.proofs.Common.{◌≡◌, ℕ, ◌<◌, ◌⊎◌, inl, inr, Bool, true, false, true≢false, List, [], ◌∷◌, ◌++◌, map, length, append_assoc, append-nil, Option, Some, None, Ok, refl, sym, ap, ◌∙◌, subst}
 use Rattle.std.specs.Prelude.{codes, ◌&&◌, if◌then◌else◌}
 use Rattle.std.specs.Str.{bytes_eq}
 use Rattle.std.proofs.lemmas.Slice.Eq.{bytes_eq-Decides}
+use Rattle.std.proofs.lemmas.Bool.{false≢true}
 use Rattle.litmus_tokens.specs.declared.stage.Stage.{Stage}
 use Rattle.litmus_tokens.specs.declared.stage.Stage.TheVariants as stages
 use Rattle.litmus_tokens.specs.declared.token.Token.{Token}
@@ -31,10 +32,13 @@ use Rattle.litmus_grammar.specs.TextMachine as text
 use Rattle.litmus_grammar.specs.TextMachine.{Part, Draft, Next, State, Ran, with_offset, and_then, stepped, part_step, nothing, start, run}
 use Rattle.litmus_grammar.proofs.Conditions.{condition_taken, condition_reading}
 use Rattle.litmus_grammar.proofs.Ends.{ends_done}
+use Rattle.litmus_grammar.proofs.Equations.{no_first, same_first}
+use Rattle.litmus_grammar.proofs.InitLeft.{is_done}
 use Rattle.litmus_grammar.proofs.Lists.{list_whole}
 use Rattle.litmus_grammar.proofs.Listed.{list_taken, list_reading}
+use Rattle.litmus_grammar.proofs.Outcomes.{not_both}
 use Rattle.litmus_grammar.proofs.Passing.{test_at, text_at, Alike, Stays, Leaves, passes, ends}
-use Rattle.litmus_grammar.proofs.Runs.{tokens_of-append, run-append}
+use Rattle.litmus_grammar.proofs.Runs.{tokens_of-append, run-append, same_state}
 use Rattle.litmus_grammar.proofs.Spelled.{items-append, condition-append}
 use Rattle.litmus_grammar.proofs.Splits.{split, single, unsnoc, Rest, Nothing, More, rest_of, unsnoc_placed}
 
@@ -59,22 +63,22 @@ pub record IsTail (threads : ℕ) (ts : List Token) : Type 0 where
 
 pub done_behind : (kind : TextKind) (n : ℕ) (g : Stage) (h : Draft) (ps : List TokenAt) (s : State) → run (text_at kind n g text.Done h) ps ≡ Ok s → (ps ≡ []) × (s ≡ text_at kind n g text.Done h)
 done_behind kind n g h [] s e =
-    let same : text_at kind n g text.Done h ≡ s = cc in
+    let same : text_at kind n g text.Done h ≡ s = same_state _ _ e in
     (refl, sym same)
-done_behind kind n g h (p ∷ ps) s e = absurd cc
+done_behind kind n g h (p ∷ ps) s e = absurd (not_both _ _ e)
 
 -- behind the part of a text alone stands the end
 pub end_behind : (kind : TextKind) (n : ℕ) (g : Stage) (h : Draft) (ps : List TokenAt) (s : State) → run (text_at kind n g text.WantsEnd h) ps ≡ Ok s → s.part ≡ text.Done → (m : ℕ) × (ps ≡ last_at m ∷ []) × (s.draft ≡ h)
 end_behind kind n g h [] s e d =
-    let same : text_at kind n g text.WantsEnd h ≡ s = cc in
-    absurd (let no : text.WantsEnd ≡ text.Done = ap (λ (x : State). x.part) same ∙ d in cc)
+    let same : text_at kind n g text.WantsEnd h ≡ s = same_state _ _ e in
+    absurd (false≢true (ap (λ (x : State). is_done x.part) same ∙ ap is_done d))
 end_behind kind n g h (p ∷ ps) s e d = by_token p.token p.offset e
   where
     by_token : (t : Token) (m : ℕ) → run (text_at kind n g text.WantsEnd h) (record { token = t; offset = m } ∷ ps) ≡ Ok s → (k : ℕ) × (record { token = t; offset = m } ∷ ps ≡ last_at k ∷ []) × (s.draft ≡ h)
     by_token tokens.End m k =
         let r = done_behind kind n (after g tokens.End) h ps s k in
         (m, ap (λ (l : List TokenAt). last_at m ∷ l) r.0, ap (λ (x : State). x.draft) r.1)
-    by_token t m k = absurd cc
+    by_token t m k = absurd (not_both _ _ k)
 
 module _ (name : List ℕ) (block : init.Block) (t : table.State) (few : length t.threads < 18446744073709551616) where
   abbrev threads : ℕ
@@ -132,7 +136,7 @@ module _ (name : List ℕ) (block : init.Block) (t : table.State) (few : length 
   condition_alike o text.WantsQuantifier h x offset i = leads_alike o h (text.quantifier_read x) (quantifier_in x)
   condition_alike o text.AfterTilde h x offset i = leads_alike o h (text.exists_read x) (exists_in x)
   condition_alike o (text.Proposition q fs used expected) h x offset i = proposition_alike o h q (condition.proposition_step limits threads fs used expected x)
-  condition_alike o p h x offset i = absurd cc
+  condition_alike o p h x offset i = absurd (false≢true i)
 
   abbrev IsCondition : List Token → Type 0
   IsCondition = IsConditionText limits threads
@@ -219,7 +223,7 @@ module _ (name : List ℕ) (block : init.Block) (t : table.State) (few : length 
   list_alike (text.Item items.WantsNext) h x offset i = next_alike h x
   list_alike (text.Item (items.Within expected)) h x offset i = item_result_alike h (place_step expected x)
   list_alike (text.Item items.HasItem) h x offset i = ended_alike h x
-  list_alike p h x offset i = absurd cc
+  list_alike p h x offset i = absurd (false≢true i)
 
   abbrev first_draft : Draft
   first_draft = nothing kinds.Locations
@@ -251,7 +255,7 @@ module _ (name : List ℕ) (block : init.Block) (t : table.State) (few : length 
       by_items x.items x.fine (sym (ap (λ (l : List Token). tokens.Word (codes "locations") ∷ l) (tokens_of-append ps (last_at 0 ∷ []))) ∙ x.whole)
     where
       by_items : (o : Option (Listed PlaceTree)) → AreItems threads (members o) → tokens_of (word_at n ∷ ps) ++ tokens.End ∷ [] ≡ spelled_observed o (tokens.End ∷ []) → (l : Listed PlaceTree) × AreItems threads (members (Some l)) × (tokens_of (word_at n ∷ ps) ≡ spelled_items l [])
-      by_items None fine k = absurd cc
+      by_items None fine k = absurd (true≢false (ap text.is_word (same_first k)))
       by_items (Some l) fine k = (l, fine, unsnoc (tokens_of (word_at n ∷ ps)) (spelled_items l []) tokens.End tokens.End (k ∙ sym (items-append l [] (tokens.End ∷ []))))
 
   list_begins : (ps : List TokenAt) (n : ℕ) (g : Stage) (s : State) → run (test_at g text.WantsList (early name block t [])) ps ≡ Ok s → Begins (IsTail threads) (tokens_of (word_at n ∷ ps))
@@ -268,11 +272,11 @@ module _ (name : List ℕ) (block : init.Block) (t : table.State) (few : length 
           let cut = split (word_at n ∷ ps) (spelled_items l []) (tokens.End ∷ []) k in
           let end = single cut.behind tokens.End cut.are_behind in
           let d = ends_done (start kinds.Locations threads) (text_at kinds.Locations threads f p h) cut.before end.0 (ap (run (start kinds.Locations threads)) (sym (cut.whole ∙ ap (λ (l : List TokenAt). cut.before ++ l) end.1)) ∙ r) in
-          absurd (let no : true ≡ false = sym i ∙ ap in_list d in cc)
+          absurd (true≢false (sym i ∙ ap in_list d))
       by_rest h p f i r l fine rest (More more k m) = record { rest = more ++ c; text = subst (IsTail threads) (append_assoc ts more c) (tail_of (ts ++ more) l c fine m any_condition.text) }
 
       by_items : (h : Draft) (p : Part) (f : Stage) → in_list p ≡ true → run (start kinds.Locations threads) (word_at n ∷ ps) ≡ Ok (text_at kinds.Locations threads f p h) → (o : Option (Listed PlaceTree)) → AreItems threads (members o) → (rest : List Token) → ts ++ rest ≡ spelled_observed o (tokens.End ∷ []) → Begins (IsTail threads) ts
-      by_items h p f i r None fine rest k = absurd cc
+      by_items h p f i r None fine rest k = absurd (true≢false (ap text.is_word (same_first k)))
       by_items h p f i r (Some l) fine rest k = by_rest h p f i r l fine rest (rest_of ts rest (spelled_items l []) tokens.End (k ∙ sym (items-append l [] (tokens.End ∷ []))))
 
       by_pass : Stays kinds.Locations threads with_places text.WantsEnd text.WantsQuantifier in_list list_alike (after stages.Tail (tokens.Word (codes "locations"))) g text.WantsList first_draft ps s
@@ -299,7 +303,7 @@ module _ (name : List ℕ) (block : init.Block) (t : table.State) (few : length 
   first_step g p q ps o = and_then (with_offset q.offset (stepped (test_at g p there) q.token o)) (λ x. run x ps)
 
   same_step : (g : Stage) (a b : Part) (q : TokenAt) (ps : List TokenAt) (o : Option Next) (s : State) → first_step g a q ps o ≡ Ok s → first_step g b q ps o ≡ Ok s
-  same_step g a b q ps None s e = absurd cc
+  same_step g a b q ps None s e = absurd (not_both _ _ e)
   same_step g a b q ps (Some n) s e = e
 
   same_step_back : (g : Stage) (a b : Part) (q : TokenAt) (ps : List TokenAt) (n : Next) → first_step g a q ps (Some n) ≡ first_step g b q ps (Some n)
@@ -327,7 +331,7 @@ module _ (name : List ℕ) (block : init.Block) (t : table.State) (few : length 
       by_token (tokens.Mark marks.Tilde) n k =
           let p : TokenAt = record { token = tokens.Mark marks.Tilde; offset = n } in
           of_condition (tokens_of (p ∷ ps)) (condition_begins [] (p ∷ ps) g s k)
-      by_token x n k = absurd cc
+      by_token x n k = absurd (not_both _ _ k)
 
   -- ---- each tail is taken
 
@@ -367,19 +371,19 @@ module _ (name : List ℕ) (block : init.Block) (t : table.State) (few : length 
         ∙ ap (λ (o : Option Part). first_step g text.WantsQuantifier q ps (text.next_at there o)) (sym m)
 
     quantifier_first : (q : Quantifier) (ps : List TokenAt) (ts : List Token) (g : Stage) → tokens_of ps ≡ spelled_quantifier q ts → run (test_at g text.Rows there) ps ≡ run (test_at g text.WantsQuantifier there) ps
-    quantifier_first Exists [] ts g e = absurd cc
-    quantifier_first NotExists [] ts g e = absurd cc
-    quantifier_first Forall [] ts g e = absurd cc
+    quantifier_first Exists [] ts g e = absurd (no_first e)
+    quantifier_first NotExists [] ts g e = absurd (no_first e)
+    quantifier_first Forall [] ts g e = absurd (no_first e)
     quantifier_first Exists (p ∷ ps) ts g e =
-        let x : tokens.Word (codes "exists") ≡ p.token = cc in
+        let x : tokens.Word (codes "exists") ≡ p.token = sym (same_first e) in
         subst (λ (y : Token). run (test_at g text.Rows there) (record { token = y; offset = p.offset } ∷ ps) ≡ run (test_at g text.WantsQuantifier there) (record { token = y; offset = p.offset } ∷ ps)) x
         (first_token (tokens.Word (codes "exists")) p.offset ps g (text.proposition Exists) refl refl refl)
     quantifier_first Forall (p ∷ ps) ts g e =
-        let x : tokens.Word (codes "forall") ≡ p.token = cc in
+        let x : tokens.Word (codes "forall") ≡ p.token = sym (same_first e) in
         subst (λ (y : Token). run (test_at g text.Rows there) (record { token = y; offset = p.offset } ∷ ps) ≡ run (test_at g text.WantsQuantifier there) (record { token = y; offset = p.offset } ∷ ps)) x
         (first_token (tokens.Word (codes "forall")) p.offset ps g (text.proposition Forall) refl refl refl)
     quantifier_first NotExists (p ∷ ps) ts g e =
-        let x : tokens.Mark marks.Tilde ≡ p.token = cc in
+        let x : tokens.Mark marks.Tilde ≡ p.token = sym (same_first e) in
         subst (λ (y : Token). run (test_at g text.Rows there) (record { token = y; offset = p.offset } ∷ ps) ≡ run (test_at g text.WantsQuantifier there) (record { token = y; offset = p.offset } ∷ ps)) x
         (first_token (tokens.Mark marks.Tilde) p.offset ps g text.AfterTilde refl refl refl)
 
@@ -388,9 +392,9 @@ module _ (name : List ℕ) (block : init.Block) (t : table.State) (few : length 
       pub by : run (test_at g text.Rows there) ps ≡ Ok (test_at stage text.Done (with_all name block t (map place_meaning (members o)) q a))
 
     list_first : (l : Listed PlaceTree) (before behind : List TokenAt) (g : Stage) (q : Quantifier) (a : FormulaTree) → AreItems threads (members (Some l)) → IsFormula limits threads a → tokens_of before ≡ spelled_items l [] → tokens_of behind ≡ spelled_condition q a → TakesTail (before ++ behind) (Some l) q (meaning a) g
-    list_first l [] behind g q a fine f e k = absurd cc
+    list_first l [] behind g q a fine f e k = absurd (no_first e)
     list_first l (p ∷ before) behind g q a fine f e k =
-        let x : tokens.Word (codes "locations") ≡ p.token = cc in
+        let x : tokens.Word (codes "locations") ≡ p.token = sym (same_first e) in
         let same : word_at p.offset ≡ p = ap (λ (y : Token). record { token = y; offset = p.offset }) x in
         let g' = after g (tokens.Word (codes "locations")) in
         let r = list_led l p.offset before g' fine (ap (λ (y : TokenAt). tokens_of (y ∷ before)) same ∙ e) in

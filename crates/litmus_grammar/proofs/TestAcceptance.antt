@@ -1,6 +1,6 @@
 -- What the reader of a test takes, however many columns the test has.
 use Rattle.std.proofs.Common.{◌≡◌, ℕ, ◌+◌, ◌<◌, ◌≤◌, ◌⊎◌, inl, inr, Bool, true, false, List, [], ◌∷◌, ◌++◌, length, append_assoc, Option, None, Ok, Err, refl, sym, ap, ◌∙◌, subst, arith}
-use Rattle.std.proofs.lemmas.Bool.{cases_lt}
+use Rattle.std.proofs.lemmas.Bool.{cases_lt, false≢true}
 use Rattle.std.proofs.lemmas.List.{length-append}
 use Rattle.litmus_tokens.specs.declared.stage.Stage.{Stage}
 use Rattle.litmus_tokens.specs.declared.stage.Stage.TheVariants as stages
@@ -27,6 +27,7 @@ use Rattle.litmus_grammar.specs.TextMachine.{Part, Draft, Next, State, Ran, with
 use Rattle.litmus_grammar.specs.Texts.{spelled_colon, is_init, IsBrokenOff, IsStart, IsWhole, BreaksOff}
 use Rattle.litmus_grammar.proofs.Blocks.{brace_at, block_at, entries_led}
 use Rattle.litmus_grammar.proofs.Bodies.{header_at, rows_at, name_step, names_led}
+use Rattle.litmus_grammar.proofs.Equations.{no_first, same_first, same_others}
 use Rattle.litmus_grammar.proofs.Heads.{in_head, head_led, head-append, test_led, length-tokens, names_count}
 use Rattle.litmus_grammar.proofs.Outcomes.{not_both}
 use Rattle.litmus_grammar.proofs.Passing.{test_at}
@@ -43,22 +44,22 @@ first_draft = start kinds.Test 0
 
 none_left : (ps : List TokenAt) → tokens_of ps ≡ [] → ps ≡ []
 none_left [] e = refl
-none_left (p ∷ ps) e = absurd cc
+none_left (p ∷ ps) e = absurd (no_first (sym e))
 
 -- the shorter of two beginnings of a list begins the other
 shorter : (xs rest us vs : List Token) → xs ++ rest ≡ us ++ vs → length xs ≤ length us → (more : List Token) × (xs ++ more ≡ us)
 shorter [] rest us vs e le = (us, refl)
 shorter (x ∷ xs) rest [] vs e le = absurd (omega (arith, le))
 shorter (x ∷ xs) rest (u ∷ us) vs e le =
-    let first : x ≡ u = cc in
-    let others : xs ++ rest ≡ us ++ vs = cc in
+    let first : x ≡ u = same_first e in
+    let others : xs ++ rest ≡ us ++ vs = same_others e in
     let r = shorter xs rest us vs others (omega (arith, le)) in
     (r.0, ap (λ (t : Token). t ∷ (xs ++ r.0)) first ∙ ap (λ (l : List Token). u ∷ l) r.1)
 
 drop_same : (xs ys zs : List Token) → xs ++ ys ≡ xs ++ zs → ys ≡ zs
 drop_same [] ys zs e = e
 drop_same (x ∷ xs) ys zs e =
-    let others : xs ++ ys ≡ xs ++ zs = cc in
+    let others : xs ++ ys ≡ xs ++ zs = same_others e in
     drop_same xs ys zs others
 
 -- what leads to the end of some tokens leads through the first of them
@@ -67,7 +68,7 @@ part_run s front rest z e = by_run (run s front) refl (sym (run-split s front re
   where
     by_run : (r : Ran) → run s front ≡ r → and_then r (λ x. run x rest) ≡ Ok z → (x : State) × (run s front ≡ Ok x) × (run x rest ≡ Ok z)
     by_run (Ok x) k h = (x, k, h)
-    by_run (Err d) k h = absurd cc
+    by_run (Err d) k h = absurd (not_both _ _ h)
 
 with_rest : (ps : List TokenAt) (rest : List Token) → tokens_of (ps ++ anywhere rest) ≡ tokens_of ps ++ rest
 with_rest ps rest = tokens_of-append ps (anywhere rest) ∙ ap (λ (l : List Token). tokens_of ps ++ l) (tokens_of-anywhere rest)
@@ -81,15 +82,15 @@ abbrev front_of : TestTree → List Token
 front_of t = spelled_head t (spelled_init t.init (header_of t))
 
 body_front : (t : TestTree) (g : Stage) (may : Bool) (before behind : List TokenAt) → AreEntries [] (members t.init) → tokens_of before ≡ spelled_init t.init [] → tokens_of behind ≡ header_of t → (s : State) × (run (in_head t.name g (text.Head may)) (before ++ behind) ≡ Ok s)
-body_front t g may [] behind fine e k = absurd cc
-body_front t g may (p ∷ q) [] fine e k = absurd cc
+body_front t g may [] behind fine e k = absurd (no_first e)
+body_front t g may (p ∷ q) [] fine e k = absurd (no_first k)
 body_front t g may (p ∷ q) (w ∷ b) fine e k =
     let n = p.offset in
-    let brace : p.token ≡ tokens.Mark marks.OpenBrace = cc in
+    let brace : p.token ≡ tokens.Mark marks.OpenBrace = same_first e in
     let is_brace : p ≡ brace_at n = ap (λ (x : Token). record { token = x; offset = p.offset }) brace in
     let same : tokens_of (brace_at n ∷ q) ≡ spelled_init t.init [] = ap (λ (x : TokenAt). tokens_of (x ∷ q)) (sym is_brace) ∙ e in
-    let first : w.token ≡ tokens.Word (column_name 0) = cc in
-    let others : tokens_of b ≡ spelled_names 1 t.others [] = cc in
+    let first : w.token ≡ tokens.Word (column_name 0) = same_first k in
+    let others : tokens_of b ≡ spelled_names 1 t.others [] = same_others k in
     let g1 = after g (tokens.Mark marks.OpenBrace) in
     let x = entries_led t.name t.init q n g1 fine same in
     let g2 = after x.stage (tokens.Word (column_name 0)) in
@@ -165,50 +166,50 @@ text_taken ps rest few x = prefix_taken x.tree x.fine ps rest few x.whole
 in_init_part : (g : Stage) (p : Part) (x : table.Expectation) → is_init g ≡ true → Agrees g p x → (expected : InitExpectation) × (p ≡ text.Init expected)
 in_init_part (stages.Init false y) (text.Init expected) x i a = (expected, refl)
 in_init_part (stages.Init b y) p x i a = absurd a
-in_init_part g p x i a = absurd cc
+in_init_part g p x i a = absurd (false≢true i)
 
 abbrev in_init_at : Stage → InitExpectation → Draft → State
 in_init_at g expected h = test_at g (text.Init expected) h
 
 colon_taken : (g : Stage) (d : List ℕ) (h : Draft) (colon : Bool) (qs : List TokenAt) (rest : List Token) → tokens_of qs ++ rest ≡ spelled_colon colon → (s : State) × (run (in_init_at g (expectations.InPlace (places.WantsColon d)) h) qs ≡ Ok s)
 colon_taken g d h colon [] rest e = (in_init_at g (expectations.InPlace (places.WantsColon d)) h, refl)
-colon_taken g d h false (q ∷ qs) rest e = absurd cc
+colon_taken g d h false (q ∷ qs) rest e = absurd (no_first (sym e))
 colon_taken g d h true (q ∷ []) rest e =
-    let same : q.token ≡ tokens.Mark marks.Colon = cc in
+    let same : q.token ≡ tokens.Mark marks.Colon = same_first e in
     (_, ap (λ (x : Token). run (in_init_at g (expectations.InPlace (places.WantsColon d)) h) (record { token = x; offset = q.offset } ∷ [])) same)
-colon_taken g d h true (q ∷ r ∷ qs) rest e = absurd cc
+colon_taken g d h true (q ∷ r ∷ qs) rest e = absurd (no_first (sym (same_others e)))
 
 entry_taken : (g : Stage) (d : List ℕ) (h : Draft) (colon : Bool) (qs : List TokenAt) (rest : List Token) → tokens_of qs ++ rest ≡ tokens.Number false d ∷ spelled_colon colon → (s : State) × (run (in_init_at g expectations.WantsEntry h) qs ≡ Ok s)
 entry_taken g d h colon [] rest e = (in_init_at g expectations.WantsEntry h, refl)
 entry_taken g d h colon (q ∷ qs) rest e =
-    let same : q.token ≡ tokens.Number false d = cc in
-    let others : tokens_of qs ++ rest ≡ spelled_colon colon = cc in
+    let same : q.token ≡ tokens.Number false d = same_first e in
+    let others : tokens_of qs ++ rest ≡ spelled_colon colon = same_others e in
     let r = colon_taken (after g (tokens.Number false d)) d (text.with_init h (init.with_start h.init q.offset)) colon qs rest others in
     (r.0, ap (λ (x : Token). run (in_init_at g expectations.WantsEntry h) (record { token = x; offset = q.offset } ∷ qs)) same ∙ r.1)
 
 place_taken : (g : Stage) (d : List ℕ) (h : Draft) (colon : Bool) (qs : List TokenAt) (rest : List Token) → tokens_of qs ++ rest ≡ tokens.Number false d ∷ spelled_colon colon → (s : State) × (run (in_init_at g (expectations.InPlace places.Begins) h) qs ≡ Ok s)
 place_taken g d h colon [] rest e = (in_init_at g (expectations.InPlace places.Begins) h, refl)
 place_taken g d h colon (q ∷ qs) rest e =
-    let same : q.token ≡ tokens.Number false d = cc in
-    let others : tokens_of qs ++ rest ≡ spelled_colon colon = cc in
+    let same : q.token ≡ tokens.Number false d = same_first e in
+    let others : tokens_of qs ++ rest ≡ spelled_colon colon = same_others e in
     let r = colon_taken (after g (tokens.Number false d)) d (text.with_init h h.init) colon qs rest others in
     (r.0, ap (λ (x : Token). run (in_init_at g (expectations.InPlace places.Begins) h) (record { token = x; offset = q.offset } ∷ qs)) same ∙ r.1)
 
 number_taken : (g : Stage) (expected : InitExpectation) (h : Draft) (z : State) → run (in_init_at g expected h) (record { token = bracket; offset = 0 } ∷ []) ≡ Ok z → (d : List ℕ) (colon : Bool) (qs : List TokenAt) (rest : List Token) → tokens_of qs ++ rest ≡ tokens.Number false d ∷ spelled_colon colon
     → (s : State) × (run (in_init_at g expected h) qs ≡ Ok s)
-number_taken g expectations.WantsOpen h z k d colon qs rest e = absurd cc
+number_taken g expectations.WantsOpen h z k d colon qs rest e = absurd (not_both _ _ k)
 number_taken g expectations.WantsEntry h z k d colon qs rest e = entry_taken g d h colon qs rest e
 number_taken g (expectations.InPlace expected) h z k d colon qs rest e = by_place expected k
   where
     by_place : (expected : PlaceExpectation) → run (in_init_at g (expectations.InPlace expected) h) (record { token = bracket; offset = 0 } ∷ []) ≡ Ok z → (s : State) × (run (in_init_at g (expectations.InPlace expected) h) qs ≡ Ok s)
     by_place places.Begins j = place_taken g d h colon qs rest e
-    by_place places.WantsName j = absurd cc
-    by_place (places.WantsBracket n) j = absurd cc
-    by_place (places.WantsColon n) j = absurd cc
-    by_place (places.WantsRegister n) j = absurd cc
-number_taken g (expectations.WantsEquals p) h z k d colon qs rest e = absurd cc
-number_taken g (expectations.WantsValue p) h z k d colon qs rest e = absurd cc
-number_taken g expectations.HasEntry h z k d colon qs rest e = absurd cc
+    by_place places.WantsName j = absurd (not_both _ _ j)
+    by_place (places.WantsBracket n) j = absurd (not_both _ _ j)
+    by_place (places.WantsColon n) j = absurd (not_both _ _ j)
+    by_place (places.WantsRegister n) j = absurd (not_both _ _ j)
+number_taken g (expectations.WantsEquals p) h z k d colon qs rest e = absurd (not_both _ _ k)
+number_taken g (expectations.WantsValue p) h z k d colon qs rest e = absurd (not_both _ _ k)
+number_taken g expectations.HasEntry h z k d colon qs rest e = absurd (not_both _ _ k)
 
 -- ---- what begins a text that is broken off is taken
 

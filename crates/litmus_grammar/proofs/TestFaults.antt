@@ -3,7 +3,8 @@ use Rattle.std.proofs.Common.{◌≡◌, ℕ, zero, suc, ◌+◌, ◌<◌, ◌�
 use Rattle.std.specs.Prelude.{◌&&◌, ◌||◌, codes, if◌then◌else◌}
 use Rattle.std.specs.Str.{bytes_eq}
 use Rattle.std.proofs.lemmas.List.{length-append}
-use Rattle.std.proofs.lemmas.Bool.{and_parts, or_from, or_parts}
+use Rattle.std.proofs.lemmas.Bool.{and_parts, or_from, or_parts, false≢true}
+use Rattle.std.proofs.lemmas.Option.{none-some}
 use Rattle.litmus_tokens.specs.declared.rule.LitmusRule.{LitmusRule}
 use Rattle.litmus_tokens.specs.declared.stage.Stage.{Stage}
 use Rattle.litmus_tokens.specs.declared.stage.Stage.TheVariants as stages
@@ -28,6 +29,7 @@ use Rattle.litmus_grammar.specs.Texts.{is_init, spelled_colon, IsBrokenOff, IsWh
 use Rattle.litmus_grammar.proofs.Blocks.{IsBody, Opened, IsOne, IsBroken, brace_at, block_at, block_begins, body_of}
 use Rattle.litmus_grammar.proofs.Bodies.{any_header}
 use Rattle.litmus_grammar.proofs.Conditions.{tail_says}
+use Rattle.litmus_grammar.proofs.Equations.{no_first, same_first, same_others}
 use Rattle.litmus_grammar.proofs.Heads.{magic, IsHeaded, any_body, test_of, keylines-append}
 use Rattle.litmus_grammar.proofs.Outcomes.{not_both, stopped_is}
 use Rattle.litmus_grammar.proofs.Passing.{test_at}
@@ -50,12 +52,12 @@ abbrev within : Bool → Stage
 within x = stages.Init false x
 
 before_one : (b : List Token) (g : Stage) (ts : List Token) (t : Token) (r : List Token) → Holds g ts → b ++ t ∷ r ≡ ts → is_init (stage_after g b) ≡ true
-before_one [] g [] t r h e = absurd cc
+before_one [] g [] t r h e = absurd (no_first (sym e))
 before_one [] g (u ∷ ts) t r h e = h.0
-before_one (c ∷ b) g [] t r h e = absurd cc
+before_one (c ∷ b) g [] t r h e = absurd (no_first (sym e))
 before_one (c ∷ b) g (u ∷ ts) t r h e =
-    let first : c ≡ u = cc in
-    let others : b ++ t ∷ r ≡ ts = cc in
+    let first : c ≡ u = same_first e in
+    let others : b ++ t ∷ r ≡ ts = same_others e in
     subst (λ (x : Token). is_init (stage_after (after g x) b) ≡ true) (sym first) (before_one b (after g u) ts t r h.1 others)
 
 value_holds : (v : ValueTree) (rest : List Token) → ((y : Bool) → Holds (within y) rest) → (x : Bool) → Holds (within x) (spelled_value v rest)
@@ -84,14 +86,18 @@ listed_hold (Some l) x = entry_holds l.first (spelled_others spelled_entry l.clo
 
 -- ---- a text that is broken off within its init block
 
+-- a bracket opens no block
+no_brace : bracket ≡ tokens.Mark marks.OpenBrace → ⊥
+no_brace e = absurd cc
+
 not_last : (xs ys : List Token) → xs ++ bracket ∷ [] ≡ ys ++ tokens.End ∷ [] → ⊥
 not_last [] [] e = absurd cc
-not_last [] (y ∷ []) e = absurd cc
-not_last [] (y ∷ z ∷ ys) e = absurd cc
-not_last (x ∷ []) [] e = absurd cc
-not_last (x ∷ w ∷ xs) [] e = absurd cc
+not_last [] (y ∷ []) e = absurd (no_first (same_others e))
+not_last [] (y ∷ z ∷ ys) e = absurd (no_first (same_others e))
+not_last (x ∷ []) [] e = absurd (no_first (sym (same_others e)))
+not_last (x ∷ w ∷ xs) [] e = absurd (no_first (sym (same_others e)))
 not_last (x ∷ xs) (y ∷ ys) e =
-    let others : xs ++ bracket ∷ [] ≡ ys ++ tokens.End ∷ [] = cc in
+    let others : xs ++ bracket ∷ [] ≡ ys ++ tokens.End ∷ [] = same_others e in
     not_last xs ys others
 
 abbrev IsBrokenInit : List Token → Type 0
@@ -138,10 +144,10 @@ whole_of name i t k body b =
 
 module _ (name : List ℕ) (i : is_test_name name ≡ true) (t : Bool) (k : ℕ) (behind : List Token) (x : IsBrokenInit behind) where
   in_init_by : (before us : List Token) (es : Option (Listed EntryTree)) → (before ++ bracket ∷ []) ++ us ≡ spelled_init es [] → is_init (stage_after stages.Head before) ≡ true
-  in_init_by [] us es e = absurd cc
+  in_init_by [] us es e = absurd (no_brace (same_first e))
   in_init_by (b ∷ before) us es e =
-      let first : b ≡ tokens.Mark marks.OpenBrace = cc in
-      let others : (before ++ bracket ∷ []) ++ us ≡ spelled_listed spelled_entry es (tokens.Mark marks.CloseBrace ∷ []) = cc in
+      let first : b ≡ tokens.Mark marks.OpenBrace = same_first e in
+      let others : (before ++ bracket ∷ []) ++ us ≡ spelled_listed spelled_entry es (tokens.Mark marks.CloseBrace ∷ []) = same_others e in
       subst (λ (y : Token). is_init (stage_after (after stages.Head y) before) ≡ true) (sym first)
       (before_one before (within false) (spelled_listed spelled_entry es (tokens.Mark marks.CloseBrace ∷ [])) bracket us (listed_hold es false) (sym (append_assoc before (bracket ∷ []) us) ∙ others))
 
@@ -191,24 +197,24 @@ begins_goes : (t : Token) → begins_tail t ≡ true → text.tail_start t ≡ N
 begins_goes (tokens.Word w) e n = choose (bytes_eq w (codes "locations")) (bytes_eq w (codes "exists")) (bytes_eq w (codes "forall")) e n
   where
     choose : (a b c : Bool) → (a || b || c) ≡ true → (if a then Some text.WantsList else (if b then Some (text.proposition Exists) else (if c then Some (text.proposition Forall) else None))) ≡ None → ⊥
-    choose true b c e n = absurd cc
-    choose false true c e n = absurd cc
-    choose false false true e n = absurd cc
-    choose false false false e n = absurd cc
-begins_goes (tokens.Mark marks.Tilde) e n = absurd cc
-begins_goes t e n = absurd cc
+    choose true b c e n = absurd (none-some _ (sym n))
+    choose false true c e n = absurd (none-some _ (sym n))
+    choose false false true e n = absurd (none-some _ (sym n))
+    choose false false false e n = absurd (false≢true e)
+begins_goes (tokens.Mark marks.Tilde) e n = absurd (none-some _ (sym n))
+begins_goes t e n = absurd (false≢true e)
 
 none_led : (h : Draft) (o : Option Part) → text.next_at h o ≡ None → o ≡ None
 none_led h None e = refl
-none_led h (Some p) e = absurd cc
+none_led h (Some p) e = absurd (none-some _ (sym e))
 
 none_result : (h : Draft) (o : Option table.State) → text.table_result h text.Rows o ≡ None → is_taken o ≡ false
 none_result h None e = refl
-none_result h (Some u) e = absurd cc
+none_result h (Some u) e = absurd (none-some _ (sym e))
 
 not_taken : (o : Option table.State) → is_taken o ≡ false → o ≡ None
 not_taken None e = refl
-not_taken (Some u) e = absurd cc
+not_taken (Some u) e = absurd (false≢true (sym e))
 
 module _ (h : Draft) (t : Token) where
   abbrev ends_row : Bool

@@ -2,7 +2,7 @@
 use Rattle.std.proofs.Common.{◌≡◌, ℕ, Bool, true, false, List, [], ◌∷◌, Option, Some, None, Ok, refl, sym, ap, ◌∙◌, subst}
 use Rattle.std.specs.Prelude.{◌&&◌, ◌==◌, codes, length, if◌then◌else◌}
 use Rattle.std.specs.Str.{bytes_eq}
-use Rattle.std.proofs.lemmas.Bool.{and_parts}
+use Rattle.std.proofs.lemmas.Bool.{and_parts, false≢true}
 use Rattle.litmus_tokens.specs.declared.stage.Stage.{Stage}
 use Rattle.litmus_tokens.specs.declared.stage.Stage.TheVariants as stages
 use Rattle.litmus_tokens.specs.declared.token.Token.{Token}
@@ -18,11 +18,10 @@ use Rattle.litmus_tokens.specs.declared.place.PlaceExpectation.{PlaceExpectation
 use Rattle.litmus_tokens.specs.declared.place.PlaceExpectation.TheVariants as places
 use Rattle.litmus_tokens.specs.declared.place.PlaceStep.{PlaceStep}
 use Rattle.litmus_tokens.specs.declared.place.PlaceStep.TheVariants as place_steps
-use Rattle.litmus_tokens.specs.PlaceMachine.{place_step, is_there}
+use Rattle.litmus_tokens.specs.PlaceMachine.{place_step, is_there, value_read}
 use Rattle.litmus_tokens.specs.ConditionMachine as condition
 use Rattle.litmus_tokens.specs.Conditions.{limits}
 use Rattle.text_values.specs.declared.test.Value as declared_value
-use Rattle.litmus_tokens.specs.PlaceMachine.{value_read}
 use Rattle.litmus_table.specs.Machine as table
 use Rattle.litmus_grammar.specs.declared.parts.InitExpectation.{InitExpectation}
 use Rattle.litmus_grammar.specs.declared.parts.InitExpectation.TheVariants as expectations
@@ -33,7 +32,9 @@ use Rattle.litmus_grammar.specs.InitMachine as init
 use Rattle.litmus_grammar.specs.InitMachine.{Block}
 use Rattle.litmus_grammar.specs.TextMachine as text
 use Rattle.litmus_grammar.specs.TextMachine.{Part, Draft, Next, State, with_offset, and_then, stepped, part_step, run}
+use Rattle.litmus_grammar.proofs.Outcomes.{not_both}
 use Rattle.litmus_grammar.proofs.Passing.{test_at}
+use Rattle.litmus_grammar.proofs.Runs.{same_state}
 use Rattle.litmus_grammar.proofs.Threads.{Matches, IsMatched, step_matches}
 
 abbrev pub in_tail : Part → Bool
@@ -258,7 +259,7 @@ module _ (h : Draft) where
   tail_agrees text.AfterTilde t offset i = leads_tail (text.exists_read t) (exists_tail t)
   tail_agrees (text.Proposition q fs used expected) t offset i = proposition_tail q (condition.proposition_step limits (text.threads_in kinds.Test 0 h) fs used expected t)
   tail_agrees text.Done t offset i = tt
-  tail_agrees p t offset i = absurd cc
+  tail_agrees p t offset i = absurd (false≢true i)
 
   -- ---- the rows
 
@@ -270,20 +271,20 @@ module _ (h : Draft) where
 
   begins_at : (x : table.Expectation) → table.is_begin x ≡ true → x ≡ table.Begins
   begins_at table.Begins e = refl
-  begins_at x e = absurd cc
+  begins_at x e = absurd (false≢true e)
 
   only_begins : (g : Stage) (x : table.Expectation) → Matches g x → x ≡ table.Begins → g ≡ stages.CellBegins
   only_begins stages.CellBegins table.Begins m e = refl
-  only_begins stages.InCell table.Labelled m e = absurd cc
-  only_begins stages.InCell (table.Within p) m e = absurd cc
-  only_begins stages.InCell (table.WantsLabel c) m e = absurd cc
-  only_begins stages.InCell table.Whole m e = absurd cc
+  only_begins stages.InCell table.Labelled m e = absurd (false≢true (ap table.is_begin e))
+  only_begins stages.InCell (table.Within p) m e = absurd (false≢true (ap table.is_begin e))
+  only_begins stages.InCell (table.WantsLabel c) m e = absurd (false≢true (ap table.is_begin e))
+  only_begins stages.InCell table.Whole m e = absurd (false≢true (ap table.is_begin e))
   only_begins g x m e = absurd m
 
   to_tail : (t : Token) → begins_tail t ≡ true → after stages.CellBegins t ≡ stages.Tail
   to_tail (tokens.Word w) e = ap (λ (b : Bool). if b then stages.Tail else stages.InCell) e
   to_tail (tokens.Mark marks.Tilde) e = refl
-  to_tail t e = absurd cc
+  to_tail t e = absurd (false≢true e)
 
   row_agrees : (g : Stage) (t : Token) (offset : ℕ) → Matches g h.table.expected → NextAgrees (after g t) (text.row_read h t offset)
   row_agrees g t offset m = choose (table.is_row_start h.table && begins_tail t) refl
@@ -324,13 +325,13 @@ pub record Stood (g : Stage) (s : State) : Type 0 where
 
 stood_on : (ps : List TokenAt) (g : Stage) (p : Part) (h : Draft) (s : State) → Agrees g p h.table.expected → run (test_at g p h) ps ≡ Ok s → Stood (stage_after g (tokens_of ps)) s
 stood_on [] g p h s a e =
-    let same : test_at g p h ≡ s = cc in
+    let same : test_at g p h ≡ s = same_state _ _ e in
     record { part = p; draft = h; same = sym same; agrees = a }
 stood_on (q ∷ ps) g p h s a e = by_next (part_step kinds.Test 0 h p q.token q.offset) (step_agrees g p h q.token q.offset a) e (λ n x k. stood_on ps (after g q.token) n.part n.draft s x k)
   where
     by_next : (o : Option Next) → NextAgrees (after g q.token) o → and_then (with_offset q.offset (stepped (test_at g p h) q.token o)) (λ x. run x ps) ≡ Ok s
         → ((n : Next) → Agrees (after g q.token) n.part n.draft.table.expected → run (test_at (after g q.token) n.part n.draft) ps ≡ Ok s → Stood (stage_after (after g q.token) (tokens_of ps)) s) → Stood (stage_after g (tokens_of (q ∷ ps))) s
-    by_next None x k later = absurd cc
+    by_next None x k later = absurd (not_both _ _ k)
     by_next (Some n) x k later = later n x k
 
 pub stood : (ps : List TokenAt) (s : State) → run (text.start kinds.Test 0) ps ≡ Ok s → Stood (stage_after stages.Magic (tokens_of ps)) s

@@ -1,7 +1,7 @@
 -- The machine takes the texts of threads and nothing else.
 use Rattle.std.proofs.Common.{◌≡◌, ℕ, ◌+◌, inl, inr, Bool, true, false, List, [], ◌∷◌, ◌++◌, append_assoc, append-nil, Option, Some, None, Ok, refl, sym, ap, ◌∙◌, subst}
 use Rattle.std.specs.Prelude.{◌&&◌, ◌||◌, if◌then◌else◌}
-use Rattle.std.proofs.lemmas.Bool.{and_parts}
+use Rattle.std.proofs.lemmas.Bool.{and_parts, false≢true}
 use Rattle.litmus_tokens.specs.declared.rule.LitmusRule.{LitmusRule}
 use Rattle.litmus_tokens.specs.declared.stage.Stage.{Stage}
 use Rattle.litmus_tokens.specs.declared.stage.Stage.TheVariants as stages
@@ -31,11 +31,12 @@ use Rattle.litmus_grammar.specs.TextMachine as text
 use Rattle.litmus_grammar.specs.TextMachine.{Part, Draft, Next, State, with_table, with_offset, and_then, stepped, part_step, nothing, start, run, rule_at}
 use Rattle.litmus_grammar.proofs.Ends.{no_cell}
 use Rattle.litmus_grammar.proofs.Inner.{AreInner}
-use Rattle.litmus_grammar.proofs.Outcomes.{ReadingWhere, refused}
-use Rattle.litmus_grammar.proofs.Runs.{tokens_of-append, run-append}
+use Rattle.litmus_grammar.proofs.Outcomes.{ReadingWhere, refused, not_both}
+use Rattle.litmus_grammar.proofs.Runs.{tokens_of-append, run-append, same_state}
 use Rattle.litmus_grammar.proofs.Spelled.{thread-append}
 use Rattle.litmus_grammar.proofs.Splits.{split, single}
 use Rattle.std.proofs.Math.Bool.{and-false}
+use Rattle.std.proofs.lemmas.Option.{none-some, same_Some}
 
 -- ---- a cell begins in the text where one begins in the table
 
@@ -64,9 +65,9 @@ module _ (threads : List table.ThreadSteps) (c offset : ℕ) where
   operation_matches None = tt
 
   none_of : (o : Option Opcode) → table.operation [] 0 0 o ≡ None → o ≡ None
-  none_of (Some (opcodes.Data op)) e = absurd cc
-  none_of (Some (opcodes.Branch condition)) e = absurd cc
-  none_of (Some (opcodes.Fence f)) e = absurd cc
+  none_of (Some (opcodes.Data op)) e = absurd (none-some _ (sym e))
+  none_of (Some (opcodes.Branch condition)) e = absurd (none-some _ (sym e))
+  none_of (Some (opcodes.Fence f)) e = absurd (none-some _ (sym e))
   none_of None e = refl
 
   no_opcode : (w : List ℕ) → ends_table w ≡ true → opcode_of w ≡ None
@@ -163,7 +164,7 @@ says_so C D g (Where other n) k to from (inr x) = inr (λ d. x.0 (from other d),
 
 token_end : (t : Token) → is_end t ≡ true → t ≡ tokens.End
 token_end tokens.End e = refl
-token_end t e = absurd cc
+token_end t e = absurd (false≢true e)
 
 end_placed : (p : TokenAt) → is_end p.token ≡ true → p ≡ record { token = tokens.End; offset = p.offset }
 end_placed p e = ap (λ (t : Token). record { token = t; offset = p.offset }) (token_end p.token e)
@@ -175,7 +176,7 @@ cell_goes h t offset v e = choose (is_end t) refl
     choose : (b : Bool) → is_end t ≡ b → text.cell_read h t offset ≡ Some (record { part = text.Cells; draft = with_table h v })
     choose true k =
         let none : table.step h.table t offset ≡ None = ap (λ (x : Token). table.step h.table x offset) (token_end t k) ∙ no_cell h.table.threads h.table.column h.table.expected offset in
-        absurd (let no : Some v ≡ None = sym e ∙ none in cc)
+        absurd (none-some v (sym none ∙ e))
     choose false k =
         ap (λ (b : Bool). if table.can_end h.table.expected && b then text.at h text.Done else text.table_result h text.Cells (table.step h.table t offset)) k
         ∙ ap (λ (b : Bool). if b then text.at h text.Done else text.table_result h text.Cells (table.step h.table t offset)) (and-false (table.can_end h.table.expected))
@@ -206,19 +207,19 @@ module _ (threads : ℕ) where
   last : (g : Stage) (h : Draft) (p : TokenAt) (ps : List TokenAt) (s : State) → (table.can_end h.table.expected && is_end p.token) ≡ true → run (standing (after g p.token) text.Done h) ps ≡ Ok s → Standing g h (p ∷ ps) s
   last g h p [] s q e =
       let b = and_parts (table.can_end h.table.expected) (is_end p.token) q in
-      let same : standing (after g p.token) text.Done h ≡ s = cc in
+      let same : standing (after g p.token) text.Done h ≡ s = same_state _ _ e in
       Ended h.table [] p.offset (ap (λ (x : TokenAt). x ∷ []) (end_placed p b.1)) refl b.0 (ap (λ (x : State). x.draft) (sym same))
-  last g h p (r ∷ ps) s q e = absurd cc
+  last g h p (r ∷ ps) s q e = absurd (not_both _ _ e)
 
   stands_there : (ps : List TokenAt) (g : Stage) (h : Draft) (s : State) → Matches g h.table.expected → run (standing g text.Cells h) ps ≡ Ok s → Standing g h ps s
   stands_there [] g h s m e =
-      let same : standing g text.Cells h ≡ s = cc in
+      let same : standing g text.Cells h ≡ s = same_state _ _ e in
       Inside h.table refl (sym same) m
   stands_there (p ∷ ps) g h s m e = by_end (table.can_end h.table.expected && is_end p.token) refl e (λ u k x. stands_there ps (after g p.token) (with_table h u) s k x)
     where
       by_step : (o : Option table.State) → table.step h.table p.token p.offset ≡ o → and_then (with_offset p.offset (stepped (standing g text.Cells h) p.token (text.table_result h text.Cells o))) (λ x. run x ps) ≡ Ok s
           → ((u : table.State) → Matches (after g p.token) u.expected → run (standing (after g p.token) text.Cells (with_table h u)) ps ≡ Ok s → Standing (after g p.token) (with_table h u) ps s) → Standing g h (p ∷ ps) s
-      by_step None q k later = absurd cc
+      by_step None q k later = absurd (not_both _ _ k)
       by_step (Some u) q k later = prepend g h p ps s u q (later u (subst (IsMatched (after g p.token)) q (step_matches h.table.threads h.table.column p.offset g h.table.expected p.token m)) k)
 
       by_end : (b : Bool) → (table.can_end h.table.expected && is_end p.token) ≡ b
@@ -231,14 +232,14 @@ module _ (threads : ℕ) where
 
   cells_run : (ps : List TokenAt) (g : Stage) (h : Draft) (u : table.State) → laws.run h.table ps ≡ Some u → run (standing g text.Cells h) ps ≡ Ok (standing (stage_after g (tokens_of ps)) text.Cells (with_table h u))
   cells_run [] g h u e =
-      let same : h.table ≡ u = cc in
+      let same : h.table ≡ u = same_Some h.table u e in
       ap (λ (x : table.State). Ok (standing g text.Cells (with_table h x))) same
   cells_run (p ∷ ps) g h u e = by_step (table.step h.table p.token p.offset) refl e (λ v k. cells_run ps (after g p.token) (with_table h v) u k)
     where
       by_step : (o : Option table.State) → table.step h.table p.token p.offset ≡ o → then_on (λ x. laws.run x ps) o ≡ Some u
           → ((v : table.State) → laws.run v ps ≡ Some u → run (standing (after g p.token) text.Cells (with_table h v)) ps ≡ Ok (standing (stage_after (after g p.token) (tokens_of ps)) text.Cells (with_table h u)))
           → run (standing g text.Cells h) (p ∷ ps) ≡ Ok (standing (stage_after g (tokens_of (p ∷ ps))) text.Cells (with_table h u))
-      by_step None q k later = absurd cc
+      by_step None q k later = absurd (none-some u k)
       by_step (Some v) q k later =
           ap (λ (o : Option Next). and_then (with_offset p.offset (stepped (standing g text.Cells h) p.token o)) (λ x. run x ps)) (cell_goes h p.token p.offset v q) ∙ later v k
 
@@ -311,7 +312,7 @@ module _ (threads : ℕ) where
 
     ends_here : (t : Token) → is_whole u ≡ true → is_end t ≡ true → Can t
     ends_here tokens.End w e = record { rest = []; text = subst IsThreadText (sym (append-nil (tokens_of ps ++ tokens.End ∷ []))) (to_text (tokens_of ps) (thread_sound ps u by w)) }
-    ends_here t w e = absurd cc
+    ends_here t w e = absurd (false≢true e)
 
     can_by : (t : Token) → stands true u t ≡ true → Can t
     can_by t e = choose (table.step u t 0) refl e
@@ -324,7 +325,7 @@ module _ (threads : ℕ) where
     stuck t e = choose (table.step u t 0) refl e
       where
         choose : (o : Option table.State) → table.step u t 0 ≡ o → (is_taken o || (is_whole u && is_end t)) ≡ false → text.cell_read (with_table first_draft u) t 0 ≡ None
-        choose (Some v) q k = absurd cc
+        choose (Some v) q k = absurd (false≢true (sym k))
         choose None q k =
             ap (λ (b : Bool). if b then text.at (with_table first_draft u) text.Done else text.table_result (with_table first_draft u) text.Cells (table.step u t 0)) k
             ∙ ap (text.table_result (with_table first_draft u) text.Cells) q
