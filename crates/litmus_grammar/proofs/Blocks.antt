@@ -199,7 +199,7 @@ module _ (name : List ℕ) where
           let cut = split (brace_at n ∷ ps) (spelled_init es []) (tokens.End ∷ []) k in
           let end = single cut.behind tokens.End cut.are_behind in
           let d = ends_done (start kinds.Init 0) (text_at kinds.Init 0 f p h) cut.before end.0 (ap (run (start kinds.Init 0)) (sym (cut.whole ∙ ap (λ (l : List TokenAt). cut.before ++ l) end.1)) ∙ r) in
-          absurd (let no : true ≡ false = sym i ∙ ap in_block d in cc)
+          absurd (false≢true (sym (ap in_block d) ∙ i))
       by_rest h p f i r es fine rest (More more k m) = IsOne (record { rest = more ++ any.rest; text = subst IsBody (append_assoc ts more any.rest) (body_of (ts ++ more) any.rest es fine m any.text) })
 
       by_start : (h : Draft) (p : Part) (f : Stage) → in_block p ≡ true → s.part ≡ p → run (start kinds.Init 0) (brace_at n ∷ ps) ≡ Ok (text_at kinds.Init 0 f p h) → (rest : List Token) → IsStart IsInitText (stages.Init true false) (ts ++ rest) → Opened ps n s

@@ -1,5 +1,5 @@
 -- A part of a test that is a text of its own too: what the machine does in the one is what it does in the other.
-use Rattle.std.proofs.Common.{◌≡◌, ℕ, ◌⊎◌, inl, inr, Bool, true, false, List, [], ◌∷◌, ◌++◌, Option, Some, None, Ok, refl, sym, ap, ◌∙◌}
+use Rattle.std.proofs.Common.{◌≡◌, ℕ, ◌⊎◌, inl, inr, Bool, true, false, true≢false, List, [], ◌∷◌, ◌++◌, Option, Some, None, Ok, refl, sym, ap, ◌∙◌}
 use Rattle.litmus_tokens.specs.declared.stage.Stage.{Stage}
 use Rattle.litmus_tokens.specs.declared.token.Token.{Token}
 use Rattle.litmus_tokens.specs.Stage.{after}
@@ -7,6 +7,8 @@ use Rattle.litmus_tokens.specs.Texts.{TokenAt, tokens_of, stage_after}
 use Rattle.litmus_grammar.specs.declared.parts.TextKind.{TextKind}
 use Rattle.litmus_grammar.specs.declared.parts.TextKind.TheVariants as kinds
 use Rattle.litmus_grammar.specs.TextMachine.{Part, Draft, Next, State, Ran, with_offset, and_then, stepped, part_step, run}
+use Rattle.litmus_grammar.proofs.Outcomes.{not_both}
+use Rattle.litmus_grammar.proofs.Runs.{same_state}
 
 abbrev pub test_at : Stage → Part → Draft → State
 test_at g p h = record { kind = kinds.Test; threads = 0; stage = g; part = p; draft = h }
@@ -68,7 +70,7 @@ module _ (kind : TextKind) (threads : ℕ) (lift : Draft → Draft) (exit next :
 
   pub passes : (ps : List TokenAt) (f g : Stage) (p : Part) (h : Draft) (s : State) → is_inside p ≡ true → run (test_at g p (lift h)) ps ≡ Ok s → Stays f g p h ps s ⊎ Leaves f g p h ps s
   passes [] f g p h s i e =
-      let same : test_at g p (lift h) ≡ s = cc in
+      let same : test_at g p (lift h) ≡ s = same_state _ _ e in
       inl (record { part = p; draft = h; inside = i; by = refl; same = sym same })
   passes (q ∷ ps) f g p h s i e =
       by_step (part_step kind threads h p q.token q.offset) (part_step kinds.Test 0 (lift h) p q.token q.offset) refl (alike p h q.token q.offset i) e (λ n j k. passes ps (after f q.token) (after g q.token) n.part n.draft s j k)
@@ -80,7 +82,7 @@ module _ (kind : TextKind) (threads : ℕ) (lift : Draft → Draft) (exit next :
       by_step : (a b : Option Next) → part_step kind threads h p q.token q.offset ≡ a → Alike lift exit next is_inside a b → test_step g p (lift h) q ps b ≡ Ok s
           → ((n : Next) → is_inside n.part ≡ true → run (test_at (after g q.token) n.part (lift n.draft)) ps ≡ Ok s → Stays (after f q.token) (after g q.token) n.part n.draft ps s ⊎ Leaves (after f q.token) (after g q.token) n.part n.draft ps s)
           → Stays f g p h (q ∷ ps) s ⊎ Leaves f g p h (q ∷ ps) s
-      by_step None None c l k later = absurd cc
+      by_step None None c l k later = absurd (not_both _ _ k)
       by_step (Some n) None c l k later = absurd l
       by_step None (Some m) c l k later = absurd l
       by_step (Some n) (Some m) c (draft, inl in_part) k later =
@@ -100,15 +102,15 @@ module _ (kind : TextKind) (threads : ℕ) (lift : Draft → Draft) (exit next :
 
   pub ends : (ps : List TokenAt) (f : Stage) (p : Part) (h : Draft) (s : State) → is_inside p ≡ true → run (alone f p h) ps ≡ Ok s → is_inside s.part ≡ false → Ends f p h ps s
   ends [] f p h s i e o =
-      let same : alone f p h ≡ s = cc in
-      absurd (let no : true ≡ false = sym i ∙ ap (λ (x : State). is_inside x.part) same ∙ o in cc)
+      let same : alone f p h ≡ s = same_state _ _ e in
+      absurd (true≢false (sym i ∙ ap (λ (x : State). is_inside x.part) same ∙ o))
   ends (q ∷ ps) f p h s i e o =
       by_step (part_step kind threads h p q.token q.offset) (part_step kinds.Test 0 (lift h) p q.token q.offset) refl (alike p h q.token q.offset i) e (λ n j k. ends ps (after f q.token) n.part n.draft s j k o)
     where
       by_step : (a b : Option Next) → part_step kinds.Test 0 (lift h) p q.token q.offset ≡ b → Alike lift exit next is_inside a b → one_step f p h q ps a ≡ Ok s
           → ((n : Next) → is_inside n.part ≡ true → run (alone (after f q.token) n.part n.draft) ps ≡ Ok s → Ends (after f q.token) n.part n.draft ps s)
           → Ends f p h (q ∷ ps) s
-      by_step None None c l k later = absurd cc
+      by_step None None c l k later = absurd (not_both _ _ k)
       by_step (Some n) None c l k later = absurd l
       by_step None (Some m) c l k later = absurd l
       by_step (Some n) (Some m) c (draft, inl in_part) k later =

@@ -251,7 +251,7 @@ module _ (ps : List TokenAt) (few : length ps + 1 < 18446744073709551616) (g : S
     where
       choose : (o : Option Next) → text.row_read h t 0 ≡ o → Can t
       choose (Some n) q = goes t n q
-      choose None q = absurd (let no : true ≡ false = sym e ∙ stops_where h t q in cc)
+      choose None q = absurd (false≢true (sym (stops_where h t q) ∙ e))
 
   can_not : (t : Token) (offset : ℕ) → text.row_read h t offset ≡ None → Can t → ⊥
   can_not t offset none c = test_refused ps there (record { token = t; offset = offset }) few reached none c

@@ -293,7 +293,7 @@ module _ (threads : ℕ) where
   is_done p = false
 
   whole_by : (ps : List TokenAt) (s : State) → Standing stages.CellBegins first_draft ps s → s.part ≡ text.Done → IsThreadText (tokens_of ps)
-  whole_by ps s (Inside u r e m) d = absurd (let no : false ≡ true = ap (λ (x : State). is_done x.part) (sym e) ∙ ap is_done d in cc)
+  whole_by ps s (Inside u r e m) d = absurd (false≢true (ap (λ (x : State). is_done x.part) (sym e) ∙ ap is_done d))
   whole_by ps s (Ended u qs n whole r ended draft) d = ended_text ps qs n u whole r ended
 
   pub thread_whole : (ps : List TokenAt) (s : State) → run (start kinds.Thread threads) ps ≡ Ok s → s.part ≡ text.Done → IsThreadText (tokens_of ps)
