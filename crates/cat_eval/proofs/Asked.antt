@@ -1,6 +1,7 @@
 -- One candidate more, of which it is asked whether a check holds, or not.
 use Rattle.std.proofs.Common.{ℕ, ◌≡◌, ◌<◌, ◌+◌, ◌-◌, ◌++◌, ◌∙◌, ◌&&◌, List, [], ◌∷◌, length, length-append, get_or, zero, suc, Bool, true, false, IsTrue, refl, sym, ap, subst, arith}
 use Rattle.std.specs.Prelude.{Option, Some, None, slice_get, unwrap_or}
+use Rattle.std.proofs.lemmas.Option.{none-some, same_Some}
 use Rattle.std.proofs.Math.Bool.{and-false}
 use denote.Ref.{Bor}
 use Rattle.binding_graph.specs.declared.resolved.CheckCode.{CheckCode}
@@ -43,8 +44,8 @@ asked_none check inputs kept = ([], no_answers check inputs, record { long = ref
 
 -- what is known is the answer, and else it can be told
 told : (check : CheckCode) (inputs : List (Bor Column)) (base : Known) (n : ℕ) (known : Option Bool) → ((answer : Bool) → known ≡ Some answer → IsAnswerOver check inputs base n check.code.kind answer) → (x : Bool) × IsAnswerOver check inputs base n check.code.kind x × ((answer : Bool) → known ≡ Some answer → x ≡ answer)
-told check inputs base n None right = let (x, is) = some_answer check inputs base n check.code.kind in (x, is, λ answer e. absurd cc)
-told check inputs base n (Some a) right = (a, right a refl, λ answer e. let f : Some a ≡ Some answer = e in cc)
+told check inputs base n None right = let (x, is) = some_answer check inputs base n check.code.kind in (x, is, λ answer e. absurd (none-some answer e))
+told check inputs base n (Some a) right = (a, right a refl, λ answer e. same_Some a answer e)
 
 held : (asked : Bool) (known : Option Bool) (x : Bool) → (IsTrue asked → known ≡ None → ⊥) → ((answer : Bool) → known ≡ Some answer → x ≡ answer) → (asked && unwrap_or known false) ≡ (asked && x)
 held false known x some is = refl
@@ -76,8 +77,7 @@ last_now check inputs bases base known n here right = λ answer one e ends.
     let (long, at) = ends_long (bases ++ base ∷ []) one ends in
     let many : length (bases ++ base ∷ []) ≡ length bases + 1 = length-append bases (base ∷ []) in
     let front : length bases ≡ length ends.0 = omega (arith, long, many) in
-    let found : Some base ≡ Some one = sym (get_last bases base) ∙ ap (λ (k : ℕ). slice_get (bases ++ base ∷ []) k) front ∙ at in
-    let same : base ≡ one = cc in
+    let same : base ≡ one = same_Some base one (sym (get_last bases base) ∙ ap (λ (k : ℕ). slice_get (bases ++ base ∷ []) k) front ∙ at) in
     let place : n ≡ length (bases ++ base ∷ []) - 1 = omega (arith, here, many) in
     subst (λ (m : ℕ). IsAnswerOver check inputs one m check.code.kind answer) place (subst (λ (b : Known). IsAnswerOver check inputs b n check.code.kind answer) same (right answer e))
 

@@ -1,7 +1,8 @@
 -- Columns that get a value more.
 use Rattle.std.proofs.Common.{ℕ, ◌≡◌, ◌<◌, ◌≤◌, ◌+◌, ◌-◌, ◌++◌, ◌∙◌, inl, inr, List, [], ◌∷◌, length, length-append, get_or, zero, suc, Bool, true, false, sym, ap, subst, refl, arith}
 use Rattle.std.specs.Prelude.{Some, slice_get}
-use Rattle.std.proofs.lemmas.Bool.{cases_eq}
+use Rattle.std.proofs.lemmas.Bool.{cases_eq, false≢true, true≢false}
+use Rattle.std.proofs.lemmas.Option.{none-some}
 use Rattle.std.proofs.lemmas.List.{get_or_append_left, get_or_read}
 use Rattle.std.proofs.Math.Seq.{get_or-append_right}
 use denote.Ref.{Bor}
@@ -64,7 +65,7 @@ meant_is inputs base k steps s r us vs sets rels set_is rel_is kinds.OfAny = λ 
     subst (λ (v : Relation). IsRelation v base.count (Means base.count (EventsIn base inputs k) (WithOwn (PairsOutside base inputs k) (Of base.count [])) t)) (sym (rel_is made.0 [] made.1)) made.2
 
 pub get_kept : {X : Type 0} (xs ys : List X) (k : ℕ) (x : X) → slice_get xs k ≡ Some x → slice_get (xs ++ ys) k ≡ Some x
-get_kept [] ys k x e = absurd cc
+get_kept [] ys k x e = absurd (none-some x e)
 get_kept (z ∷ zs) ys zero x e = e
 get_kept (z ∷ zs) ys (suc k) x e = get_kept zs ys k x e
 
@@ -159,7 +160,7 @@ module _ (bodies : List Body) (inputs : List (Bor Column)) (bases : List Known) 
   pub evaluated_more : (recursive : Bool) → recursive ≡ false → AreColumnsOver recursive bodies inputs bases olds
       → ((j : ℕ) → j < length bodies → j < length olds → (c : Column) → (s : Events) × (r : Relation) × Adds (get_or olds j c) (get_or news j c) s r × ((b : Body) → IsMeaningOver (get_or bodies j b).code.kind (get_or bodies j b).code.steps.items inputs base k s r))
       → AreColumnsOver recursive bodies inputs (bases ++ base ∷ []) news
-  evaluated_more true is before added = absurd cc
+  evaluated_more true is before added = absurd (true≢false is)
   evaluated_more false is before added = columns_more bodies inputs olds news each false bases base many before now
     where
       inside : (j : ℕ) → j < length bodies → j < length olds
@@ -184,7 +185,7 @@ module _ (bodies : List Body) (inputs : List (Bor Column)) (bases : List Known) 
       → ((j : ℕ) → j < length own → j < length olds → (c : Column) → (s : Events) × Adds (get_or olds j c) (get_or news j c) s (get_or values j no_slot))
       → (length own ≡ length bodies → (trees : List RelTree) → AreCodes trees bodies → AreMonotone trees → IsLeast base.count (EventsIn base inputs k) (PairsOutside base inputs k) trees values)
       → AreColumnsOver recursive bodies inputs (bases ++ base ∷ []) news
-  solved_more false own values is held before added least = absurd cc
+  solved_more false own values is held before added least = absurd (false≢true is)
   solved_more true own values is held before added least = columns_more bodies inputs olds news each true bases base many before now
     where
       gets : (j : ℕ) → j < length bodies → (c : Column) → (s : Events) × Adds (get_or olds j c) (get_or news j c) s (get_or values j no_slot)
@@ -219,10 +220,10 @@ own_moved p q b d e f own h = subst (λ (r : Bool). HasOwn r d.now own) e (subst
 
 pub own_long : (recursive : Bool) (bodies : List Body) (own new : List Relation) → recursive ≡ true → length new ≡ length own → HasOwn recursive bodies own → HasOwn recursive bodies new
 own_long true bodies own new is long h = long ∙ h
-own_long false bodies own new is long h = absurd cc
+own_long false bodies own new is long h = absurd (false≢true is)
 
 pub own_none : (recursive : Bool) (bodies : List Body) (own : List Relation) → recursive ≡ false → HasOwn recursive bodies own → own ≡ []
-own_none true bodies own is h = absurd cc
+own_none true bodies own is h = absurd (true≢false is)
 own_none false bodies own is h = h
 
 pub columns_named : (role : Role) (inputs : List (Bor Column)) (space : Space) (cs : List Column) → ColumnsOf role inputs space cs → length cs ≡ name_count role

@@ -36,6 +36,7 @@ use Rattle.cat_eval.specs.Running.{Leads, sets_after, rels_after}
 use Rattle.cat_eval.specs.Seen.{Known, Value, PairsFound, EventsAmong, PairsAmong}
 use Rattle.cat_eval.specs.Values.{Unless}
 use Rattle.cat_eval.proofs.Codes.{code_leads, set_code_leads}
+use mathlib.Core.List.{nil≢cons, head-eq_of_cons-eq}
 use Rattle.cat_eval.proofs.Naming.{same_name}
 
 -- it can be told whether the fact holds
@@ -369,16 +370,16 @@ ends_at [] ss rs s_end r_end h = h
 ends_at (x ∷ xs) ss rs s_end r_end h = ends_at xs (sets_after x ss) (rels_after x ss rs) s_end r_end h.1
 
 set_answer : (P : SetTree → Type 0) (negated : Bool) (xs : List Step) (ss : List SetTree) → ((t : SetTree) → Told (P t)) → ((t : SetTree) → xs ≡ set_code t [] → ss ≡ t ∷ []) → (answer : Bool) × ((t : SetTree) → xs ≡ set_code t [] → IsTrue answer ↔ Unless negated (P t))
-set_answer P negated xs [] told is = (true, λ t code. absurd (let e : [] ≡ t ∷ [] = is t code in cc))
+set_answer P negated xs [] told is = (true, λ t code. absurd (nil≢cons (is t code)))
 set_answer P negated xs (s ∷ ss) told is =
     let (answer, same) = turned negated (P s) (told s) in
-    (answer, λ t code. let e : s ≡ t = (let f : ◌≡◌ {A = List SetTree} (s ∷ ss) (t ∷ []) = is t code in cc) in subst (λ (u : SetTree). IsTrue answer ↔ Unless negated (P u)) e same)
+    (answer, λ t code. let e : s ≡ t = head-eq_of_cons-eq (is t code) in subst (λ (u : SetTree). IsTrue answer ↔ Unless negated (P u)) e same)
 
 rel_answer : (P : RelTree → Type 0) (negated : Bool) (xs : List Step) (rs : List RelTree) → ((t : RelTree) → Told (P t)) → ((t : RelTree) → xs ≡ rel_code t [] → rs ≡ t ∷ []) → (answer : Bool) × ((t : RelTree) → xs ≡ rel_code t [] → IsTrue answer ↔ Unless negated (P t))
-rel_answer P negated xs [] told is = (true, λ t code. absurd (let e : [] ≡ t ∷ [] = is t code in cc))
+rel_answer P negated xs [] told is = (true, λ t code. absurd (nil≢cons (is t code)))
 rel_answer P negated xs (r ∷ rs) told is =
     let (answer, same) = turned negated (P r) (told r) in
-    (answer, λ t code. let e : r ≡ t = (let f : ◌≡◌ {A = List RelTree} (r ∷ rs) (t ∷ []) = is t code in cc) in subst (λ (u : RelTree). IsTrue answer ↔ Unless negated (P u)) e same)
+    (answer, λ t code. let e : r ≡ t = head-eq_of_cons-eq (is t code) in subst (λ (u : RelTree). IsTrue answer ↔ Unless negated (P u)) e same)
 
 module _ (check : CheckCode) (inputs : List (Bor Column)) (base : Known) (k : ℕ) where
   a_set : (answer : Bool) × IsAnswerOver check inputs base k kinds.OfSet answer

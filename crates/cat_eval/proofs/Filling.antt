@@ -2,6 +2,7 @@
 use Rattle.std.proofs.Common.{ℕ, ◌≡◌, ◌<◌, ◌+◌, ◌-◌, ◌↔◌, ◌++◌, ◌∙◌, inl, inr, zero, suc, List, [], ◌∷◌, length, length-append, get_or, Contains, Bool, true, false, sym, ap, subst, refl, arith}
 use Rattle.std.specs.Prelude.{Some, slice_get}
 use Rattle.std.proofs.lemmas.Bool.{false≢true}
+use Rattle.std.proofs.lemmas.Option.{same_Some}
 use Rattle.std.proofs.lemmas.List.Elements.{Contains-append_right}
 use Rattle.bit_relations.specs.Relation.{Relation, Events, IsRelation, IsEvents}
 use Rattle.text_values.specs.declared.predefined.Predefined.{Predefined}
@@ -73,7 +74,7 @@ world_at names reads orders [] [] h k one at = absurd (omega (arith, get_within 
 world_at names reads orders [] (c ∷ cs) h k one at = absurd h
 world_at names reads orders (b ∷ bs) [] h k one at = absurd h
 world_at names reads orders (b ∷ bs) (c ∷ cs) h zero one at =
-    let same : c ≡ one = cc in
+    let same : c ≡ one = same_Some c one at in
     (b, refl, subst (λ (x : Candidate). IsWorld names reads orders b x) same h.0)
 world_at names reads orders (b ∷ bs) (c ∷ cs) h (suc k) one at = world_at names reads orders bs cs h.1 k one at
 

@@ -1,7 +1,8 @@
 -- Combinations that differ in values alone have the same predefined sets, and the same relations that do not depend on
 -- what the loads read or on the order of the stores.
-use Rattle.std.proofs.Common.{ℕ, ◌≡◌, ◌<◌, ◌∙◌, List, length, get_or, refl, sym, ap, subst}
+use Rattle.std.proofs.Common.{ℕ, ◌≡◌, ◌<◌, ◌∙◌, Bool, true, false, List, length, get_or, refl, sym, ap, subst}
 use Rattle.std.specs.Prelude.{slice_get, Some}
+use Rattle.std.proofs.lemmas.Bool.{false≢true}
 use Rattle.std.proofs.lemmas.Option.{slice_get-get_or, get_or_from_slice_get}
 use Rattle.text_values.specs.declared.predefined.Predefined.{Predefined}
 use Rattle.text_values.specs.declared.predefined.Predefined.TheVariants as names
@@ -16,6 +17,21 @@ use Rattle.base_env.specs.Candidate.{IsEntered, SetIn, SharedIn}
 use Rattle.base_env.specs.Known.{Known}
 use Rattle.cat_eval.specs.Alike.{IsActionLike, IsLike, AreEventsLike, AreAlike}
 use Rattle.cat_eval.proofs.Visits.{get_within}
+
+abbrev is_read : Action → Bool
+is_read (Read l v) = true
+is_read (Write l v) = false
+is_read (Fence f) = false
+
+abbrev is_write : Action → Bool
+is_write (Read l v) = false
+is_write (Write l v) = true
+is_write (Fence f) = false
+
+abbrev is_fence : Action → Bool
+is_fence (Read l v) = false
+is_fence (Write l v) = false
+is_fence (Fence f) = true
 
 action_back : (a b : Action) → IsActionLike a b → IsActionLike b a
 action_back (Read l v) (Read m w) h = sym h
@@ -46,22 +62,22 @@ read_like : (a b : Action) → IsActionLike a b → (l : ℕ) (v : _) → a ≡ 
 read_like (Read l v) (Read m w) h k u e = (m, w, refl)
 read_like (Read l v) (Write m w) h k u e = absurd h
 read_like (Read l v) (Fence g) h k u e = absurd h
-read_like (Write l v) b h k u e = absurd cc
-read_like (Fence f) b h k u e = absurd cc
+read_like (Write l v) b h k u e = absurd (false≢true (ap is_read e))
+read_like (Fence f) b h k u e = absurd (false≢true (ap is_read e))
 
 write_like : (a b : Action) → IsActionLike a b → (l : ℕ) (v : _) → a ≡ Write l v → (m : ℕ) × (w : _) × (b ≡ Write m w)
 write_like (Write l v) (Write m w) h k u e = (m, w, refl)
 write_like (Write l v) (Read m w) h k u e = absurd h
 write_like (Write l v) (Fence g) h k u e = absurd h
-write_like (Read l v) b h k u e = absurd cc
-write_like (Fence f) b h k u e = absurd cc
+write_like (Read l v) b h k u e = absurd (false≢true (ap is_write e))
+write_like (Fence f) b h k u e = absurd (false≢true (ap is_write e))
 
 fence_like : (a b : Action) → IsActionLike a b → (k : _) → a ≡ Fence k → b ≡ Fence k
 fence_like (Fence f) (Fence g) h k e = ap (λ x. Fence x) (sym h) ∙ e
 fence_like (Fence f) (Read m w) h k e = absurd h
 fence_like (Fence f) (Write m w) h k e = absurd h
-fence_like (Read l v) b h k e = absurd cc
-fence_like (Write l v) b h k e = absurd cc
+fence_like (Read l v) b h k e = absurd (false≢true (ap is_fence e))
+fence_like (Write l v) b h k e = absurd (false≢true (ap is_fence e))
 
 access_like : (e f : Event) → IsLike e f → IsAccess e → IsAccess f
 access_like e f h (l, at) = (l, sym (same_location e.action f.action h.1) ∙ at)

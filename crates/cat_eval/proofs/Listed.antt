@@ -1,6 +1,7 @@
 -- Names that are listed.
 use Rattle.std.proofs.Common.{ℕ, ◌≡◌, ◌<◌, ◌+◌, ◌∙◌, ◌||◌, Bool, true, false, IsTrue, List, [], ◌∷◌, ◌++◌, length, take, get_or, Contains, zero, suc, inl, inr, ap, sym, subst, refl, arith}
 use Rattle.std.specs.List.{list_any}
+use Rattle.std.proofs.lemmas.Bool.{false≢true}
 use Rattle.std.proofs.lemmas.List.Folds.{list_any_more}
 use Rattle.std.proofs.lemmas.List.Elements.{Contains-append_left, Contains-append_right, Contains-append_cases}
 use Rattle.text_values.specs.declared.predefined.Predefined.{Predefined}
@@ -37,7 +38,7 @@ listed_with list n there x inside = elim (Contains-append_cases list (n ∷ []) 
 
 either_left : (a b : Bool) → IsTrue a → IsTrue (a || b)
 either_left true b h = refl
-either_left false b h = absurd cc
+either_left false b h = absurd (false≢true h)
 
 either_right : (a b : Bool) → IsTrue b → IsTrue (a || b)
 either_right true b h = refl

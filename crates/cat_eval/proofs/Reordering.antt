@@ -1,5 +1,6 @@
 -- What a name stands for where the stores are ordered in another way.
 use Rattle.std.proofs.Common.{◌≡◌, Bool, true, false, refl}
+use Rattle.std.proofs.lemmas.Bool.{true≢false}
 use Rattle.bit_relations.specs.Relation.{Relation, Events}
 use Rattle.text_values.specs.declared.predefined.Predefined.{Predefined}
 use Rattle.text_values.specs.declared.predefined.Predefined.TheVariants as names
@@ -31,15 +32,15 @@ module _ (first second : Known) (same : IsReordered first second) where
   pairs_kept names.Internal is = shared_kept names.Internal
   pairs_kept names.External is = shared_kept names.External
   pairs_kept names.ReadsFrom is = rw same.reads_from refl
-  pairs_kept names.Coherence is = absurd cc
-  pairs_kept names.FromReads is = absurd cc
+  pairs_kept names.Coherence is = absurd (true≢false is)
+  pairs_kept names.FromReads is = absurd (true≢false is)
   pairs_kept names.ReadsFromExternal is = rw (same.shared, same.count, same.reads_from) refl
   pairs_kept names.ReadsFromInternal is = rw (same.shared, same.count, same.reads_from) refl
-  pairs_kept names.CoherenceExternal is = absurd cc
-  pairs_kept names.CoherenceInternal is = absurd cc
-  pairs_kept names.FromReadsExternal is = absurd cc
-  pairs_kept names.FromReadsInternal is = absurd cc
-  pairs_kept names.Communication is = absurd cc
+  pairs_kept names.CoherenceExternal is = absurd (true≢false is)
+  pairs_kept names.CoherenceInternal is = absurd (true≢false is)
+  pairs_kept names.FromReadsExternal is = absurd (true≢false is)
+  pairs_kept names.FromReadsInternal is = absurd (true≢false is)
+  pairs_kept names.Communication is = absurd (true≢false is)
   pairs_kept names.AddressDependency is = shared_kept names.AddressDependency
   pairs_kept names.DataDependency is = shared_kept names.DataDependency
   pairs_kept names.ControlDependency is = shared_kept names.ControlDependency

@@ -2,6 +2,7 @@
 use Rattle.std.proofs.Common.{ℕ, ◌≡◌, ◌<◌, ◌+◌, ◌-◌, ◌↔◌, ◌++◌, ◌∙◌, zero, suc, List, [], ◌∷◌, length, length-append, append_assoc, sym, ap, subst, refl, arith}
 use Rattle.std.specs.Prelude.{Some, slice_get, map}
 use Rattle.std.proofs.lemmas.List.{append-nil}
+use Rattle.std.proofs.lemmas.Option.{none-some, same_Some}
 use Rattle.run_combinations.specs.declared.combination.Combination.{Combination}
 use Rattle.base_env.specs.Known.{EventsFound}
 use Rattle.candidates.specs.Space.{Candidate}
@@ -110,9 +111,9 @@ in_long xs k [] = refl
 in_long xs k (c ∷ cs) = let e : length (seen_in xs (k + 1) cs) ≡ length cs = in_long xs (k + 1) cs in omega (arith, e)
 
 pub in_at : (xs : List NamedColumn) (k : ℕ) (cs : List Candidate) (j : ℕ) (one : Candidate) → slice_get cs j ≡ Some one → slice_get (seen_in xs k cs) j ≡ Some (seen xs (k + j) (events_of one))
-in_at xs k [] j one at = absurd cc
+in_at xs k [] j one at = absurd (none-some one at)
 in_at xs k (c ∷ cs) zero one at =
-    let same : c ≡ one = cc in
+    let same : c ≡ one = same_Some c one at in
     let e : k + 0 ≡ k = omega arith in
     rw (e, same) refl
 in_at xs k (c ∷ cs) (suc j) one at =

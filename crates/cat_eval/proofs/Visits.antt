@@ -3,6 +3,7 @@ use Rattle.std.proofs.Common.{ℕ, ◌≡◌, ◌<◌, ◌+◌, ◌↔◌, ◌�
 use Rattle.std.specs.Prelude.{Some, slice_get, not}
 use mathlib.Core.Bool.{beq}
 use Rattle.std.proofs.lemmas.Bool.{false≢true}
+use Rattle.std.proofs.lemmas.Option.{none-some, same_Some}
 use Rattle.bit_relations.specs.Relation.{Relation, Has, IsRelation, Events, IsMember, IsEvents}
 use Rattle.binding_kinds.specs.declared.kinds.Kind.{Kind}
 use Rattle.binding_kinds.specs.declared.kinds.Kind.TheVariants as kinds
@@ -22,13 +23,13 @@ use Rattle.cat_eval.proofs.Same.{Same, SameSet}
 use Rattle.bit_relations.proofs.Closing.{Plus-map}
 
 pub get_more : {X : Type 0} (xs : List X) (x y : X) (k : ℕ) → slice_get (xs ++ x ∷ []) k ≡ Some y → (slice_get xs k ≡ Some y) ⊎ ((k ≡ length xs) × (x ≡ y))
-get_more [] x y zero e = inr (refl, cc)
-get_more [] x y (suc k) e = absurd cc
+get_more [] x y zero e = inr (refl, same_Some x y e)
+get_more [] x y (suc k) e = absurd (none-some y e)
 get_more (z ∷ zs) x y zero e = inl e
 get_more (z ∷ zs) x y (suc k) e = elim (get_more zs x y k e) [ inl old ↦ inl old | inr t ↦ inr (omega (arith, t.0), t.1) ]
 
 pub get_within : {X : Type 0} (xs : List X) (y : X) (k : ℕ) → slice_get xs k ≡ Some y → k < length xs
-get_within [] y k e = absurd cc
+get_within [] y k e = absurd (none-some y e)
 get_within (z ∷ zs) y zero e = omega arith
 get_within (z ∷ zs) y (suc k) e = let lt : k < length zs = get_within zs y k e in omega (arith, lt)
 
@@ -68,6 +69,11 @@ turned_if true false P h = ((λ _. h.0 refl), (λ _. refl))
 turned_if false true P h = ((λ _ p. false≢true (h.1 p)), (λ _. refl))
 turned_if false false P h = ((λ e. absurd (false≢true e)), h.1)
 
+abbrev is_of_set : Kind → Bool
+is_of_set kinds.OfSet = true
+is_of_set kinds.OfRelation = false
+is_of_set kinds.OfAny = false
+
 module _ (check : CheckCode) (inputs : List (Bor Column)) (base : Known) (k : ℕ) (met : Bool) (us : List Events) (vs : List Relation) where
   -- what the steps leave, asked as the check's word says
   pub answer_is : ((t : SetTree) → check.code.steps.items ≡ set_code t [] → (v : Events) × (us ≡ v ∷ []) × IsEvents v base.count (MeansSet base.count (EventsIn base inputs k) t))
@@ -82,20 +88,14 @@ module _ (check : CheckCode) (inputs : List (Bor Column)) (base : Known) (k : �
       turned_if met check.negated _ ((λ h. other.0 (same.0 h)), (λ h. same.1 (other.1 h)))
   answer_is sets rels set_met rel_met kinds.OfRelation is = λ t code.
       let made = rels t code in
-      let same = rel_met made.0 [] (λ e. not_set (sym is ∙ e)) made.1 in
+      let same = rel_met made.0 [] (λ e. false≢true (ap is_of_set (sym is ∙ e))) made.1 in
       let other = holds_same check.word (Has made.0) (Means base.count (EventsIn base inputs k) (WithOwn (PairsOutside base inputs k) (Of base.count [])) t) made.2.pairs in
       turned_if met check.negated _ ((λ h. other.0 (same.0 h)), (λ h. same.1 (other.1 h)))
-    where
-      not_set : kinds.OfRelation ≡ kinds.OfSet → ⊥
-      not_set e = absurd cc
   answer_is sets rels set_met rel_met kinds.OfAny is = λ t code.
       let made = rels t code in
-      let same = rel_met made.0 [] (λ e. not_set (sym is ∙ e)) made.1 in
+      let same = rel_met made.0 [] (λ e. false≢true (ap is_of_set (sym is ∙ e))) made.1 in
       let other = holds_same check.word (Has made.0) (Means base.count (EventsIn base inputs k) (WithOwn (PairsOutside base inputs k) (Of base.count [])) t) made.2.pairs in
       turned_if met check.negated _ ((λ h. other.0 (same.0 h)), (λ h. same.1 (other.1 h)))
-    where
-      not_set : kinds.OfAny ≡ kinds.OfSet → ⊥
-      not_set e = absurd cc
 
 -- before the first candidate
 pub no_answers : (check : CheckCode) (inputs : List (Bor Column)) → AreAnswersOver check inputs [] []

@@ -1,7 +1,7 @@
 -- Columns of names that are wanted, beside those of all names.
 use Rattle.std.proofs.Common.{ℕ, zero, suc, ◌≡◌, ◌<◌, ◌+◌, ◌-◌, ◌++◌, ◌∙◌, inl, inr, List, [], ◌∷◌, length, get_or, Bool, true, false, refl, sym, ap, subst, arith}
-use Rattle.std.specs.Prelude.{Option, Some}
-use Rattle.std.proofs.lemmas.Bool.{cases_eq}
+use Rattle.std.proofs.lemmas.Bool.{cases_eq, false≢true}
+use Rattle.std.proofs.lemmas.Option.{same_Some}
 use Rattle.std.proofs.lemmas.List.{length_push, get_or_push, get_or_default, get_or_append_left}
 use denote.Ref.{Bor}
 use Rattle.bit_relations.specs.Relation.{Relation, Events, no_slot}
@@ -61,7 +61,7 @@ is_grown (columns.Relations xs) (columns.Relations ys) s r adds = ap columns.Rel
 -- the next column of a name that is wanted is the old one, grown
 one_next : (b : Bool) (before old new : Column) (s : Events) (r : Relation) → b ≡ true → old ≡ before → AddsIf b old new s r → new ≡ grown before s r
 one_next true before old new s r is same adds = is_grown old new s r adds ∙ ap (λ (x : Column). grown x s r) same
-one_next false before old new s r is same adds = absurd cc
+one_next false before old new s r is same adds = absurd (false≢true is)
 
 -- where the old columns are shown and those that are wanted get a value more, so do all columns
 module _ (wanted : List Bool) (V : ℕ → Events → Relation → Type 0) (whole olds news : List Column) (shown : AreShown wanted whole olds) (many : length news ≡ length olds) (more : (j : ℕ) → j < length olds → (c : Column) → (s : Events) × (r : Relation) × AddsIf (is_wanted wanted j) (get_or olds j c) (get_or news j c) s r × V j s r) where
@@ -113,7 +113,7 @@ module _ (wanted : List Bool) (bodies : List Body) (inputs : List (Bor Column)) 
       → ((j : ℕ) → j < length own → j < length olds → (c : Column) → (s : Events) × AddsIf (is_wanted wanted j) (get_or olds j c) (get_or news j c) s (get_or values j no_slot))
       → (length own ≡ length bodies → (trees : List RelTree) → AreCodes trees bodies → AreMonotone trees → IsLeast base.count (EventsIn base inputs k) (PairsOutside base inputs k) trees values)
       → AreWantedOver wanted recursive bodies inputs (bases ++ base ∷ []) news
-  solved_shown false own values is held h added least = absurd cc
+  solved_shown false own values is held h added least = absurd (false≢true is)
   solved_shown true own values is held h added least =
       let (whole, over, shown) = h in
       let (next, still, long, each) = whole_more wanted (λ j s r. r ≡ get_or values j no_slot) whole olds news shown many
@@ -136,14 +136,11 @@ repeats_adds : (b : Bool) (old new whole : Column) (s : Events) (r : Relation) �
 repeats_adds true old new whole s r same repeats has = repeats s r (subst (λ (c : Column). HasValue c (column_len c - 1) s r) (sym (same refl)) has)
 repeats_adds false old new whole s r same repeats has = repeats
 
-some_same : {X : Type 0} {x y : X} → ◌≡◌ {A = Option X} (Some x) (Some y) → x ≡ y
-some_same e = cc
-
 adds_other : (a b : Column) (k : ℕ) (s t : Events) (r q : Relation) → Adds a b s r → HasValue a k s r → HasValue a k t q → Adds a b t q
-adds_other (columns.Sets xs) (columns.Sets ys) k s t r q adds has other = subst (λ (z : Events). ys ≡ xs ++ z ∷ []) (some_same (sym has ∙ other)) adds
+adds_other (columns.Sets xs) (columns.Sets ys) k s t r q adds has other = subst (λ (z : Events). ys ≡ xs ++ z ∷ []) (same_Some s t (sym has ∙ other)) adds
 adds_other (columns.Sets xs) (columns.Relations ys) k s t r q adds has other = absurd adds
 adds_other (columns.Relations xs) (columns.Sets ys) k s t r q adds has other = absurd adds
-adds_other (columns.Relations xs) (columns.Relations ys) k s t r q adds has other = subst (λ (z : Relation). ys ≡ xs ++ z ∷ []) (some_same (sym has ∙ other)) adds
+adds_other (columns.Relations xs) (columns.Relations ys) k s t r q adds has other = subst (λ (z : Relation). ys ≡ xs ++ z ∷ []) (same_Some r q (sym has ∙ other)) adds
 
 -- the values that the last of the candidates has there
 abbrev HasLast : List Column → ℕ → Events → Relation → Type 0

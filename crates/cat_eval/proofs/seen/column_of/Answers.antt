@@ -1,4 +1,4 @@
-use Rattle.std.proofs.Common.{ℕ, ◌≡◌, ◌<◌, ◌+◌, ◌↔◌, ◌∙◌, inl, inr, List, ◌∷◌, length, get_or, drop, ap, sym, subst, rules}
+use Rattle.std.proofs.Common.{ℕ, ◌≡◌, ◌<◌, ◌+◌, ◌↔◌, ◌∙◌, inl, inr, List, ◌∷◌, length, get_or, drop, ap, sym, subst}
 use Rattle.std.specs.Prelude.{map}
 use Rattle.std.proofs.lemmas.List.{drop_more, drop_all}
 use Rattle.text_values.specs.declared.predefined.Predefined.{Predefined}
@@ -6,6 +6,7 @@ use Rattle.cat_eval.specs.declared.seen.NamedColumn.{NamedColumn}
 use Rattle.cat_eval.specs.Named.{ColumnEvents, ColumnPairs}
 use Rattle.cat_eval.specs.Seen.{EventsAmong, PairsAmong, value_at}
 use Rattle.cat_eval.proofs.Seeing.{events_found, pairs_found}
+use Rattle.cat_eval.proofs.Naming.{equal_names, unequal_names}
 use Rattle.cat_eval.proofs.seen.column_of.Goals as goal
 
 next : (xs : List NamedColumn) (i : ℕ) (x : NamedColumn) → i < length xs → x ≡ get_or xs i x → drop i xs ≡ x ∷ drop (i + 1) xs
@@ -41,17 +42,17 @@ module _ (xs : List NamedColumn) (name : Predefined) where
 
 pub returns-then-eq-clause-events : goal.returns-then-eq-clause-events
 returns-then-eq-clause-events c =
-    let same : c.one-item.result.name ≡ c.args.name = search (rules, c.eq.ensures, c.if-eq.true) in
+    let same : c.one-item.result.name ≡ c.args.name = equal_names c.one-item.result.name c.args.name c.eq.result c.eq.ensures c.if-eq.true in
     events_of_first c.args.named.now c.args.name c.one-item.result _ same (from_index c.args.named.now c.args.name c.loop-one.one-index c.one-item.result c.loop-one-test.true c.one-item.is c.loop-one.invariant)
 
 pub returns-then-eq-clause-pairs : goal.returns-then-eq-clause-pairs
 returns-then-eq-clause-pairs c =
-    let same : c.one-item.result.name ≡ c.args.name = search (rules, c.eq.ensures, c.if-eq.true) in
+    let same : c.one-item.result.name ≡ c.args.name = equal_names c.one-item.result.name c.args.name c.eq.result c.eq.ensures c.if-eq.true in
     pairs_of_first c.args.named.now c.args.name c.one-item.result _ same (from_index c.args.named.now c.args.name c.loop-one.one-index c.one-item.result c.loop-one-test.true c.one-item.is c.loop-one.invariant)
 
 pub loop-one-preserved : goal.loop-one-preserved
 loop-one-preserved c =
-    let other : c.one-item.result.name ≡ c.args.name → ⊥ = λ same. search (rules, c.eq.ensures, c.if-eq.false, same) in
+    let other : c.one-item.result.name ≡ c.args.name → ⊥ = unequal_names c.one-item.result.name c.args.name c.eq.result c.eq.ensures c.if-eq.false in
     past_first c.args.named.now c.args.name c.one-item.result _ other (from_index c.args.named.now c.args.name c.loop-one.one-index c.one-item.result c.loop-one-test.true c.one-item.is c.loop-one.invariant)
 
 pub returns-clause-events : goal.returns-clause-events

@@ -1,6 +1,6 @@
 use Rattle.std.proofs.Common.{ℕ, ◌≡◌, List, [], ◌∷◌, zero, suc, subst, refl, arith}
 use Rattle.std.specs.Prelude.{Some, slice_get}
-use Rattle.std.proofs.lemmas.Option.{get_or_from_slice_get}
+use Rattle.std.proofs.lemmas.Option.{get_or_from_slice_get, none-some, same_Some}
 use denote.Ref.{Bor}
 use Rattle.cat_eval.specs.declared.column.Column.{Column}
 use Rattle.cat_eval.specs.declared.seen.NamedColumn.{NamedColumn}
@@ -10,8 +10,8 @@ use Rattle.cat_eval.proofs.Visits.{get_within}
 use Rattle.cat_eval.proofs.steady.named_until.Goals as goal
 
 column_there : (xs : List NamedColumn) (i : ℕ) (column : Bor Column) → slice_get (columns_of xs) i ≡ Some column → (x : NamedColumn) × (slice_get xs i ≡ Some x) × (x.column ≡ column)
-column_there [] i column at = absurd cc
-column_there (x ∷ xs) zero column at = (x, refl, cc)
+column_there [] i column at = absurd (none-some column at)
+column_there (x ∷ xs) zero column at = (x, refl, same_Some x.column column at)
 column_there (x ∷ xs) (suc i) column at = column_there xs i column at
 
 pub returns : goal.returns

@@ -1,6 +1,7 @@
 use Rattle.std.proofs.Common.{ℕ, ◌≡◌, ◌+◌, ◌*◌, ◌++◌, ◌∙◌, List, length, take, refl, sym, ap, arith}
 use Rattle.std.specs.Prelude.{map}
 use Rattle.std.proofs.lemmas.List.{take_all}
+use Rattle.std.proofs.lemmas.Option.{none-some}
 use Rattle.run_combinations.specs.Combinations.{candidates_of}
 use Rattle.run_combinations.proofs.Pairs.{length-candidates}
 use Rattle.candidates.specs.Space.{candidates_in, Candidate}
@@ -11,7 +12,7 @@ use Rattle.cat_eval.proofs.visit.visit_all.Goals as goal
 
 pub loop-combination-init : goal.loop-combination-init
 loop-combination-init g c = λ given. (
-  record { number = refl; steady = λ k low high. absurd (omega (arith, high)); last = λ n is. absurd cc },
+  record { number = refl; steady = λ k low high. absurd (omega (arith, high)); last = λ n is. absurd (none-some n is) },
   given,
 )
 
