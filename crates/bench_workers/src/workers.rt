@@ -35,24 +35,68 @@ pub struct Worked<T> {
     pub tally: Tally,
 }
 
-// Works, and adds what became of the jobs.
-fn work_beside<J: Naming + StoreName, X: BoardTexts, R: Wait + Drop, G: Gate, W: Wait>(
-    rt: &W,
-    alloc: Global,
-    desk: &Desk<J, X, R>,
-    gate: &G,
-    total: &Mutex<Tally>,
-) {
-    let tally = work(rt, alloc, desk, gate);
-    total.lock(rt).add(&tally);
+// Those who work beside a body.
+trait Hands {
+    // Works until it is sent home.
+    fn work<W: Wait>(&self, rt: &W);
+
+    // From now on nobody is given work.
+    fn send_home<W: Wait>(&self, rt: &W);
 }
 
-// From now on each call of the desk is refused.
-fn close<J: Naming + StoreName, X: BoardTexts, R: Wait + Drop, W: Wait>(
-    rt: &W,
-    desk: &Desk<J, X, R>,
-) {
-    let _again = desk.close(rt).is_err();
+// A desk, and what became of the jobs of those who work at it.
+struct Shift<'a, J: Naming + StoreName, X: BoardTexts, R: Wait + Drop, G>
+where
+    Plate<J, X>: Absorb<Entry<J, X>, State = [X::Op; 0]>,
+{
+    alloc: Global,
+    desk: &'a Desk<J, X, R>,
+    gate: &'a G,
+    total: Mutex<Tally>,
+}
+
+impl<'a, J: Naming + StoreName, X: BoardTexts, R: Wait + Drop, G: Gate> Hands
+    for Shift<'a, J, X, R, G> {
+    fn work<W: Wait>(&self, rt: &W) {
+        let tally = work(rt, self.alloc, self.desk, self.gate);
+        self.total.lock(rt).add(&tally);
+    }
+
+    fn send_home<W: Wait>(&self, rt: &W) {
+        let _again = self.desk.close(rt).is_err();
+    }
+}
+
+// Runs a body beside so many of these, and sends them home. None where the start of one was refused; then the body does not run.
+// It knows nothing of desks, so that its closure is proved for few types.
+fn run_beside<W, H, T, F>(rt: &W, hands: &H, count: u32, body: F) -> Option<T>
+where
+    W: Threads + Wait + Sync,
+    H: Hands + Sync,
+    F: FnOnce() -> T + Drop,
+    T: Drop,
+    requires { F.pre body }
+    ensures { IfSome result (λ answer. F.post body answer) }
+{
+    thread::scope(
+        thread::scope_env(),
+        rt,
+        |scope| -> Option<T>
+            requires { F.pre body }
+            ensures { IfSome result (λ answer. F.post body answer) }
+        {
+            for _ in 0..count {
+                let started = scope.spawn(move || hands.work(rt));
+                if started.is_err() {
+                    hands.send_home(rt);
+                    return None;
+                }
+            }
+            let answer = body();
+            hands.send_home(rt);
+            Some(answer)
+        },
+    )
 }
 
 /// Runs a body beside so many workers, at most `MOST_WORKERS`, closes the desk and joins them all. Errors: the start of a worker was refused; then
@@ -84,27 +128,19 @@ where
     requires { F.pre body }
     ensures { IfOk result (λ w. F.post body w.answer) }
 {
-    let total = Mutex::new(Tally::new());
-    let sum = &total;
-    let answer = thread::scope(
-        thread::scope_env(),
-        rt,
-        |scope| -> Option<T>
-            requires { F.pre body }
-            ensures { IfSome result (λ answer. F.post body answer) }
-        {
-            for _ in 0..count.min(MOST_WORKERS) {
-                let started = scope.spawn(move || work_beside(rt, alloc, desk, gate, sum));
-                if started.is_err() {
-                    close(rt, desk);
-                    return None;
-                }
-            }
-            let answer = body();
-            close(rt, desk);
-            Some(answer)
-        },
-    );
+    let shift = Shift {
+        alloc,
+        desk,
+        gate,
+        total: Mutex::new(Tally::new()),
+    };
+    let answer = run_beside(rt, &shift, count.min(MOST_WORKERS), body);
+    let Shift {
+        alloc: _,
+        desk: _,
+        gate: _,
+        total,
+    } = shift;
     match answer {
         Some(answer) => Ok(Worked {
             answer,
