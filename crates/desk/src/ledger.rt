@@ -1,6 +1,6 @@
 //! The operations of a desk, as the bench tells them.
 
-ghost use Rattle.std.specs.Prelude.{◌≡◌, IsTrue, MatchBool, fold, length};
+ghost use Rattle.std.specs.Prelude.{◌≡◌, ◌↔◌, ◌≤◌, IsTrue, MatchBool, fold, length};
 ghost use mathlib.Core.List.{IsPrefix};
 ghost use Rattle.cells.specs.Cells.{cells as cells_of};
 ghost use Rattle.desk.specs.Boards.{AreKept, ArePostedFor, AreSettled};
@@ -82,10 +82,17 @@ impl<J: Naming, X: BoardTexts> Ledger<J, X> {
         is_settled(&self.press)
     }
 
-    /// Tells a viewer all operations, which go on from what it knows.
+    /// Whether the operations begin with all that a viewer has seen or was told.
+    pub(crate) fn begins_with(&self, me: &Viewer<J, X>) -> bool
+        ensures length { IsTrue result ↔ (length me.now ≤ length self.now.all) }
+        ensures begins { IsTrue result → IsPrefix me.now self.now.all }
+    {
+        me.is_behind(self.front())
+    }
+
+    /// Tells a viewer all operations, where they go on from what it knows.
     pub(crate) fn tell_all(&self, me: &mut Viewer<J, X>)
-        requires begins { IsPrefix me.old self.now.all }
-        ensures told { me.new ≡ self.now.all }
+        ensures told { IsPrefix me.old self.now.all → me.new ≡ self.now.all }
         ensures legal { X.is_legal self.now.all }
     {
         me.tell(self.front());

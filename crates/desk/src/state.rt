@@ -150,7 +150,7 @@ impl<J: Naming + StoreName, X: BoardTexts, R: Wait + Drop> DeskState<J, X, R> {
         if self.closed {
             return Err(DeskFault::Closed);
         }
-        if !me.is_behind(self.ledger.front()) {
+        if !self.ledger.begins_with(me) {
             return Err(DeskFault::NoSeat);
         }
         self.owes = true;
@@ -160,7 +160,7 @@ impl<J: Naming + StoreName, X: BoardTexts, R: Wait + Drop> DeskState<J, X, R> {
             self.owes = true;
             return Ok(Accepted::Later(number));
         }
-        me.tell(self.ledger.front());
+        self.ledger.tell_all(me);
         Ok(Accepted::Now(number))
     }
 
@@ -296,7 +296,6 @@ impl<J: Naming + StoreName, X: BoardTexts, R: Wait + Drop> DeskState<J, X, R> {
 
     /// Publishes, and tells the viewer once each cell is settled. Errors: K1, and K2 if the viewer has seen more than this desk
     /// has.
-    #[tactic(auto, using(crate::proofs::Growing::prefix_same, crate::proofs::Growing::grown_from, crate::proofs::Growing::begins_after))]
     pub fn settle<W: Wait>(
         &mut self,
         rt: &W,
@@ -313,7 +312,7 @@ impl<J: Naming + StoreName, X: BoardTexts, R: Wait + Drop> DeskState<J, X, R> {
         if self.closed {
             return Err(DeskFault::Closed);
         }
-        if !me.is_behind(self.ledger.front()) {
+        if !self.ledger.begins_with(me) {
             return Err(DeskFault::NoSeat);
         }
         if !self.show_all(rt) {

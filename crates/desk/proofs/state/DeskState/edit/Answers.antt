@@ -18,18 +18,18 @@ returns-clause-published g c =
     let p = c.if-not-publish.ensures in
     let made = c.in_ok-number.ensures.made in
     let posts = c.post.ensures.posts in
-    let behind = rw c.front.ensures.front at (c.if-not-is_behind.ensures.begins refl) in
-    let begins : IsPrefix c.args.me.now c.front-2.result.now = rw (c.front-2.ensures.front, p.all) (begins_edit _ _ made.op _ posts.more _ behind made.list posts.all) in
-    (p.published ∙ sym p.all, c.tell.ensures.told begins ∙ c.front-2.ensures.front)
+    let behind = c.if-not-begins_with.ensures.begins refl in
+    let begins = subst (λ (l : List _). IsPrefix c.args.me.now l) (sym p.all) (begins_edit _ _ made.op _ posts.more _ behind made.list posts.all) in
+    (p.published ∙ sym p.all, c.tell_all.ensures.told begins)
 
 pub returns-clause-told : goal.returns-clause-told
 returns-clause-told g c =
     let p = c.if-not-publish.ensures in
     let made = c.in_ok-number.ensures.made in
     let posts = c.post.ensures.posts in
-    let behind = rw c.front.ensures.front at (c.if-not-is_behind.ensures.begins refl) in
-    let begins : IsPrefix c.args.me.now c.front-2.result.now = rw (c.front-2.ensures.front, p.all) (begins_edit _ _ made.op _ posts.more _ behind made.list posts.all) in
-    let told = c.tell.ensures.told begins ∙ c.front-2.ensures.front in
+    let behind = c.if-not-begins_with.ensures.begins refl in
+    let begins = subst (λ (l : List _). IsPrefix c.args.me.now l) (sym p.all) (begins_edit _ _ made.op _ posts.more _ behind made.list posts.all) in
+    let told = c.tell_all.ensures.told begins in
     record {
       between = behind.0;
       op = made.op;
@@ -37,7 +37,7 @@ returns-clause-told g c =
       settles = posts.more;
       are_settles = posts.are_settles;
       list = told ∙ (p.all ∙ (posts.all ∙ ap (λ (l : List _). l ++ posts.more) (made.list ∙ ap (λ (l : List _). l ++ made.op ∷ []) (sym behind.1))));
-      legal = rw told c.front-2.ensures.legal;
+      legal = rw told c.tell_all.ensures.legal;
     }
 
 pub invariant_of-self : goal.invariant_of-self
@@ -54,8 +54,8 @@ pub returns-then-not-publish-clause-published : goal.returns-then-not-publish-cl
 returns-then-not-publish-clause-published g c =
     (c.if-not-publish.ensures.published ∙ (c.post.ensures.posts.published ∙ (c.in_ok-number.ensures.published ∙ ap (λ (h : Held _ _ _). h.published) c.self.view_is)), refl)
 
-pub returns-then-not-is_behind-clause-closed : goal.returns-then-not-is_behind-clause-closed
-returns-then-not-is_behind-clause-closed g c = other_closed _ _ not_seat (sym (ap (λ (h : Held _ _ _). h.closed) c.self.view_is) ∙ c.if-self.false)
+pub returns-then-not-begins_with-clause-closed : goal.returns-then-not-begins_with-clause-closed
+returns-then-not-begins_with-clause-closed g c = other_closed _ _ not_seat (sym (ap (λ (h : Held _ _ _). h.closed) c.self.view_is) ∙ c.if-self.false)
 
 pub returns-then-not-publish-clause-closed : goal.returns-then-not-publish-clause-closed
 returns-then-not-publish-clause-closed g c = other_closed _ _ (not_ok _) (sym (ap (λ (h : Held _ _ _). h.closed) c.self.view_is) ∙ c.if-self.false)

@@ -6,8 +6,8 @@ use Rattle.desk.proofs.Growing.{begins_after}
 use Rattle.desk.proofs.Refusing.{not_ok, not_seat, other_closed}
 use Rattle.desk.proofs.state.DeskState.settle.Goals as goal
 
-pub returns-then-not-is_behind-clause-closed : goal.returns-then-not-is_behind-clause-closed
-returns-then-not-is_behind-clause-closed g c = other_closed _ _ not_seat (sym (ap (λ (h : Held _ _ _). h.closed) c.self.view_is) ∙ c.if-self.false)
+pub returns-then-not-begins_with-clause-closed : goal.returns-then-not-begins_with-clause-closed
+returns-then-not-begins_with-clause-closed g c = other_closed _ _ not_seat (sym (ap (λ (h : Held _ _ _). h.closed) c.self.view_is) ∙ c.if-self.false)
 
 pub returns-then-not-show_all-clause-closed : goal.returns-then-not-show_all-clause-closed
 returns-then-not-show_all-clause-closed g c = other_closed _ _ (not_ok _) (sym (ap (λ (h : Held _ _ _). h.closed) c.self.view_is) ∙ c.if-self.false)
@@ -18,25 +18,53 @@ returns-then-not-is_settled-clause-closed g c = other_closed _ _ (not_ok _) (sym
 pub returns-clause-closed : goal.returns-clause-closed
 returns-clause-closed g c = other_closed _ _ (not_ok _) (sym (ap (λ (h : Held _ _ _). h.closed) c.self.view_is) ∙ c.if-self.false)
 
+pub returns-then-not-show_all-clause-bench : goal.returns-then-not-show_all-clause-bench
+returns-then-not-show_all-clause-bench g c = c.show_all.ensures.bench
+
+pub returns-then-not-show_all-clause-appends : goal.returns-then-not-show_all-clause-appends
+returns-then-not-show_all-clause-appends g c = c.show_all.ensures.appends
+
+pub returns-then-not-show_all-clause-grows : goal.returns-then-not-show_all-clause-grows
+returns-then-not-show_all-clause-grows g c = c.show_all.ensures.grows
+
+pub returns-then-not-show_all-clause-settles : goal.returns-then-not-show_all-clause-settles
+returns-then-not-show_all-clause-settles g c = refl
+
+pub returns-then-not-is_settled-clause-bench : goal.returns-then-not-is_settled-clause-bench
+returns-then-not-is_settled-clause-bench g c = c.show_all.ensures.bench
+
 pub returns-then-not-is_settled-clause-appends : goal.returns-then-not-is_settled-clause-appends
 returns-then-not-is_settled-clause-appends g c = c.show_all.ensures.appends
 
+pub returns-then-not-is_settled-clause-grows : goal.returns-then-not-is_settled-clause-grows
+returns-then-not-is_settled-clause-grows g c = c.show_all.ensures.grows
+
 pub returns-then-not-is_settled-clause-settles : goal.returns-then-not-is_settled-clause-settles
 returns-then-not-is_settled-clause-settles g c = (refl, c.if-not-show_all.ensures.whole refl)
+
+pub returns-clause-bench : goal.returns-clause-bench
+returns-clause-bench g c = c.show_all.ensures.bench
+
+pub returns-clause-appends : goal.returns-clause-appends
+returns-clause-appends g c = c.show_all.ensures.appends
+
+pub returns-clause-grows : goal.returns-clause-grows
+returns-clause-grows g c = c.show_all.ensures.grows
 
 pub returns-clause-settles : goal.returns-clause-settles
 returns-clause-settles g c =
     let me = c.args.me.now in
     let new = c.show_all.new.self in
     let a = c.show_all.ensures.appends in
-    let told = c.tell_all.ensures.told in
     let all : c.self-2.inside.ledger.all ≡ new.all = ap (λ (h : Held _ _ _). h.all) c.self-2.view_is in
     let whole : new.published ≡ new.all = c.if-not-show_all.ensures.whole refl in
-    let behind : IsPrefix me c.args.self.now.all = subst (λ (l : List _). IsPrefix me l) (c.front.ensures.front ∙ ap (λ (h : Held _ _ _). h.all) c.self.view_is) (c.if-not-is_behind.ensures.begins refl) in
+    let behind : IsPrefix me c.args.self.now.all = subst (λ (l : List _). IsPrefix me l) (ap (λ (h : Held _ _ _). h.all) c.self.view_is) (c.if-not-begins_with.ensures.begins refl) in
+    let begins : IsPrefix me new.all = begins_after me c.args.self.now.all a.settles new.all behind a.all in
+    let told = c.tell_all.ensures.told (subst (λ (l : List _). IsPrefix me l) (sym all) begins) in
     record {
       list = told ∙ (all ∙ sym whole);
       whole = whole;
-      begins = subst (λ (l : List _). IsPrefix me l) (sym (told ∙ all)) (begins_after me c.args.self.now.all a.settles new.all behind a.all);
+      begins = subst (λ (l : List _). IsPrefix me l) (sym (told ∙ all)) begins;
       settled = subst (λ (l : List _). AreSettled (g.X.BoardTexts.cells (fold g.X.Operations.after g.X.Operations.none l))) (sym told) (c.is_settled.ensures c.if-not-is_settled.false);
       legal = subst (λ (l : List _). g.X.Operations.is_legal l) (sym told) c.tell_all.ensures.legal;
     }
