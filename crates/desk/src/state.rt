@@ -197,7 +197,6 @@ impl<J: Naming + StoreName, X: BoardTexts, R: Wait + Drop> DeskState<J, X, R> {
     }
 
     // Tries again what may be left, and publishes. True where readers see all operations.
-    #[tactic(auto, using(crate::proofs::Growing::prefix_same, crate::proofs::Growing::grown_then))]
     fn show_all<W: Wait>(&mut self, rt: &W) -> bool
         ensures bench { self.new.bench ≡ self.old.bench }
         ensures appends { Appends X.is_settle self.old.all self.old self.new }
@@ -205,7 +204,10 @@ impl<J: Naming + StoreName, X: BoardTexts, R: Wait + Drop> DeskState<J, X, R> {
         ensures whole { IsTrue result → self.new.published ≡ self.new.all }
     {
         self.try_again(rt);
-        !self.owes && self.ledger.publish(rt)
+        if self.owes {
+            return false;
+        }
+        self.ledger.publish(rt)
     }
 
     /// Gives out a job, if there is any work. Errors: K1, B1, want of memory; nothing is appended then.
