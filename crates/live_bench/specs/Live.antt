@@ -1,4 +1,5 @@
 -- What the texts of the bench mean to the laws of cells.
+use Rattle.std.specs.Prelude.{ℕ}
 use Rattle.memo_core.specs.Laws.{meaning}
 use Rattle.memo_core.specs.Run.{Meaning}
 use Rattle.node_values.specs.Givens.{GivenContent}
@@ -27,3 +28,7 @@ live_cells = cells verdict_of outcome_in from_scratch Reaches
 -- why an edit is refused
 abbrev pub live_refusing : Refusing StampedTexts Edit EditFault
 live_refusing t e spent fault = Refuses (texts_of t.texts) spent (edit_of e) fault
+
+-- the number of the last edit of the texts
+abbrev pub live_last : StampedTexts → ℕ
+live_last t = t.parts.last

@@ -6,7 +6,7 @@ ghost use Rattle.running_bench.specs.declared.stamped_texts.StampedTexts.{Stampe
 ghost use Rattle.running_bench.specs.StampedCells.{from_scratch};
 ghost use Rattle.memo_core.specs.Work.{ReturnsLowerInRuns, WorkIsBounded, WorkUnsettlesNone};
 ghost use Rattle.cells.specs.CellLaws.{SettledCellIsFromScratch, UnreachedCellStays, OnlyNeededIsGiven, NoneIsOutTwice, EditBoundsWork, QuietCellsAreSettled, ListsAreRuns, ListBoundsWork};
-ghost use Rattle.live_bench.specs.Live.{live_meaning, live_cells, live_refusing};
+ghost use Rattle.live_bench.specs.Live.{live_meaning, live_cells, live_refusing, live_last};
 
 use running_bench::StampedTexts;
 
@@ -44,8 +44,8 @@ pub fn work_is_exact()
 
 /// What `run_events` does is such a run, so all of this holds of it.
 pub fn lists_are_runs()
-    ensures runs { ListsAreRuns live_meaning live_refusing }
-    ensures bounded { ListBoundsWork live_meaning live_refusing }
+    ensures runs { ListsAreRuns live_meaning live_refusing live_last }
+    ensures bounded { ListBoundsWork live_meaning live_refusing live_last }
 {
     cells::laws::listed::<StampedTexts>();
 }
