@@ -3,9 +3,17 @@
 use crate::jobs::{Stage, made};
 use crate::played::{PlayedBench, PlayedJob};
 use memo_core::claims::{ClaimFault, Finish};
+use memo_core::keys::Node;
 use std::alloc::{AllocError, Global};
 use std::sync::Wait;
 use value_store::StoreFault;
+
+/// What became of a return, and the node that it was for.
+#[derive(Drop)]
+pub struct Offered {
+    pub node: Node,
+    pub finish: Finish,
+}
 
 /// A bench, and the jobs that were claimed of it, until they are forgotten.
 #[derive(Drop)]
@@ -62,9 +70,13 @@ impl<B: PlayedBench> ClaimedBench<B> {
         rt: &W,
         alloc: Global,
         claim: u64,
-    ) -> Result<Option<Result<Finish, StoreFault>>, AllocError> {
+    ) -> Result<Option<Result<Offered, StoreFault>>, AllocError> {
         match made(rt, alloc, &mut self.jobs, claim)? {
-            Some(Ok(done)) => Ok(Some(Ok(self.bench.finish(done)))),
+            Some(Ok(done)) => {
+                let node = <B::Job as PlayedJob>::node_of(&done);
+                let finish = self.bench.finish(done);
+                Ok(Some(Ok(Offered { node, finish })))
+            }
             Some(Err(fault)) => Ok(Some(Err(fault))),
             None => Ok(None),
         }

@@ -13,6 +13,7 @@ use cells::texts::CellTexts;
 use desk::{Accepted, BoardTexts, Desk, DeskFault, Settling, Taken};
 use desk_rule::{Naming, View, Viewer};
 use memo_core::claims::{ClaimFault, Finish};
+use memo_core::keys::Node;
 use std::alloc::{AllocError, Global};
 use std::rt::Clock;
 use std::sync::Wait;
@@ -36,6 +37,9 @@ pub trait PlayedJob: Drop {
     /// The number of the claim whose job made this.
     fn claim_of(done: &Self::Done) -> u64;
 
+    /// The node whose values the job made.
+    fn node_of(done: &Self::Done) -> Node;
+
     /// What was made, once more. Errors: want of memory.
     fn copy(alloc: Global, done: &Self::Done) -> Result<Self::Done, AllocError>;
 }
@@ -53,6 +57,10 @@ impl<K: StoreName, T: CellTexts> PlayedJob for Job<K, T> {
 
     fn claim_of(done: &Done<K, T>) -> u64 {
         done.claim_number()
+    }
+
+    fn node_of(done: &Done<K, T>) -> Node {
+        done.node()
     }
 
     fn copy(alloc: Global, done: &Done<K, T>) -> Result<Done<K, T>, AllocError> {

@@ -112,18 +112,18 @@ module _ {T E V G : Type 0} (means : Meaning T E V G) where
 
 module _ {T E V G F : Type 0} (means : Meaning T E V G) (refuses : Refusing T E F) (last : T → ℕ) where
   edited_run : (old new : Bench T V) (given after : List (Task V G)) (e : E) (r : Result ℕ F) → IsEdited means refuses last old e r new → after ≡ given → HasRun means ⊥ given after 0 old new
-  edited_run old new given after e (Ok number) h same = step_run means ⊥ given after 0 old new (core.Edit e) h.1 same (λ j. absurd j) (λ ns g. refl)
+  edited_run old new given after e (Ok number) h same = step_run means ⊥ given after 0 old new (core.Edit e) h.2 same (λ j. absurd j) (λ ns g. refl)
   edited_run old new given after e (Err fault) h same = step_run means ⊥ given after 0 old new core.Refused h.1 same (λ j. absurd j) (λ ns g. refl)
 
   claimed_run : (old new : Bench T V) (given after : List (Task V G)) (r : Result (Option ℕ) ClaimFault) → IsClaimed means refuses last old given r new after → HasRun means ⊤ given after 0 old new
   claimed_run old new given after (Ok (Some number)) h = record {
-    run = core.Claim (h.0).claim (h.0).node (h.0).given (h.0).keys (h.0).values ∷ [];
-    is = (new, h.2, refl);
+    run = core.Claim (h.1).claim (h.1).node (h.1).given (h.1).keys (h.1).values ∷ [];
+    is = (new, h.3, refl);
     are_jobs = λ j. (tt, tt);
-    after_in = λ ns g k. rw h.3 (each_append (λ t. has_number t.claim ns ≡ true) given (h.0 ∷ []) g ((k (h.0).claim (rw (eq-eqb (h.0).claim (h.0).claim refl) refl), tt)));
+    after_in = λ ns g k. rw h.4 (each_append (λ t. has_number t.claim ns ≡ true) given (h.1 ∷ []) g ((k (h.1).claim (rw (eq-eqb (h.1).claim (h.1).claim refl) refl), tt)));
     counts = λ ns g k. refl;
   }
-  claimed_run old new given after (Ok None) h = step_run means ⊤ given after 0 old new core.NoClaim h.0 h.1 (λ j. tt) (λ ns g. refl)
+  claimed_run old new given after (Ok None) h = step_run means ⊤ given after 0 old new core.NoClaim h.1 h.2 (λ j. tt) (λ ns g. refl)
   claimed_run old new given after (Err fault) h = step_run means ⊤ given after 0 old new core.Refused h.1 h.3 (λ j. tt) (λ ns g. refl)
 
   returned_run : (old new : Bench T V) (given after : List (Task V G)) (claim : ℕ) (o : Option (Task V G)) (r : Result Finish StoreFault) → task_given claim given ≡ o → IsReturned means refuses last old o r new → after ≡ given

@@ -21,7 +21,7 @@ module _ {T E V G F : Type 0} (means : Meaning T E V G) (refuses : Refusing T E 
     (edited_same : (t u : T) (e f : E) (number : ℕ) → same e f → means.edited t e number u → means.edited t f number u)
     (refused_same : (t : T) (e f : E) (spent : Bool) (fault : F) → same e f → refuses t e spent fault → refuses t f spent fault) where
   edit_same : (old new : Bench T V) (e f : E) (r : Result ℕ F) → same e f → IsEdited means refuses last old e r new → IsEdited means refuses last old f r new
-  edit_same old new e f (Ok number) s h = (h.0, (edited_same old.texts new.texts e f (old.taken + 1) s (h.1).0, (h.1).1))
+  edit_same old new e f (Ok number) s h = (h.0, h.1, (edited_same old.texts new.texts e f (old.taken + 1) s (h.2).0, (h.2).1))
   edit_same old new e f (Err fault) s h = (refused_same old.texts e f _ fault s h.0, h.1, h.2)
 
   one_same : (old new : Bench T V) (given after : List (Task V G)) (e f : Event E) (r : Reply F) → IsSameEvent same e f → IsAnswered means refuses last old given e r new after → IsAnswered means refuses last old given f r new after

@@ -1,6 +1,6 @@
 -- Read after Cells: what an event of a list and its reply make of a bench (`IsAnswered`), and a list of events with its
 -- replies (`Answers`).
-use Rattle.std.specs.Prelude.{◌≡◌, ℕ, ◌+◌, ◌≤◌, ⊤, Bool, false, ◌||◌, ◌==◌, leb, List, [], ◌∷◌, ◌++◌, Option, Some, None, Result, Ok, Err, if◌then◌else◌}
+use Rattle.std.specs.Prelude.{◌≡◌, ℕ, ◌+◌, ◌<◌, ◌≤◌, ⊤, Bool, false, ◌||◌, ◌==◌, leb, List, [], ◌∷◌, ◌++◌, Option, Some, None, Result, Ok, Err, if◌then◌else◌}
 use Rattle.value_store.specs.declared.fault.StoreFault.{StoreFault}
 use Rattle.memo_core.specs.declared.claims.ClaimFault.{ClaimFault}
 use Rattle.memo_core.specs.declared.claims.ClaimFault.TheVariants.{Spent}
@@ -62,20 +62,21 @@ abbrev pub Refusing : Type 0 → Type 0 → Type 0 → Type 1
 Refusing T E F = T → E → Bool → F → Type 0
 
 module _ {T E V G F : Type 0} (means : Meaning T E V G) (refuses : Refusing T E F) (last : T → ℕ) where
-  -- an edit takes the next number, or is refused: then the last edit of the texts is the one that it was
+  -- an edit takes the next number, where the numbers are not spent, or is refused: then the last edit of the texts is the one that it was
   abbrev pub IsEdited : Bench T V → E → Result ℕ F → Bench T V → Type 0
-  IsEdited old e (Ok number) new = (number ≡ old.taken + 1) × Step means old (core.Edit e) new
+  IsEdited old e (Ok number) new = (old.taken < LAST) × (number ≡ old.taken + 1) × Step means old (core.Edit e) new
   IsEdited old e (Err fault) new = refuses old.texts e (leb LAST old.taken) fault × Step means old core.Refused new × (last new.texts ≡ last old.texts)
 
   -- the numbers are spent where so many are taken, and only there
   abbrev pub IsClaimFault : ℕ → ClaimFault → Type 0
   IsClaimFault taken fault = (fault ≡ Spent → LAST ≤ taken) × (LAST ≤ taken → fault ≡ Spent)
 
-  -- a job is given out, there is no work, or the claim is refused; with the jobs that the list has been given, before and after
+  -- where the numbers are not spent, a job is given out or there is no work, or the claim is refused; with the jobs that the list
+  -- has been given, before and after
   abbrev pub IsClaimed : Bench T V → List (Task V G) → Result (Option ℕ) ClaimFault → Bench T V → List (Task V G) → Type 0
   IsClaimed old given (Ok (Some number)) new after =
-      (t : Task V G) × (number ≡ t.claim) × Step means old (core.Claim t.claim t.node t.given t.keys t.values) new × (after ≡ given ++ t ∷ [])
-  IsClaimed old given (Ok None) new after = Step means old core.NoClaim new × (after ≡ given)
+      (old.taken < LAST) × (t : Task V G) × (number ≡ t.claim) × Step means old (core.Claim t.claim t.node t.given t.keys t.values) new × (after ≡ given ++ t ∷ [])
+  IsClaimed old given (Ok None) new after = (old.taken < LAST) × Step means old core.NoClaim new × (after ≡ given)
   IsClaimed old given (Err fault) new after = IsClaimFault old.taken fault × Step means old core.Refused new × (new.texts ≡ old.texts) × (after ≡ given)
 
   -- the job of the claim is run and its return offered, or memory is refused; without such a job, nothing is done

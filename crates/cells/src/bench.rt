@@ -118,6 +118,7 @@ impl<K: StoreName, T: CellTexts> Bench<K, T> {
         ensures none { IfOk result (λ r. IfNone r (Step (meaning T.net T.is_valid T.since T.makes T.keeps T.edited) self.old NoClaim self.new)) }
         ensures spent { LAST ≤ self.old.taken → result ≡ Err ClaimFault.Spent }
         ensures spent_only { result ≡ Err ClaimFault.Spent → LAST ≤ self.old.taken }
+        ensures unspent { OnOk result (self.old.taken < LAST) }
         ensures refused { OnErr result (Step (meaning T.net T.is_valid T.since T.makes T.keeps T.edited) self.old Refused self.new) }
     {
         match self.graph.claim(alloc) {

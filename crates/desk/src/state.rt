@@ -75,6 +75,7 @@ fn make_edit<J: Naming + StoreName, X: BoardTexts>(
     ensures last { X.last_number ledger.new.all ≤ bench.new.taken }
     ensures published { ledger.new.published ≡ ledger.old.published }
     ensures made { IfOk result (λ number. IsMade (meaning X.net X.is_valid X.since X.makes X.keeps X.edited) X.is_edit edit bench.old bench.new ledger.old.all ledger.new.all number) }
+    ensures unspent { OnOk result (bench.old.taken < LAST) }
     ensures err { OnErr result (Step (meaning X.net X.is_valid X.since X.makes X.keeps X.edited) bench.old Refused bench.new × (ledger.new ≡ ledger.old)) }
 {
     match bench.edit_told(alloc, edit, ledger) {
@@ -143,6 +144,7 @@ impl<J: Naming + StoreName, X: BoardTexts, R: Wait + Drop> DeskState<J, X, R> {
         ensures closed { (result ≡ Err DeskFault.Closed) ↔ (self.old.closed ≡ true) }
         ensures fault { IfErr result (λ fault. IsRefusedBy (X.refuses self.old.bench.texts edit (leb LAST self.old.bench.taken)) (length self.old.all < length me.old) fault) }
         ensures err { OnErr result (IsRefusedTurn (meaning X.net X.is_valid X.since X.makes X.keeps X.edited) self.old self.new × (me.new ≡ me.old)) }
+        ensures unspent { OnOk result (self.old.bench.taken < LAST) }
         ensures turn { IfOk result (λ a. IsEditTurn (meaning X.net X.is_valid X.since X.makes X.keeps X.edited) X.is_edit X.is_settle edit self.old self.new (number_of a)) }
         ensures published { IfOk result (λ a. Publishes self.old self.new me.old me.new a) }
         ensures told { IfOk result (λ a. Tells X.is_legal X.is_edit X.is_settle edit me.old me.new a) }

@@ -1,12 +1,12 @@
 //! A bench with the jobs that were claimed, and what is answered to a line.
 
-use crate::claimed::ClaimedBench;
+use crate::claimed::{ClaimedBench, Offered};
 use crate::edits;
 use crate::played::PlayedBench;
 use crate::rows::question::{Question, edit_of, events_of, question_of};
 use crate::rows::replies::{
-    put_cell, put_claimed, put_count, put_edited, put_finish, put_lost, put_reply, put_run_fault,
-    told,
+    put_cell, put_claimed, put_count, put_edited, put_finish, put_lost, put_node, put_reply,
+    put_run_fault, told,
 };
 use bench_texts::{Edit, EditFault};
 use bench_workers::Tally;
@@ -82,12 +82,18 @@ fn put_replies(answer: &mut Vec<u8>, replies: &[Reply<EditFault>]) -> Result<(),
 }
 
 /// What becomes of a return: none for a job that is not kept.
-type Returned = Option<Result<Finish, StoreFault>>;
+type Returned = Option<Result<Offered, StoreFault>>;
+
+/// Appends the node that a return was for, and what became of it.
+fn put_offered(answer: &mut Vec<u8>, offered: &Offered) -> Result<(), AllocError> {
+    put_node(answer, offered.node)?;
+    put_finish(answer, &offered.finish)
+}
 
 /// Appends what became of a return.
 fn put_return(answer: &mut Vec<u8>, returned: Returned) -> Result<(), AllocError> {
     match returned {
-        Some(Ok(finish)) => put_finish(answer, &finish),
+        Some(Ok(offered)) => put_offered(answer, &offered),
         Some(Err(fault)) => put_run_fault(answer, &fault),
         None => put_finish(answer, &Finish::Unknown),
     }
@@ -100,13 +106,13 @@ fn note_return(
     returned: Returned,
     each: bool,
 ) -> Result<(), AllocError> {
-    let Some(Ok(finish)) = returned else {
+    let Some(Ok(offered)) = returned else {
         tally.note_refusal();
         return Ok(());
     };
-    tally.note(&finish);
+    tally.note(&offered.finish);
     if each {
-        put_finish(answer, &finish)?;
+        put_offered(answer, &offered)?;
         put_bytes(answer, b"\n")?;
     }
     Ok(())

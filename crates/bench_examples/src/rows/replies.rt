@@ -9,6 +9,7 @@ use compare_report::{Shown, outcome_log};
 use desk::{Accepted, DeskFault, Posted, Taken};
 use litmus_ppc::LitmusFault;
 use memo_core::claims::{ClaimFault, Finish};
+use memo_core::keys::{Kind, Node};
 use std::alloc::{AllocError, Global};
 use text_values::{put_bytes, put_decimal};
 use value_store::StoreFault;
@@ -52,6 +53,17 @@ pub fn put_claimed(
         Err(ClaimFault::Spent) => put_bytes(answer, b"refused B1"),
         Err(ClaimFault::OutOfMemory) => put_bytes(answer, b"out of memory"),
     }
+}
+
+/// The node of a job: its kind, and the number of its item.
+pub fn put_node(answer: &mut Vec<u8>, node: Node) -> Result<(), AllocError> {
+    match node.kind {
+        Kind::Space => put_bytes(answer, b"space")?,
+        Kind::Group => put_numbered(answer, b"group ", node.of)?,
+        Kind::Check => put_numbered(answer, b"check ", node.of)?,
+        Kind::Verdict => put_bytes(answer, b"verdict")?,
+    }
+    put_bytes(answer, b": ")
 }
 
 /// What became of a return: the outputs that are new or changed go by their positions.

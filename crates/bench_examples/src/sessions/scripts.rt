@@ -1,4 +1,4 @@
-//! Runs each script of the list `scripts.txt` through the call that the program makes of its standard input, with 0, 1 and 4
+//! Runs each script of the list `scripts.txt` through the call that the program makes of its standard input, with 0, 1, 2 and 4
 //! workers, and prints a line for each: its name, whether the output is the one that is wanted with each number of workers, and
 //! how many lines it has. The first three are run again from sources and to sinks that fail at each call, and the first cut at each byte.
 
@@ -10,7 +10,7 @@ use std::thread::Threads;
 use std::{fs, io};
 
 /// The numbers of workers.
-const WORKERS: [u64; 3] = [0, 1, 4];
+const WORKERS: [u64; 4] = [0, 1, 2, 4];
 
 /// A script, and the output that is wanted.
 #[derive(Drop)]
