@@ -1,5 +1,6 @@
 /* Loaded before the C library: refuses the allocation whose number, from 1, stands in the
-   environment as REFUSE_ALLOCATION, and writes a byte to descriptor 9 when it does. */
+   environment as REFUSE_ALLOCATION, with it the next ones where REFUSE_COUNT says how many in
+   all, and writes a byte to descriptor 9 for each. */
 #define _GNU_SOURCE
 #include <dlfcn.h>
 #include <errno.h>
@@ -8,13 +9,20 @@
 
 static _Atomic long seen;
 static long number = -1;
+static long count;
+
+static long number_in(const char *name, long otherwise) {
+    const char *text = getenv(name);
+    return text ? atol(text) : otherwise;
+}
 
 static int is_refused(void) {
     if (number < 0) {
-        const char *text = getenv("REFUSE_ALLOCATION");
-        number = text ? atol(text) : 0;
+        count = number_in("REFUSE_COUNT", 1);
+        number = number_in("REFUSE_ALLOCATION", 0);
     }
-    return ++seen == number;
+    long this = ++seen;
+    return number > 0 && this >= number && this < number + count;
 }
 
 static void *refuse(void) {

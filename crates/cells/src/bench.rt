@@ -111,7 +111,8 @@ impl<K: StoreName, T: CellTexts> Bench<K, T> {
     }
 
     /// Gives out a job, if there is any work: a node that some cell needs, whose inputs are settled, which is not up to date
-    /// and not out with the present inputs. It makes the room for all that its return keeps.
+    /// and not out with the present inputs. It makes the room for all that its return keeps. Errors: B1 where the numbers are
+    /// spent, want of memory.
     pub fn claim(&mut self, alloc: Global) -> Result<Option<Job<K, T>>, ClaimFault>
         ensures texts { self.new.texts ≡ self.old.texts }
         ensures given { IfOk result (λ r. IfSome r (λ j. Step (meaning T.net T.is_valid T.since T.makes T.keeps T.edited) self.old (Claimed j.claim j.node j.given j.keys j.values) self.new)) }

@@ -37,7 +37,7 @@ fn met_word(ok: bool) -> &'static [u8]
     if ok { b"Ok" } else { b"No" }
 }
 
-// The letter and the number of a refusal.
+/// Appends the letter and the number of a refusal. Errors: want of memory.
 pub fn put_refusal(text: &mut Vec<u8>, refusal: Refusal) -> Result<(), AllocError>
     ensures { OnOk result (text.new.items ≡ text.old.items ++ refusal_text refusal) }
 {
@@ -54,6 +54,7 @@ pub fn put_refusal(text: &mut Vec<u8>, refusal: Refusal) -> Result<(), AllocErro
     put_decimal(text, u64::from(number))
 }
 
+/// Appends the line of a refusal. Errors: want of memory.
 pub fn put_refusal_line(text: &mut Vec<u8>, refusal: Refusal) -> Result<(), AllocError>
     ensures { OnOk result (text.new.items ≡ text.old.items ++ refusal_line refusal) }
 {
@@ -119,6 +120,7 @@ fn put_flag(text: &mut Vec<u8>, name: &Name) -> Result<(), AllocError>
     put_bytes(text, b"\n")
 }
 
+/// Appends a line for each flag. Errors: want of memory.
 pub fn put_flags(text: &mut Vec<u8>, flags: &[Name]) -> Result<(), AllocError>
     ensures { OnOk result (text.new.items ≡ text.old.items ++ flat_map flag_line flags.now) }
 {
@@ -128,7 +130,7 @@ pub fn put_flags(text: &mut Vec<u8>, flags: &[Name]) -> Result<(), AllocError>
     Ok(())
 }
 
-// The word of the observation and the two counts.
+/// Appends the word of the observation and the two counts. Errors: want of memory.
 #[tactic(auto, unfolding(crate::specs::Log::observation_text))]
 pub fn put_observation(text: &mut Vec<u8>, found: &Evaluation) -> Result<(), AllocError>
     ensures { OnOk result (text.new.items ≡ text.old.items ++ observation_text found.now) }

@@ -1,4 +1,4 @@
-//! Dependencies between the events of a run.
+//! Dependencies between the events of a run. Read specs/Chains first, then specs/Dependencies.
 #![tactic(auto)]
 
 pub mod laws;

@@ -22,7 +22,7 @@ pub enum DeskFault<F> {
     #[error("the desk is closed")]
     Closed,
     /// K2: no viewer is left to give, or the viewer has seen more than the desk has.
-    #[error("no viewer is left")]
+    #[error("no viewer is left, or this one has seen more than the desk has")]
     NoSeat,
 }
 

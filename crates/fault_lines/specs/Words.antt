@@ -1,4 +1,4 @@
--- The rules in words. `rule_words` cites `rule_words`.
+-- The rules in words, as `fault_lines::rule_words` tells them.
 use Rattle.std.specs.Prelude.{ℕ, ◌==◌, List, [], codes, if◌then◌else◌}
 
 -- of the texts of tests

@@ -21,14 +21,18 @@ pub struct NamedModel {
 /// The models of some files, and what is told of the files that are refused.
 #[derive(Drop)]
 pub struct ReadModels {
+    /// In the order of the files.
     pub models: Vec<NamedModel>,
+    /// Lines for the error output.
     pub faults: Vec<u8>,
 }
 
 /// The tests of some files, and what is told of the files that are refused.
 #[derive(Drop)]
 pub struct ReadTests {
+    /// In the order of the files.
     pub tests: Vec<Test>,
+    /// Lines for the error output.
     pub faults: Vec<u8>,
 }
 

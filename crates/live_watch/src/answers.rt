@@ -108,14 +108,18 @@ fn path_of<'a>(model: &'a str, tests: &[WatchedTest<'a>], file: Watching) -> Opt
     }
 }
 
-/// A run of the program: the desk with its files, the path of the model, who runs the jobs, the lines that were last written of
-/// the files of tests, in their order, and whether a text was refused.
+/// A run of the program.
 #[derive(Drop)]
 pub struct Run<'a, 'd, J: Naming + StoreName, R: Wait + Drop> {
+    /// The desk with its files.
     pub watched: Watched<'a, 'd, J, R>,
+    /// The path of the model.
     pub model: &'a str,
+    /// Who runs the jobs.
     pub hands: Hands<'d, J, R>,
+    /// The lines that were last written of the files of tests, in their order.
     pub lines: Vec<Vec<u8>>,
+    /// Whether a text was refused.
     pub is_refused: bool,
 }
 

@@ -36,7 +36,7 @@ where
     change: Condvar,
 }
 
-/// That of a desk of tests and models.
+/// The turnstile of a desk of tests and models.
 pub type RunningTurnstile<'d, J, R> = Turnstile<'d, J, RunningTexts, R>;
 
 impl<'d, J: Naming + StoreName, X: BoardTexts, R: Wait + Drop> Turnstile<'d, J, X, R> {
@@ -104,7 +104,7 @@ impl<'d, J: Naming + StoreName, X: BoardTexts, R: Wait + Drop> Gate for Turnstil
     fn end<W: Wait>(&self, _rt: &W, _claim: u64) {}
 }
 
-/// Runs a body beside so many workers whose jobs the turnstile lets begin, as `with_workers` does.
+/// Runs a body beside so many workers whose jobs the turnstile lets begin, as `with_workers` does, with its errors.
 pub fn beside_workers<'d, J, X, R, W, T, F>(
     rt: &W,
     alloc: Global,

@@ -20,11 +20,15 @@ pub struct WatchedTest<'a> {
 /// A desk and a viewer of its board, the texts that it was given, and the files of the tests.
 #[derive(Drop)]
 pub struct Watched<'a, 'd, J: Naming + StoreName, R: Wait + Drop> {
+    /// Where the edits are made.
     pub desk: &'d RunningDesk<J, R>,
+    /// Who sees the board.
     pub viewer: Viewer<J, RunningTexts>,
+    /// The texts that the desk was given.
     pub texts: Texts,
     /// The number of the last edit.
     pub last: u64,
+    /// The files of the tests.
     pub tests: Vec<WatchedTest<'a>>,
 }
 

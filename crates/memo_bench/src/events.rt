@@ -148,7 +148,8 @@ impl<K: StoreName, T: Texts> Graph<K, T> {
         Ok(Some(number))
     }
 
-    /// Hands out a node that has work, if any has. It makes the room for all that its return keeps.
+    /// Hands out a node that has work, if any has. It makes the room for all that its return keeps. Errors: B1 where the numbers
+    /// are spent, want of memory.
     pub fn claim(&mut self, alloc: Global) -> Result<Option<Job<K, T>>, ClaimFault>
         requires right { HasRightMemos self.old }
         requires fresh { HasFreshClaims self.old }

@@ -316,7 +316,7 @@ fn put_one<R: Wait, K: StoreName, T: Texts>(
     }
 }
 
-/// Puts outputs into the store, where their earlier tokens do not show them.
+/// Puts outputs into the store, where their earlier tokens do not show them. Errors: the store is full, want of memory.
 pub fn put_all<R: Wait, K: StoreName, T: Texts>(
     rt: &R,
     alloc: Global,

@@ -35,8 +35,11 @@ pub struct Part {
 /// A run by its index among the runs of its thread, with what its loads read and its stores store.
 #[derive(Clone, Copy)]
 pub struct Sketch {
+    /// Its index.
     pub run: usize,
+    /// What its loads read.
     pub reads: KeySet,
+    /// What its stores store.
     pub writes: KeySet,
 }
 

@@ -12,7 +12,9 @@ use std::alloc::AllocError;
 /// What an item did before an edit, where that is known, with its stamp.
 #[derive(Clone, Copy)]
 pub struct HeldItem<'p> {
+    /// What it did.
     pub role: Option<&'p SharedItem>,
+    /// The number of the last edit that changed it, or 0.
     pub stamp: u64,
 }
 
