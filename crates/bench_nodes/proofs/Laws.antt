@@ -21,7 +21,7 @@ use Rattle.bench_nodes.specs.declared.table.TestRow.{TestRow}
 use Rattle.bench_nodes.specs.Nodes.{node_of, is_output_of, uses, users_at, used, keys_at, is_slot, slot_keys, thread_parts, space_keys, row_of, row_parts, inputs_of, users, has_test, has_slot, slot_index, rank_of, rank, net_of}
 use Rattle.bench_nodes.specs.Order.{IsBehind, AreOrderedAfter, IsOrdered}
 use Rattle.bench_nodes.proofs.Lists.{has_used}
-use Rattle.std.proofs.lemmas.Bool.{cases_Bool}
+use Rattle.std.proofs.lemmas.Bool.{cases_Bool, and_from}
 
 -- ---- both or one of two
 
@@ -33,9 +33,6 @@ second_of : (a b : Bool) → a && b ≡ true → b ≡ true
 second_of true b h = h
 second_of false b h = cc
 
-both_of : (a b : Bool) → a ≡ true → b ≡ true → a && b ≡ true
-both_of a b h i = rw h i
-
 -- ---- what a used node is
 
 pub used_test : (t : NodeTable) (n : Node) → Has (used t) n → has_test t.tests.items n.test ≡ true
@@ -45,7 +42,7 @@ pub used_slot : (t : NodeTable) (n : Node) → Has (used t) n → has_slot t.slo
 used_slot t n h = second_of (has_test t.tests.items n.test) (has_slot t.slots.items n.kind n.of) (sym (has_used t.slots.items t.tests.items n) ∙ has_is n (used t) h)
 
 pub used_by : (t : NodeTable) (n : Node) → has_test t.tests.items n.test ≡ true → has_slot t.slots.items n.kind n.of ≡ true → Has (used t) n
-used_by t n a b = has_yes n (used t) (has_used t.slots.items t.tests.items n ∙ both_of (has_test t.tests.items n.test) (has_slot t.slots.items n.kind n.of) a b)
+used_by t n a b = has_yes n (used t) (has_used t.slots.items t.tests.items n ∙ and_from (has_test t.tests.items n.test) (has_slot t.slots.items n.kind n.of) a b)
 
 -- ---- the inputs of a space are parts
 
@@ -195,7 +192,7 @@ uses_among test (slots.Test part ∷ ks) n h = uses_among test ks n h
 uses_among test (slots.Item number ∷ ks) n h = uses_among test ks n h
 uses_among test (slots.Fault id ∷ ks) n h = uses_among test ks n h
 uses_among test (slots.Value kind of name ∷ ks) n h = elim h [
-  | inl e ↦ subst (λ (m : Node). (is_output_of m.kind m.of (slots.Value kind of name) || uses m.kind m.of ks) ≡ true) e (either_of (is_output_of kind of (slots.Value kind of name)) (uses kind of ks) (both_of (kind_number kind == kind_number kind) (of == of) (eq-eqb (kind_number kind) (kind_number kind) refl) (eq-eqb of of refl)))
+  | inl e ↦ subst (λ (m : Node). (is_output_of m.kind m.of (slots.Value kind of name) || uses m.kind m.of ks) ≡ true) e (either_of (is_output_of kind of (slots.Value kind of name)) (uses kind of ks) (and_from (kind_number kind == kind_number kind) (of == of) (eq-eqb (kind_number kind) (kind_number kind) refl) (eq-eqb of of refl)))
   | inr l ↦ rw (uses_among test ks n l) (or_true (is_output_of n.kind n.of (slots.Value kind of name)))
 ]
   where

@@ -1,9 +1,9 @@
 -- What is looked up is what a search would find.
 use Rattle.std.proofs.Common.{◌≡◌, inl, inr, ℕ, zero, suc, ◌+◌, ◌<◌, ◌≤◌, Bool, true, false, not, ◌==◌, ◌&&◌, ◌||◌, cond, if◌then◌else◌, List, [], ◌∷◌, length, map, Option, Some, None, option_map, slice_get, get_or, refl, ap, sym, ◌∙◌, subst, eq-eqb, eqb-true, arith}
 use Rattle.std.specs.List.{position_or_len}
-use Rattle.std.proofs.lemmas.Bool.{cases_Bool, ltb-true, ne_eqb}
+use Rattle.std.proofs.lemmas.Bool.{cases_Bool, ltb-true, ne_eqb, not-true}
 use Rattle.std.proofs.lemmas.List.Sums.{position_or_len_is}
-use Rattle.std.proofs.lemmas.Option.{slice_get_within, get_or_from_slice_get}
+use Rattle.std.proofs.lemmas.Option.{slice_get_within, get_or_from_slice_get, same_Some}
 use Rattle.memo_core.specs.declared.keys.Kind.{Kind}
 use Rattle.memo_core.specs.declared.keys.Node.{Node}
 use Rattle.memo_core.specs.Names.{kind_number}
@@ -15,16 +15,13 @@ use Rattle.bench_nodes.specs.Nodes.{node_of, slot_keys, test_stamp, stamp_in, ro
 use Rattle.bench_nodes.specs.Slots.{is_slot, has_slot, uses}
 use Rattle.bench_nodes.specs.Places.{is_after, rise_after, are_rising, are_apart, named, user_names, user_lists}
 
-pub some_is : {X : Type 0} (a b : X) → Some a ≡ Some b → a ≡ b
-some_is a b e = cc
-
 -- ---- tests
 
 above : (n : ℕ) (ts : List TestRow) (i : ℕ) (t : TestRow) → rise_after (Some n) ts ≡ true → slice_get ts i ≡ Some t → n < t.id
 above n [] i t h at = cc
 above n (u ∷ ts) zero t h at =
     let p = and_true (is_after (Some n) u.id) (rise_after (Some u.id) ts) h in
-    subst (λ (x : TestRow). n < x.id) (some_is u t at) (ltb-true n u.id p.0)
+    subst (λ (x : TestRow). n < x.id) (same_Some u t at) (ltb-true n u.id p.0)
 above n (u ∷ ts) (suc i) t h at =
     let p = and_true (is_after (Some n) u.id) (rise_after (Some u.id) ts) h in
     let here = ltb-true n u.id p.0 in
@@ -67,7 +64,7 @@ place_within (t ∷ ts) id = by_test (t.id == id) (place_within ts id)
 pub row_stamp : (ts : List TestRow) (part id : ℕ) (t : TestRow) → Some t ≡ row_of ts id → stamp_in t part ≡ test_stamp ts part id
 row_stamp [] part id t h = cc
 row_stamp (u ∷ ts) part id t h = elim (cases_Bool (u.id == id)) [
-  | inl e ↦ rw e (ap (λ (x : TestRow). stamp_in x part) (some_is t u (rw e at h)))
+  | inl e ↦ rw e (ap (λ (x : TestRow). stamp_in x part) (same_Some t u (rw e at h)))
   | inr f ↦ rw f (row_stamp ts part id t (rw f at h))
 ]
 
@@ -104,7 +101,7 @@ or_true false = refl
 
 pub has_placed : (ss : List Slot) (kind : Kind) (of at : ℕ) → option_map (is_slot kind of) (slice_get ss at) ≡ Some true → true ≡ has_slot ss kind of
 has_placed [] kind of at h = cc
-has_placed (s ∷ ss) kind of zero h = let e : is_slot kind of s ≡ true = some_is (is_slot kind of s) true h in rw e refl
+has_placed (s ∷ ss) kind of zero h = let e : is_slot kind of s ≡ true = same_Some (is_slot kind of s) true h in rw e refl
 has_placed (s ∷ ss) kind of (suc at) h = let later = has_placed ss kind of at h in rw (sym later) (sym (or_true (is_slot kind of s)))
 
 all_of : (a b c : Bool) → a && c ≡ true → b ≡ true → a && b && c ≡ true
@@ -119,23 +116,19 @@ slot_is kind of s h =
     let e : a ≡ b = same_node_exact a b (all_of (kind_number kind == kind_number s.kind) (0 == 0) (of == s.of) h refl) in
     (ap (λ (n : Node). n.kind) e, ap (λ (n : Node). n.of) e)
 
-pub not_true : (b : Bool) → not b ≡ true → b ≡ false
-not_true true h = cc
-not_true false h = refl
-
 -- where no two slots are of one kind and number, a slot of these is the first
 pub keys_placed : (ss : List Slot) (kind : Kind) (of at : ℕ) (s : Slot) → are_apart ss ≡ true → option_map (is_slot kind of) (slice_get ss at) ≡ Some true → Some s ≡ slice_get ss at → s.inputs.items ≡ slot_keys ss kind of
 keys_placed [] kind of at s apart h e = cc
 keys_placed (u ∷ ss) kind of zero s apart h e =
-    let is : is_slot kind of u ≡ true = some_is (is_slot kind of u) true h in
-    rw is (ap (λ (x : Slot). x.inputs.items) (some_is s u e))
+    let is : is_slot kind of u ≡ true = same_Some (is_slot kind of u) true h in
+    rw is (ap (λ (x : Slot). x.inputs.items) (same_Some s u e))
 keys_placed (u ∷ ss) kind of (suc at) s apart h e =
     let p = and_true (not (has_slot ss u.kind u.of)) (are_apart ss) apart in
     elim (cases_Bool (is_slot kind of u)) [
       | inl is ↦ absurd (
           let same = slot_is kind of u is in
           let there : has_slot ss kind of ≡ true = sym (has_placed ss kind of at h) in
-          let none : has_slot ss kind of ≡ false = rw (same.0, same.1) (not_true (has_slot ss u.kind u.of) p.0) in
+          let none : has_slot ss kind of ≡ false = rw (same.0, same.1) (not-true (has_slot ss u.kind u.of) p.0) in
           cc
           )
       | inr other ↦ rw other (keys_placed ss kind of at s p.1 h e)
@@ -153,8 +146,8 @@ users_named (s ∷ ss) kind of test = elim (cases_Bool (uses kind of s.inputs.it
 names_at : (all ss : List Slot) (kind : Kind) (of at : ℕ) (names : List SlotName) → option_map (is_slot kind of) (slice_get ss at) ≡ Some true → slice_get (user_lists all ss) at ≡ Some names → user_names all kind of ≡ names
 names_at all [] kind of at names h e = cc
 names_at all (s ∷ ss) kind of zero names h e =
-    let same = slot_is kind of s (some_is (is_slot kind of s) true h) in
-    rw (same.0, same.1) (some_is (user_names all s.kind s.of) names e)
+    let same = slot_is kind of s (same_Some (is_slot kind of s) true h) in
+    rw (same.0, same.1) (same_Some (user_names all s.kind s.of) names e)
 names_at all (s ∷ ss) kind of (suc at) names h e = names_at all ss kind of at names h e
 
 pub users_placed : (ss : List Slot) (kind : Kind) (of test at : ℕ) (names : List SlotName) → option_map (is_slot kind of) (slice_get ss at) ≡ Some true → slice_get (user_lists ss ss) at ≡ Some names → users_at ss kind of test ≡ map (named test) names

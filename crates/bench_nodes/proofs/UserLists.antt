@@ -1,7 +1,8 @@
 -- The users of slots, list by list: what one more user adds.
 use Rattle.std.proofs.Common.{◌≡◌, inl, inr, ℕ, zero, suc, ◌<◌, ◌≤◌, Bool, true, false, not, ◌==◌, ◌&&◌, ◌||◌, if◌then◌else◌, List, [], ◌∷◌, ◌++◌, length, map, Some, option_map, slice_get, get_or, slice_set, Vec, refl, ap, sym, ◌∙◌, arith}
-use Rattle.std.proofs.lemmas.Bool.{cases_Bool}
+use Rattle.std.proofs.lemmas.Bool.{cases_Bool, not-true}
 use Rattle.std.specs.declared.alloc.Global.{Global}
+use Rattle.std.proofs.lemmas.Option.{same_Some}
 use Rattle.memo_core.specs.declared.keys.Kind.{Kind}
 use Rattle.memo_core.specs.Names.{kind_number}
 use Rattle.memo_core.proofs.Tests.{and_true}
@@ -11,7 +12,7 @@ use Rattle.bench_nodes.specs.declared.table.SlotKey.{SlotKey}
 use Rattle.bench_nodes.specs.declared.table.SlotKey.TheVariants as keys
 use Rattle.bench_nodes.specs.Slots.{is_slot, has_slot, is_output_of, uses}
 use Rattle.bench_nodes.specs.Places.{are_apart, name_of, user_names, user_lists, put_at, with_user}
-use Rattle.bench_nodes.proofs.Lookups.{some_is, slot_is, not_true, has_placed, turned}
+use Rattle.bench_nodes.proofs.Lookups.{slot_is, has_placed, turned}
 
 -- ---- inputs
 
@@ -100,10 +101,10 @@ pub new_output : (name : SlotName) (ks : List SlotKey) (kind : Kind) (of output 
 new_output name ks kind of output at [] ls apart h there = cc
 new_output name ks kind of output at (s ∷ ss) [] apart h there = refl
 new_output name ks kind of output zero (s ∷ ss) (l ∷ ls) apart h there =
-    let is : is_slot kind of s ≡ true = some_is (is_slot kind of s) true there in
+    let is : is_slot kind of s ≡ true = same_Some (is_slot kind of s) true there in
     let same = slot_is kind of s is in
     let p = and_true (not (has_slot ss s.kind s.of)) (are_apart ss) apart in
-    let none : has_slot ss kind of ≡ false = rw (same.0, same.1) (not_true (has_slot ss s.kind s.of) p.0) in
+    let none : has_slot ss kind of ≡ false = rw (same.0, same.1) (not-true (has_slot ss s.kind s.of) p.0) in
     let before : uses s.kind s.of ks ≡ false = rw (sym same.0, sym same.1) h in
     let after : uses s.kind s.of (ks ++ keys.Value kind of output ∷ []) ≡ true = rw (sym same.0, sym same.1) (uses_more kind of ks (keys.Value kind of output) ∙ rw h (own_output kind of output)) in
     rw (before, after) (ap (λ (xs : List (List SlotName)). (l ++ name ∷ []) ∷ xs) (others_stay name ks kind of output ss ls none))
@@ -113,7 +114,7 @@ new_output name ks kind of output (suc at) (s ∷ ss) (l ∷ ls) apart h there =
       | inl is ↦ absurd (
           let same = slot_is kind of s is in
           let later : has_slot ss kind of ≡ true = sym (has_placed ss kind of at there) in
-          let none : has_slot ss kind of ≡ false = rw (same.0, same.1) (not_true (has_slot ss s.kind s.of) p.0) in
+          let none : has_slot ss kind of ≡ false = rw (same.0, same.1) (not-true (has_slot ss s.kind s.of) p.0) in
           cc
           )
       | inr other ↦ rw (used_before kind of output ks s other) (ap (λ (xs : List (List SlotName)). (if uses s.kind s.of ks then l ++ name ∷ [] else l) ∷ xs) (new_output name ks kind of output at ss ls p.1 h there))

@@ -91,9 +91,6 @@ range-last a (suc n) j e = ap (λ l. a ∷ l) (range-last (a + 1) n j (omega ari
 pub range-more : (a n : ℕ) → range_with_len a (n + 1) ≡ range_with_len a n ++ (a + n) ∷ []
 range-more a n = rw add-one (range-last a n (a + n) refl)
 
-pub length-range : (a n : ℕ) → length (range_with_len a n) ≡ n
-length-range a n = length-range_with_len a n
-
 pub items_of-numbered : (ns : List ℕ) (n k : ℕ) (is : List Item) → ns ≡ range_with_len n k → k ≡ length is → items_of ns is ≡ numbered_items n (clauses_of is)
 items_of-numbered ns n k is e l = rw (e, l) (items_of-range n is)
 
@@ -135,4 +132,4 @@ items_of-more ns is cs k n i e says b = items_of-same (insert ns k n) cs (insert
 pub items_of-without : (ns : List ℕ) (is cs : List Item) (k : ℕ) → length ns ≡ length is → clauses_of cs ≡ remove (clauses_of is) k → items_of (remove ns k) cs ≡ remove (items_of ns is) k
 items_of-without ns is cs k e says = items_of-same (remove ns k) cs (remove is k) (says ∙ sym (map-remove clause_of is k)) ∙ items_of-remove ns is k e
 
-pub ruleset numbered_lemmas = (length-items_of, items_of-set, items_of-insert, items_of-remove, item_index-items_of, outputs-take, outputs-drop, outputs-items_of, range-more, length-range, length-same, map-set, map-insert, map-remove, items_of-with, items_of-more, items_of-without)
+pub ruleset numbered_lemmas = (length-items_of, items_of-set, items_of-insert, items_of-remove, item_index-items_of, outputs-take, outputs-drop, outputs-items_of, range-more, length-range_with_len, length-same, map-set, map-insert, map-remove, items_of-with, items_of-more, items_of-without)

@@ -2,7 +2,7 @@
 use Rattle.std.proofs.Common.{◌≡◌, ℕ, Vec, ◌<◌, ◌≤◌, ◌⊎◌, inl, inr, List, [], ◌∷◌, ◌++◌, length, map, Option, Some, None, Bool, true, false, IsTrue, refl, sym, ap, ◌∙◌, subst, arith}
 use Rattle.std.specs.Prelude.{slice_get, Contains, if◌then◌else◌, ◌==◌, ◌&&◌, nat_lt}
 use Rattle.std.specs.List.{range_with_len}
-use Rattle.std.proofs.lemmas.Bool.{eqb-true, ltb-true, ltb-false}
+use Rattle.std.proofs.lemmas.Bool.{eqb-true, ltb-true, ltb-false, cases_lt}
 use Rattle.std.proofs.lemmas.Option.{slice_get_past}
 use Rattle.std.proofs.lemmas.List.Elements.{Contains-append_left, Contains-push, Contains-push_cases}
 use Rattle.std.proofs.lemmas.List.FromFn.{length-map-range_with_len, get_or-map-range_with_len}
@@ -83,9 +83,6 @@ either_by : (b : Bool) (m n : ℕ) → nat_lt m n ≡ b → (m < n) ⊎ (n ≤ m
 either_by true m n e = inl (ltb-true m n e)
 either_by false m n e = inr (ltb-false m n e)
 
-either : (m n : ℕ) → (m < n) ⊎ (n ≤ m)
-either m n = either_by (nat_lt m n) m n refl
-
 -- ---- a test that is put
 
 module _ (h : Held) (whole : Bool) (at : ℕ) (test : Test) (cells : List CellIndex) (le : at ≤ length h.tests)
@@ -126,7 +123,7 @@ module _ (h : Held) (whole : Bool) (at : ℕ) (test : Test) (cells : List CellIn
           ((omega (arith, length-put_at h.tests at test le), omega (arith, j.1)), q.1),
       λ there. row_back c (c.test == at) refl there.0.1 there.1,
     );
-    kept = λ c out. row_kept c (c.test == at) refl (either c.model (length h.models)) out;
+    kept = λ c out. row_kept c (c.test == at) refl (cases_lt c.model (length h.models)) out;
   }
 
 -- ---- a model that is put
@@ -168,7 +165,7 @@ module _ (h : Held) (whole : Bool) (at next : ℕ) (model : NamedModel) (cells :
           ((omega (arith, j.1), omega (arith, length-put_at h.models at model le)), q.1),
       λ there. column_back c (c.model == at) refl there.0.0 there.1,
     );
-    kept = λ c out. column_kept c (c.model == at) refl (either c.test (length h.tests)) out;
+    kept = λ c out. column_kept c (c.model == at) refl (cases_lt c.test (length h.tests)) out;
   }
 
 -- ---- what edits announce

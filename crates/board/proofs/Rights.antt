@@ -1,6 +1,7 @@
 -- After legal operations each cell is right for the texts after them.
 use Rattle.std.proofs.Common.{◌≡◌, ℕ, inl, inr, List, length, Option, Some, None, refl, sym, ap, ◌∙◌, subst, arith}
 use Rattle.std.specs.Prelude.{slice_get}
+use Rattle.std.proofs.lemmas.Option.{same_Some, slice_get_past}
 use Rattle.text_values.specs.declared.test.Test.{Test}
 use Rattle.verdict.specs.declared.answer.Outcome.{Outcome}
 use Rattle.bench_texts.specs.declared.model.NamedModel.{NamedModel}
@@ -15,18 +16,15 @@ use Rattle.board.specs.Legal.{Held, nothing_held, IsLegal, IsRightAt, texts_afte
 use Rattle.board.proofs.Legal.{legal_is_right}
 use Rattle.board.proofs.Names.{IsNamed, names_from}
 use Rattle.board.specs.Results.{HasBoth, IsResultIn, IsRightCell}
-use Rattle.board.proofs.ShownNames.{found, found_alike, none_alike, there_alike, below, past, none_past}
+use Rattle.board.proofs.ShownNames.{found, found_alike, none_alike, there_alike, below, past}
 use Rattle.board.proofs.Widths.{AreWide, wide_at, wide_from}
 
 -- ---- what is at an index
 
-some_is : {A : Type 0} (x y : A) → Some x ≡ Some y → x ≡ y
-some_is x y e = cc
-
 pub one_result : (h : Held) (test model : List ℕ) (o p : Outcome) → IsResultIn h test model o → IsResultIn h test model p → o ≡ p
 one_result h test model o p a b =
-    let same_test : b.content ≡ a.content = some_is b.content a.content (sym b.test_is ∙ a.test_is) in
-    let same_model : b.under ≡ a.under = some_is b.under a.under (sym b.model_is ∙ a.model_is) in
+    let same_test : b.content ≡ a.content = same_Some b.content a.content (sym b.test_is ∙ a.test_is) in
+    let same_model : b.under ≡ a.under = same_Some b.under a.under (sym b.model_is ∙ a.model_is) in
     one_outcome a.content a.under.text o p a.right
     (subst (λ (c : Test). IsFromScratch c a.under.text p) same_test (subst (λ (m : NamedModel). IsFromScratch b.content m.text p) same_model b.right))
 
@@ -82,7 +80,7 @@ module _ (ops : List BoardOp) (legal : IsLegal ops) (test model : List ℕ) wher
   by_column : (r : RowContent) → slice_get b.rows i ≡ Some r → (c : Option ColumnContent) → slice_get b.columns j ≡ c → IsRightCell h test model (shown_cell (slice_get r.cells j))
   by_column r row None e =
       let long = past b.columns j e in
-      let missing : slice_get r.cells j ≡ None = none_past r.cells j (omega (arith, long, wide_at (length b.columns) b.rows i r wide row)) in
+      let missing : slice_get r.cells j ≡ None = slice_get_past r.cells j (omega (arith, long, wide_at (length b.columns) b.rows i r wide row)) in
       subst (λ (x : Option (Option Outcome)). IsRightCell h test model (shown_cell x)) (sym missing)
       (inr (ap (slice_get h.models) model_at ∙ none_alike (λ c. c.name) (λ m. m.name) b.columns h.models j named.models e))
   by_column r row (Some c) e = by_cell r c row e (slice_get r.cells j) refl

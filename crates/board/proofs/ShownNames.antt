@@ -63,8 +63,3 @@ pub past : {A : Type 0} (xs : List A) (i : ℕ) → slice_get xs i ≡ None → 
 past [] i h = omega arith
 past (x ∷ xs) zero h = absurd (none-some x (sym h))
 past (x ∷ xs) (suc i) h = let l = past xs i h in omega (arith, l)
-
-pub none_past : {A : Type 0} (xs : List A) (i : ℕ) → length xs ≤ i → slice_get xs i ≡ None
-none_past [] i le = refl
-none_past (x ∷ xs) zero le = absurd (omega (arith, le))
-none_past (x ∷ xs) (suc i) le = none_past xs i (omega (arith, le))

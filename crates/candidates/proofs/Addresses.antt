@@ -3,7 +3,7 @@ use Rattle.std.proofs.Common.{ℕ, zero, suc, ◌≡◌, ◌<◌, Bool, true, fa
 use Rattle.std.specs.Prelude.{slice_set}
 use Rattle.std.specs.List.{flat_map}
 use Rattle.std.proofs.lemmas.Bool.{cases_eq, cases_lt}
-use Rattle.std.proofs.lemmas.List.{get_or_past, get_or-set_same, get_or-set_other, get_or-replicate, length-set}
+use Rattle.std.proofs.lemmas.List.{get_or_past, get_or-set_same, get_or-set_other, get_or-replicate, length-set, get_or_default}
 use Rattle.std.proofs.lemmas.List.Elements.{All-head, All-tail, Contains-append_left, Contains-append_right, Contains-push_cases}
 use Rattle.text_values.specs.declared.instruction.Operation.{Operation}
 use Rattle.text_values.specs.declared.instruction.Operation.TheVariants.{Add, SubtractFrom, Xor, Or, And}
@@ -206,11 +206,6 @@ module _ (n : ℕ) where
   free_kept [] bs w vs o e all h = free_end_kept w bs vs o e h
   free_kept (x ∷ xs) bs w vs o e all h = free_line_kept xs (free_kept xs) w.seeking x bs w vs o e all h
 
-default_same : {X : Type 0} (xs : List X) (k : ℕ) (d e : X) → k < length xs → get_or xs k d ≡ get_or xs k e
-default_same [] k d e lt = absurd (omega (arith, lt))
-default_same (x ∷ xs) zero d e lt = refl
-default_same (x ∷ xs) (suc k) d e lt = default_same xs k d e (omega (arith, lt))
-
 -- what a test holds at the start, and what its threads begin with
 module _ (t : Test) (p : Program) (is : IsProgram t p) where
   abbrev pub many : ℕ
@@ -220,7 +215,7 @@ module _ (t : Test) (p : Program) (is : IsProgram t p) where
   named_below name there =
       let c : Contains p.locations.items name = (is.locations.exact name).1 there in
       let k : c.0 ≡ number_of p.locations.items (get_or p.locations.items c.0 []) = number_at p.locations.items c.0 is.locations.rising c.1 in
-      let e : get_or p.locations.items c.0 [] ≡ name = default_same p.locations.items c.0 [] name c.1 ∙ c.2 in
+      let e : get_or p.locations.items c.0 [] ≡ name = get_or_default p.locations.items c.0 [] name c.1 ∙ c.2 in
       let f : number_of p.locations.items (get_or p.locations.items c.0 []) ≡ number_of p.locations.items name = ap (λ (m : List ℕ). number_of p.locations.items m) e in
       let lt : c.0 < length p.locations.items = c.1 in
       omega (arith, k, f, lt, is.initial.each_one)
@@ -242,11 +237,11 @@ module _ (t : Test) (p : Program) (is : IsProgram t p) where
   pub initial_below : (v : Value) → Contains p.initial.items v → Below many v
   initial_below v c =
       let lt : c.0 < length p.initial.items = c.1 in
-      subst (λ (w : Value). Below many w) (default_same p.initial.items c.0 NoValue v c.1 ∙ c.2) (starts_below _ (get_or p.initial.items c.0 NoValue) (is.initial.starts c.0 (omega (arith, lt, is.initial.each_one))))
+      subst (λ (w : Value). Below many w) (get_or_default p.initial.items c.0 NoValue v c.1 ∙ c.2) (starts_below _ (get_or p.initial.items c.0 NoValue) (is.initial.starts c.0 (omega (arith, lt, is.initial.each_one))))
 
   file_below : (k : ℕ) (file : List Value) → AreRegisters t.init.items p.locations.items k file → (r : ℕ) → Below many (get_or file r (Number 0))
   file_below k file are r = elim (cases_lt r 32) [
-    | inl lt ↦ subst (λ (w : Value). Below many w) (default_same file r NoValue (Number 0) (omega (arith, lt, are.each_one))) (starts_below _ (get_or file r NoValue) (are.starts r lt))
+    | inl lt ↦ subst (λ (w : Value). Below many w) (get_or_default file r NoValue (Number 0) (omega (arith, lt, are.each_one))) (starts_below _ (get_or file r NoValue) (are.starts r lt))
     | inr ge ↦ subst (λ (w : Value). Below many w) (sym (get_or_past file r (Number 0) (omega (arith, ge, are.each_one)))) tt
   ]
 
@@ -259,7 +254,7 @@ module _ (t : Test) (p : Program) (is : IsProgram t p) where
   first_below : (k : ℕ) → RegistersBelow many (first_of p k)
   first_below k r = elim (cases_lt k (length p.registers.items)) [
     | inl lt ↦
-        subst (λ (file : List Value). Below many (get_or file r (Number 0))) (default_same p.registers.items k [] (replicate 32 (Number 0)) lt)
+        subst (λ (file : List Value). Below many (get_or file r (Number 0))) (get_or_default p.registers.items k [] (replicate 32 (Number 0)) lt)
         (file_below k (get_or p.registers.items k []) (is.registers.starts k (omega (arith, lt, is.registers.each_one))) r)
     | inr ge ↦ subst (λ (file : List Value). Below many (get_or file r (Number 0))) (sym (get_or_past p.registers.items k (replicate 32 (Number 0)) ge)) (zeros_below r)
   ]

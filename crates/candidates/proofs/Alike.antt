@@ -8,13 +8,6 @@ use Rattle.candidates.specs.Space.{Shown, shown_by, shown_of, Candidate, IsExecu
 use Rattle.run_combinations.specs.declared.combination.Event.{Event}
 use Rattle.candidates.specs.declared.execution.Execution.{Execution}
 
--- lists that are the same at each index, or differ at one
-pub same_at_each : {X : Type 0} (xs ys : List X) → length xs ≡ length ys → ((k : ℕ) (d : X) → k < length xs → get_or xs k d ≡ get_or ys k d) → xs ≡ ys
-same_at_each [] [] e each = refl
-same_at_each [] (y ∷ ys) e each = absurd cc
-same_at_each (x ∷ xs) [] e each = absurd cc
-same_at_each {X} (x ∷ xs) (y ∷ ys) e each = same_elements x (x ∷ xs) (y ∷ ys) e (λ k lt. each k x lt)
-
 -- what is shown, part by part
 pub shown_one : (d e : Shown) → d.events ≡ e.events → d.dependencies ≡ e.dependencies → d.sources ≡ e.sources → d.order ≡ e.order → d.registers ≡ e.registers → d ≡ e
 shown_one d e events dependencies sources order registers =

@@ -9,6 +9,7 @@ use Rattle.std.proofs.lemmas.Grind.{get_or_default_zero}
 use Rattle.std.proofs.lemmas.List.{length-append}
 use Rattle.std.proofs.lemmas.List.Sums.{sum_by_more, sum_by-take-le}
 use Rattle.std.proofs.lemmas.List.Elements.{All-contains, Contains-get_or, filter-append}
+use Rattle.std.proofs.lemmas.Slice.Zip.{AllZip-long}
 use Rattle.bit_relations.specs.Pairs.{Union, Path}
 use Rattle.thread_runs.specs.declared.value.Value.{Value}
 use Rattle.thread_runs.specs.declared.value.Value.TheVariants.{Number, Address, NoValue}
@@ -241,12 +242,6 @@ zip_at R (x ∷ xs) [] k d c h lt = absurd h
 zip_at R (x ∷ xs) (y ∷ ys) zero d c h lt = h.0
 zip_at R (x ∷ xs) (y ∷ ys) (suc k) d c h lt = zip_at R xs ys k d c h.1 (omega (arith, lt))
 
-zip_long : {X Y : Type 0} (R : X → Y → Type 0) (xs : List X) (ys : List Y) → AllZip R xs ys → length ys ≡ length xs
-zip_long R [] [] h = refl
-zip_long R [] (y ∷ ys) h = absurd h
-zip_long R (x ∷ xs) [] h = absurd h
-zip_long R (x ∷ xs) (y ∷ ys) h = ap (λ (n : ℕ). suc n) (zip_long R xs ys h.1)
-
 in_every : (initial : List Value) (threads : List Thread) (k : ℕ) (v : Value) → Contains initial v → InDomain initial threads k v
 in_every initial threads zero v c = c
 in_every initial threads (suc k) v c = inl (in_every initial threads k v c)
@@ -282,7 +277,7 @@ module _ (initial : List Value) (threads : List Thread) (some : Value) (begins :
   Before m l = (l < count) × IsDependency IsNeed initial x.runs (load m) (store l)
 
   reads_from : (l : ℕ) → l < count → ReadsFrom (loads es) x.reads_from (store l) (load l)
-  reads_from l lt = let long : length x.reads_from ≡ length (loads es) = zip_long (MayRead es) (loads es) x.reads_from is.reads in (l, omega (arith, lt, long), lt, refl, refl)
+  reads_from l lt = let long : length x.reads_from ≡ length (loads es) = AllZip-long (MayRead es) (loads es) x.reads_from is.reads in (l, omega (arith, lt, long), lt, refl, refl)
 
   longer : (a : ℕ) (through : List ℕ) (b : ℕ) → Way Before a through b → (nodes : List ℕ) × Path (Union (IsDependency IsNeed initial x.runs) (ReadsFrom (loads es) x.reads_from)) (load a) nodes (load b)
   longer a [] b w = (store b ∷ [], (inl w.1, inr (reads_from b w.0)))

@@ -2,7 +2,7 @@
 use Rattle.std.proofs.Common.{ℕ, zero, suc, ◌≡◌, ◌&&◌, not, Bool, true, false, cond, nat_eq, List, [], ◌∷◌, ◌++◌, map, filter, length, replicate, Some, slice_get, refl, ap, sym, subst, ◌∙◌, arith, eq-eqb, Contains}
 use Rattle.std.specs.List.{flat_map, AllZip, All}
 use Rattle.std.proofs.lemmas.List.Elements.{All-cons, All-nil, Contains-append_left, Contains-append_right, Contains-push}
-use Rattle.run_combinations.proofs.Counting.{or_parts}
+use Rattle.std.proofs.lemmas.Bool.{or_parts}
 use Rattle.candidates.proofs.Products.{FilteredEach, filter_of_products, filter_twice, filter_as}
 use Rattle.candidates.proofs.ReadsFrom.{tuples_are}
 use Rattle.candidates.specs.Executions.{IsOrder, product, rows, stores_at}

@@ -1,7 +1,7 @@
 -- A coherence covers each store.
 use Rattle.std.proofs.Common.{ℕ, zero, suc, ◌≡◌, ◌<◌, ◌≤◌, ◌+◌, Bool, true, false, ◌||◌, nat_eq, List, [], ◌∷◌, ◌++◌, length, get_or, Some, slice_get, refl, ap, sym, subst, ◌∙◌, inl, inr, arith, Contains}
 use Rattle.std.specs.List.{AllZip}
-use Rattle.std.proofs.lemmas.Bool.{eqb-true, eq-eqb}
+use Rattle.std.proofs.lemmas.Bool.{eqb-true, eq-eqb, or_parts}
 use Rattle.std.proofs.lemmas.Option.{slice_get_within, slice_get-get_or}
 use Rattle.std.proofs.lemmas.List.Elements.{All-contains, Contains-append_cases}
 use Rattle.text_values.specs.declared.test.Test.{Test}
@@ -14,7 +14,6 @@ use Rattle.thread_runs.specs.Runs.{Run, started}
 use Rattle.ppc_semantics.specs.Domain.{threads_of, load_total}
 use Rattle.candidates.proofs.Addresses.{AllBelow, one_below, run_kept, begins_kept, domain_below}
 use Rattle.candidates.proofs.AnyValues.{RunOf, thread_of_run}
-use Rattle.run_combinations.proofs.Counting.{or_parts}
 use Rattle.candidates.proofs.Elements.{member_cases, member_first, member_later, no_member, joined}
 use Rattle.candidates.proofs.NoLocation.{over_any_domain}
 use Rattle.run_combinations.proofs.Numbers.{Numbered, contained, number_there}

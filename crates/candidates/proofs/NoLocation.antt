@@ -3,7 +3,7 @@ use Rattle.std.proofs.Common.{vec_len, ℕ, zero, suc, ◌≡◌, ◌<◌, not, 
 use Rattle.std.specs.Prelude.{slice_set}
 use Rattle.std.specs.List.{flat_map}
 use Rattle.std.proofs.lemmas.Bool.{cases_eq, cases_lt}
-use Rattle.std.proofs.lemmas.List.{get_or_past, get_or-set_same, get_or-set_other, get_or-replicate, length-set}
+use Rattle.std.proofs.lemmas.List.{get_or_past, get_or-set_same, get_or-set_other, get_or-replicate, length-set, get_or_default}
 use Rattle.std.proofs.lemmas.List.Elements.{All-nil, Contains-append_left, Contains-append_right, Contains-push_cases}
 use Rattle.text_values.specs.declared.instruction.Operation.{Operation}
 use Rattle.text_values.specs.declared.instruction.Operation.TheVariants.{Add, SubtractFrom, Xor, Or, And}
@@ -121,12 +121,6 @@ none_loaded : (lines : List Line) (s : State) (vs : List Value) (o : Outcome) �
 none_loaded lines s vs o h e =
     sym (values_read lines s vs o e) ∙ (along IsQuiet (λ i b v w sound q. quiet_more i b v w sound q) (λ x l w q. record { registers = q.registers; loads = q.loads }) lines (started s) vs o e (record { registers = h; loads = refl })).loads
 
--- the threads of a program without a location begin so
-default_same : {X : Type 0} (xs : List X) (k : ℕ) (d e : X) → k < length xs → get_or xs k d ≡ get_or xs k e
-default_same [] k d e lt = absurd (omega (arith, lt))
-default_same (x ∷ xs) zero d e lt = refl
-default_same (x ∷ xs) (suc k) d e lt = default_same xs k d e (omega (arith, lt))
-
 no_names : (names : List (List ℕ)) → length names ≡ 0 → names ≡ []
 no_names [] e = refl
 no_names (n ∷ names) e = absurd (omega (arith, e))
@@ -151,7 +145,7 @@ module _ (t : Test) (p : Program) (is : IsProgram t p) (none : p.initial.items �
 
   file_plain : (n : ℕ) (file : List Value) → AreRegisters t.init.items p.locations.items n file → (r : ℕ) → is_address (get_or file r (Number 0)) ≡ false
   file_plain n file are r = elim (cases_lt r 32) [
-    | inl lt ↦ ap is_address (default_same file r (Number 0) NoValue (omega (arith, lt, are.each_one))) ∙ starts_plain _ (get_or file r NoValue) (are.starts r lt)
+    | inl lt ↦ ap is_address (get_or_default file r (Number 0) NoValue (omega (arith, lt, are.each_one))) ∙ starts_plain _ (get_or file r NoValue) (are.starts r lt)
     | inr ge ↦ ap is_address (get_or_past file r (Number 0) (omega (arith, ge, are.each_one)))
   ]
 
@@ -164,7 +158,7 @@ module _ (t : Test) (p : Program) (is : IsProgram t p) (none : p.initial.items �
   first_plain : (n : ℕ) → HasNoAddress (first_of p n)
   first_plain n r = elim (cases_lt n (length p.registers.items)) [
     | inl lt ↦
-        ap (λ (file : List Value). is_address (get_or file r (Number 0))) (default_same p.registers.items n (replicate 32 (Number 0)) [] lt)
+        ap (λ (file : List Value). is_address (get_or file r (Number 0))) (get_or_default p.registers.items n (replicate 32 (Number 0)) [] lt)
         ∙ file_plain n (get_or p.registers.items n []) (is.registers.starts n (omega (arith, lt, is.registers.each_one))) r
     | inr ge ↦ ap (λ (file : List Value). is_address (get_or file r (Number 0))) (get_or_past p.registers.items n (replicate 32 (Number 0)) ge) ∙ zeros_plain r
   ]

@@ -1,6 +1,6 @@
 -- The dependencies of a combination stand in rising order.
 use Rattle.std.proofs.Common.{ℕ, zero, suc, ◌≡◌, ◌<◌, ◌≤◌, ◌+◌, ◌-◌, ◌^◌, min, true, List, [], ◌∷◌, ◌++◌, length, get_or, refl, ap, sym, subst, ◌∙◌, inl, inr, arith, Contains}
-use Rattle.std.proofs.lemmas.List.{length-map}
+use Rattle.std.proofs.lemmas.List.{length-map, get_or_default}
 use Rattle.std.proofs.Math.ListN.{get_or-map}
 use Rattle.std.specs.List.{AllPairs}
 use Rattle.std.proofs.lemmas.List.Elements.{Contains-get_or, Contains-append_cases}
@@ -30,11 +30,6 @@ pub record Rises (ps : List (ℕ × ℕ)) (least most : ℕ) : Type 0 where
   pub rising : AllPairs IsPairBefore ps
   pub above : (p : ℕ × ℕ) → Contains ps p → least ≤ p.0
   pub below : (p : ℕ × ℕ) → Contains ps p → p.0 < most
-
-other_default : {X : Type 0} (xs : List X) (i : ℕ) (d e : X) → i < length xs → get_or xs i d ≡ get_or xs i e
-other_default [] i d e lt = absurd (omega (arith, lt))
-other_default (x ∷ xs) zero d e lt = refl
-other_default (x ∷ xs) (suc i) d e lt = other_default xs i d e (omega (arith, lt))
 
 none_rise : (n m : ℕ) → Rises [] n m
 none_rise n m = record { rising = λ i j d lt l. absurd (omega (arith, l)); above = λ p c. absurd (no_member p c); below = λ p c. absurd (no_member p c) }
@@ -87,8 +82,8 @@ module _ (d : facts.Listed) (base : ℕ) (steps : List RunStep) (ps : List (ℕ 
       let n : length (renumbered_pairs base ps) ≡ length ps = length-map ps shift in
       let li : i < length ps = omega (arith, lt, l, n) in
       let lj : j < length ps = omega (arith, l, n) in
-      let at_i : get_or (renumbered_pairs base ps) i d ≡ shift (get_or ps i (0, 0)) = other_default (renumbered_pairs base ps) i d (shift (0, 0)) (omega (arith, lt, l)) ∙ get_or-map shift ps i (0, 0) in
-      let at_j : get_or (renumbered_pairs base ps) j d ≡ shift (get_or ps j (0, 0)) = other_default (renumbered_pairs base ps) j d (shift (0, 0)) l ∙ get_or-map shift ps j (0, 0) in
+      let at_i : get_or (renumbered_pairs base ps) i d ≡ shift (get_or ps i (0, 0)) = get_or_default (renumbered_pairs base ps) i d (shift (0, 0)) (omega (arith, lt, l)) ∙ get_or-map shift ps i (0, 0) in
+      let at_j : get_or (renumbered_pairs base ps) j d ≡ shift (get_or ps j (0, 0)) = get_or_default (renumbered_pairs base ps) j d (shift (0, 0)) l ∙ get_or-map shift ps j (0, 0) in
       let h : IsPairBefore (shift (get_or ps i (0, 0))) (shift (get_or ps j (0, 0))) = shifted (get_or ps i (0, 0)) (get_or ps j (0, 0)) (lies _ (Contains-get_or ps i (0, 0) li)) (lies _ (Contains-get_or ps j (0, 0) lj)) (are.rising i j lt lj) in
       subst (λ (p : ℕ × ℕ). IsPairBefore p (get_or (renumbered_pairs base ps) j d)) (sym at_i) (subst (λ (q : ℕ × ℕ). IsPairBefore (shift (get_or ps i (0, 0))) q) (sym at_j) h)
 

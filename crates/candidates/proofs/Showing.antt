@@ -4,6 +4,7 @@ use Rattle.std.specs.List.{flat_map, AllPairs, AllZip}
 use Rattle.std.specs.declared.alloc.Global.{Global}
 use Rattle.std.proofs.lemmas.List.{map-append, length-map, take_all}
 use Rattle.std.proofs.lemmas.List.Elements.{Contains-append_left, Contains-append_right, Contains-append_cases}
+use Rattle.std.proofs.lemmas.Bool.{or_cases, or_left, or_right}
 use Rattle.thread_runs.specs.declared.value.Value.{Value}
 use Rattle.thread_runs.specs.declared.run.Run as made
 use Rattle.thread_runs.specs.Runs.{Thread, Run}
@@ -95,18 +96,6 @@ run_ends V (q ∷ threads) thread (t ∷ ts) (m ∷ ms) (r ∷ rs) b c one g =
 abbrev SomeFault : List Run → Type 0
 SomeFault rs = (r : Run) × Contains rs r × (r.outcome.faulted ≡ true)
 
-either : (a b : Bool) → (a || b) ≡ true → (a ≡ true) ⊎ (b ≡ true)
-either true b e = inl refl
-either false b e = inr e
-
-or_left : (a b : Bool) → a ≡ true → (a || b) ≡ true
-or_left true b e = refl
-or_left false b e = absurd cc
-
-or_right : (a b : Bool) → b ≡ true → (a || b) ≡ true
-or_right true b e = refl
-or_right false b e = e
-
 run_faults : (V : List Value) (threads : List Thread) (thread : ℕ) (ts : List ThreadParts) (ms : List made.Run) (rs : List Run) (b c : PrefixLists) → AreOne V threads ms rs → GoesOnWith thread b ts ms c → (c.faulted ≡ true) ↔ ((b.faulted ≡ true) ⊎ SomeFault rs)
 run_faults V [] thread [] [] [] b c one g = ((λ f. inl (sym (ap (λ (x : PrefixLists). x.faulted) g) ∙ f)), (λ u. elim u [ inl f ↦ ap (λ (x : PrefixLists). x.faulted) g ∙ f | inr s ↦ absurd (no_member s.0 s.1) ]))
 run_faults V [] thread (t ∷ ts) [] [] b c one g = absurd g
@@ -127,7 +116,7 @@ run_faults V (q ∷ threads) thread (t ∷ ts) (m ∷ ms) (r ∷ rs) b c one g =
     split (inr f) = inr (r, member_first r rs, sym own ∙ f)
 
     to : ((with_run g.0 g.1 b).faulted ≡ true) ⊎ SomeFault rs → (b.faulted ≡ true) ⊎ SomeFault (r ∷ rs)
-    to (inl f) = split (either b.faulted g.1.is_faulted f)
+    to (inl f) = split (or_cases b.faulted g.1.is_faulted f)
     to (inr s) = inr (s.0, member_later r rs s.0 s.1, s.2)
 
     back : (b.faulted ≡ true) ⊎ SomeFault (r ∷ rs) → ((with_run g.0 g.1 b).faulted ≡ true) ⊎ SomeFault rs

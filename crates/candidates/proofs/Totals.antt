@@ -5,6 +5,7 @@ use Rattle.run_combinations.specs.Events.{numbers, has_store, writes_to, initial
 use Rattle.run_combinations.specs.Orders.{all_orders, stores_of, is_thread_store}
 use Rattle.std.specs.declared.alloc.AllocError.{AllocError}
 use Rattle.std.specs.declared.alloc.Global.{Global}
+use Rattle.std.proofs.lemmas.Bool.{or_cases, or_parts}
 use Rattle.text_values.specs.declared.test.Test.{Test}
 use Rattle.candidates.specs.declared.fault.EvalRefusal.{EvalRefusal}
 use Rattle.candidates.specs.declared.fault.SpaceFault.{SpaceFault}
@@ -31,7 +32,7 @@ use Rattle.run_combinations.specs.declared.layout.Layout.{Layout}
 use Rattle.run_combinations.specs.declared.layout.ThreadParts.{ThreadParts}
 use Rattle.run_combinations.specs.declared.part.Part.{Part}
 use Rattle.run_combinations.specs.declared.search.Found.{Found}
-use Rattle.run_combinations.proofs.Counting.{or_parts, numbers_above}
+use Rattle.run_combinations.proofs.Counting.{numbers_above}
 use Rattle.run_combinations.proofs.Filters.{IsFiltered-unique}
 use Rattle.run_combinations.proofs.Searching.{going_on, small_front, small_rest}
 
@@ -57,10 +58,6 @@ map_pushed n (y ∷ xs) x = ap (λ (l : List CombinationLists). ordered n y ∷ 
 true_not_false : (b : Bool) → b ≡ true → b ≡ false → ⊥
 true_not_false true t f = cc
 true_not_false false t f = cc
-
-either_true : (a b : Bool) → (a || b) ≡ true → (a ≡ true) ⊎ (b ≡ true)
-either_true true b h = inl refl
-either_true false b h = inr h
 
 wayless : {x : List ℕ} {xs : List (List ℕ)} → (x ∷ xs) ≡ [] → ⊥
 wayless e = cc
@@ -96,7 +93,7 @@ summed n (b ∷ bs) t v (more {u = w} j h) = step j.0 j.1 j.2 (summed n bs w v h
             p.0,
           );
       fault = λ f. elim (s.fault f) [
-        | inl y ↦ elim (either_true t.faulted b.faulted (sym (ap (λ (x : Tally). x.faulted) e) ∙ y)) [ inl a ↦ inl a | inr a ↦ inr (inl (a, way, ways, are)) ]
+        | inl y ↦ elim (or_cases t.faulted b.faulted (sym (ap (λ (x : Tally). x.faulted) e) ∙ y)) [ inl a ↦ inl a | inr a ↦ inr (inl (a, way, ways, are)) ]
         | inr y ↦ inr (inr y)
       ];
     }

@@ -6,6 +6,7 @@ use Rattle.std.specs.List.{position_or_len}
 use Rattle.std.proofs.lemmas.Bool.Decides.{nat_tests}
 use Rattle.std.proofs.lemmas.List.{length-take, get_or-take}
 use Rattle.std.proofs.lemmas.List.Sums.{fails_before_first}
+use Rattle.std.proofs.lemmas.Bool.{not-false}
 use Rattle.text_values.specs.Layout.{quoted_from, comment_of}
 use Rattle.cat_tokens.specs.declared.token.Token.{Token}
 use Rattle.cat_tokens.specs.declared.token.Token.TheVariants as tokens
@@ -105,15 +106,11 @@ first_of b bs h =
     one_more : (k : ℕ) → 1 + k ≡ suc k
     one_more k = omega arith
 
-name_byte : (b : Bool) → not b ≡ false → b ≡ true
-name_byte true h = refl
-name_byte false h = sym h
-
 pub each_of : (bs : List ℕ) (k : ℕ) → k < length (take (position_or_len ends_name bs) bs) → is_name_byte (slice_index (take (position_or_len ends_name bs) bs) k) ≡ true
 each_of bs k lt =
     let n = position_or_len ends_name bs in
     let l = length-take n bs in
-    ap is_name_byte (get_or-take n bs k 0 (omega arith)) ∙ name_byte (is_name_byte (get_or bs k 0)) (fails_before_first ends_name bs k 0 (omega arith))
+    ap is_name_byte (get_or-take n bs k 0 (omega arith)) ∙ not-false (is_name_byte (get_or bs k 0)) (fails_before_first ends_name bs k 0 (omega arith))
 
 word_front_named : (b : ℕ) (bs : List ℕ) → is_letter b ≡ true → IsNamedFront (word_front (b ∷ bs) (position_or_len ends_name (b ∷ bs)))
 word_front_named b bs h = word_named (take (position_or_len ends_name (b ∷ bs)) (b ∷ bs)) (ap is_letter (first_of b bs h) ∙ h) (each_of (b ∷ bs))

@@ -1,6 +1,7 @@
 use Rattle.std.proofs.Common.{◌≡◌, ℕ, ◌+◌, inl, inr, Bool, true, false, ◌&&◌, ◌==◌, List, [], ◌∷◌, ◌++◌, Option, Some, None, if◌then◌else◌, refl, ap, sym, ◌∙◌, subst, eq-eqb, append_assoc, arith}
 use Rattle.std.specs.Prelude.{⊤, Result, Ok, Err}
 use Rattle.std.specs.List.{AllByRecursion as Each}
+use Rattle.std.proofs.lemmas.Bool.{cases_Bool}
 use Rattle.value_store.specs.declared.fault.StoreFault.{StoreFault}
 use Rattle.memo_core.specs.declared.claims.ClaimFault.{ClaimFault}
 use Rattle.memo_core.specs.declared.claims.Finish.{Finish}
@@ -8,7 +9,6 @@ use Rattle.memo_core.specs.declared.claims.Finish.TheVariants.{Unknown, Stale, S
 use Rattle.memo_core.specs.Run as core
 use Rattle.memo_core.specs.Run.{Bench, Meaning, Step, Run}
 use Rattle.memo_core.specs.Work.{IsJobEvent, number_given, numbers_given, has_number, is_accepted, accepted_by, accepted_count, WorkIsBounded}
-use Rattle.memo_core.proofs.Theory.{either}
 use Rattle.cells.specs.declared.events.Event.{Event}
 use Rattle.cells.specs.declared.events.Event.TheVariants.{Edit, Claim, Return, Lose, Renew}
 use Rattle.cells.specs.declared.events.Reply.{Reply}
@@ -47,15 +47,15 @@ if_and false c h = refl
 
 has_left : (n : ℕ) (ms ns : List ℕ) → has_number n ms ≡ true → has_number n (ms ++ ns) ≡ true
 has_left n [] ns h = cc
-has_left n (m ∷ ms) ns h = elim (either (n == m)) [ inl t ↦ rw t refl | inr f ↦ rw f (has_left n ms ns (rw f at h)) ]
+has_left n (m ∷ ms) ns h = elim (cases_Bool (n == m)) [ inl t ↦ rw t refl | inr f ↦ rw f (has_left n ms ns (rw f at h)) ]
 
 has_right : (n : ℕ) (ms ns : List ℕ) → has_number n ns ≡ true → has_number n (ms ++ ns) ≡ true
 has_right n [] ns h = h
-has_right n (m ∷ ms) ns h = elim (either (n == m)) [ inl t ↦ rw t refl | inr f ↦ rw f (has_right n ms ns h) ]
+has_right n (m ∷ ms) ns h = elim (cases_Bool (n == m)) [ inl t ↦ rw t refl | inr f ↦ rw f (has_right n ms ns h) ]
 
 given_in : {V G : Type 0} (ns : List ℕ) (c : ℕ) (ts : List (Task V G)) (t : Task V G) → AreGivenIn ns ts → task_given c ts ≡ Some t → has_number t.claim ns ≡ true
 given_in ns c [] t e h = cc
-given_in {V} {G} ns c (u ∷ ts) t e h = elim (either (c == u.claim)) [
+given_in {V} {G} ns c (u ∷ ts) t e h = elim (cases_Bool (c == u.claim)) [
   | inl y ↦ subst (λ (x : Task V G). has_number x.claim ns ≡ true) (some_same u t (rw y at h)) e.0
   | inr f ↦ given_in ns c ts t e.1 (rw f at h)
 ]

@@ -1,5 +1,6 @@
 use Rattle.std.proofs.Common.{◌≡◌, ℕ, List, Option, Some, None, option_map, ap, sym, ◌∙◌}
 use Rattle.std.specs.List.{AllByRecursion as Each}
+use Rattle.std.proofs.lemmas.Option.{same_Some}
 use Rattle.memo_core.specs.declared.keys.Node.{Node}
 use Rattle.memo_core.specs.declared.keys.Output.{Output as Made}
 use Rattle.memo_core.specs.Graph.{Memo, Net, memo_of, output_at, stored_at}
@@ -21,13 +22,10 @@ module _ {T V G : Type 0} (is_valid : T → Type 0) (since : T → T → Type 0)
     closed = closed t valid;
   }
 
-some_same : {X : Type 0} (x y : X) → Some x ≡ Some y → x ≡ y
-some_same x y h = cc
-
 -- the first output of a node, by the outputs that its memo holds
 first_stored : {V : Type 0} (m : Option (Memo V)) (os : List (Made V)) → option_map (λ m. m.outputs) m ≡ Some os → stored_at 0 m ≡ output_at 0 os
 first_stored None os h = cc
-first_stored (Some m) os h = ap (output_at 0) (some_same m.outputs os h)
+first_stored (Some m) os h = ap (output_at 0) (same_Some m.outputs os h)
 
 -- the value that the outputs show first is the one that the node carries
 pub value_shows : {V O : Type 0} (outcome_in : V → Option O) (ms : List (Memo V)) (n : Node) (os : List (Made V)) (o : O) → Carries outcome_in ms n o → option_map (λ m. m.outputs) (memo_of n ms) ≡ Some os
@@ -35,12 +33,6 @@ pub value_shows : {V O : Type 0} (outcome_in : V → Option O) (ms : List (Memo 
 value_shows {V} {O} outcome_in ms n os o c stored x is =
     let first : output_at 0 os ≡ Some (c.stamp, c.value) = sym (first_stored (memo_of n ms) os stored) ∙ c.first in
     (c.value, is ∙ ap (option_map (λ (p : ℕ × V). p.1)) first, c.holds)
-
-pub no_value : {V : Type 0} (v : V) → None ≡ Some v → ⊥
-no_value v h = cc
-
-pub same_value : {V : Type 0} (v w : V) → Some v ≡ Some w → v ≡ w
-same_value v w h = cc
 
 -- the same outcome is carried
 pub carries_same : {V O : Type 0} (outcome_in : V → Option O) (ms : List (Memo V)) (n : Node) (o p : O) → o ≡ p → Carries outcome_in ms n o → Carries outcome_in ms n p
@@ -54,4 +46,4 @@ value_or v (Some p) = p.1
 pub carries_one : {V O : Type 0} (outcome_in : V → Option O) (ms : List (Memo V)) (n : Node) (o p : O) → Carries outcome_in ms n o → Carries outcome_in ms n p → o ≡ p
 carries_one {V} {O} outcome_in ms n o p a b =
     let e : a.value ≡ b.value = sym (ap (value_or a.value) a.first) ∙ ap (value_or a.value) b.first in
-    same_value o p (sym a.holds ∙ ap outcome_in e ∙ b.holds)
+    same_Some o p (sym a.holds ∙ ap outcome_in e ∙ b.holds)

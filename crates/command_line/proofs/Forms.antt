@@ -8,7 +8,7 @@ use denote.Ref.{Bor}
 use Rattle.command_line.specs.Forms.{Asked, Table, texts_of, is_word, is_path, are_paths, dashes, word_at, asked_if, table_of, paths_of, options_of, has_option, why_with, why_of, watch_with, watch_of, is_workers, draw_by, draw_of, by_command, asked_in}
 use Rattle.std.specs.Prelude.{if◌then◌else◌}
 use Rattle.session_script.specs.Words.{number_of}
-use Rattle.std.proofs.lemmas.Bool.{and_from}
+use Rattle.std.proofs.lemmas.Bool.{and_from, lt-ltb, le-ltb}
 
 count : (words : List (Bor (List ℕ))) → length (texts_of words) ≡ length words
 count words = length-map words (λ w. w.now)
@@ -45,12 +45,6 @@ last_false true false c x r = refl
 last_false false true c x r = refl
 last_false false false c x r = refl
 
-less_is_true : (m n : ℕ) → m < n → ltb m n ≡ true
-less_is_true m n h = grind (arith, common_steps)
-
-more_is_false : (m n : ℕ) → n ≤ m → ltb m n ≡ false
-more_is_false m n h = grind (arith, common_steps)
-
 behind : (words : List (Bor (List ℕ))) (n : ℕ) → texts_of (take (length words - n) (drop n words)) ≡ drop n (texts_of words)
 behind words n =
     ap (λ (l : List (Bor (List ℕ))). texts_of l) (take_all (length words - n) (drop n words) (let h = length-drop n words in omega arith)) ∙ sym (drop-map (λ w. w.now) n words)
@@ -65,7 +59,7 @@ is_table words k b some more split paths is_true =
     let are : are_paths (take k (texts_of words)) ≡ true = ap are_paths (sym (before_split words k)) ∙ sym paths ∙ is_true in
     ap (λ (l : List (List ℕ)). Some (Table l (texts_of (take (length words - (k + 1)) (drop (k + 1) words))))) (before_split words k)
     ∙ ap (λ (l : List (List ℕ)). Some (Table (take k (texts_of words)) l)) (behind words (k + 1))
-    ∙ sym (all_true (ltb 0 k) (ltb (k + 1) (length (texts_of words))) (are_paths (take k (texts_of words))) (Table (take k (texts_of words)) (drop (k + 1) (texts_of words))) (less_is_true 0 k some) (less_is_true (k + 1) (length (texts_of words)) (omega arith)) are)
+    ∙ sym (all_true (ltb 0 k) (ltb (k + 1) (length (texts_of words))) (are_paths (take k (texts_of words))) (Table (take k (texts_of words)) (drop (k + 1) (texts_of words))) (lt-ltb 0 k some) (lt-ltb (k + 1) (length (texts_of words)) (omega arith)) are)
     ∙ ap (λ (m : ℕ). table_of (texts_of words) m) split
 
 pub is_no_table : (words : List (Bor (List ℕ))) (k : ℕ) (b : Bool) → k ≡ dashes (texts_of words) → b ≡ are_paths (texts_of (take k words)) → b ≡ false → None ≡ table_of (texts_of words) (dashes (texts_of words))
@@ -78,7 +72,7 @@ is_no_table words k b split paths is_false =
 pub is_command : (words : List (Bor (List ℕ))) (r : Option Asked) (w : List ℕ) → 2 ≤ length words → w ≡ word_at (texts_of words) 1 → r ≡ by_command w (texts_of (take (length words - 2) (drop 2 words))) → r ≡ asked_in (texts_of words)
 is_command words r w long first given =
     let n = count words in
-    let not_short : ltb (length (texts_of words)) 2 ≡ false = more_is_false (length (texts_of words)) 2 (omega arith) in
+    let not_short : ltb (length (texts_of words)) 2 ≡ false = le-ltb (length (texts_of words)) 2 (omega arith) in
     given ∙ ap (λ (t : List ℕ). by_command t (texts_of (take (length words - 2) (drop 2 words)))) first ∙ ap (λ (l : List (List ℕ)). by_command (word_at (texts_of words) 1) l) (behind words 2)
     ∙ rw not_short refl
 
@@ -102,7 +96,7 @@ first_options words fails =
     ∙ second (is_path (word_at (texts_of words) 0)) (drop 2 (texts_of words)) (take (length (texts_of words) - 2) (texts_of words)) fails
 
 long : (words : List (Bor (List ℕ))) → 2 ≤ length words → ltb (length (texts_of words)) 2 ≡ false
-long words enough = let n = count words in more_is_false (length (texts_of words)) 2 (omega arith)
+long words enough = let n = count words in le-ltb (length (texts_of words)) 2 (omega arith)
 
 given_options : (words paths options : List (Bor (List ℕ))) (r : Option Asked) (f d : Bool) → texts_of paths ≡ paths_of (texts_of words) → texts_of options ≡ options_of (texts_of words)
     → f ≡ has_option (texts_of options) (codes "--forbidden") → d ≡ has_option (texts_of options) (codes "--deep") → r ≡ why_with (texts_of paths) (length options) f d

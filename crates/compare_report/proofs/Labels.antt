@@ -10,7 +10,3 @@ label_joined t a b d name p q r = rw (r, q, p) (simp append_assoc)
 pub witnesses_joined : (t a b d e g h word : List ℕ) (ok : Bool) (positive negative : ℕ) → word ≡ met_word ok → a ≡ t ++ word → b ≡ a ++ codes "\nWitnesses\nPositive: " → d ≡ b ++ decimal positive → e ≡ d ++ codes " Negative: " → g ≡ e ++ decimal negative → h ≡ g ++ line_end → h ≡ t ++ witness_lines ok positive negative
 unfolding witness_lines
 witnesses_joined t a b d e g h word ok positive negative is p q r s u v = rw (v, u, s, r, q, p, is) (simp append_assoc)
-
-pub on_ok_as : {T E P Q : Type 0} (r : Result T E) → (P → Q) → OnOk r P → OnOk r Q
-on_ok_as (Ok x) to p = to p
-on_ok_as (Err e) to p = tt

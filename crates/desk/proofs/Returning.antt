@@ -2,6 +2,7 @@
 use Rattle.std.proofs.Common.{◌≡◌, ◌⊎◌, inl, inr, ℕ, zero, suc, ◌+◌, ◌<◌, ◌≤◌, Bool, true, false, List, [], ◌∷◌, ◌++◌, Option, Some, None, refl, ap, sym, ◌∙◌, subst, slice_get, arith}
 use Rattle.std.specs.Prelude.{option_map, IfSome, IfNone, length, IsTrue, not, Result, Ok, Err, MatchResult, fold}
 use Rattle.std.specs.List.{AllByRecursion as Each}
+use Rattle.std.proofs.lemmas.Bool.{cases_Bool}
 use Rattle.memo_core.specs.declared.keys.Node.{Node}
 use Rattle.memo_core.specs.declared.keys.Key.{Key}
 use Rattle.memo_core.specs.declared.keys.Key.TheVariants.{Part, Output}
@@ -13,7 +14,7 @@ use Rattle.memo_core.specs.Equality.{same_node_exact}
 use Rattle.memo_core.specs.Graph.{Memo, Net, memo_of, at, stored_at, stamp_in, present_inputs, put_memo, input_nodes, IsSettledBy, IsSettled}
 use Rattle.memo_core.specs.Step.{Has, State, Return, Accepts, Finishes}
 use Rattle.memo_core.specs.Run.{Bench, Meaning, Claim, NoClaim, Returned, Refused, Step, state_in}
-use Rattle.memo_core.proofs.Theory.{either, put_other}
+use Rattle.memo_core.proofs.Theory.{put_other}
 use Rattle.desk_rule.proofs.Showing.{fold_push}
 use Rattle.cells.specs.Cells.{Cells, Carries, IsSettledCell, StandsOn}
 use Rattle.desk.specs.Boards.{BoardCell, IsSettledOn, IsListedWithin, HoldsFor, ArePosted, ArePostedAbove, ArePostedFor, ArePostedBut, IsKept, AreKept, settled_with, with_outcome}
@@ -44,7 +45,7 @@ module _ {V G : Type 0} (net : Net G) (memos : List (Memo V)) (m : Memo V) where
     | inl r ↦ inl (r.0, ap (λ (is : List Input). input_of (Part p q) (net.part p q) ∷ is) r.1)
     | inr r ↦ inr r
   ]
-  inputs_before d before (Output k x ∷ ks) e = elim (either (same_node k m.node)) [
+  inputs_before d before (Output k x ∷ ks) e = elim (cases_Bool (same_node k m.node)) [
     | inl t ↦ inr (k, inl refl, (0, same_node_exact k m.node t))
     | inr f ↦ elim (before k e.0) [
       | inr stands ↦ inr (k, inl refl, stands)
@@ -64,7 +65,7 @@ module _ {V G : Type 0} (net : Net G) (memos : List (Memo V)) (m : Memo V) where
   -- what is settled once the memo is put was so before, or stands on its node
   pub settled_before : (d : ℕ) → Before d
   settled_before zero n h = absurd h
-  settled_before (suc d) n h = elim (either (same_node n m.node)) [
+  settled_before (suc d) n h = elim (cases_Bool (same_node n m.node)) [
     | inl t ↦ inr (0, same_node_exact n m.node t)
     | inr f ↦ elim (inputs_before d (settled_before d) (net.inputs n) h.1) [
       | inr r ↦ inr (suc r.2.0, (r.0, r.1, r.2.1))
@@ -142,7 +143,7 @@ module _ {T E V G O : Type 0} (net : T → Net G) (of : Cells T E V O) where
   but_put : (old new : Bench T V) (m : Memo V) (cells : List (BoardCell O)) → new.texts ≡ old.texts → new.memos ≡ put_memo m old.memos → ArePosted net of old cells → ArePostedBut net of new m.node cells
   but_put old new m cells t e posted test model o s =
       let settled : IsSettled (net old.texts) (put_memo m old.memos) s.verdict = rw (t, e) at s.settled in
-      elim (either (same_node s.verdict m.node)) [
+      elim (cases_Bool (same_node s.verdict m.node)) [
         | inl same ↦ inr (0, same_node_exact s.verdict m.node same)
         | inr other ↦ elim (settled_before (net old.texts) old.memos m settled.0 s.verdict settled.1) [
           | inr stands ↦ inr (subst (λ (u : T). StandsOn (net u) s.verdict m.node) (sym t) stands)

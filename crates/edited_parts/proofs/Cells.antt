@@ -2,6 +2,7 @@
 use Rattle.std.proofs.Common.{ℕ, ◌≡◌, zero, suc, List, [], ◌∷◌, ◌++◌, map, Bool, true, false, ◌&&◌, if◌then◌else◌, Some, slice_get, refl, sym, ap, ◌∙◌, subst, arith, ◌+◌}
 use Rattle.std.specs.List.{AllZip, AllByRecursion as Each}
 use Rattle.std.proofs.lemmas.Option.{none-some}
+use Rattle.std.proofs.lemmas.Bool.{and_from}
 use Rattle.text_values.specs.declared.test.Test.{Test}
 use Rattle.text_values.specs.TestValue.{formula_of}
 use Rattle.text_values.specs.declared.model.ModelText.{ModelText}
@@ -37,10 +38,6 @@ first_of false b h = h
 second_of : (a b : Bool) → (a && b) ≡ true → b ≡ true
 second_of true b h = h
 second_of false b h = cc
-
-both_of : (a b : Bool) → a ≡ true → b ≡ true → (a && b) ≡ true
-both_of true b h g = g
-both_of false b h g = h
 
 -- the first of one value
 only_first : (vs : List NodeContent) (v w : NodeContent) → vs ≡ v ∷ [] → slice_get vs 0 ≡ Some w → w ≡ v
@@ -139,7 +136,7 @@ module _ (net : Net GivenContent) (memos : List (Memo NodeContent)) (held : Node
 
   names_needed : (names : List Input) → Each (λ name. are.is_used name.item ≡ true) names → Each (λ m. held m ≡ true) (input_nodes (map (name_output nodes) names)) → Each (λ name. needed name.item ≡ true) names
   names_needed [] us hs = tt
-  names_needed (n ∷ ns) us hs = (both_of (are.is_used n.item) (held (nodes.item n.item)) us.0 hs.0, names_needed ns us.1 hs.1)
+  names_needed (n ∷ ns) us hs = (and_from (are.is_used n.item) (held (nodes.item n.item)) us.0 hs.0, names_needed ns us.1 hs.1)
 
   item_closed : (index : ℕ) (r : ResolvedItem) → needed index ≡ true → slice_get items index ≡ Some r → is_node r.role ≡ true → Each (λ name. needed name.item ≡ true) r.inputs.items
   item_closed index r needs found node =
@@ -212,7 +209,7 @@ module _ (net : Net GivenContent) (memos : List (Memo NodeContent)) (held : Node
   check_needed : (index : ℕ) → IsCheckAt items index → needed index ≡ true
   check_needed index c =
       let at_start : 0 + index ≡ index = omega arith in
-      both_of (are.is_used index) (held (nodes.item index)) (are.checks index c) (subst (λ (n : ℕ). held (nodes.item n) ≡ true) at_start (check_held 0 index items c.0 verdict_uses.1 c.1 c.2))
+      and_from (are.is_used index) (held (nodes.item index)) (are.checks index c) (subst (λ (n : ℕ). held (nodes.item n) ≡ true) at_start (check_held 0 index items c.0 verdict_uses.1 c.1 c.2))
 
   -- ---- the verdict
 

@@ -4,6 +4,7 @@ use Rattle.std.specs.Arc.{arc_value}
 use Rattle.std.specs.List.{AllPairs, AllByRecursion as Each, range_with_len}
 use Rattle.std.proofs.lemmas.List.Kept.{AllPairs-cons}
 use Rattle.std.proofs.lemmas.List.Elements.{All-cons}
+use Rattle.std.proofs.lemmas.Bool.{or_right}
 use Rattle.text_values.specs.declared.test.Test.{Test}
 use Rattle.text_values.specs.declared.model.Item.{Item}
 use Rattle.binding_kinds.specs.Value.{clause_of}
@@ -125,10 +126,6 @@ all_other (r ∷ rs) (m ∷ ms) h apart = AllPairs-cons AreOther (reading_of r m
     (all_other rs ms h.1 (apart_right m.numbers.items (item_numbers ms) apart))
 
 -- ---- rows
-
-or_right : (a b : Bool) → b ≡ true → (a || b) ≡ true
-or_right true b h = refl
-or_right false b h = h
 
 row_there : (rs : List ModelRow) (id : ℕ) → Has (map (λ m. m.id) rs) id → has_model rs id ≡ true
 row_there [] id h = absurd h

@@ -2,7 +2,7 @@
 use Rattle.std.proofs.Common.{ℕ, ◌≡◌, ◌<◌, ◌+◌, inl, inr, zero, suc, ◌==◌, ◌&&◌, ◌||◌, Bool, true, false, if◌then◌else◌, List, [], ◌∷◌, ◌++◌, length, map, take, get_or, Option, Some, None, option_map, slice_get, refl, sym, ap, ◌∙◌, subst, eqb-true, eq-eqb, arith}
 use Rattle.std.specs.List.{AllByRecursion as Each}
 use Rattle.std.proofs.Math.Seq.{take-length}
-use Rattle.std.proofs.lemmas.Bool.{cases_Bool}
+use Rattle.std.proofs.lemmas.Bool.{cases_Bool, or_right}
 use Rattle.std.proofs.lemmas.Option.{none-some, slice_get_within}
 use Rattle.text_values.specs.declared.test.Test.{Test}
 use Rattle.text_values.specs.declared.test.Thread.{Thread}
@@ -105,10 +105,6 @@ flags_outputs test numbers index (r ∷ rs) =
 abbrev among : List ℕ → ℕ → Bool
 among [] k = false
 among (u ∷ l) k = (u == k) || among l k
-
-or_right : (a b : Bool) → b ≡ true → a || b ≡ true
-or_right true b h = refl
-or_right false b h = h
 
 among_yes : (l : List ℕ) (k : ℕ) → Has l k → among l k ≡ true
 among_yes [] k h = absurd h

@@ -1,6 +1,7 @@
 -- The nodes that a settled node stands on: they are settled too, and so are all that they use.
 use Rattle.std.proofs.Common.{ℕ, ◌≡◌, zero, suc, List, [], ◌∷◌, Bool, true, false, ◌||◌, refl, subst}
 use Rattle.std.specs.List.{AllByRecursion as Each}
+use Rattle.std.proofs.lemmas.Bool.{or_left, or_right}
 use Rattle.memo_core.specs.declared.keys.Node.{Node}
 use Rattle.memo_core.specs.Names.{same_node}
 use Rattle.memo_core.specs.Graph.{Memo, Net, input_nodes, IsSettledBy, IsSettled}
@@ -14,14 +15,6 @@ any_of f (n ∷ ns) = f n || any_of f ns
 abbrev pub reached : {G : Type 0} → ℕ → Net G → Node → Node → Bool
 reached zero net n m = false
 reached (suc d) net n m = same_node n m || any_of (λ k. reached d net k m) (input_nodes (net.inputs n))
-
-or_left : (a b : Bool) → a ≡ true → (a || b) ≡ true
-or_left true b h = refl
-or_left false b h = cc
-
-or_right : (a b : Bool) → b ≡ true → (a || b) ≡ true
-or_right true b h = refl
-or_right false b h = h
 
 -- what holds of all of the first kind holds of all of the second
 pub all_map : (P Q : Node → Type 0) → ((n : Node) → P n → Q n) → (ns : List Node) → Each P ns → Each Q ns

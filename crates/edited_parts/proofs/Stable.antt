@@ -1,8 +1,8 @@
 -- What cannot but be untouched is untouched: equality of keys and stamps is decided.
 use Rattle.std.proofs.Common.{ℕ, ◌≡◌, zero, suc, inl, inr, Bool, true, false, List, [], ◌∷◌, refl, sym, ◌∙◌, subst}
 use Rattle.std.specs.List.{AllByRecursion as Each}
-use Rattle.memo_core.proofs.Theory.{either}
 use Rattle.std.proofs.lemmas.Bool.Decides.{eqb_tells}
+use Rattle.std.proofs.lemmas.Bool.{cases_Bool}
 use Rattle.memo_core.specs.declared.keys.Key.{Key}
 use Rattle.memo_core.specs.declared.keys.Key.TheVariants.{Part, Output}
 use Rattle.memo_core.specs.declared.keys.Node.{Node}
@@ -26,7 +26,7 @@ bool_stable true h = refl
 bool_stable false h = absurd (h (λ e. let f : false ≡ true = e in cc))
 
 key_stable : (a b : Key) → IsCertain (a ≡ b) → a ≡ b
-key_stable a b h = elim (either (same_key a b)) [
+key_stable a b h = elim (cases_Bool (same_key a b)) [
   | inl t ↦ same_key_exact a b t
   | inr f ↦ absurd (h (λ e. differ a b f e))
 ]

@@ -1,4 +1,5 @@
 use Rattle.std.proofs.Common.{◌≡◌, ◌⊎◌, inl, inr, ◌-◌, ℕ, zero, suc, ◌+◌, ◌<◌, ◌≤◌, Bool, true, false, ◌==◌, List, [], ◌∷◌, ◌++◌, take, drop, length, Some, slice_get, slice_set, slice_index_or, if◌then◌else◌, refl, ap, sym, add-one, eqb-true, eq-eqb, ne_eqb, arith}
+use Rattle.std.proofs.lemmas.Bool.{cases_Bool}
 use Rattle.layer_tests.specs.declared.benches.rows.Row.{Row}
 use Rattle.memo_core.specs.Step.{Has}
 use Rattle.layer_tests.specs.Rows.{row_of, put_row, without_row}
@@ -57,20 +58,16 @@ has_cell t (r ∷ rs) p h = elim (either (t == r.name)) [
     either true = inl refl
     either false = inr refl
 
-by_cases : (b : Bool) → (b ≡ true) ⊎ (b ≡ false)
-by_cases true = inl refl
-by_cases false = inr refl
-
 pub length-put : (t v number : ℕ) (rs : List Row) → length (put_row t v number rs) ≤ length rs + 1
 length-put t v number [] = omega arith
-length-put t v number (r ∷ rs) = elim (by_cases (t == r.name)) [
+length-put t v number (r ∷ rs) = elim (cases_Bool (t == r.name)) [
   | inl e ↦ rw e (omega arith)
   | inr f ↦ rw f (let l = length-put t v number rs in omega arith)
 ]
 
 pub length-removed : (t : ℕ) (rs : List Row) → length (without_row t rs) ≤ length rs
 length-removed t [] = omega arith
-length-removed t (r ∷ rs) = elim (by_cases (t == r.name)) [
+length-removed t (r ∷ rs) = elim (cases_Bool (t == r.name)) [
   | inl e ↦ rw e (let l = length-removed t rs in omega arith)
   | inr f ↦ rw f (let l = length-removed t rs in omega arith)
 ]

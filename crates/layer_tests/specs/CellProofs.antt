@@ -1,11 +1,11 @@
 -- What a sheet owes to a bench of cells.
 use Rattle.std.proofs.Common.{◌≡◌, ◌⊎◌, inl, inr, ℕ, zero, suc, ◌+◌, ◌/◌, ◌%◌, ◌^◌, Bool, true, false, not, ◌==◌, List, [], ◌∷◌, Option, Some, None, refl, ap, sym, subst, ◌∙◌, eqb-true, eq-eqb}
+use Rattle.std.proofs.lemmas.Bool.{cases_Bool}
 use Rattle.memo_core.specs.declared.keys.Node.{Node}
 use Rattle.memo_core.specs.declared.keys.Key.TheVariants.{Part, Output}
 use Rattle.memo_core.specs.Graph.{Memo, at, stored_at, stamp_in, named_values, IsSettled, IsSettledBy}
 use Rattle.memo_core.specs.Right.{ArePresent, IsSolved, IsUntouchedBy}
 use Rattle.memo_core.specs.Step.{Has}
-use Rattle.memo_core.proofs.Theory.{either}
 use Rattle.memo_core.proofs.Headline.{plain_at}
 use Rattle.cells.specs.Cells.{AreSolved, Carries, SolvedIsFromScratch, UsedIsNeeded, UnreachedIsUntouched}
 use Rattle.layer_tests.specs.declared.benches.rows.Row.{Row}
@@ -39,7 +39,7 @@ refused_alike s e f spent fault is h = subst (λ (x : Change). IsRefused s x spe
 -- a row that is there has its cell
 has_cell : (rs : List Row) (t : ℕ) (r : ℕ × ℕ) → row_of t rs ≡ Some r → Has (cells_of rs) (cell_of t)
 has_cell [] t r h = cc
-has_cell (x ∷ rs) t r h = elim (either (t == x.name)) [ inl e ↦ inl (ap cell_of (sym (eqb-true t x.name e))) | inr f ↦ inr (has_cell rs t r (rw f at h)) ]
+has_cell (x ∷ rs) t r h = elim (cases_Bool (t == x.name)) [ inl e ↦ inl (ap cell_of (sym (eqb-true t x.name e))) | inr f ↦ inr (has_cell rs t r (rw f at h)) ]
 
 pub record RowOf (rs : List Row) (n : Node) : Type 0 where
   pub name : ℕ
@@ -51,7 +51,7 @@ cell_row : (rs : List Row) (n : Node) → Has (cells_of rs) n → RowOf rs n
 cell_row [] n h = absurd h
 cell_row (x ∷ rs) n h = elim h [
   | inl e ↦ (record { name = x.name; row = (x.stamp, x.value); found = rw (eq-eqb x.name x.name refl) refl; is = e })
-  | inr k ↦ (let r = cell_row rs n k in later r (either (r.name == x.name)))
+  | inr k ↦ (let r = cell_row rs n k in later r (cases_Bool (r.name == x.name)))
 ]
   where
     later : (r : RowOf rs n) → ((r.name == x.name) ≡ true) ⊎ ((r.name == x.name) ≡ false) → RowOf (x ∷ rs) n
@@ -146,16 +146,16 @@ not_true false h = refl
 -- another row is as it was
 put_other : (t x v number : ℕ) (rs : List Row) → (t == x) ≡ false → row_of t (put_row x v number rs) ≡ row_of t rs
 put_other t x v number [] f = rw f refl
-put_other t x v number (r ∷ rs) f = elim (either (x == r.name)) [
+put_other t x v number (r ∷ rs) f = elim (cases_Bool (x == r.name)) [
   | inl e ↦ rw e (rw f (rw (rw (eqb-true x r.name e) at f) refl))
-  | inr n ↦ rw n (elim (either (t == r.name)) [ inl e ↦ rw e refl | inr g ↦ rw g (put_other t x v number rs f) ])
+  | inr n ↦ rw n (elim (cases_Bool (t == r.name)) [ inl e ↦ rw e refl | inr g ↦ rw g (put_other t x v number rs f) ])
 ]
 
 drop_other : (t x : ℕ) (rs : List Row) → (t == x) ≡ false → row_of t (without_row x rs) ≡ row_of t rs
 drop_other t x [] f = refl
-drop_other t x (r ∷ rs) f = elim (either (x == r.name)) [
+drop_other t x (r ∷ rs) f = elim (cases_Bool (x == r.name)) [
   | inl e ↦ rw e (rw (rw (eqb-true x r.name e) at f) (drop_other t x rs f))
-  | inr n ↦ rw n (elim (either (t == r.name)) [ inl e ↦ rw e refl | inr g ↦ rw g (drop_other t x rs f) ])
+  | inr n ↦ rw n (elim (cases_Bool (t == r.name)) [ inl e ↦ rw e refl | inr g ↦ rw g (drop_other t x rs f) ])
 ]
 
 same_rows : (s : Sheet) (e : Change) (t number : ℕ) → (reaches s e (t ∷ []) ≡ true → ⊥) → row_of t (rows_after e number s.rows.items) ≡ row_of t s.rows.items

@@ -2,7 +2,7 @@
 use Rattle.std.proofs.Common.{◌≡◌, ℕ, zero, suc, ◌+◌, ◌-◌, ◌<◌, ◌≤◌, ◌⊎◌, inl, inr, Bool, true, false, List, [], ◌∷◌, ◌++◌, length, get_or, take, drop, refl, sym, ap, ◌∙◌, subst, arith, append_assoc}
 use Rattle.std.specs.Prelude.{Option, Some, None, slice_index, ◌==◌, ◌&&◌, ◌||◌, not, if◌then◌else◌}
 use Rattle.std.specs.List.{position_or_len}
-use Rattle.std.proofs.lemmas.Bool.{cases_lt, or_from}
+use Rattle.std.proofs.lemmas.Bool.{cases_lt, or_from, not-false, not-true}
 use Rattle.std.proofs.lemmas.Bool.Decides.{nat_tests}
 use Rattle.std.proofs.lemmas.List.{length-take, length-drop, length-append, get_or-take, get_or-drop, take-append-drop, take_all, drop_all, take_at, drop_at}
 use Rattle.std.proofs.lemmas.List.Sums.{fails_before_first, passes_at_first}
@@ -31,14 +31,6 @@ abbrev IsPiece : Stage → Bool → List ℕ → Front → Type 0
 IsPiece s fresh text (fronts.Layout n) = (0 < n) × (n ≤ length text) × IsGap s (take n text) (drop n text)
 IsPiece s fresh text (fronts.Lexeme t n) = (0 < n) × (n ≤ length text) × IsLexeme s fresh t (take n text) (drop n text)
 
-passes : (x : Bool) → not x ≡ false → x ≡ true
-passes true e = refl
-passes false e = absurd cc
-
-pub stops : (x : Bool) → not x ≡ true → x ≡ false
-stops true e = absurd cc
-stops false e = refl
-
 -- ---- runs
 
 run_of : (p : ℕ → Bool) (xs : List ℕ) → IsRun p (take (position_or_len (λ b. not (p b)) xs) xs) (drop (position_or_len (λ b. not (p b)) xs) xs)
@@ -48,13 +40,13 @@ run_of p xs = record { each = each; ends = ends }
     each k lt =
         let n = position_or_len (λ b. not (p b)) xs in
         let l = length-take n xs in
-        ap p (get_or-take n xs k 0 (omega arith)) ∙ passes (p (get_or xs k 0)) (fails_before_first (λ b. not (p b)) xs k 0 (omega arith))
+        ap p (get_or-take n xs k 0 (omega arith)) ∙ not-false (p (get_or xs k 0)) (fails_before_first (λ b. not (p b)) xs k 0 (omega arith))
 
     ends : 0 < length (drop (position_or_len (λ b. not (p b)) xs) xs) → p (slice_index (drop (position_or_len (λ b. not (p b)) xs) xs) 0) ≡ false
     ends lt =
         let n = position_or_len (λ b. not (p b)) xs in
         let l = length-drop n xs in
-        ap p (get_or-drop n xs 0 0 ∙ ap (λ (k : ℕ). get_or xs k 0) (omega arith)) ∙ stops (p (get_or xs n 0)) (passes_at_first (λ b. not (p b)) xs 0 (omega arith))
+        ap p (get_or-drop n xs 0 0 ∙ ap (λ (k : ℕ). get_or xs k 0) (omega arith)) ∙ not-true (p (get_or xs n 0)) (passes_at_first (λ b. not (p b)) xs 0 (omega arith))
 
 -- the bytes of a raw word
 record RawRun (n : ℕ) (bs : List ℕ) : Type 0 where
@@ -357,7 +349,7 @@ module _ (b : ℕ) (bs : List ℕ) (o : IsOpen b bs) (letter : is_letter b ≡ t
           is_equals = passes_at_first is_equals line 0 within;
           within = omega arith;
           ascii = λ k lt. fails_before_first is_not_ascii line k 0 (omega arith);
-          stops = λ lt. ap (λ (k : ℕ). is_not_ascii (slice_index line k)) (long ∙ ascii) ∙ passes_at_first is_not_ascii line 0 (omega arith);
+          not-true = λ lt. ap (λ (k : ℕ). is_not_ascii (slice_index line k)) (long ∙ ascii) ∙ passes_at_first is_not_ascii line 0 (omega arith);
         }) refl,
       )
     where
@@ -480,8 +472,8 @@ letter_ascii b h = grind (arith, nat_tests)
 keyline_bytes : (s rest : List ℕ) → IsKeyline s rest → 0 < length s
 keyline_bytes [] rest k =
     let lt = k.in_line in
-    let stops = k.stops (omega arith) in
-    absurd (opposite (is_not_ascii (slice_index k.line 0)) stops (letter_ascii (slice_index k.line 0) k.letter))
+    let not-true = k.stops (omega arith) in
+    absurd (opposite (is_not_ascii (slice_index k.line 0)) not-true (letter_ascii (slice_index k.line 0) k.letter))
 keyline_bytes (b ∷ bs) rest k = omega arith
 
 word_bytes : (s rest : List ℕ) → IsWord s rest → 0 < length s

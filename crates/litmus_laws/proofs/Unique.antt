@@ -24,8 +24,8 @@ use Rattle.litmus_tokens.specs.Stage.{after}
 use Rattle.litmus_tokens.specs.Texts.{TokenAt, ends_line, fresh_after, after_front, tokens_from, lexed}
 use Rattle.litmus_laws.specs.Tokens.{IsGap, Blank, LineEnd, Comment, begins_gap, IsRun, IsWord, IsRaw, gaps_text, AreGaps, IsLabel, IsLine, LacksEquals, IsKeyline, is_first, is_plain, double_of, IsLexeme, FirstWord, NameEnd, Keyline, Quoted, Word, Label, Number, Negative, Double, Single, NotAscii, OpenComment, NoNameEnd, NoKeyline, NoQuoted, NoToken, Piece, Gap, Lexeme, text_of, ArePieces, tokens_at, IsCut}
 use Rattle.litmus_laws.proofs.Gaps.{gaps_of, all_gaps}
-use Rattle.litmus_laws.proofs.Pieces.{IsOpen, stops, cons_at, skipped, lexeme_bytes}
-use Rattle.std.proofs.lemmas.Bool.{and_left, false_from_ne_true}
+use Rattle.litmus_laws.proofs.Pieces.{IsOpen, cons_at, skipped, lexeme_bytes}
+use Rattle.std.proofs.lemmas.Bool.{and_left, false_from_ne_true, not-true}
 use Rattle.litmus_laws.proofs.Numbers.{no_letter}
 
 -- ---- the reader's front, by its tests
@@ -54,7 +54,7 @@ plain_stage Magic fresh b bs e = absurd cc
 plain_stage Title fresh b bs e = absurd cc
 plain_stage TitleEnd fresh b bs e = absurd cc
 plain_stage Head fresh b bs e =
-    let none = stops ((fresh && is_letter b) || b == 34) e in
+    let none = not-true ((fresh && is_letter b) || b == 34) e in
     when_false (fresh && is_letter b) _ _ (or_first (fresh && is_letter b) (b == 34) none) ∙ when_false (b == 34) _ _ (or_second (fresh && is_letter b) (b == 34) none)
 plain_stage (Init a w) fresh b bs e = refl
 plain_stage (Header n) fresh b bs e = refl

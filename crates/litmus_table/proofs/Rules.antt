@@ -3,7 +3,7 @@ use Rattle.std.proofs.Common.{◌≡◌, ℕ, ◌+◌, ◌⊎◌, inl, inr, Bool
 use Rattle.std.specs.Prelude.{◌==◌, ◌&&◌, ◌||◌, not, codes, if◌then◌else◌}
 use Rattle.std.specs.Str.{bytes_eq}
 use Rattle.std.proofs.lemmas.Slice.Eq.{bytes_eq-Decides}
-use Rattle.std.proofs.lemmas.Bool.{and_parts}
+use Rattle.std.proofs.lemmas.Bool.{and_parts, or_cases}
 use Rattle.std.proofs.Math.Bool.{and-true, and-false}
 use Rattle.litmus_tokens.specs.declared.rule.LitmusRule.{LitmusRule}
 use Rattle.litmus_tokens.specs.declared.rule.LitmusRule.TheVariants as rules
@@ -22,10 +22,6 @@ use Rattle.litmus_table.specs.Words.{opcode_of, computing_of, accessing_of, fenc
 use Rattle.litmus_table.specs.Machine.{ThreadSteps, Pending, Expectation, Begins, Labelled, Within, WantsLabel, Whole, State, first_of, pending_with, at, is_last, operation, operand, step, is_row_start, is_begin, can_end, wanted, is_base, is_zero, separator_rule, rule_at}
 use Rattle.litmus_table.specs.Laws.{is_whole, is_taken, ends_at, stands, IsInCell, GivesRules}
 use Rattle.litmus_tokens.specs.Texts.{begins_tail, is_end}
-
-either : (a b : Bool) → (a || b) ≡ true → (a ≡ true) ⊎ (b ≡ true)
-either true b e = inl refl
-either false b e = inr e
 
 no_opcode_r1 : opcode_of (codes "r1") ≡ None
 unfolding computing_of accessing_of fence_of branch_of
@@ -47,14 +43,14 @@ is_word : (w v : List ℕ) → bytes_eq w v ≡ true → w ≡ v
 is_word w v e = (bytes_eq-Decides w v).0 e
 
 no_opcode_tail : (w : List ℕ) → ends_table w ≡ true → opcode_of w ≡ None
-no_opcode_tail w e = first (either (bytes_eq w (codes "locations") || bytes_eq w (codes "exists")) (bytes_eq w (codes "forall")) e)
+no_opcode_tail w e = first (or_cases (bytes_eq w (codes "locations") || bytes_eq w (codes "exists")) (bytes_eq w (codes "forall")) e)
   where
     second : (bytes_eq w (codes "locations") ≡ true) ⊎ (bytes_eq w (codes "exists") ≡ true) → opcode_of w ≡ None
     second (inl k) = ap opcode_of (is_word w (codes "locations") k) ∙ no_opcode_locations
     second (inr k) = ap opcode_of (is_word w (codes "exists") k) ∙ no_opcode_exists
 
     first : ((bytes_eq w (codes "locations") || bytes_eq w (codes "exists")) ≡ true) ⊎ (bytes_eq w (codes "forall") ≡ true) → opcode_of w ≡ None
-    first (inl k) = second (either (bytes_eq w (codes "locations")) (bytes_eq w (codes "exists")) k)
+    first (inl k) = second (or_cases (bytes_eq w (codes "locations")) (bytes_eq w (codes "exists")) k)
     first (inr k) = ap opcode_of (is_word w (codes "forall") k) ∙ no_opcode_forall
 
 -- what stands behind the rows begins none
@@ -249,7 +245,7 @@ module _ (alone : Bool) (threads : List ThreadSteps) (c : ℕ) where
       by_kind false none k i = at_start (is_row_start (here h)) refl none k i
 
   register_filter : (w : List ℕ) → is_filter w ≡ true → is_register w ≡ false
-  register_filter w e = choose (either (bytes_eq w (codes "filter")) (bytes_eq w (codes "final")) e)
+  register_filter w e = choose (or_cases (bytes_eq w (codes "filter")) (bytes_eq w (codes "final")) e)
     where
       choose : (bytes_eq w (codes "filter") ≡ true) ⊎ (bytes_eq w (codes "final") ≡ true) → is_register w ≡ false
       choose (inl k) = ap is_register (is_word w (codes "filter") k)

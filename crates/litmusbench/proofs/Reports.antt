@@ -23,14 +23,6 @@ use Rattle.session_answers.specs.Rows.{HasOutcomes, row_said}
 use Rattle.session_answers.proofs.Named.{first_is, rest_is, no_first}
 use Rattle.litmusbench.specs.Reports.{IsCellUnder, IsRow}
 
-pub on_ok : {T E P Q : Type 0} (r : Result T E) → (P → Q) → OnOk r P → OnOk r Q
-on_ok (Ok x) f h = f h
-on_ok (Err e) f h = tt
-
-pub if_ok : {T E : Type 0} (r : Result T E) (P Q : T → Type 0) → ((x : T) → P x → Q x) → IfOk r P → IfOk r Q
-if_ok (Ok x) P Q f h = f x h
-if_ok (Err e) P Q f h = tt
-
 pub no_models : (models : List NamedModel) (faults : List ℕ) → models ≡ [] → faults ≡ [] → AreModels [] models faults
 no_models models faults p q = subst (λ (l : List NamedModel). AreModels [] l faults) (sym p) (subst (λ (l : List ℕ). AreModels [] [] l) (sym q) NoModel)
 

@@ -17,11 +17,11 @@ use Rattle.memo_core.proofs.Headline.{at_low, store_right}
 use Rattle.std.specs.Ordering.{nat_cmp}
 use Rattle.std.specs.BTreeMap.{is_at}
 use Rattle.std.specs.Map.{lookup, remove_entry}
+use Rattle.std.proofs.lemmas.Bool.{cases_Bool}
 use Rattle.memo_core.proofs.ClaimLemmas.{closed, found}
 use Rattle.memo_core.proofs.JudgeLemmas.{of_all}
 use Rattle.memo_core.specs.declared.claims.Claim.{Claim}
 use Rattle.memo_core.specs.declared.claims.Judgement.TheVariants.{Due}
-use Rattle.memo_core.proofs.Theory.{either}
 
 module _ {V : Type 0} (same : V → V → Bool) (exact : (a b : V) → (same a b ≡ true) ↔ (a ≡ b)) where
   holds_yes : (o : Option (ℕ × V)) (v : V) → holds_value same o v ≡ true → o ≡ Some (stamp_in o, v)
@@ -36,7 +36,7 @@ module _ {V : Type 0} (same : V → V → Bool) (exact : (a b : V) → (same a b
   stored_outputs x (Some m) = refl
 
   one_restamped : (old : Option (Memo V)) (number : ℕ) (o : Made V) → IsRestamped old number (stamped_output same (outputs_of old) number o)
-  one_restamped old number o = elim (either (holds_value same (output_at o.name (outputs_of old)) o.value)) [
+  one_restamped old number o = elim (cases_Bool (holds_value same (output_at o.name (outputs_of old)) o.value)) [
     | inl t ↦ inl (stored_outputs o.name old ∙ rw t (holds_yes (output_at o.name (outputs_of old)) o.value t))
     | inr f ↦ inr ((rw f refl), (λ s e. holds_no (output_at o.name (outputs_of old)) o.value f s (sym (stored_outputs o.name old) ∙ e)))
   ]
@@ -52,7 +52,7 @@ module _ {V : Type 0} (same : V → V → Bool) (exact : (a b : V) → (same a b
   -- where no old stamp is the new number, the names that are name_if_changed are those with it
   pub names_are : (old : List (Made V)) (number : ℕ) → ((x s : ℕ) (v : V) → output_at x old ≡ Some (s, v) → s < number) → (os : List (Made V)) → changed_names same old os ≡ names_stamped number (stamped_outputs same old number os)
   names_are old number low [] = refl
-  names_are old number low (o ∷ os) = elim (either (holds_value same (output_at o.name old) o.value)) [
+  names_are old number low (o ∷ os) = elim (cases_Bool (holds_value same (output_at o.name old) o.value)) [
     | inl t ↦ (let below = low o.name _ o.value (holds_yes (output_at o.name old) o.value t) in
         let other : stamp_in (output_at o.name old) ≢ number = omega arith in
         rw t (rw (ne_eqb _ _ other) (names_are old number low os)))

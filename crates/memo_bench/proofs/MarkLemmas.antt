@@ -1,5 +1,6 @@
 use Rattle.std.proofs.Common.{◌≡◌, ℕ, zero, suc, ◌<◌, ◌⊎◌, inl, inr, Bool, true, false, not, ◌&&◌, ◌++◌, List, [], ◌∷◌, Some, option_map, if◌then◌else◌, refl, ap, subst, sym, ◌∙◌, arith, slice_get, length, Option}
 use Rattle.std.specs.List.{AllByRecursion as Each}
+use Rattle.std.proofs.lemmas.Bool.{cases_Bool}
 use Rattle.memo_core.specs.declared.keys.Node.{Node}
 use Rattle.memo_core.specs.declared.keys.Input.{Input}
 use Rattle.memo_core.specs.Names.{same_node}
@@ -11,7 +12,6 @@ use Rattle.memo_core.specs.Graph.{put_memo}
 use Rattle.memo_core.specs.Step.{Has, IsWork}
 use Rattle.memo_core.specs.Marks.{mark_of, with_mark_at, unmarked_count, is_ready, IsMarkedTo, can_work, IsWorkAt, IsIdle, AreMarked, HasUnmarked}
 use Rattle.memo_core.proofs.Tests.{same_node_exact, same_node_refl}
-use Rattle.memo_core.proofs.Theory.{either}
 use Rattle.memo_core.proofs.Depth.{match_is, all_to, all_from}
 use Rattle.memo_core.proofs.JudgeLemmas.{of_all, true_false}
 use Rattle.memo_core.proofs.Theory.{put_other}
@@ -21,28 +21,28 @@ use Rattle.memo_core.proofs.Progress.{one_depth}
 
 pub as_memos-with_mark_at : {V : Type 0} (n : Node) (ks : List (Slot V)) → as_memos (with_mark_at n ks) ≡ as_memos ks
 as_memos-with_mark_at n [] = refl
-as_memos-with_mark_at {V} n (k ∷ ks) = elim (either (same_node n k.0)) [
+as_memos-with_mark_at {V} n (k ∷ ks) = elim (cases_Bool (same_node n k.0)) [
   | inl t ↦ rw t refl
   | inr f ↦ rw f (ap (λ (ms : List (Memo V)). as_memo k ∷ ms) (as_memos-with_mark_at n ks))
 ]
 
 pub mark_of-other : {V : Type 0} (n m : Node) (ks : List (Slot V)) → same_node m n ≡ false → mark_of (with_mark_at n ks) m ≡ mark_of ks m
 mark_of-other n m [] h = refl
-mark_of-other {V} n m (k ∷ ks) h = elim (either (same_node n k.0)) [
+mark_of-other {V} n m (k ∷ ks) h = elim (cases_Bool (same_node n k.0)) [
   | inl t ↦ (let g : same_node m k.0 ≡ false = subst (λ (x : Node). same_node m x ≡ false) (same_node_exact n k.0 t) h in rw t (rw g refl))
   | inr f ↦ rw f (ap (λ (b : Bool). if same_node m k.0 then k.1.settled else b) (mark_of-other n m ks h))
 ]
 
 pub mark_of-same : {V : Type 0} (n : Node) (ks : List (Slot V)) (is : List Input) → option_map (λ m. m.inputs) (memo_of n (as_memos ks)) ≡ Some is → mark_of (with_mark_at n ks) n ≡ true
 mark_of-same n [] is h = cc
-mark_of-same {V} n (k ∷ ks) is h = elim (either (same_node n k.0)) [
+mark_of-same {V} n (k ∷ ks) is h = elim (cases_Bool (same_node n k.0)) [
   | inl t ↦ rw t (rw t refl)
   | inr f ↦ rw f (rw f (mark_of-same n ks is (rw f at h)))
 ]
 
 pub unmarked_count-less : {V : Type 0} (n : Node) (ks : List (Slot V)) (is : List Input) → option_map (λ m. m.inputs) (memo_of n (as_memos ks)) ≡ Some is → mark_of ks n ≡ false → unmarked_count (with_mark_at n ks) < unmarked_count ks
 unmarked_count-less n [] is h f = cc
-unmarked_count-less {V} n (k ∷ ks) is h not_yet = elim (either (same_node n k.0)) [
+unmarked_count-less {V} n (k ∷ ks) is h not_yet = elim (cases_Bool (same_node n k.0)) [
   | inl t ↦ (let e : k.1.settled ≡ false = rw t at not_yet in rw t (rw e (omega arith)))
   | inr f ↦ (let less = unmarked_count-less n ks is (rw f at h) (rw f at not_yet) in rw f (omega arith))
 ]
@@ -54,10 +54,6 @@ has_left (z ∷ xs) ys x h = elim h [ inl e ↦ inl e | inr r ↦ inr (has_left 
 has_right : {X : Type 0} (xs ys : List X) (x : X) → Has ys x → Has (xs ++ ys) x
 has_right [] ys x h = h
 has_right (z ∷ xs) ys x h = inr (has_right xs ys x h)
-
-not_true : (b : Bool) → not b ≡ true → b ≡ false
-not_true true h = cc
-not_true false h = refl
 
 ready_parts : (a b c : Bool) → (not a && b && c) ≡ true → (a ≡ false) × (b ≡ true) × (c ≡ true)
 ready_parts true b c h = cc
@@ -104,7 +100,7 @@ module _ {V G : Type 0} (net : Net G) (ks : List (Slot V)) (n : Node) where
     -- the new mark is the only one
     split : (ns : List Node) → Each (λ m. mark_of (with_mark_at n ks) m ≡ true) ns → Each (λ m. mark_of ks m ≡ true) ns ⊎ Has ns n
     split [] e = inl tt
-    split (m ∷ ns) e = elim (either (same_node m n)) [
+    split (m ∷ ns) e = elim (cases_Bool (same_node m n)) [
       | inl t ↦ inr (inl (same_node_exact m n t))
       | inr f ↦ elim (split ns e.1) [
         | inl all ↦ inl (sym (mark_of-other n m ks f) ∙ e.0, all)
@@ -115,11 +111,11 @@ module _ {V G : Type 0} (net : Net G) (ks : List (Slot V)) (n : Node) where
     -- once a node is marked, what stands on it is pending
     pub marked_on : IsMarkedTo net (with_mark_at n ks) (users n ++ rest)
     marked_on = record {
-      sound = λ m h. rw (as_memos-with_mark_at n ks) (elim (either (same_node m n)) [
+      sound = λ m h. rw (as_memos-with_mark_at n ks) (elim (cases_Bool (same_node m n)) [
         | inl t ↦ subst (IsSettled net (as_memos ks)) (sym (same_node_exact m n t)) now_settled
         | inr f ↦ p.sound m (sym (mark_of-other n m ks f) ∙ h)
       ]);
-      left = λ u has f m e. elim (either (same_node u n)) [
+      left = λ u has f m e. elim (cases_Bool (same_node u n)) [
         | inl t ↦ absurd (true_false _ is_marked_now (subst (λ (x : Node). mark_of (with_mark_at n ks) x ≡ false) (same_node_exact u n t) f))
         | inr g ↦ elim (split (input_nodes (net.inputs u)) e) [
           | inl all ↦ elim (p.left u has (sym (mark_of-other n u ks g) ∙ f) (rw (as_memos-with_mark_at n ks) at m) all) [
@@ -135,7 +131,7 @@ module _ {V G : Type 0} (net : Net G) (ks : List (Slot V)) (n : Node) where
 module _ {V G : Type 0} (net : Net G) (ks : List (Slot V)) (without_claim : (n : Node) → Has net.used n → Each (Has net.used) (input_nodes (net.inputs n))) (p : IsMarkedTo net ks []) where
   pub settled_marked : (d : ℕ) (n : Node) → Has net.used n → IsSettledBy d net (as_memos ks) n → mark_of ks n ≡ true
   settled_marked zero n has s = absurd s
-  settled_marked (suc d) n has s = elim (either (mark_of ks n)) [
+  settled_marked (suc d) n has s = elim (cases_Bool (mark_of ks n)) [
     | inl t ↦ t
     | inr f ↦ absurd (p.left n has f s.0 (all (λ m h t. settled_marked d m h t) (input_nodes (net.inputs n)) (without_claim n has) s.1))
   ]
@@ -151,11 +147,11 @@ cleared_marked net ks none = record { sound = λ n h. absurd (true_false _ h (no
 pub put_pending : {V G : Type 0} (net : Net G) (ks next : List (Slot V)) (m : Memo V) → IsMarkedTo net ks [] → as_memos next ≡ put_memo m (as_memos ks) → ((n : Node) → mark_of next n ≡ (if same_node n m.node then false else mark_of ks n))
     → (IsSettled net (as_memos ks) m.node → ⊥) → IsMarkedTo net next (m.node ∷ [])
 put_pending {V} net ks next m p is flags unsettled = record {
-  sound = λ n h. elim (either (same_node n m.node)) [
+  sound = λ n h. elim (cases_Bool (same_node n m.node)) [
     | inl t ↦ absurd (true_false _ h (flags n ∙ rw t refl))
     | inr f ↦ (let s = p.sound n (sym (other n f) ∙ h) in rw is (s.0, settled_stays net (as_memos ks) m unsettled s.0 n s.1))
   ];
-  left = λ n has f match e. elim (either (same_node n m.node)) [
+  left = λ n has f match e. elim (cases_Bool (same_node n m.node)) [
     | inl t ↦ inl (sym (same_node_exact n m.node t))
     | inr g ↦ absurd (p.left n has (sym (other n g) ∙ f) (matched n g (rw is at match) e) (each_old (input_nodes (net.inputs n)) e))
   ];
@@ -165,7 +161,7 @@ put_pending {V} net ks next m p is flags unsettled = record {
     other n f = flags n ∙ rw f refl
 
     not_it : (n : Node) → mark_of next n ≡ true → same_node n m.node ≡ false
-    not_it n h = elim (either (same_node n m.node)) [ inl t ↦ absurd (true_false _ h (flags n ∙ rw t refl)) | inr g ↦ g ]
+    not_it n h = elim (cases_Bool (same_node n m.node)) [ inl t ↦ absurd (true_false _ h (flags n ∙ rw t refl)) | inr g ↦ g ]
 
     each_old : (ns : List Node) → Each (λ m. mark_of next m ≡ true) ns → Each (λ m. mark_of ks m ≡ true) ns
     each_old [] e = tt
@@ -231,7 +227,7 @@ module _ {V G : Type 0} (net : Net G) (ks : List (Slot V)) (without_claim : (n :
 
   can_work_of : (n : Node) → IsWork (of_all net (as_memos ks) cs taken) n → can_work net ks cs n ≡ true
   can_work_of n w =
-      let u : is_match net (as_memos ks) n ≡ false = elim (either (is_match net (as_memos ks) n)) [ inl t ↦ absurd (w.unmatched ((match_is net (as_memos ks) n).0 t)) | inr f ↦ f ] in
+      let u : is_match net (as_memos ks) n ≡ false = elim (cases_Bool (is_match net (as_memos ks) n)) [ inl t ↦ absurd (w.unmatched ((match_is net (as_memos ks) n).0 t)) | inr f ↦ f ] in
       let e : all_nodes (mark_of ks) (net.inputs n) ≡ true = all_from (mark_of ks) (λ m. mark_of ks m ≡ true) (λ m t. t) (net.inputs n) (to_marked (input_nodes (net.inputs n)) (without_claim n w.used) w.inputs_settled) in
       rw (u, e, not_out_is n (present_inputs net (as_memos ks) (net.inputs n)) cs w.not_out) refl
 

@@ -1,8 +1,8 @@
 use Rattle.std.proofs.Common.{◌≡◌, ◌≤◌, ◌==◌, ℕ, ◌+◌, ◌-◌, append_assoc, option_and_then, Bool, false, List, [], ◌∷◌, ◌++◌, length, drop, Option, Some, None, option_map, refl, ap, sym, ◌∙◌, eqb-true, eq-eqb, inl, inr, arith}
 use Rattle.std.proofs.lemmas.List.{append-nil, drop_all, length-drop}
 use Rattle.std.specs.List.{AllByRecursion as Each}
+use Rattle.std.proofs.lemmas.Bool.{cases_Bool}
 use Rattle.value_store.specs.Tokens.{Shown}
-use Rattle.memo_core.proofs.Theory.{either}
 use Rattle.memo_core.proofs.JudgeLemmas.{true_false}
 use Rattle.memo_core.specs.declared.keys.Output.{Output as Made}
 use Rattle.memo_core.specs.declared.keys.Node.{Node}
@@ -27,7 +27,7 @@ part_step now ks i a b vs d = rw d refl
 
 -- all tokens are compared where no key is left
 pub hold_end : {V : Type 0} (same : V → V → Bool) (now : Key → Option (ℕ × V)) (ts : List (Shown V)) (j : ℕ) → j ≤ length ts → (j == length ts) ≡ all_hold same now [] (shown_values (drop j ts))
-hold_end {V} same now ts j h = elim (either (j == length ts)) [
+hold_end {V} same now ts j h = elim (cases_Bool (j == length ts)) [
   | inl t ↦ (let e : j ≡ length ts = eqb-true j (length ts) t in t ∙ sym (ap (λ (us : List (Shown V)). all_hold same now [] (shown_values us)) (drop_all j ts (omega arith))))
   | inr f ↦ f ∙ sym (left (drop j ts) (λ e. short (e ∙ refl) f))
 ]

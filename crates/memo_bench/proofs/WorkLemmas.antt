@@ -1,5 +1,6 @@
 use Rattle.std.proofs.Common.{◌≡◌, ◌≢◌, ℕ, inl, inr, true, false, ◌&&◌, List, [], ◌∷◌, Option, Some, None, option_map, option_and_then, refl, ap, subst, sym, ◌∙◌}
 use Rattle.std.specs.List.{AllByRecursion as Each}
+use Rattle.std.proofs.lemmas.Bool.{cases_Bool}
 use Rattle.memo_core.specs.declared.keys.Node.{Node}
 use Rattle.memo_core.specs.declared.keys.Key.{Key}
 use Rattle.memo_core.specs.declared.keys.Key.TheVariants.{Part, Output}
@@ -12,7 +13,6 @@ use Rattle.memo_core.specs.Right.{Making, Counting, ArePresent, IsRight, HasValu
 use Rattle.memo_core.specs.Tests.{is_out, values_at, same_inputs}
 use Rattle.memo_core.specs.Step.{open_claims, Has}
 use Rattle.memo_core.proofs.Tests.{and_true, same_node_exact, same_node_refl}
-use Rattle.memo_core.proofs.Theory.{either}
 use Rattle.memo_core.proofs.Inputs.{same_inputs_exact, same_inputs_refl}
 use Rattle.memo_core.proofs.Headline.{IsRead, settled_solved, plain_at}
 use Rattle.memo_core.proofs.JudgeLemmas.{true_false}
@@ -20,7 +20,7 @@ use Rattle.memo_core.proofs.JudgeLemmas.{true_false}
 -- who is not out has no claim with the present inputs
 pub not_out_yes : (n : Node) (present : List Input) (cs : List (ℕ × Claim)) → is_out n present cs ≡ false → Each (λ c. c.node ≡ n → c.inputs ≢ present) (open_claims cs)
 not_out_yes n present [] h = tt
-not_out_yes n present (c ∷ cs) h = elim (either (same_node n c.1.node && same_inputs c.1.inputs.items present)) [
+not_out_yes n present (c ∷ cs) h = elim (cases_Bool (same_node n c.1.node && same_inputs c.1.inputs.items present)) [
   | inl t ↦ absurd (clash (rw t at h))
   | inr f ↦ ((λ e i. true_false _ (rw (e, i, same_node_refl n, same_inputs_refl present) refl) f), not_out_yes n present cs (rw f at h))
 ]
@@ -30,7 +30,7 @@ not_out_yes n present (c ∷ cs) h = elim (either (same_node n c.1.node && same_
 
 pub not_out_is : (n : Node) (present : List Input) (cs : List (ℕ × Claim)) → Each (λ c. c.node ≡ n → c.inputs ≢ present) (open_claims cs) → is_out n present cs ≡ false
 not_out_is n present [] e = refl
-not_out_is n present (c ∷ cs) e = elim (either (same_node n c.1.node && same_inputs c.1.inputs.items present)) [
+not_out_is n present (c ∷ cs) e = elim (cases_Bool (same_node n c.1.node && same_inputs c.1.inputs.items present)) [
   | inl t ↦ (let p = and_true (same_node n c.1.node) (same_inputs c.1.inputs.items present) t in
       absurd (e.0 (sym (same_node_exact n c.1.node p.0)) (same_inputs_exact c.1.inputs.items present p.1)))
   | inr f ↦ rw f (not_out_is n present cs e.1)

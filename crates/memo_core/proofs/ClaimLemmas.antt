@@ -5,14 +5,14 @@ use Rattle.std.specs.declared.cmp.Ordering.TheVariants.{Less, Equal, Greater}
 use Rattle.std.specs.Cmp.{nat_cmp_is}
 use Rattle.std.specs.BTreeMap.{is_at, insert_entry}
 use Rattle.std.specs.Map.{lookup, remove_entry}
+use Rattle.std.proofs.lemmas.Bool.{cases_Bool}
 use Rattle.memo_core.specs.declared.claims.Claim.{Claim}
 use Rattle.memo_core.specs.Step.{OpenClaim, open_claim, open_claims, state, claim_of, without_claim, Loses, AreNumbered}
 use Rattle.memo_core.specs.Graph.{Net}
 use Rattle.memo_core.specs.Views.{Slot}
-use Rattle.memo_core.proofs.Theory.{either}
 
 at_is : (n k : ℕ) → is_at (nat_cmp n) k ≡ (n == k)
-at_is n k = elim (either (n == k)) [
+at_is n k = elim (cases_Bool (n == k)) [
   | inl t ↦ rw (sym (nat_cmp_is n k Equal (eqb-true n k t))) (sym t)
   | inr f ↦ rw f (other (nat_lt n k))
 ]
@@ -23,21 +23,21 @@ at_is n k = elim (either (n == k)) [
 
 pub closed : (n : ℕ) (cs : List (ℕ × Claim)) → open_claims (remove_entry (is_at (nat_cmp n)) cs) ≡ without_claim n (open_claims cs)
 closed n [] = refl
-closed n (c ∷ cs) = rw (at_is n c.0) (elim (either (n == c.0)) [
+closed n (c ∷ cs) = rw (at_is n c.0) (elim (cases_Bool (n == c.0)) [
   | inl t ↦ rw t refl
   | inr f ↦ rw f (ap (λ (os : List OpenClaim). open_claim c ∷ os) (closed n cs))
 ])
 
 pub found : (n : ℕ) (cs : List (ℕ × Claim)) → option_map (λ c. open_claim (n, c)) (lookup (is_at (nat_cmp n)) cs) ≡ claim_of n (open_claims cs)
 found n [] = refl
-found n (c ∷ cs) = rw (at_is n c.0) (elim (either (n == c.0)) [
+found n (c ∷ cs) = rw (at_is n c.0) (elim (cases_Bool (n == c.0)) [
   | inl t ↦ rw t (ap (λ (k : ℕ). let o : Option OpenClaim = Some (open_claim (k, c.1)) in o) (eqb-true n c.0 t))
   | inr f ↦ rw f (found n cs)
 ])
 
 none_closed : (n : ℕ) (cs : List OpenClaim) → claim_of n cs ≡ None → without_claim n cs ≡ cs
 none_closed n [] h = refl
-none_closed n (c ∷ cs) h = elim (either (n == c.number)) [
+none_closed n (c ∷ cs) h = elim (cases_Bool (n == c.number)) [
   | inl t ↦ absurd (clash (rw t at h))
   | inr f ↦ rw f (ap (λ (os : List OpenClaim). c ∷ os) (none_closed n cs (rw f at h)))
 ]
@@ -65,7 +65,7 @@ numbered_later taken (c ∷ cs) a = (omega (arith, a.0), numbered_later taken cs
 
 pub numbered_closed : (taken n : ℕ) (cs : List OpenClaim) → AreNumbered taken cs → AreNumbered taken (without_claim n cs)
 numbered_closed taken n [] a = tt
-numbered_closed taken n (c ∷ cs) a = elim (either (n == c.number)) [
+numbered_closed taken n (c ∷ cs) a = elim (cases_Bool (n == c.number)) [
   | inl t ↦ rw t a.1
   | inr f ↦ rw f (a.0, numbered_closed taken n cs a.1)
 ]

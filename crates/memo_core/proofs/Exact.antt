@@ -1,5 +1,6 @@
 use Rattle.std.proofs.Common.{◌≡◌, ◌↔◌, ℕ, zero, suc, ◌+◌, ◌<◌, ◌≤◌, ◌⊎◌, inl, inr, Bool, true, false, ◌&&◌, ◌==◌, ◌++◌, List, [], ◌∷◌, Some, None, if◌then◌else◌, refl, ap, subst, sym, eqb-true, arith}
 use Rattle.std.specs.List.{AllByRecursion as Each}
+use Rattle.std.proofs.lemmas.Bool.{and_from, cases_Bool}
 use Rattle.memo_core.specs.declared.keys.Node.{Node}
 use Rattle.memo_core.specs.declared.keys.Key.{Key}
 use Rattle.memo_core.specs.declared.claims.Finish.{Finish}
@@ -11,7 +12,6 @@ use Rattle.memo_core.specs.Run.{Bench, Event, Edit, Claim, NoClaim, Returned, Lo
 use Rattle.memo_core.specs.Laws.{DecidesSettled, Falls, IsUsedClosed}
 use Rattle.memo_core.specs.Work.{IsJobEvent, numbers_given, has_number, is_accepted, accepted_by, accepted_count, ReturnsLowerInRuns, WorkIsBounded, WorkUnsettlesNone, SettledIsDecided, QuietRunIsSettled}
 use Rattle.memo_core.proofs.Tests.{and_true}
-use Rattle.memo_core.proofs.Theory.{either}
 use Rattle.memo_core.proofs.Depth.{match_is, all_to, all_from}
 use Rattle.memo_core.proofs.Headline.{settled_stays}
 use Rattle.memo_core.proofs.ClaimLemmas.{numbered_later, numbered_closed, numbered_opened}
@@ -29,9 +29,6 @@ decided_by (suc d) net ms n = is_match net ms n && all_nodes (decided_by d net m
 false_true : false ≡ true → ⊥
 false_true e = cc
 
-both_true : (a b : Bool) → a ≡ true → b ≡ true → (a && b) ≡ true
-both_true a b x y = rw (x, y) refl
-
 each_two : (A C : Node → Type 0) → (xs : List Node) → Each A xs → Each C xs → Each (λ x. A x × C x) xs
 each_two A C [] a c = tt
 each_two A C (x ∷ xs) a c = ((a.0, c.0), each_two A C xs a.1 c.1)
@@ -47,7 +44,7 @@ module _ {V G : Type 0} (net : Net G) (ms : List (Memo V)) where
   by_full rank falls zero e n lt s = absurd (omega arith)
   by_full rank falls (suc d) zero n lt s = absurd s
   by_full rank falls (suc d) (suc e) n lt s =
-      both_true (is_match net ms n) (all_nodes (decided_by d net ms) (net.inputs n)) ((match_is net ms n).1 s.0)
+      and_from (is_match net ms n) (all_nodes (decided_by d net ms) (net.inputs n)) ((match_is net ms n).1 s.0)
       (all_from (decided_by d net ms) (λ m. (rank m < rank n) × IsSettledBy e net ms m) (λ m t. by_full rank falls d e m (omega (arith, t.0, lt)) t.1) (net.inputs n)
       (each_two (λ m. rank m < rank n) (IsSettledBy e net ms) (input_nodes (net.inputs n)) (falls n) s.1))
 
@@ -133,7 +130,7 @@ found_each P n [] c e h = absurd (none h)
   where
     none : None ≡ Some c → ⊥
     none e = cc
-found_each P n (d ∷ cs) c e h = elim (either (n == d.number)) [
+found_each P n (d ∷ cs) c e h = elim (cases_Bool (n == d.number)) [
   | inl t ↦ (let q : d ≡ c = some_inj d c (rw t at h) in subst (λ (x : OpenClaim). P x × (n ≡ x.number)) q (e.0, eqb-true n d.number t))
   | inr f ↦ found_each P n cs c e.1 (rw f at h)
 ]
@@ -215,7 +212,7 @@ accept_lowers : {V G : Type 0} (first : ℕ) (numbers : List ℕ) (old new : Sta
 accept_lowers {V} {G} first numbers old new r p q above w a before after =
     let net : new.net ≡ old.net = ap (λ (s : State V G). s.net) a.after in
     let still : (n : Node) → p n ≡ true → q n ≡ true = λ n t. (after n).1 (accept_others old new r (w.apart).fresh a n ((before n).0 t)) in
-    elim (either (has_number r.claim numbers)) [
+    elim (cases_Bool (has_number r.claim numbers)) [
       | inl t ↦ (let c = found_each (HasSettledInputs first old.net old.memos) r.claim old.claims a.claim w.ready a.out.found in
           let ins : Each (IsSettled old.net old.memos) (input_nodes (old.net.inputs r.node)) = rw a.out.same at (c.0 (subst (λ (k : ℕ). first < k) c.1 (above t))) in
           let less = progress_lowers old new r p q before after (w.apart).fresh a ins in
@@ -239,7 +236,7 @@ gives_lowers {V} {G} old new number n given keys values p q g before after = sam
 
 -- a number that is given is in the rest or is the event's
 either_number : (n : ℕ) (m : ℕ) (ms : List ℕ) → has_number n (m ∷ ms) ≡ true → (n ≡ m) ⊎ (has_number n ms ≡ true)
-either_number n m ms h = elim (either (n == m)) [ inl t ↦ inl (eqb-true n m t) | inr f ↦ inr (rw f at h) ]
+either_number n m ms h = elim (cases_Bool (n == m)) [ inl t ↦ inl (eqb-true n m t) | inr f ↦ inr (rw f at h) ]
 
 module _ {T E V G : Type 0} (means : Meaning T E V G) where
   -- the claims that a list gives have numbers above those taken before it

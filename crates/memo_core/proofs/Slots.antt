@@ -1,6 +1,8 @@
 use Rattle.std.proofs.Common.{◌≡◌, inl, inr, Bool, true, false, List, [], ◌∷◌, filter, Option, Some, None, option_map, option_copied, Bor, if◌then◌else◌, refl, ap, sym, subst, ◌∙◌}
 use Rattle.std.specs.Map.{lookup, set_value}
 use Rattle.std.specs.Map.Calls.{RetainsPairs}
+use Rattle.std.proofs.lemmas.Option.{same_Some}
+use Rattle.std.proofs.lemmas.Bool.{cases_Bool}
 use Rattle.indexmap.specs.IndexMap.{insert_entry}
 use Rattle.value_store.specs.Tokens.{Shown}
 use Rattle.memo_core.specs.declared.keys.Node.{Node}
@@ -10,19 +12,18 @@ use Rattle.memo_core.specs.Equality.{same_node_exact, same_node_refl}
 use Rattle.memo_core.specs.Graph.{Memo, memo_of, put_memo}
 use Rattle.memo_core.specs.Views.{Slot, as_memo, as_memos, tokens_of}
 use Rattle.memo_core.specs.Marks.{mark_in, mark_of, with_mark_at, without_mark}
-use Rattle.memo_core.proofs.Theory.{either}
 
 -- what is found at a node is its memo
 pub memo_found_at : {V : Type 0} (n : Node) (ks : List (Slot V)) → option_map (λ k. as_memo (n, k)) (lookup (same_node n) ks) ≡ memo_of n (as_memos ks)
 memo_found_at n [] = refl
-memo_found_at {V} n (k ∷ ks) = elim (either (same_node n k.0)) [
+memo_found_at {V} n (k ∷ ks) = elim (cases_Bool (same_node n k.0)) [
   | inl t ↦ rw t (ap (λ (m : Node). let o : Option (Memo V) = Some (as_memo (m, k.1)) in o) (same_node_exact n k.0 t))
   | inr f ↦ rw f (memo_found_at n ks)
 ]
 
 pub mark_found_at : {V : Type 0} (n : Node) (ks : List (Slot V)) → mark_in (lookup (same_node n) ks) ≡ mark_of ks n
 mark_found_at n [] = refl
-mark_found_at n (k ∷ ks) = elim (either (same_node n k.0)) [ inl t ↦ rw t refl | inr f ↦ rw f (mark_found_at n ks) ]
+mark_found_at n (k ∷ ks) = elim (cases_Bool (same_node n k.0)) [ inl t ↦ rw t refl | inr f ↦ rw f (mark_found_at n ks) ]
 
 -- a found share of what is kept shows its memo
 pub found_memo : {V : Type 0} (n : Node) (ks : List (Slot V)) (o : Option (Bor (Kept (Shown V)))) → option_copied o ≡ lookup (same_node n) ks → option_map (λ k. as_memo (n, k.now)) o ≡ memo_of n (as_memos ks)
@@ -32,20 +33,17 @@ found_memo {V} n ks o h = go o ∙ ap (option_map (λ (k : Kept (Shown V)). as_m
     go None = refl
     go (Some k) = refl
 
-some_inj : {X : Type 0} (x y : X) → Some x ≡ Some y → x ≡ y
-some_inj x y h = cc
-
 -- what is found at a node holds its tokens
 pub tokens_found : {V : Type 0} (n : Node) (ks : List (Slot V)) (k : Kept (Shown V)) → Some k ≡ lookup (same_node n) ks → k.outputs.items ≡ tokens_of n ks
 tokens_found n [] k h = cc
-tokens_found {V} n (x ∷ ks) k h = elim (either (same_node n x.0)) [
-  | inl t ↦ rw t (ap (λ (k : Kept (Shown V)). k.outputs.items) (some_inj k x.1 (rw t at h)))
+tokens_found {V} n (x ∷ ks) k h = elim (cases_Bool (same_node n x.0)) [
+  | inl t ↦ rw t (ap (λ (k : Kept (Shown V)). k.outputs.items) (same_Some k x.1 (rw t at h)))
   | inr f ↦ rw f (tokens_found n ks k (rw f at h))
 ]
 
 pub no_tokens : {V : Type 0} (n : Node) (ks : List (Slot V)) → None ≡ lookup (same_node n) ks → tokens_of n ks ≡ []
 no_tokens n [] h = refl
-no_tokens {V} n (x ∷ ks) h = elim (either (same_node n x.0)) [
+no_tokens {V} n (x ∷ ks) h = elim (cases_Bool (same_node n x.0)) [
   | inl t ↦ absurd (none_some x.1 (rw t at h))
   | inr f ↦ rw f (no_tokens n ks (rw f at h))
 ]
@@ -56,14 +54,14 @@ no_tokens {V} n (x ∷ ks) h = elim (either (same_node n x.0)) [
 -- what is written at a node is its mark
 pub mark_written : {V : Type 0} (n : Node) (ks : List (Slot V)) (k : Kept (Shown V)) → Some k ≡ lookup (same_node n) ks → set_value (same_node n) ks (record { inputs = k.inputs; outputs = k.outputs; settled = true }) ≡ with_mark_at n ks
 mark_written n [] k h = cc
-mark_written {V} n (x ∷ ks) k h = elim (either (same_node n x.0)) [
-  | inl t ↦ (let q : Some k ≡ Some x.1 = rw t at h in rw t (ap (λ (k : Kept (Shown V)). let s : Slot V = (x.0, record { inputs = k.inputs; outputs = k.outputs; settled = true }) in s ∷ ks) (some_inj k x.1 q)))
+mark_written {V} n (x ∷ ks) k h = elim (cases_Bool (same_node n x.0)) [
+  | inl t ↦ (let q : Some k ≡ Some x.1 = rw t at h in rw t (ap (λ (k : Kept (Shown V)). let s : Slot V = (x.0, record { inputs = k.inputs; outputs = k.outputs; settled = true }) in s ∷ ks) (same_Some k x.1 q)))
   | inr f ↦ rw f (ap (λ (r : List (Slot V)). x ∷ r) (mark_written n ks k (rw f at h)))
 ]
 
 pub nothing_marked : {V : Type 0} (n : Node) (ks : List (Slot V)) → None ≡ lookup (same_node n) ks → ks ≡ with_mark_at n ks
 nothing_marked n [] h = refl
-nothing_marked {V} n (x ∷ ks) h = elim (either (same_node n x.0)) [
+nothing_marked {V} n (x ∷ ks) h = elim (cases_Bool (same_node n x.0)) [
   | inl t ↦ absurd (none_some x.1 (rw t at h))
   | inr f ↦ rw f (ap (λ (r : List (Slot V)). x ∷ r) (nothing_marked n ks (rw f at h)))
 ]
@@ -74,29 +72,29 @@ nothing_marked {V} n (x ∷ ks) h = elim (either (same_node n x.0)) [
 -- what is inserted is put
 pub memo_inserted : {V : Type 0} (n : Node) (k : Kept (Shown V)) (ks : List (Slot V)) → as_memos (insert_entry same_node ks n k) ≡ put_memo (as_memo (n, k)) (as_memos ks)
 memo_inserted n k [] = refl
-memo_inserted {V} n k (x ∷ ks) = elim (either (same_node n x.0)) [
+memo_inserted {V} n k (x ∷ ks) = elim (cases_Bool (same_node n x.0)) [
   | inl t ↦ rw t (ap (λ (m : Node). as_memo (m, k) ∷ as_memos ks) (sym (same_node_exact n x.0 t)))
   | inr f ↦ rw f (ap (λ (r : List (Memo V)). as_memo x ∷ r) (memo_inserted n k ks))
 ]
 
 pub mark_inserted : {V : Type 0} (n : Node) (k : Kept (Shown V)) (ks : List (Slot V)) (m : Node) → mark_of (insert_entry same_node ks n k) m ≡ (if same_node m n then k.settled else mark_of ks m)
 mark_inserted n k [] m = refl
-mark_inserted {V} n k (x ∷ ks) m = elim (either (same_node n x.0)) [
+mark_inserted {V} n k (x ∷ ks) m = elim (cases_Bool (same_node n x.0)) [
   | inl t ↦ rw t (ap (λ (y : Node). if same_node m y then k.settled else mark_of ks m) (sym (same_node_exact n x.0 t)) ∙ under m (same_node_exact n x.0 t))
-  | inr f ↦ rw f (elim (either (same_node m x.0)) [
+  | inr f ↦ rw f (elim (cases_Bool (same_node m x.0)) [
     | inl s ↦ rw s (rw (apart (same_node_exact m x.0 s) f) refl)
     | inr g ↦ rw g (mark_inserted n k ks m)
   ])
 ]
   where
     under : (m : Node) → n ≡ x.0 → (if same_node m n then k.settled else mark_of ks m) ≡ (if same_node m n then k.settled else (if same_node m x.0 then x.1.settled else mark_of ks m))
-    under m e = elim (either (same_node m n)) [
+    under m e = elim (cases_Bool (same_node m n)) [
       | inl t ↦ rw t refl
       | inr f ↦ (let g : same_node m x.0 ≡ false = subst (λ (y : Node). same_node m y ≡ false) e f in rw f (rw g refl))
     ]
 
     apart : m ≡ x.0 → same_node n x.0 ≡ false → same_node m n ≡ false
-    apart e f = elim (either (same_node m n)) [
+    apart e f = elim (cases_Bool (same_node m n)) [
       | inl t ↦ absurd (clash (subst (λ (y : Node). same_node y x.0 ≡ false) (sym (same_node_exact m n t) ∙ e) f))
       | inr g ↦ g
     ]
@@ -120,15 +118,15 @@ module _ {V F : Type 0} (S : F → Node → Kept (Shown V) → Bool → Kept (Sh
 
   cleared_memos : (ks : List (Slot V)) → as_memos (cleared ks) ≡ filter (λ m. keep m.node) (as_memos ks)
   cleared_memos [] = refl
-  cleared_memos (k ∷ ks) = elim (either (keep k.0)) [
+  cleared_memos (k ∷ ks) = elim (cases_Bool (keep k.0)) [
     | inl t ↦ rw t (ap (λ (r : List (Memo V)). as_memo k ∷ r) (cleared_memos ks))
     | inr g ↦ rw g (cleared_memos ks)
   ]
 
   cleared_marks : (ks : List (Slot V)) (n : Node) → mark_of (cleared ks) n ≡ false
   cleared_marks [] n = refl
-  cleared_marks (k ∷ ks) n = elim (either (keep k.0)) [
-    | inl t ↦ rw t (elim (either (same_node n k.0)) [ inl s ↦ rw s refl | inr g ↦ rw g (cleared_marks ks n) ])
+  cleared_marks (k ∷ ks) n = elim (cases_Bool (keep k.0)) [
+    | inl t ↦ rw t (elim (cases_Bool (same_node n k.0)) [ inl s ↦ rw s refl | inr g ↦ rw g (cleared_marks ks n) ])
     | inr g ↦ rw g (cleared_marks ks n)
   ]
 

@@ -3,7 +3,7 @@ use Rattle.std.proofs.Common.{ℕ, ◌≡◌, ◌+◌, ◌<◌, ◌≤◌, ◌�
 use Rattle.std.proofs.lemmas.List.{take_more, get_or-take, get_or_past, length-set, length-take, get_or-set_same, get_or-set_other}
 use Rattle.std.proofs.lemmas.List.Elements.{Contains-append_cases}
 use Rattle.std.proofs.lemmas.Option.{none-some, slice_get_within, slice_get_past, slice_get-get_or, get_or_from_slice_get}
-use Rattle.std.proofs.lemmas.Bool.{cases_order, cases_lt}
+use Rattle.std.proofs.lemmas.Bool.{cases_order, cases_lt, cases_eq, not-false}
 use Rattle.std.specs.List.{filter_map, cons_option}
 use Rattle.std.specs.Vec.{with_item}
 use Rattle.binding_kinds.specs.declared.scope.Input.{Input}
@@ -41,14 +41,6 @@ get_set_other (y ∷ ys) zero zero x other = absurd (other refl)
 get_set_other (y ∷ ys) zero (suc j) x other = refl
 get_set_other (y ∷ ys) (suc i) zero x other = refl
 get_set_other (y ∷ ys) (suc i) (suc j) x other = get_set_other ys i j x (λ e. other (ap suc e))
-
-same_or_not : (i j : ℕ) → (i ≡ j) ⊎ (i ≡ j → ⊥)
-same_or_not i j = of (cases_order i j)
-  where
-    of : (i ≡ j) ⊎ ((i < j) ⊎ (j < i)) → (i ≡ j) ⊎ (i ≡ j → ⊥)
-    of (inl e) = inl e
-    of (inr (inl less)) = inr (λ e. omega (arith, less, e))
-    of (inr (inr more)) = inr (λ e. omega (arith, more, e))
 
 -- one element more
 taken_more : {X : Type 0} (xs : List X) (i : ℕ) (d x : X) → i < length xs → Contains (take (i + 1) xs) x → Contains (take i xs) x ⊎ (x ≡ get_or xs i d)
@@ -211,8 +203,8 @@ whole_next last n at space r whole old new lt alike needed given = (with_columns
     after = record {
       columns = record {
         count = given.count ∙ alike.columns.count;
-        long = λ j d. long_by j d (same_or_not j at);
-        others = λ name stays. other_by name stays (same_or_not name.item at);
+        long = λ j d. long_by j d (cases_eq j at);
+        others = λ name stays. other_by name stays (cases_eq name.item at);
       };
       kept = refl;
       flags = refl;
@@ -229,14 +221,10 @@ left_more P [] w before now (suc j) left = absurd cc
 left_more P (x ∷ ws) w before now zero left = before 0 left
 left_more P (x ∷ ws) w before now (suc j) left = left_more (λ k. P (suc k)) ws w (λ k e. before (suc k) e) now j left
 
-is_not : (b : Bool) → not b ≡ false → b ≡ true
-is_not true e = refl
-is_not false e = absurd cc
-
 pub enough_more : (last : LastUsers) (at position : ℕ) (ws : List Bool) (gone : Bool) → length ws ≡ position → AreEnough last at ws → (IsTrue gone → IsGone last (at + 1) (record { item = at; position = position })) → AreEnough last at (ws ++ not gone ∷ [])
 enough_more last at position ws gone long before now =
     left_more (λ j. IsGone last (at + 1) (record { item = at; position = j })) ws (not gone) before
-    (λ e. subst (λ j. IsGone last (at + 1) (record { item = at; position = j })) (sym long) (now (is_not gone e)))
+    (λ e. subst (λ j. IsGone last (at + 1) (record { item = at; position = j })) (sym long) (now (not-false gone e)))
 
 -- ---- what an item gives, but for some columns
 
@@ -301,8 +289,8 @@ module _ (wanted : List Bool) (at : ℕ) (old new : Vec (Vec Column Global) Glob
   lets_left_out : LetsGo (IsLeftOut wanted at) (with_item old at all) new
   lets_left_out = record {
     count = count;
-    long = λ j d. long_at j d (same_or_not j at) (cases_lt j (length old.items));
-    others = λ name stays. column_at name stays (same_or_not name.item at) (cases_lt name.item (length old.items));
+    long = λ j d. long_at j d (cases_eq j at) (cases_lt j (length old.items));
+    others = λ name stays. column_at name stays (cases_eq name.item at) (cases_lt name.item (length old.items));
   }
 
 said_group : (role : Role) (Answers : List Bool → Type 0) (Before : List (List Bool) → List Flag → Type 0) (checks : List (List Bool)) (flags : List Flag) → IsGroup role → Before checks flags → IsSaidBy role Answers Before checks flags

@@ -1,8 +1,8 @@
 -- Lists with one element changed keep their keys apart.
 use Rattle.std.proofs.Common.{ℕ, zero, suc, ◌+◌, ◌<◌, ◌≤◌, ◌≡◌, ◌≢◌, ◌⊎◌, inl, inr, Bool, true, false, List, [], ◌∷◌, ◌++◌, length, map, slice_index_or, refl, sym, ap, subst, ◌∙◌, arith}
 use Rattle.std.specs.List.{flat_map, position_or_len, insert, remove}
+use Rattle.std.proofs.lemmas.Bool.{cases_Bool}
 use Rattle.memo_core.specs.Step.{Has}
-use Rattle.memo_core.proofs.Theory.{either}
 use Rattle.bench_texts.specs.BenchTexts.{put_at, changed_at}
 use Rattle.orderly_texts.specs.Orderly.{AreApart}
 
@@ -24,7 +24,7 @@ has_put f (suc i) y (x ∷ xs) k h = elim h [
 -- the key is put at the index of the first that has it, or at the end
 pub apart_put : {A K : Type 0} (f : A → K) (p : A → Bool) (k : K) (same : (x : A) → p x ≡ true → f x ≡ k) (other : (x : A) → p x ≡ false → f x ≢ k) (y : A) (xs : List A) → f y ≡ k → AreApart (map f xs) → AreApart (map f (put_at (position_or_len p xs) y xs))
 apart_put f p k same other y [] e h = ((λ n. n), tt)
-apart_put f p k same other y (x ∷ xs) e h = elim (either (p x)) [
+apart_put f p k same other y (x ∷ xs) e h = elim (cases_Bool (p x)) [
   | inl t ↦ rw t (subst (λ n. (Has (map f xs) n → ⊥) × AreApart (map f xs)) (same x t ∙ sym e) h)
   | inr t ↦ rw t (rw (one_more (position_or_len p xs)) (
     (λ n. elim (has_put f (position_or_len p xs) y xs (f x) n) [ inl m ↦ h.0 m | inr is ↦ other x t (sym is ∙ e) ]),
@@ -35,7 +35,7 @@ apart_put f p k same other y (x ∷ xs) e h = elim (either (p x)) [
 -- where one that has the key is there, the keys stay what they are
 pub keys_put : {A K : Type 0} (f : A → K) (p : A → Bool) (k : K) (same : (x : A) → p x ≡ true → f x ≡ k) (y : A) (xs : List A) → f y ≡ k → position_or_len p xs < length xs → map f (put_at (position_or_len p xs) y xs) ≡ map f xs
 keys_put f p k same y [] e h = absurd (omega (arith, h))
-keys_put f p k same y (x ∷ xs) e h = elim (either (p x)) [
+keys_put f p k same y (x ∷ xs) e h = elim (cases_Bool (p x)) [
   | inl t ↦ rw t (ap (λ n. n ∷ map f xs) (e ∙ sym (same x t)))
   | inr t ↦ (let lt : 1 + position_or_len p xs < suc (length xs) = rw t at h in
       rw t (rw (one_more (position_or_len p xs)) (ap (λ ns. f x ∷ ns) (keys_put f p k same y xs e (omega arith)))))

@@ -1,7 +1,7 @@
 -- How many orders stores have.
 use Rattle.std.proofs.Common.{ℕ, zero, suc, ◌≡◌, ◌<◌, ◌≤◌, ◌+◌, ◌-◌, ◌*◌, min, inl, inr, List, [], ◌∷◌, ◌++◌, map, filter, length, get_or, take, replicate, Bool, true, false, not, ◌||◌, cond, nat_eq, refl, sym, subst, ap, ◌∙◌, arith}
 use Rattle.std.specs.List.{flat_map}
-use Rattle.std.proofs.lemmas.Bool.{cases_lt}
+use Rattle.std.proofs.lemmas.Bool.{cases_lt, or_parts}
 use Rattle.std.proofs.lemmas.Bool.Decides.{nat_tests}
 use Rattle.std.proofs.lemmas.List.{length-append, length-map, length-take, append-nil}
 use Rattle.std.proofs.Math.Nat.{one-le-mul, mul-zero, zero-mul, suc-mul, mul_comm, le-mul_of_pos_right}
@@ -84,10 +84,6 @@ eq_turned a b h = grind (arith, nat_tests)
 or_second : (a b : Bool) → a ≡ false → (a || b) ≡ true → b ≡ true
 or_second true b k l = absurd cc
 or_second false b k l = l
-
-pub or_parts : (a b : Bool) → (a || b) ≡ false → (a ≡ false) × (b ≡ false)
-or_parts true b h = absurd cc
-or_parts false b h = (refl, h)
 
 -- what has not the store stays whole
 none_unlike : (zs : List ℕ) (x : ℕ) → has_store zs x ≡ false → filter (unlike x) zs ≡ zs

@@ -8,6 +8,7 @@ use Rattle.std.proofs.lemmas.List.Elements.{filter-append}
 use Rattle.std.proofs.Math.Nat.{zero-mul, suc-mul, mul-le-mul_right, mul-div_cancel}
 use Rattle.std.proofs.Math.Seq.{take-append_seam, drop-append_seam}
 use Rattle.std.proofs.lemmas.List.{append_assoc, append-nil, length-append, length-take, drop-drop, take_more, map-append}
+use Rattle.std.proofs.lemmas.List.Folds.{concat-append}
 use Rattle.run_combinations.specs.Lists.{rows_in}
 use Rattle.run_combinations.specs.Events.{numbers, has_store}
 use Rattle.run_combinations.specs.Orders.{is_thread_store, stores_of, all_orders}
@@ -21,10 +22,6 @@ use Rattle.run_combinations.proofs.Fronts.{orders_are_all}
 abbrev pub HaveWidth : ℕ → List (List ℕ) → Type 0
 HaveWidth n [] = Unit {0}
 HaveWidth n (x ∷ xs) = (length x ≡ n) × HaveWidth n xs
-
-pub concat-append : (xs ys : List (List ℕ)) → concat (xs ++ ys) ≡ concat xs ++ concat ys
-concat-append [] ys = refl
-concat-append (x ∷ xs) ys = ap (λ (l : List ℕ). x ++ l) (concat-append xs ys) ∙ sym (append_assoc x (concat xs) (concat ys))
 
 -- lists of one width are the rows of what they are joined to
 pub rows_joined : (n : ℕ) (xs : List (List ℕ)) → HaveWidth n xs → rows_in n (length xs) (concat xs) ≡ xs

@@ -4,18 +4,11 @@ use Rattle.std.specs.List.{flat_map}
 use Rattle.std.proofs.lemmas.Bool.Decides.{nat_tests}
 use Rattle.std.proofs.lemmas.List.{replicate_more}
 use Rattle.std.proofs.lemmas.List.Folds.{list_any-append}
+use Rattle.std.proofs.lemmas.Bool.{or_parts, or_from}
 use Rattle.run_combinations.specs.Lists.{tuples, IsFiltered, none, kept, left}
 use Rattle.run_combinations.specs.Events.{has_store, AreDistinct}
 use Rattle.run_combinations.specs.Orders.{with_new}
 use Rattle.run_combinations.proofs.Filters.{IsFiltered-stages, none_of_map, tuples_more}
-
-or_false : (a b : Bool) → (a || b) ≡ false → (a ≡ false) × (b ≡ false)
-or_false true b h = absurd (cc)
-or_false false b h = (refl, h)
-
-both_false : (a b : Bool) → a ≡ false → b ≡ false → (a || b) ≡ false
-both_false true b h k = h
-both_false false b h k = k
 
 eq_swap : (a b : ℕ) → nat_eq a b ≡ false → nat_eq b a ≡ false
 eq_swap a b h = grind (arith, nat_tests)
@@ -26,25 +19,25 @@ has_store-append t s x = list_any-append (λ y. nat_eq y x) t (s ∷ [])
 lacks_both : (t : List ℕ) (s x : ℕ) → has_store (t ++ s ∷ []) x ≡ false → (has_store t x ≡ false) × (nat_eq s x ≡ false)
 lacks_both t s x h =
     let e : (has_store t x || (nat_eq s x || false)) ≡ false = rw (has_store-append t s x) at h in
-    let p : (has_store t x ≡ false) × ((nat_eq s x || false) ≡ false) = or_false _ _ e in
-    (p.0, (or_false _ _ p.1).0)
+    let p : (has_store t x ≡ false) × ((nat_eq s x || false) ≡ false) = or_parts _ _ e in
+    (p.0, (or_parts _ _ p.1).0)
 
 lacks_more : (t : List ℕ) (s x : ℕ) → has_store t x ≡ false → nat_eq s x ≡ false → has_store (t ++ s ∷ []) x ≡ false
 lacks_more t s x h k =
     let F : Bool → Type 0 = λ b. b ≡ false in
-    subst F (sym (has_store-append t s x)) (both_false (has_store t x) (nat_eq s x || false) h (both_false (nat_eq s x) false k refl))
+    subst F (sym (has_store-append t s x)) (or_from (has_store t x) (nat_eq s x || false) h (or_from (nat_eq s x) false k refl))
 
 distinct_front : (t : List ℕ) (s : ℕ) → AreDistinct (t ++ s ∷ []) → AreDistinct t × (has_store t s ≡ false)
 distinct_front [] s h = (tt, refl)
 distinct_front (x ∷ xs) s h =
     let rest = distinct_front xs s h.1 in
     let first = lacks_both xs s x h.0 in
-    ((first.0, rest.0), both_false (nat_eq x s) (has_store xs s) (eq_swap s x first.1) rest.1)
+    ((first.0, rest.0), or_from (nat_eq x s) (has_store xs s) (eq_swap s x first.1) rest.1)
 
 distinct_more : (t : List ℕ) (s : ℕ) → AreDistinct t → has_store t s ≡ false → AreDistinct (t ++ s ∷ [])
 distinct_more [] s d h = (refl, tt)
 distinct_more (x ∷ xs) s d h =
-    let p : (nat_eq x s ≡ false) × (has_store xs s ≡ false) = or_false (nat_eq x s) (has_store xs s) h in
+    let p : (nat_eq x s ≡ false) × (has_store xs s ≡ false) = or_parts (nat_eq x s) (has_store xs s) h in
     (lacks_more xs s x d.0 (eq_swap x s p.0), distinct_more xs s d.1 p.1)
 
 -- a further store of those that may come next

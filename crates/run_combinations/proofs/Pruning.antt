@@ -2,6 +2,7 @@
 use Rattle.std.proofs.Common.{ℕ, zero, suc, ◌≡◌, ◌<◌, ◌+◌, ◌⊎◌, ◌↔◌, ◌&&◌, Bool, true, false, cond, nat_eq, List, [], ◌∷◌, ◌++◌, map, filter, take, length, get_or, Option, Some, inl, inr, arith, refl, sym, ap, subst, ◌∙◌}
 use Rattle.std.specs.List.{flat_map}
 use Rattle.std.proofs.lemmas.List.{take_more}
+use Rattle.std.proofs.lemmas.Bool.{and_parts}
 use Rattle.thread_runs.specs.declared.value.Value.{Value}
 use Rattle.thread_runs.specs.declared.value.Value.TheVariants.{Number, Address, NoValue}
 use Rattle.run_combinations.proofs.Counting.{eq_true}
@@ -34,12 +35,6 @@ store_split l v [] fs h = inr h
 store_split l v (e ∷ es) fs (inl h) = inl (inl h)
 store_split l v (e ∷ es) fs (inr h) = elim (store_split l v es fs h) [ inl s ↦ inl (inr s) | inr s ↦ inr s ]
 
--- what a load may read is a store of its location and value
-both_true : (a b : Bool) → (a && b) ≡ true → (a ≡ true) × (b ≡ true)
-both_true true true e = (refl, refl)
-both_true true false e = absurd cc
-both_true false b e = absurd cc
-
 value_is : (w v : Value) → same_value w v ≡ true → w ≡ v
 value_is (Number m) (Number n) e = ap (λ (k : ℕ). Number k) (eq_true m n e)
 value_is (Number m) (Address n) e = absurd cc
@@ -55,7 +50,7 @@ pub is_store_of : (l : ℕ) (v : Value) (a : Action) → may_read (Read l v) a �
 is_store_of l v (Read location value) e = absurd cc
 is_store_of l v (Fence fence) e = absurd cc
 is_store_of l v (Write location written) e =
-    let b : (nat_eq location l ≡ true) × (same_value written v ≡ true) = both_true (nat_eq location l) (same_value written v) e in
+    let b : (nat_eq location l ≡ true) × (same_value written v ≡ true) = and_parts (nat_eq location l) (same_value written v) e in
     ap (λ (k : ℕ). Write k written) (eq_true location l b.0) ∙ ap (λ (w : Value). Write l w) (value_is written v b.1)
 
 no_source : (l : ℕ) (v : Value) (a : Action) → a ≡ Read l v → (at : ℕ) (es : List Event) → (HasStore l v es → ⊥) → numbers (λ e. may_read a e.action) at es ≡ []

@@ -3,7 +3,7 @@ use Rattle.std.proofs.Common.{◌≡◌, ℕ, zero, suc, ◌+◌, ◌-◌, ◌*�
 use Rattle.std.specs.Prelude.{slice_get, IsSome, if◌then◌else◌, nat_lt}
 use Rattle.std.proofs.Math.Nat.{mul-le-mul_left}
 use Rattle.std.proofs.lemmas.Bool.{cases_lt}
-use Rattle.std.proofs.lemmas.Option.{none-some}
+use Rattle.std.proofs.lemmas.Option.{none-some, same_Some}
 use Rattle.text_values.specs.declared.test.Test.{Test}
 use Rattle.text_values.specs.TestValue.{Content, content_of}
 use Rattle.verdict.specs.declared.answer.Outcome.{Outcome}
@@ -39,9 +39,6 @@ settled_get [] j h = cc
 settled_get (None ∷ os) zero h = cc
 settled_get (Some o ∷ os) zero h = (o, refl)
 settled_get (p ∷ os) (suc j) h = settled_get os j h
-
-some_is : {A : Type 0} (x y : A) → Some x ≡ Some y → x ≡ y
-some_is x y e = cc
 
 -- a cell at these indexes, settled
 shown_there : (b : BoardContent) (i j : ℕ) (r : RowContent) → slice_get b.rows i ≡ Some r → IsSome (outcome_at r.cells j) → (o : Outcome) × (shown_cell (cell_at b.rows i j) ≡ Settled o)
@@ -129,7 +126,7 @@ row_get test (c ∷ cs) (o ∷ os) (suc j) = row_get test cs os j
 in_row : (columns : List ColumnContent) (r : RowContent) (rs : List RowContent) (j : ℕ) (cell : BoardCell Outcome) (c : Option ColumnContent) → slice_get columns j ≡ c → row_cell r.name c (outcome_at r.cells j) ≡ Some cell → IsListed columns (r ∷ rs) cell
 in_row columns r rs j cell None there e = absurd (none-some cell e)
 in_row columns r rs j cell (Some c) there e =
-    let same : cell_with r.name c.name (outcome_at r.cells j) ≡ cell = some_is (cell_with r.name c.name (outcome_at r.cells j)) cell e in
+    let same : cell_with r.name c.name (outcome_at r.cells j) ≡ cell = same_Some (cell_with r.name c.name (outcome_at r.cells j)) cell e in
     record {
       i = 0;
       j = j;

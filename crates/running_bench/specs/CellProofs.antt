@@ -7,11 +7,11 @@ use Rattle.std.proofs.lemmas.Bool.Decides.{eqb_tells}
 use Rattle.std.specs.List.{position_or_len}
 use Rattle.std.specs.Str.{bytes_eq}
 use Rattle.std.proofs.lemmas.Slice.Eq.{bytes_eq-Decides}
+use Rattle.std.proofs.lemmas.Bool.{cases_Bool}
 use Rattle.text_values.specs.declared.test.Test.{Test}
 use Rattle.text_values.specs.TestValue.{Content, content_of}
 use Rattle.memo_core.specs.declared.keys.Node.{Node}
 use Rattle.memo_core.specs.Step.{Has}
-use Rattle.memo_core.proofs.Theory.{either}
 use Rattle.bench_nodes.specs.declared.table.ModelRow.{ModelRow}
 use Rattle.bench_nodes.specs.declared.table.TestRow.{TestRow}
 use Rattle.bench_nodes.specs.Nodes.{used, has_test}
@@ -95,7 +95,7 @@ module _ {A B : Type 0} (name : B → List ℕ) (f : A → B) (wanted : List ℕ
   -- what stands at the index of a name has that name
   pub is_named : (xs : List A) (a : A) → slice_get xs (found_at xs) ≡ Some a → name (f a) ≡ wanted
   is_named [] a = λ e. none_is e
-  is_named (x ∷ xs) a = elim (either (bytes_eq (name (f x)) wanted)) [
+  is_named (x ∷ xs) a = elim (cases_Bool (bytes_eq (name (f x)) wanted)) [
     | inl t ↦ rw t (λ e. ap (λ (y : A). name (f y)) (sym (some_is e)) ∙ named (name (f x)) wanted t)
     | inr t ↦ rw t (λ e. is_named xs a (ap (slice_get (x ∷ xs)) (sym (one_more (found_at xs))) ∙ e))
   ]
@@ -111,7 +111,7 @@ module _ {A B : Type 0} (name : B → List ℕ) (f : A → B) (wanted : List ℕ
   stands_there (x ∷ xs) zero a apart e n =
       let t : bytes_eq (name (f x)) wanted ≡ true = ap (λ (w : List ℕ). bytes_eq w wanted) (ap (λ (y : A). name (f y)) (some_is e) ∙ n) ∙ itself wanted in
       rw t refl
-  stands_there (x ∷ xs) (suc i) a apart e n = elim (either (bytes_eq (name (f x)) wanted)) [
+  stands_there (x ∷ xs) (suc i) a apart e n = elim (cases_Bool (bytes_eq (name (f x)) wanted)) [
     | inl t ↦ absurd (apart.0 (subst (λ (w : List ℕ). Has (map (λ (y : A). name (f y)) xs) w) (n ∙ sym (named (name (f x)) wanted t)) (name_there xs i a e)))
     | inr t ↦ (let more : 1 + found_at xs ≡ suc i = (let k : found_at xs ≡ i = stands_there xs i a apart.1 e n in omega arith) in rw t more)
   ]

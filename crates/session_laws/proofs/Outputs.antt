@@ -1,6 +1,7 @@
 -- Commands of which none is refused have one output.
 use Rattle.std.proofs.Common.{◌≡◌, ℕ, List, [], ◌∷◌, ◌++◌, Bool, true, false, ◌||◌, refl, sym, ap, ◌∙◌, subst}
 use Rattle.std.proofs.lemmas.List.{append_assoc, append-nil}
+use Rattle.std.proofs.lemmas.Bool.{or_parts}
 use Rattle.session_script.specs.declared.command.Command.{Command}
 use Rattle.session_script.specs.declared.command.Command.TheVariants as commands
 use Rattle.bench_texts.specs.BenchTexts.{BenchTexts}
@@ -72,11 +73,6 @@ last_one (x ∷ front) (y ∷ other) c d e =
     let r = last_one front other c d rest in
     record { fronts = (λ i. heads i ∷ r.fronts i); ends = r.ends }
 
-neither : (a b : Bool) → (a || b) ≡ false → (a ≡ false) × (b ≡ false)
-neither false false e = (refl, refl)
-neither false true e = absurd (let h : true ≡ false = e in cc)
-neither true b e = absurd (let h : true ≡ false = e in cc)
-
 -- ---- outputs
 
 record IsOne (a b : List ℕ) (t u : BenchTexts) : Type 0 where
@@ -96,8 +92,8 @@ one_output cs a p t Nothing ds b q u (OneMore other text2 refused2 texts2 d said
 one_output cs a p t (OneMore front text1 refused1 texts1 c said1 after h1 answer1) ds b q u Nothing e f g = absurd (no_command front c (sym e))
 one_output cs a p t (OneMore front text1 refused1 texts1 c said1 after h1 answer1) ds b q u (OneMore other text2 refused2 texts2 d said2 later h2 answer2) e f g =
     let l = last_one front other c d e in
-    let m = neither refused1 said1.refused f in
-    let n = neither refused2 said2.refused g in
+    let m = or_parts refused1 said1.refused f in
+    let n = or_parts refused2 said2.refused g in
     let same = one_output front text1 refused1 texts1 h1 other text2 refused2 texts2 h2 l.fronts m.0 n.0 in
     one_more front other c d text1 text2 refused1 refused2 texts1 texts2 said1 said2 after later l.fronts l.ends (few_output front text1 refused1 texts1 h1) same m.1 n.1 answer1 answer2
 
@@ -139,7 +135,7 @@ front_output cs whole p t (OneMore front text refused texts c said after h answe
 }
 front_output cs whole p t (OneMore front text refused texts c said after h answer) first (x ∷ others) e f =
     let cut = cut_last first others front c x (sym e) in
-    let r = front_output front text refused texts h first cut.0 cut.1 (neither refused said.refused f).0 in
+    let r = front_output front text refused texts h first cut.0 cut.1 (or_parts refused said.refused f).0 in
     record { text = r.text; texts = r.texts; output = r.output; rest = r.rest ++ said.text; split = ap (λ (l : List ℕ). l ++ said.text) r.split ∙ append_assoc r.text r.rest said.text }
 
 pub begins_alike : (first others : List Command) → BeginsAlike first others

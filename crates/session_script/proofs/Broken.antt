@@ -5,12 +5,9 @@ use Rattle.std.specs.List.{position_or_len}
 use Rattle.std.proofs.lemmas.List.{take-append-drop, take_all}
 use Rattle.std.proofs.lemmas.List.Sums.{fails_before_first, passes_at_first}
 use Rattle.std.proofs.lemmas.Grind.{common_steps}
+use Rattle.std.proofs.lemmas.Bool.{and_right}
 use Rattle.text_values.specs.Layout.{is_line_end}
 use Rattle.session_script.specs.Lines.{onto_first, lines_of, IsUnbroken, without_return}
-
-second_false : (a b : Bool) → b ≡ false → (a && b) ≡ false
-second_false true b q = q
-second_false false b q = refl
 
 on_line : (b : ℕ) (bs : List ℕ) → (b == 10) ≡ false → (b == 13 && slice_index bs 0 == 10) ≡ false → lines_of (b ∷ bs) ≡ onto_first b (lines_of bs)
 on_line b bs e f = rw (e, f) refl
@@ -27,13 +24,13 @@ ended_line (b ∷ []) rest h = by (b == 13) refl
     by true e = past_return b (10 ∷ rest) h.0 (ap (λ (y : Bool). y && true) e) ∙ rw e refl
     by false e = on_line b (10 ∷ rest) h.0 (ap (λ (y : Bool). y && true) e) ∙ rw e refl
 ended_line (b ∷ c ∷ cs) rest h =
-    on_line b (c ∷ cs ++ 10 ∷ rest) h.0 (second_false (b == 13) (c == 10) h.1.0) ∙ ap (λ (ls : List (List ℕ)). onto_first b ls) (ended_line (c ∷ cs) rest h.1)
+    on_line b (c ∷ cs ++ 10 ∷ rest) h.0 (and_right (b == 13) (c == 10) h.1.0) ∙ ap (λ (ls : List (List ℕ)). onto_first b ls) (ended_line (c ∷ cs) rest h.1)
 
 -- the last line, without a line feed
 pub last_line : (b : ℕ) (line : List ℕ) → IsUnbroken (b ∷ line) → lines_of (b ∷ line) ≡ (b ∷ line) ∷ []
-last_line b [] h = on_line b [] h.0 (second_false (b == 13) false refl)
+last_line b [] h = on_line b [] h.0 (and_right (b == 13) false refl)
 last_line b (c ∷ cs) h =
-    on_line b (c ∷ cs) h.0 (second_false (b == 13) (c == 10) h.1.0) ∙ ap (λ (ls : List (List ℕ)). onto_first b ls) (last_line c cs h.1)
+    on_line b (c ∷ cs) h.0 (and_right (b == 13) (c == 10) h.1.0) ∙ ap (λ (ls : List (List ℕ)). onto_first b ls) (last_line c cs h.1)
 
 pub unbroken_joined : (a b : List ℕ) → IsUnbroken a → IsUnbroken b → IsUnbroken (a ++ b)
 unbroken_joined [] b h k = k

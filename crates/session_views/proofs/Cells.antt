@@ -1,6 +1,7 @@
 -- A cell that is settled on a board is right for the texts that the board shows.
 use Rattle.std.proofs.Common.{◌≡◌, ℕ, zero, suc, List, [], ◌∷◌, length, map, Option, Some, None, IfSome, Bor, refl, sym, ap, ◌∙◌, subst, arith}
 use Rattle.std.specs.Prelude.{slice_get}
+use Rattle.std.proofs.lemmas.Option.{same_Some}
 use Rattle.text_values.specs.TestValue.{Content, content_of}
 use Rattle.verdict.specs.declared.answer.Outcome.{Outcome}
 use Rattle.bench_texts.specs.BenchTexts.{BenchTexts, PlainModel}
@@ -21,17 +22,14 @@ get_mapped f [] i x e = absurd cc
 get_mapped f (y ∷ xs) zero x e = let same : y ≡ x = (cc) in ap (λ z. Some (f z)) same
 get_mapped f (y ∷ xs) (suc i) x e = get_mapped f xs i x e
 
-some_is : {A : Type 0} (x y : A) → Some x ≡ Some y → x ≡ y
-some_is x y e = cc
-
 -- the outcome is that of these two, at their indexes
 outcome_at : (t : BenchTexts) (b : BoardContent) (s : ShowsTexts t b) (i j : ℕ) (o : Outcome) → IsRightAt (texts_after s.ops) i j o → (c : Content) (m : PlainModel) → slice_get t.tests i ≡ Some c → slice_get t.models j ≡ Some m → IsOutcome c m o
 outcome_at t b s i j o r c m test model =
     let plain = contents_are_those s.ops in
     let tests : slice_get t.tests i ≡ Some (content_of r.test) = ap (λ (x : BenchTexts). slice_get x.tests i) (sym s.texts) ∙ ap (λ (l : List Content). slice_get l i) plain.tests ∙ get_mapped content_of (texts_after s.ops).tests i r.test r.test_there in
     let models : slice_get t.models j ≡ Some (model_of r.model) = ap (λ (x : BenchTexts). slice_get x.models j) (sym s.texts) ∙ ap (λ (l : List PlainModel). slice_get l j) plain.models ∙ get_mapped model_of (texts_after s.ops).models j r.model r.model_there in
-    let same_test : content_of r.test ≡ c = some_is (content_of r.test) c (sym tests ∙ test) in
-    let same_model : model_of r.model ≡ m = some_is (model_of r.model) m (sym models ∙ model) in
+    let same_test : content_of r.test ≡ c = same_Some (content_of r.test) c (sym tests ∙ test) in
+    let same_model : model_of r.model ≡ m = same_Some (model_of r.model) m (sym models ∙ model) in
     let long : length r.model.numbers.items ≡ length r.model.text.items.items = omega (arith, r.model.paired, r.model.numbers.ok.0, r.model.text.items.ok.0) in
     subst (λ (x : Content). IsOutcome x m o) same_test
     (subst (λ (x : PlainModel). IsOutcome (content_of r.test) x o) same_model

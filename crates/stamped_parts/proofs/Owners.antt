@@ -1,6 +1,7 @@
 -- Each used node of a state that is built is of an item or a model that is there.
 use Rattle.std.proofs.Common.{ℕ, ◌≡◌, inl, inr, ◌==◌, ◌||◌, Bool, true, false, if◌then◌else◌, List, [], ◌∷◌, map, Option, Some, None, slice_get, refl, ap, sym, subst, ◌∙◌, eq-eqb}
 use Rattle.std.specs.List.{AllZip, AllByRecursion as Each, flat_map}
+use Rattle.std.proofs.lemmas.Bool.{or_right}
 use Rattle.memo_core.specs.declared.keys.Kind.{Kind}
 use Rattle.memo_core.specs.declared.keys.Kind.TheVariants as kinds
 use Rattle.memo_core.specs.declared.keys.Node.{Node}
@@ -53,10 +54,6 @@ kind_there (i ∷ is) (r ∷ rs) (k ∷ ks) n role history kind h e f = by_test 
     by_test false e later = later e
 
 -- ---- models
-
-or_right : (a b : Bool) → b ≡ true → (a || b) ≡ true
-or_right true b h = refl
-or_right false b h = h
 
 model_there : (ms : List ModelRow) (id : ℕ) → Has (map (λ m. m.id) ms) id → has_model ms id ≡ true
 model_there [] id h = absurd h

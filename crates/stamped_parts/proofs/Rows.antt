@@ -2,6 +2,7 @@
 use Rattle.std.proofs.Common.{ℕ, zero, suc, ◌+◌, ◌-◌, ◌<◌, ◌≤◌, ◌≡◌, ◌==◌, Bool, true, false, if◌then◌else◌, not, cond, List, [], ◌∷◌, length, Vec, Option, Some, None, slice_get, refl, ap, sym, ◌∙◌, eqb-true, arith}
 use Rattle.std.specs.List.{position_or_len}
 use Rattle.std.specs.declared.alloc.Global.{Global}
+use Rattle.std.proofs.lemmas.Option.{same_Some}
 use Rattle.text_values.specs.declared.test.Test.{Test}
 use Rattle.memo_core.specs.declared.keys.Kind.{Kind}
 use Rattle.binding_kinds.specs.declared.fault.ModelFault.{ModelFault}
@@ -13,9 +14,6 @@ use Rattle.shared_items.specs.declared.items.SharedItem.{SharedItem}
 use Rattle.stamped_parts.specs.Contents.{PartContent, role_part, item_content, fault_part, fault_content, test_part, test_content}
 use Rattle.stamped_parts.specs.States.{is_kind, has_kind}
 use Rattle.stamped_parts.specs.Views.{FoundTest, view_of}
-
-some_is : {X : Type 0} (a b : X) → Some a ≡ Some b → a ≡ b
-some_is a b e = cc
 
 -- ---- two lists
 
@@ -32,7 +30,7 @@ module _ {X Y Z : Type 0} (number : X → ℕ) (f : Y → Z) (none : Z) (n : ℕ
   beside_at (x ∷ xs) (z ∷ zs) zero y p lt at = by_test (number x == n) p
     where
       by_test : (b : Bool) → cond (not b) (1 + position_or_len (λ x. number x == n) xs) 0 ≡ 0 → (if b then f z else beside number f none xs zs n) ≡ f y
-      by_test true p = ap f (some_is z y at)
+      by_test true p = ap f (same_Some z y at)
       by_test false p = absurd (omega (arith, p))
   beside_at (x ∷ xs) (z ∷ zs) (suc i) y p lt at = by_test (number x == n) p (λ q. beside_at xs zs i y q (omega (arith, lt)) at)
     where
@@ -111,7 +109,7 @@ view_at id (x ∷ xs) (y ∷ ys) [] i r t l p a b c = absurd (let e : None ≡ S
 view_at id (x ∷ xs) (y ∷ ys) (z ∷ zs) zero r t l p a b c = by_test (x.id == id) p
   where
     by_test : (d : Bool) → cond (not d) (1 + position_or_len (λ x. x.id == id) xs) 0 ≡ 0 → (if d then Some (record { row = x; test = y; locations = z.items }) else view_of xs ys zs id) ≡ Some (record { row = r; test = t; locations = l.items })
-    by_test true p = let e = some_is x r a in let f = some_is y t b in let g = some_is z l c in cc
+    by_test true p = let e = same_Some x r a in let f = same_Some y t b in let g = same_Some z l c in cc
     by_test false p = absurd (omega (arith, p))
 view_at id (x ∷ xs) (y ∷ ys) (z ∷ zs) (suc i) r t l p a b c = by_test (x.id == id) p (λ q. view_at id xs ys zs i r t l q a b c)
   where
@@ -152,7 +150,7 @@ row_in (r ∷ rs) (t ∷ ts) [] id v e = absurd (let f : None ≡ Some v = e in 
 row_in (r ∷ rs) (t ∷ ts) (l ∷ ls) id v e = by_test (r.id == id) e (λ f. row_in rs ts ls id v f)
   where
     by_test : (b : Bool) → (if b then Some (record { row = r; test = t; locations = l.items }) else view_of rs ts ls id) ≡ Some v → (view_of rs ts ls id ≡ Some v → row_of rs id ≡ Some v.row) → (if b then Some r else row_of rs id) ≡ Some v.row
-    by_test true e later = ap (λ (w : FoundTest). Some w.row) (some_is (record { row = r; test = t; locations = l.items }) v e)
+    by_test true e later = ap (λ (w : FoundTest). Some w.row) (same_Some (record { row = r; test = t; locations = l.items }) v e)
     by_test false e later = later e
 
 pub row_number : (rs : List TestRow) (id : ℕ) (r : TestRow) → row_of rs id ≡ Some r → r.id ≡ id
@@ -160,5 +158,5 @@ row_number [] id r e = absurd (let f : None ≡ Some r = e in cc)
 row_number (x ∷ xs) id r e = by_test (x.id == id) refl e (λ f. row_number xs id r f)
   where
     by_test : (b : Bool) → (x.id == id) ≡ b → (if b then Some x else row_of xs id) ≡ Some r → (row_of xs id ≡ Some r → r.id ≡ id) → r.id ≡ id
-    by_test true t e later = ap (λ (y : TestRow). y.id) (sym (some_is x r e)) ∙ eqb-true x.id id t
+    by_test true t e later = ap (λ (y : TestRow). y.id) (sym (same_Some x r e)) ∙ eqb-true x.id id t
     by_test false t e later = later e

@@ -5,22 +5,18 @@ use Rattle.std.specs.List.{position_or_len}
 use Rattle.std.proofs.lemmas.Bool.Decides.{nat_tests}
 use Rattle.std.proofs.lemmas.List.{at_drop_more, at_drop_all, take_all, get_or-drop}
 use Rattle.std.proofs.lemmas.List.Sums.{position_or_len_is}
+use Rattle.std.proofs.lemmas.Bool.{false_from_ne_true}
 use Rattle.memchr.specs.Find.{IsFirstByte, is_byte}
 use Rattle.text_values.specs.Layout.{is_quote, quoted_from, comment_from, comment_of}
-
--- a byte that does not pass fails
-fails_at : (b : Bool) → (b ≡ true → ⊥) → b ≡ false
-fails_at true h = absurd (h refl)
-fails_at false h = refl
 
 pub first_found : (k : ℕ) (text : List ℕ) (at : ℕ) → IsFirstByte (is_byte k) text (Some at) → at ≡ position_or_len (is_byte k) text
 first_found k text at h =
     let n = h.0 in
-    sym (position_or_len_is (is_byte k) text at 0 (let x = n.high in omega arith) (λ i lt. fails_at (is_byte k (get_or text i 0)) (n.before i (omega arith) lt)) (λ _. h.1))
+    sym (position_or_len_is (is_byte k) text at 0 (let x = n.high in omega arith) (λ i lt. false_from_ne_true (is_byte k (get_or text i 0)) (n.before i (omega arith) lt)) (λ _. h.1))
 
 pub none_found : (k : ℕ) (text : List ℕ) → IsFirstByte (is_byte k) text None → length text ≡ position_or_len (is_byte k) text
 none_found k text h =
-    sym (position_or_len_is (is_byte k) text (length text) 0 (omega arith) (λ i lt. fails_at (is_byte k (get_or text i 0)) (h i (omega arith) lt)) (λ bad. absurd (omega arith)))
+    sym (position_or_len_is (is_byte k) text (length text) 0 (omega arith) (λ i lt. false_from_ne_true (is_byte k (get_or text i 0)) (h i (omega arith) lt)) (λ bad. absurd (omega arith)))
 
 -- a string ends at its next quote, if it has one
 ends_before : (p n : ℕ) → p < n → Some (p + 2) ≡ (if p == n then None else Some (p + 2))

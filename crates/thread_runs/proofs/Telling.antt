@@ -3,6 +3,7 @@ use Rattle.std.proofs.Common.{vec_len, ℕ, zero, suc, arith, ◌≡◌, ◌<◌
 use Rattle.std.specs.List.{list_any, Contains}
 use Rattle.std.proofs.lemmas.Bool.Decides.{nat_tests}
 use Rattle.std.proofs.lemmas.List.Elements.{Contains-push, Contains-append_left, Contains-append_right, Contains-append_cases}
+use Rattle.std.proofs.lemmas.Bool.{or_right, and_from}
 use Rattle.thread_runs.specs.declared.value.Value.{Value}
 use Rattle.thread_runs.specs.declared.value.Value.TheVariants.{Number, Address, NoValue}
 use Rattle.thread_runs.specs.declared.instruction.Instruction.{Instruction}
@@ -30,13 +31,6 @@ value_same NoValue = refl
 pub true_false : {b : Bool} → b ≡ true → b ≡ false → ⊥
 true_false t f = cc
 
-or_there : (a b : Bool) → b ≡ true → (a || b) ≡ true
-or_there true b e = refl
-or_there false b e = e
-
-and_both : (a b : Bool) → a ≡ true → b ≡ true → (a && b) ≡ true
-and_both a b e f = cc
-
 no_member : {X : Type 0} (x : X) → Contains [] x → ⊥
 no_member x h = let lt = h.1 in omega arith
 
@@ -44,7 +38,7 @@ any_there : {X : Type 0} (f : X → Bool) (xs : List X) (x : X) → Contains xs 
 any_there f [] x c e = absurd (no_member x c)
 any_there f (y ∷ xs) x c e = elim (Contains-append_cases (y ∷ []) xs x c) [
   | inl here ↦ ap (λ (b : Bool). b || list_any f xs) (ap f (contains_one y x here) ∙ e)
-  | inr there ↦ or_there (f y) (list_any f xs) (any_there f xs x there e)
+  | inr there ↦ or_right (f y) (list_any f xs) (any_there f xs x there e)
 ]
 
 set_or : (xs : List Value) (d : ℕ) (v : Value) (r : ℕ) (z : Value) → (slice_index_or (slice_set xs d v) r z ≡ slice_index_or xs r z) ⊎ ((d ≡ r) × (slice_index_or (slice_set xs d v) r z ≡ v))
@@ -67,7 +61,7 @@ module _ (lines : List Line) (first : State) where
   first_holds r = ap (λ (b : Bool). b || list_any (line_may_put r (register first r)) lines) (value_same (register first r))
 
   put : (x : Line) → Contains lines x → (r : ℕ) (v : Value) → line_may_put r v x ≡ true → may_hold lines first r v ≡ true
-  put x c r v e = or_there (same_value (register first r) v) (list_any (line_may_put r v) lines) (any_there (line_may_put r v) lines x c e)
+  put x c r v e = or_right (same_value (register first r) v) (list_any (line_may_put r v) lines) (any_there (line_may_put r v) lines x c e)
 
   written : (s : State) (d : ℕ) (v : Value) → Holds s → (may_hold lines first d v ≡ true) → Holds (with_register s d v)
   written s d v h there r = elim (set_or s.registers d v r (Number 0)) [
@@ -76,7 +70,7 @@ module _ (lines : List Line) (first : State) where
   ]
 
   after_holds : (i : Instruction) (v : Value) (s : State) → Contains lines (Does i) → Holds s → Holds (after i v s)
-  after_holds (Immediate d n) v s c h = written s d (Number n) h (put (Does (Immediate d n)) c d (Number n) (and_both (nat_eq d d) (nat_eq n n) (nat_same d) (nat_same n)))
+  after_holds (Immediate d n) v s c h = written s d (Number n) h (put (Does (Immediate d n)) c d (Number n) (and_from (nat_eq d d) (nat_eq n n) (nat_same d) (nat_same n)))
   after_holds (Move d a) v s c h = written s d (register s a) h (put (Does (Move d a)) c d (register s a) (nat_same d))
   after_holds (AddImmediate d a n) v s c h = written s d (sum_of (register s a) (Number n)) h (put (Does (AddImmediate d a n)) c d (sum_of (register s a) (Number n)) (nat_same d))
   after_holds (Operate o d a b) v s c h = written s d (operated o a b s) h (put (Does (Operate o d a b)) c d (operated o a b s) (nat_same d))
@@ -100,7 +94,7 @@ module _ (lines : List Line) (first : State) where
   event_told (Store d a) v s c h = λ l u e.
       let is = contains_one (Writes (register s a) (register s d)) (Writes (Address l) u) e in
       any_there (line_may_store lines first l u) lines (Does (Store d a)) c
-      (and_both (may_hold lines first a (Address l)) (may_hold lines first d u) (ap (λ (w : Value). may_hold lines first a w) (sym (address_is is)) ∙ h a) (ap (λ (w : Value). may_hold lines first d w) (sym (stored_is is)) ∙ h d))
+      (and_from (may_hold lines first a (Address l)) (may_hold lines first d u) (ap (λ (w : Value). may_hold lines first a w) (sym (address_is is)) ∙ h a) (ap (λ (w : Value). may_hold lines first d w) (sym (stored_is is)) ∙ h d))
   event_told (StoreIndexed d a b) v s c h = λ l u e.
       let is = contains_one (Writes (sum_of (register s a) (register s b)) (register s d)) (Writes (Address l) u) e in
       any_there (line_may_store lines first l u) lines (Does (StoreIndexed d a b)) c (ap (λ (w : Value). may_hold lines first d w) (sym (stored_is is)) ∙ h d)

@@ -4,7 +4,7 @@ use mathlib.Core.Path.{fun_ext}
 use Rattle.std.specs.Cmp.{IsTotalOrder}
 use Rattle.std.specs.declared.cmp.Ordering.{Ordering}
 use Rattle.std.proofs.lemmas.Cmp.{lists_total, tied_itself}
-use Rattle.std.proofs.lemmas.Bool.{false≢true}
+use Rattle.std.proofs.lemmas.Bool.{false≢true, and_parts}
 use Rattle.std.proofs.lemmas.Bool.Decides.{Decides-eqb, Decides-int_eq, nat_tests}
 use Rattle.std.specs.Bool.{Decides}
 use Rattle.std.specs.Ordering.{is_eq, ordering_then, nat_cmp}
@@ -95,14 +95,9 @@ is_state_same (x ∷ xs) (y ∷ ys) h =
     let e = both_equal (value_cmp x y) (state_cmp xs ys) h in
     ap (λ (z : FinalValue). z ∷ xs) (value_exact x y e.0) ∙ ap (λ (zs : List FinalValue). y ∷ zs) (is_state_same xs ys e.1)
 
-both_true : (a b : Bool) → (a && b) ≡ true → (a ≡ true) × (b ≡ true)
-both_true true true h = (refl, refl)
-both_true true false h = absurd (false≢true h)
-both_true false b h = absurd (false≢true h)
-
 pub is_place_same : (p q : ShownPlace) → is_place p q ≡ true → p ≡ q
 is_place_same (Register t r) (Register u s) h =
-    let e = both_true (eqb t u) (eqb r s) (place_eq_is (Register t r) (Register u s) ∙ h) in
+    let e = and_parts (eqb t u) (eqb r s) (place_eq_is (Register t r) (Register u s) ∙ h) in
     ap (λ (x : ℕ). Register x r) ((Decides-eqb t u).0 e.0) ∙ ap (λ (x : ℕ). Register u x) ((Decides-eqb r s).0 e.1)
 is_place_same (Register t r) (Location l) h = absurd (false≢true h)
 is_place_same (Location k) (Register u s) h = absurd (false≢true h)

@@ -1,5 +1,6 @@
 use Rattle.std.proofs.Common.{◌≡◌, ◌<◌, List, [], ◌∷◌, ◌++◌, length, map, take, reverse, ap, sym, ◌∙◌, subst, arith, ◌||◌, Bool, length-take}
 use Rattle.std.proofs.lemmas.List.{take_more, take_all}
+use Rattle.std.proofs.lemmas.Result.{IfOk-weaker}
 use Rattle.text_values.specs.declared.model.Expression.{Expression}
 use Rattle.text_values.specs.ModelValues.{term_of}
 use Rattle.text_values.specs.ModelValue.{AllEvents, EmptyRelation, EmptySet, Join, Mark, Not, On, Apply, gathered}
@@ -7,7 +8,7 @@ use Rattle.text_values.proofs.Arguments.{applied_term}
 use Rattle.binding_kinds.specs.Value.{entry_of}
 use Rattle.binding_functions.proofs.Filling.{grown_as, more_arguments, whole_template, large_whole, some_pieces, unfit_pieces, all_arguments}
 use Rattle.binding_functions.specs.Parts.{IsBodyPart, AreBodyParts}
-use Rattle.binding_graph.proofs.Meant.{if_as, on_ok}
+use Rattle.binding_graph.proofs.Meant.{on_ok}
 use Rattle.binding_graph.proofs.Walks.{noted_then, noted_more, noted_all, noted_applied, noted_unapplied, grown_infix, grown_postfix, grown_complement, grown_identity}
 use Rattle.binding_graph.proofs.inside.+inside.Goals as goal
 
@@ -98,17 +99,17 @@ inside_applied-returns-in_ok-given-in-Ok-clause-uses t c =
 pub read_inside-returns-in-Everything-clause-part : goal.read_inside-returns-in-Everything-clause-part
 read_inside-returns-in-Everything-clause-part t c = λ ss kept.
     let is : term_of c.args.term.now ≡ AllEvents = ap term_of c.in-Everything.is in
-    rw is (if_as c.inside_sign.result _ _ (λ p h. record { fault = h.fault; marks = h.marks; column = λ few. h.column }) (c.inside_sign.ensures.part (length c.args.sight.now.parameters.now)))
+    rw is (IfOk-weaker c.inside_sign.result _ _ (λ p h. record { fault = h.fault; marks = h.marks; column = λ few. h.column }) (c.inside_sign.ensures.part (length c.args.sight.now.parameters.now)))
 
 pub read_inside-returns-in-NoPairs-clause-part : goal.read_inside-returns-in-NoPairs-clause-part
 read_inside-returns-in-NoPairs-clause-part t c = λ ss kept.
     let is : term_of c.args.term.now ≡ EmptyRelation = ap term_of c.in-NoPairs.is in
-    rw is (if_as c.inside_sign-in-NoPairs.result _ _ (λ p h. record { fault = h.fault; marks = h.marks; column = λ few. h.column }) (c.inside_sign-in-NoPairs.ensures.part (length c.args.sight.now.parameters.now)))
+    rw is (IfOk-weaker c.inside_sign-in-NoPairs.result _ _ (λ p h. record { fault = h.fault; marks = h.marks; column = λ few. h.column }) (c.inside_sign-in-NoPairs.ensures.part (length c.args.sight.now.parameters.now)))
 
 pub read_inside-returns-in-NoEvents-clause-part : goal.read_inside-returns-in-NoEvents-clause-part
 read_inside-returns-in-NoEvents-clause-part t c = λ ss kept.
     let is : term_of c.args.term.now ≡ EmptySet = ap term_of c.in-NoEvents.is in
-    rw is (if_as c.inside_sign-in-NoEvents.result _ _ (λ p h. record { fault = h.fault; marks = h.marks; column = λ few. h.column }) (c.inside_sign-in-NoEvents.ensures.part (length c.args.sight.now.parameters.now)))
+    rw is (IfOk-weaker c.inside_sign-in-NoEvents.result _ _ (λ p h. record { fault = h.fault; marks = h.marks; column = λ few. h.column }) (c.inside_sign-in-NoEvents.ensures.part (length c.args.sight.now.parameters.now)))
 
 pub read_inside-returns-in-Applied-clause-part : goal.read_inside-returns-in-Applied-clause-part
 read_inside-returns-in-Applied-clause-part t c = λ ss kept.

@@ -1,11 +1,12 @@
 use Rattle.std.proofs.Common.{ℕ, ◌≡◌, ◌<◌, List, length, map, reverse, min, ap, sym, ◌∙◌, arith, ◌||◌, Bool}
+use Rattle.std.proofs.lemmas.Result.{IfOk-weaker}
 use Rattle.text_values.specs.declared.model.Expression.{Expression}
 use Rattle.text_values.specs.ModelValues.{term_of}
 use Rattle.text_values.specs.ModelValue.{Atom, Join, Mark, Not, On, Apply, gathered}
 use Rattle.text_values.proofs.Arguments.{applied_term}
 use Rattle.binding_kinds.specs.Value.{entry_of}
 use Rattle.binding_functions.proofs.Filling.{grown_as, more_arguments, whole_template, large_whole, some_pieces, unfit_pieces, all_arguments, on_ok_as}
-use Rattle.binding_graph.proofs.Meant.{if_as, if_same, on_ok}
+use Rattle.binding_graph.proofs.Meant.{if_same, on_ok}
 use Rattle.binding_graph.proofs.Walks.{verdict_infix, verdict_postfix, verdict_complement, verdict_identity, judged_none, judged_more, judged_all, verdict_applied, verdict_unfit, noted_then, noted_more, noted_all, noted_applied, noted_unapplied, grown_infix, grown_postfix, grown_complement, grown_identity}
 use Rattle.binding_graph.proofs.Sights.{seen_plainly}
 use Rattle.binding_graph.proofs.reading.+reading.Goals as goal
@@ -109,7 +110,7 @@ read_applied-returns-in_ok-known-in-Ok-clause-uses t c =
 pub read_term-returns-in-Named-clause-judged : goal.read_term-returns-in-Named-clause-judged
 read_term-returns-in-Named-clause-judged t c = λ ss kept none.
     let is : term_of c.args.term.now ≡ Atom c.in-Named.name = ap term_of c.in-Named.is in
-    rw is (if_as c.read_name.result _ _ (λ j h. record { kind = h.0; size = ap (λ (n : ℕ). min n 4097) h.1; fault = h.2 }) (c.read_name.ensures.judged none))
+    rw is (IfOk-weaker c.read_name.result _ _ (λ j h. record { kind = h.0; size = ap (λ (n : ℕ). min n 4097) h.1; fault = h.2 }) (c.read_name.ensures.judged none))
 
 pub read_term-returns-in-Applied-clause-judged : goal.read_term-returns-in-Applied-clause-judged
 read_term-returns-in-Applied-clause-judged t c = λ ss kept none.

@@ -1,9 +1,9 @@
 use Rattle.std.proofs.Common.{arith, rules, tests}
-use Rattle.candidates.proofs.Alike.{same_at_each}
+use Rattle.std.proofs.lemmas.List.{same_lists}
 use Rattle.node_values.proofs.same.same_names.Goals as goal
 
 pub returns : goal.returns
 returns c = (
-  λ t. same_at_each c.args.these.now c.args.those.now (omega arith) (λ k d lt. c.loop-index.invariant k d (omega (arith, lt))),
+  λ t. same_lists c.args.these.now c.args.those.now (omega arith) (λ k d lt. c.loop-index.invariant k d (omega (arith, lt))),
   λ e. search (rules, tests),
 )

@@ -1,6 +1,7 @@
 use Rattle.std.proofs.Common.{Some, None, ap, sym, ◌∙◌}
+use Rattle.std.proofs.lemmas.Option.{none-some, same_Some}
 use Rattle.memo_core.specs.Views.{as_memos, shown_outputs}
-use Rattle.cells.proofs.Solved.{bench_solved, value_shows, no_value, same_value, carries_same}
+use Rattle.cells.proofs.Solved.{bench_solved, value_shows, carries_same}
 use Rattle.cells.proofs.bench.Bench.shown.Goals as goal
 
 pub unreachable-requires : goal.unreachable-requires
@@ -13,7 +14,7 @@ unreachable-requires g c =
     let solved = bench_solved t.is_valid t.since t.net t.makes t.is_there laws.given_stays laws.sound laws.used_there laws.used_closed s.texts ms s.taken valid c.self.invariant.right.1 in
     let held = g.met.T.CellTexts.solved s.texts c.args.test.now c.args.model.now valid ms c.in-Some.verdict solved (sym c.in-Some.ensures) c.in-Some-shown.ensures.settled in
     let found = value_shows g.T.CellTexts.outcome_in ms c.in-Some.verdict (shown_outputs c.in-Some-shown.outputs.now) held.0 held.1 c.in-Some-shown.ensures.stored None c.in-None-output_token.ensures.value in
-    no_value found.0 found.1
+    none-some found.0 found.1
 
 pub unreachable-requires-in-None-outcome_in : goal.unreachable-requires-in-None-outcome_in
 unreachable-requires-in-None-outcome_in g c =
@@ -25,7 +26,7 @@ unreachable-requires-in-None-outcome_in g c =
     let solved = bench_solved t.is_valid t.since t.net t.makes t.is_there laws.given_stays laws.sound laws.used_there laws.used_closed s.texts ms s.taken valid c.self.invariant.right.1 in
     let held = g.met.T.CellTexts.solved s.texts c.args.test.now c.args.model.now valid ms c.in-Some.verdict solved (sym c.in-Some.ensures) c.in-Some-shown.ensures.settled in
     let found = value_shows g.T.CellTexts.outcome_in ms c.in-Some.verdict (shown_outputs c.in-Some-shown.outputs.now) held.0 held.1 c.in-Some-shown.ensures.stored (Some c.in-Some-output_token.token.now.value) c.in-Some-output_token.ensures.value in
-    no_value held.0 (c.in-None-outcome_in.ensures ∙ ap g.T.CellTexts.outcome_in (c.see.ensures ∙ same_value _ _ found.1) ∙ found.2)
+    none-some held.0 (c.in-None-outcome_in.ensures ∙ ap g.T.CellTexts.outcome_in (c.see.ensures ∙ same_Some _ _ found.1) ∙ found.2)
 
 pub returns-clause-shown : goal.returns-clause-shown
 returns-clause-shown g c =
@@ -37,7 +38,7 @@ returns-clause-shown g c =
     let solved = bench_solved t.is_valid t.since t.net t.makes t.is_there laws.given_stays laws.sound laws.used_there laws.used_closed s.texts ms s.taken valid c.self.invariant.right.1 in
     let held = g.met.T.CellTexts.solved s.texts c.args.test.now c.args.model.now valid ms c.in-Some.verdict solved (sym c.in-Some.ensures) c.in-Some-shown.ensures.settled in
     let found = value_shows g.T.CellTexts.outcome_in ms c.in-Some.verdict (shown_outputs c.in-Some-shown.outputs.now) held.0 held.1 c.in-Some-shown.ensures.stored (Some c.in-Some-output_token.token.now.value) c.in-Some-output_token.ensures.value in
-    let is = same_value _ _ (c.in-Some-outcome_in.ensures ∙ ap g.T.CellTexts.outcome_in (c.see.ensures ∙ same_value _ _ found.1) ∙ found.2) in
+    let is = same_Some _ _ (c.in-Some-outcome_in.ensures ∙ ap g.T.CellTexts.outcome_in (c.see.ensures ∙ same_Some _ _ found.1) ∙ found.2) in
     rw (← c.self.view_is) (record {
       verdict = c.in-Some.verdict;
       is = sym c.in-Some.ensures;
@@ -55,5 +56,5 @@ returns-clause-from_scratch g c =
     let solved = bench_solved t.is_valid t.since t.net t.makes t.is_there laws.given_stays laws.sound laws.used_there laws.used_closed s.texts ms s.taken valid c.self.invariant.right.1 in
     let held = g.met.T.CellTexts.solved s.texts c.args.test.now c.args.model.now valid ms c.in-Some.verdict solved (sym c.in-Some.ensures) c.in-Some-shown.ensures.settled in
     let found = value_shows g.T.CellTexts.outcome_in ms c.in-Some.verdict (shown_outputs c.in-Some-shown.outputs.now) held.0 held.1 c.in-Some-shown.ensures.stored (Some c.in-Some-output_token.token.now.value) c.in-Some-output_token.ensures.value in
-    let is = same_value _ _ (c.in-Some-outcome_in.ensures ∙ ap g.T.CellTexts.outcome_in (c.see.ensures ∙ same_value _ _ found.1) ∙ found.2) in
+    let is = same_Some _ _ (c.in-Some-outcome_in.ensures ∙ ap g.T.CellTexts.outcome_in (c.see.ensures ∙ same_Some _ _ found.1) ∙ found.2) in
     rw (← c.self.view_is, is) held.2
