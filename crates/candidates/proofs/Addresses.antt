@@ -5,6 +5,7 @@ use Rattle.std.specs.List.{flat_map}
 use Rattle.std.proofs.lemmas.Bool.{cases_eq, cases_lt}
 use Rattle.std.proofs.lemmas.List.{get_or_past, get_or-set_same, get_or-set_other, get_or-replicate, length-set, get_or_default}
 use Rattle.std.proofs.lemmas.List.Elements.{All-head, All-tail, Contains-append_left, Contains-append_right, Contains-push_cases}
+use Rattle.std.proofs.lemmas.Option.{same_Some}
 use Rattle.text_values.specs.declared.instruction.Operation.{Operation}
 use Rattle.text_values.specs.declared.instruction.Operation.TheVariants.{Add, SubtractFrom, Xor, Or, And}
 use Rattle.text_values.specs.declared.test.Test.{Test}
@@ -156,11 +157,8 @@ module _ (n : ℕ) where
   kept_passing : (x : Line) (l : ℕ) (w : Walk) → IsKept w → IsKept (passed x l w)
   kept_passing x l w h = record { registers = h.registers; events = h.events }
 
-  outcome_is : {o q : Outcome} → Some o ≡ Some q → o ≡ q
-  outcome_is e = cc
-
   ends_kept : (f : Bool) (w : Walk) (vs : List Value) (o : Outcome) → ends f w vs ≡ Some o → IsKept w → IsKept o.walk
-  ends_kept f w [] o e h = subst (λ (q : Outcome). IsKept q.walk) (outcome_is e) h
+  ends_kept f w [] o e h = subst (λ (q : Outcome). IsKept q.walk) (same_Some _ _ e) h
   ends_kept f w (v ∷ vs) o e h = absurd cc
 
   module _ (go : Walk → List Value → Option Outcome) (rest : (w : Walk) (vs : List Value) (o : Outcome) → go w vs ≡ Some o → All (Below n) vs → IsKept w → IsKept o.walk) where

@@ -1,9 +1,8 @@
 -- When two lists, and two values, are the same.
-use Rattle.std.proofs.Common.{Vec, ℕ, zero, suc, Some, slice_get, map, HoldsAt, ◌≡◌, ◌<◌, List, [], ◌∷◌, get_or, length, refl, ap, sym, ◌∙◌, arith}
+use Rattle.std.proofs.Common.{Vec, ℕ, zero, suc, Some, slice_get, map, HoldsAt, ◌≡◌, ◌<◌, List, [], ◌∷◌, length, ap, sym, ◌∙◌, arith}
 use Rattle.std.specs.declared.alloc.Global.{Global}
 use Rattle.thread_runs.specs.declared.value.Value.{Value}
 use Rattle.dataflow.specs.DependencyLists.{DependencyLists}
-use Rattle.candidates.proofs.OneProgram.{same_elements}
 use Rattle.candidates.specs.Space.{Shown, shown_by, shown_of, Candidate, IsExecution}
 use Rattle.run_combinations.specs.declared.combination.Event.{Event}
 use Rattle.candidates.specs.declared.execution.Execution.{Execution}

@@ -4,7 +4,7 @@ use Rattle.std.proofs.Common.{Vec, vec_len, ℕ, zero, suc, ◌≡◌, ◌<◌, 
 use Rattle.std.specs.List.{AllZip, sum_by, count_by}
 use Rattle.std.specs.declared.alloc.Global.{Global}
 use Rattle.std.proofs.lemmas.Bool.{cases_lt}
-use Rattle.std.proofs.lemmas.Option.{slice_get_cases}
+use Rattle.std.proofs.lemmas.Option.{slice_get_cases, same_Some}
 use Rattle.std.proofs.lemmas.Grind.{get_or_default_zero}
 use Rattle.std.proofs.lemmas.List.{length-append}
 use Rattle.std.proofs.lemmas.List.Sums.{sum_by_more, sum_by-take-le}
@@ -39,25 +39,13 @@ use Rattle.run_combinations.specs.declared.combination.Action.TheVariants.{Read,
 use Rattle.run_combinations.specs.declared.combination.Event.{Event}
 
 -- the events of a run, one by one
-action_is : {a b : Action} → Some a ≡ Some b → a ≡ b
-action_is e = cc
-
-event_is : {a b : Event} → Some a ≡ Some b → a ≡ b
-event_is e = cc
-
-raw_is : {a b : run.Event} → Some a ≡ Some b → a ≡ b
-raw_is e = cc
-
-run_is : {a b : Run} → Some a ≡ Some b → a ≡ b
-run_is e = cc
-
 first_event : (t : ℕ) (e : run.Event) (es : List run.Event) (a : Action) → action_in e ≡ Some a → thread_events t (e ∷ es) ≡ record { thread = Some t; action = a } ∷ thread_events t es
 first_event t e es a is = ap (λ (o : Option Action). with_action t o ++ thread_events t es) is
 
 event_at : (t : ℕ) (es : List run.Event) → AreLocated es → (k : ℕ) (e : run.Event) (a : Action) → slice_get es k ≡ Some e → action_in e ≡ Some a → slice_get (thread_events t es) k ≡ Some (record { thread = Some t; action = a })
 event_at t [] h k e a there is = absurd cc
 event_at t (d ∷ es) h zero e a there is =
-    let same : action_in d ≡ Some a = ap action_in (raw_is there) ∙ is in
+    let same : action_in d ≡ Some a = ap action_in (same_Some _ _ there) ∙ is in
     ap (λ (l : List Event). slice_get l 0) (first_event t d es a same)
 event_at t (d ∷ es) h (suc k) e a there is =
     ap (λ (l : List Event). slice_get l (suc k)) (first_event t d es h.0.0 h.0.1) ∙ event_at t es h.1 k e a there is
@@ -70,14 +58,14 @@ record Raw (es : List run.Event) (k : ℕ) (a : Action) : Type 0 where
 raw_at : (t : ℕ) (es : List run.Event) → AreLocated es → (k : ℕ) (e : Event) → slice_get (thread_events t es) k ≡ Some e → Raw es k e.action
 raw_at t [] h k e there = absurd cc
 raw_at t (d ∷ es) h zero e there =
-    let same : record { thread = Some t; action = h.0.0 } ≡ e = event_is (sym (ap (λ (l : List Event). slice_get l 0) (first_event t d es h.0.0 h.0.1)) ∙ there) in
+    let same : record { thread = Some t; action = h.0.0 } ≡ e = same_Some _ _ (sym (ap (λ (l : List Event). slice_get l 0) (first_event t d es h.0.0 h.0.1)) ∙ there) in
     record { event = d; there = refl; does = h.0.1 ∙ ap (λ (x : Event). Some x.action) same }
 raw_at t (d ∷ es) h (suc k) e there =
     let r : Raw es k e.action = raw_at t es h.1 k e (sym (ap (λ (l : List Event). slice_get l (suc k)) (first_event t d es h.0.0 h.0.1)) ∙ there) in
     record { event = r.event; there = r.there; does = r.does }
 
 write_is : (e : run.Event) (l : ℕ) (v : Value) → action_in e ≡ Some (Write l v) → e ≡ does.Writes (Address l) v
-write_is (does.Writes (Address m) w) l v h = stores (action_is h)
+write_is (does.Writes (Address m) w) l v h = stores (same_Some _ _ h)
   where
     stores : Write m w ≡ Write l v → does.Writes (Address m) w ≡ does.Writes (Address l) v
     stores e = cc
@@ -89,7 +77,7 @@ write_is (does.Reads NoValue w) l v h = absurd cc
 write_is (does.Orders f) l v h = absurd cc
 
 read_is : (e : run.Event) (l : ℕ) (v : Value) → action_in e ≡ Some (Read l v) → (a : Value) × (e ≡ does.Reads a v)
-read_is (does.Reads (Address m) w) l v h = (Address m, ap (λ (x : Value). does.Reads (Address m) x) (loads_value (action_is h)))
+read_is (does.Reads (Address m) w) l v h = (Address m, ap (λ (x : Value). does.Reads (Address m) x) (loads_value (same_Some _ _ h)))
   where
     loads_value : Read m w ≡ Read l v → w ≡ v
     loads_value e = cc
@@ -103,7 +91,7 @@ read_is (does.Orders f) l v h = absurd cc
 -- what a load reads is among the values read
 value_read : (es : List run.Event) (k : ℕ) (a v : Value) → slice_get es k ≡ Some (does.Reads a v) → Contains (read_in es) v
 value_read [] k a v h = absurd cc
-value_read (does.Reads b w ∷ es) zero a v h = subst (λ (x : Value). Contains (w ∷ read_in es) x) (same (raw_is h)) (member_first w (read_in es))
+value_read (does.Reads b w ∷ es) zero a v h = subst (λ (x : Value). Contains (w ∷ read_in es) x) (same (same_Some _ _ h)) (member_first w (read_in es))
   where
     same : does.Reads b w ≡ does.Reads a v → w ≡ v
     same e = cc
@@ -145,7 +133,7 @@ loads_of_run t (does.Orders f ∷ es) h = loads_of_run t es h.1
 
 located_at : (es : List run.Event) → AreLocated es → (k : ℕ) (e : run.Event) → slice_get es k ≡ Some e → (a : Action) × (action_in e ≡ Some a)
 located_at [] h k e there = absurd cc
-located_at (d ∷ es) h zero e there = (h.0.0, sym (ap action_in (raw_is there)) ∙ h.0.1)
+located_at (d ∷ es) h zero e there = (h.0.0, sym (ap action_in (same_Some _ _ there)) ∙ h.0.1)
 located_at (d ∷ es) h (suc k) e there = located_at es h.1 k e there
 
 -- the value that an event reads
@@ -155,7 +143,7 @@ value_of (Write l v) = NoValue
 value_of (Fence f) = NoValue
 
 read_action : (a v : Value) (act : Action) → action_in (does.Reads a v) ≡ Some act → (reads act ≡ true) × (value_of act ≡ v)
-read_action (Address l) v act h = let e : Read l v ≡ act = action_is h in (sym (ap reads e), sym (ap value_of e))
+read_action (Address l) v act h = let e : Read l v ≡ act = same_Some _ _ h in (sym (ap reads e), sym (ap value_of e))
 read_action (Number n) v act h = absurd cc
 read_action NoValue v act h = absurd cc
 
@@ -204,7 +192,7 @@ origin es thread (r ∷ rs) k e h =
 
 initial_value : (at : ℕ) (vs : List Value) (k : ℕ) (e : Event) (l : ℕ) (v : Value) → slice_get (initial_stores at vs) k ≡ Some e → e.action ≡ Write l v → Contains vs v
 initial_value at [] k e l v there is = absurd cc
-initial_value at (w ∷ vs) zero e l v there is = subst (λ (x : Value). Contains (w ∷ vs) x) (same (ap (λ (x : Event). x.action) (event_is there) ∙ is)) (member_first w vs)
+initial_value at (w ∷ vs) zero e l v there is = subst (λ (x : Value). Contains (w ∷ vs) x) (same (ap (λ (x : Event). x.action) (same_Some _ _ there) ∙ is)) (member_first w vs)
   where
     same : Write at w ≡ Write l v → w ≡ v
     same e = cc
@@ -212,7 +200,7 @@ initial_value at (w ∷ vs) (suc k) e l v there is = member_later w vs v (initia
 
 no_initial_load : (at : ℕ) (vs : List Value) (k : ℕ) (e : Event) (l : ℕ) (v : Value) → slice_get (initial_stores at vs) k ≡ Some e → e.action ≡ Read l v → ⊥
 no_initial_load at [] k e l v there is = absurd cc
-no_initial_load at (w ∷ vs) zero e l v there is = store_load (ap (λ (x : Event). x.action) (event_is there) ∙ is)
+no_initial_load at (w ∷ vs) zero e l v there is = store_load (ap (λ (x : Event). x.action) (same_Some _ _ there) ∙ is)
   where
     store_load : Write at w ≡ Read l v → ⊥
     store_load e = cc
@@ -228,7 +216,7 @@ pub thread_of_run : (P : Value → Type 0) (threads : List Thread) (rs : List Ru
 thread_of_run P [] [] its r h there = absurd cc
 thread_of_run P [] (q ∷ rs) its r h there = absurd h
 thread_of_run P (t ∷ threads) [] its r h there = absurd h
-thread_of_run P (t ∷ threads) (q ∷ rs) zero r h there = record { thread = t; there = member_first t threads; is = subst (λ (s : Run). IsRun t P s) (run_is there) h.0 }
+thread_of_run P (t ∷ threads) (q ∷ rs) zero r h there = record { thread = t; there = member_first t threads; is = subst (λ (s : Run). IsRun t P s) (same_Some _ _ there) h.0 }
 thread_of_run P (t ∷ threads) (q ∷ rs) (suc k) r h there =
     let o : RunOf P threads r = thread_of_run P threads rs k r h.1 there in record { thread = o.thread; there = member_later t threads o.thread o.there; is = o.is }
 

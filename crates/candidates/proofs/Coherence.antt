@@ -3,6 +3,7 @@ use Rattle.std.proofs.Common.{ℕ, zero, suc, ◌≡◌, ◌&&◌, not, Bool, tr
 use Rattle.std.specs.List.{flat_map, AllZip, All}
 use Rattle.std.proofs.lemmas.List.Elements.{All-cons, All-nil, Contains-append_left, Contains-append_right, Contains-push}
 use Rattle.std.proofs.lemmas.Bool.{or_parts}
+use Rattle.std.proofs.lemmas.Option.{same_Some}
 use Rattle.candidates.proofs.Products.{FilteredEach, filter_of_products, filter_twice, filter_as}
 use Rattle.candidates.proofs.ReadsFrom.{tuples_are}
 use Rattle.candidates.specs.Executions.{IsOrder, product, rows, stores_at}
@@ -102,9 +103,6 @@ pub record Orders (first : ℕ) (ss : List ℕ) (order : List ℕ) : Type 0 wher
   pub each : length order ≡ length ss
   pub once : AreDistinct order
 
-number_is : {x y : ℕ} → Some x ≡ Some y → x ≡ y
-number_is e = cc
-
 others_stand : (first n : ℕ) (xs : List ℕ) → length xs ≡ n → has_store xs first ≡ false → AllZip (Stands first) (replicate n false) xs
 others_stand first zero [] e h = tt
 others_stand first zero (x ∷ xs) e h = absurd (omega (arith, e))
@@ -129,7 +127,7 @@ orders_found first others apart =
     back : (o : List ℕ) → Drawn (first ∷ others) (suc (length others)) o → Orders first (first ∷ others) o → AllZip (Stands first) (true ∷ replicate (length others) false) o × AreDistinct o
     back [] m h = let l : 0 ≡ suc (length others) = m.1 in absurd (omega (arith, l))
     back (x ∷ xs) m h =
-        let e : x ≡ first = number_is h.initial in
+        let e : x ≡ first = same_Some _ _ h.initial in
         let l : suc (length xs) ≡ suc (length others) = m.1 in
         ((e, others_stand first (length others) xs (omega (arith, l)) (subst (λ (n : ℕ). has_store xs n ≡ false) e h.once.0)), h.once)
 

@@ -3,6 +3,7 @@ use Rattle.std.proofs.Common.{ℕ, zero, suc, true, ◌≡◌, ◌≤◌, ◌+�
 use Rattle.std.proofs.Math.Nat.{min-eq_left}
 use Rattle.std.proofs.lemmas.List.{length-append, length-take}
 use Rattle.std.proofs.lemmas.List.Elements.{Contains-append_left, Contains-append_right, Contains-append_cases}
+use Rattle.std.proofs.lemmas.Option.{same_Some}
 use Rattle.thread_runs.specs.declared.value.Value.{Value}
 use Rattle.thread_runs.specs.declared.instruction.Event as run
 use Rattle.thread_runs.specs.declared.instruction.RunStep.{RunStep}
@@ -101,9 +102,6 @@ pub record Listed : Type 1 where
   pub first : (es : List Event) → all (start es) ≡ []
   pub starts : (at : Executed) (i j : ℕ) → Related at i j → is_load (at i) ≡ true
 
-run_is : {r s : Run} → Some r ≡ Some s → r ≡ s
-run_is e = cc
-
 module _ (d : Listed) (V : List Value) where
   -- of one thread more
   part_links : (t : Thread) (thread : ℕ) (m : made.Run) (r : Run) (p : Part) → SameRun V t m r → IsPartOf thread m p → IsListOf d.Related (executed r.outcome.walk.steps) (d.own p.links)
@@ -190,7 +188,7 @@ module _ (d : Listed) (V : List Value) where
         go zero q e h =
             grown (Contains-append_right (d.all b) (renumbered_pairs (length b.combination.events) (d.own p.links)) (x, y)
             (run_listed d.Related (length b.combination.events) r.outcome.walk.steps (d.own p.links) links low run_few x y
-            (later d.Related (length b.combination.events + 0) (length b.combination.events) r.outcome.walk.steps x y zeroth (subst (λ (s : Run). OfRun d.Related (length b.combination.events + 0) s.outcome.walk.steps x y) (sym (run_is e)) h))))
+            (later d.Related (length b.combination.events + 0) (length b.combination.events) r.outcome.walk.steps x y zeroth (subst (λ (s : Run). OfRun d.Related (length b.combination.events + 0) s.outcome.walk.steps x y) (sym (same_Some _ _ e)) h))))
         go (suc k) q e h = rest.1 (inr (record {
           its = k;
           run = q;

@@ -2,6 +2,7 @@
 use Rattle.std.proofs.Common.{ℕ, ◌≡◌, ◌≤◌, ◌+◌, Bool, true, false, cond, List, [], ◌∷◌, ◌++◌, length, Option, Some, None, refl, ap, sym, ◌∙◌, arith, append_assoc, append-nil}
 use Rattle.std.specs.List.{count_by}
 use Rattle.std.proofs.lemmas.List.Sums.{sum_by-cons}
+use Rattle.std.proofs.lemmas.Option.{same_Some}
 use Rattle.thread_runs.specs.declared.value.Value.{Value}
 use Rattle.thread_runs.specs.declared.value.Value.TheVariants.{NoValue}
 use Rattle.thread_runs.specs.declared.instruction.Event as run
@@ -51,9 +52,6 @@ event_reads (Barrier f) v s = refl
 pub read_more : (es : List run.Event) (i : Instruction) (v : Value) (s : State) → is_load i ≡ false → read_in (es ++ event_of i v s) ≡ read_in es
 read_more es i v s is = read_both es (event_of i v s) ∙ ap (λ (l : List Value). read_in es ++ l) (event_reads i v s) ∙ ap (λ (b : Bool). read_in es ++ given b v) is ∙ append-nil (read_in es)
 
-outcome_is : {o p : Outcome} → Some o ≡ Some p → o ≡ p
-outcome_is e = cc
-
 -- the values that are left are those of the loads to come, at most so many
 record Takes (n : ℕ) (w : Walk) (vs : List Value) (o : Outcome) : Type 0 where
   values : read_in o.walk.events ≡ read_in w.events ++ vs
@@ -63,7 +61,7 @@ abbrev TakesAll : List Line → ℕ → Type 0
 TakesAll xs n = (w : Walk) (vs : List Value) (o : Outcome) → run_from xs w vs ≡ Some o → Takes n w vs o
 
 ends_taken : (f : Bool) (w : Walk) (vs : List Value) (o : Outcome) (n : ℕ) → ends f w vs ≡ Some o → Takes n w vs o
-ends_taken f w [] o n e = record { values = ap (λ (q : Outcome). read_in q.walk.events) (sym (outcome_is e)) ∙ sym (append-nil (read_in w.events)); few = omega arith }
+ends_taken f w [] o n e = record { values = ap (λ (q : Outcome). read_in q.walk.events) (sym (same_Some _ _ e)) ∙ sym (append-nil (read_in w.events)); few = omega arith }
 ends_taken f w (v ∷ vs) o n e = absurd cc
 
 module _ (xs : List Line) (n : ℕ) (rest : TakesAll xs n) where

@@ -1,6 +1,7 @@
 -- The needs of a combination are the facts of need of its runs: each is of a load by a store.
 use Rattle.std.proofs.Common.{ℕ, zero, suc, ◌≡◌, ◌≤◌, ◌+◌, ◌↔◌, true, List, [], ◌∷◌, ◌++◌, take, length, Some, slice_get, refl, ap, sym, subst, ◌∙◌, arith, append_assoc, append-nil, Contains}
 use Rattle.std.specs.List.{AllZip}
+use Rattle.std.proofs.lemmas.Option.{same_Some}
 use Rattle.thread_runs.specs.declared.value.Value.{Value}
 use Rattle.thread_runs.specs.declared.instruction.Instruction.{Instruction}
 use Rattle.thread_runs.specs.declared.instruction.Instruction.TheVariants.{Immediate, Move, AddImmediate, Operate, Load, LoadIndexed, Store, StoreIndexed, Compare, CompareImmediate, Branch, Jump, Barrier}
@@ -22,15 +23,12 @@ use Rattle.run_combinations.specs.declared.combination.Event.{Event}
 use Rattle.run_combinations.specs.declared.layout.ThreadParts.{ThreadParts}
 
 -- an event of a run is one of the execution's
-run_is : {r s : Run} → Some r ≡ Some s → r ≡ s
-run_is e = cc
-
 pub event_of_run : (es : List Event) (thread : ℕ) (rs : List Run) (its k : ℕ) (r : Run) (e : Event) → slice_get rs its ≡ Some r → slice_get (thread_events (thread + its) r.outcome.walk.events) k ≡ Some e → slice_get (es ++ events_from thread rs) (length (es ++ events_from thread (take its rs)) + k) ≡ Some e
 event_of_run es thread [] its k r e there at = absurd cc
 event_of_run es thread (q ∷ rs) zero k r e there at =
     let z : thread + 0 ≡ thread = omega arith in
     let own : slice_get (thread_events thread q.outcome.walk.events) k ≡ Some e =
-    ap (λ (s : Run). slice_get (thread_events thread s.outcome.walk.events) k) (run_is there) ∙ ap (λ (t : ℕ). slice_get (thread_events t r.outcome.walk.events) k) (sym z) ∙ at in
+    ap (λ (s : Run). slice_get (thread_events thread s.outcome.walk.events) k) (same_Some _ _ there) ∙ ap (λ (t : ℕ). slice_get (thread_events t r.outcome.walk.events) k) (sym z) ∙ at in
     ap (λ (l : List Event). slice_get (es ++ events_from thread (q ∷ rs)) (length l + k)) (append-nil es)
     ∙ behind_first es (events_from thread (q ∷ rs)) k
     ∙ in_first (thread_events thread q.outcome.walk.events) (events_from (thread + 1) rs) k e own
@@ -46,7 +44,7 @@ thread_of_run : (P : Value → Type 0) (threads : List Thread) (rs : List Run) (
 thread_of_run P [] [] its r h there = absurd cc
 thread_of_run P [] (q ∷ rs) its r h there = absurd h
 thread_of_run P (t ∷ threads) [] its r h there = absurd h
-thread_of_run P (t ∷ threads) (q ∷ rs) zero r h there = (t, subst (λ (s : Run). IsRun t P s) (run_is there) h.0)
+thread_of_run P (t ∷ threads) (q ∷ rs) zero r h there = (t, subst (λ (s : Run). IsRun t P s) (same_Some _ _ there) h.0)
 thread_of_run P (t ∷ threads) (q ∷ rs) (suc k) r h there = thread_of_run P threads rs k r h.1 there
 
 -- a load is an event, and so is a store

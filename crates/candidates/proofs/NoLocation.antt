@@ -1,5 +1,5 @@
 -- A test without a location has no address, so its runs have no loads.
-use Rattle.std.proofs.Common.{vec_len, ℕ, zero, suc, ◌≡◌, ◌<◌, not, Bool, true, false, if◌then◌else◌, List, [], ◌∷◌, ◌++◌, length, get_or, replicate, Some, slice_get, refl, ap, sym, subst, ◌∙◌, inl, inr, arith, Contains, All}
+use Rattle.std.proofs.Common.{vec_len, ℕ, zero, suc, ◌≡◌, not, Bool, true, false, if◌then◌else◌, List, [], ◌∷◌, ◌++◌, length, get_or, replicate, Some, slice_get, refl, ap, sym, subst, ◌∙◌, inl, inr, arith, Contains, All}
 use Rattle.std.specs.Prelude.{slice_set}
 use Rattle.std.specs.List.{flat_map}
 use Rattle.std.proofs.lemmas.Bool.{cases_eq, cases_lt}
@@ -121,6 +121,7 @@ none_loaded : (lines : List Line) (s : State) (vs : List Value) (o : Outcome) �
 none_loaded lines s vs o h e =
     sym (values_read lines s vs o e) ∙ (along IsQuiet (λ i b v w sound q. quiet_more i b v w sound q) (λ x l w q. record { registers = q.registers; loads = q.loads }) lines (started s) vs o e (record { registers = h; loads = refl })).loads
 
+-- the threads of a program without a location begin so
 no_names : (names : List (List ℕ)) → length names ≡ 0 → names ≡ []
 no_names [] e = refl
 no_names (n ∷ names) e = absurd (omega (arith, e))

@@ -1,6 +1,7 @@
 -- The events of a run are as many as its steps have event places.
 use Rattle.std.proofs.Common.{ℕ, zero, suc, ◌≡◌, ◌<◌, ◌+◌, Bool, true, false, cond, List, [], ◌∷◌, ◌++◌, length, Option, Some, None, refl, ap, sym, subst, ◌∙◌, arith}
 use Rattle.std.proofs.lemmas.List.{length-append, get_or_append_left, get_or_at}
+use Rattle.std.proofs.lemmas.Option.{same_Some}
 use Rattle.thread_runs.specs.declared.value.Value.{Value}
 use Rattle.thread_runs.specs.declared.value.Value.TheVariants.{NoValue}
 use Rattle.thread_runs.specs.declared.instruction.Instruction.{Instruction}
@@ -13,13 +14,10 @@ use Rattle.thread_runs.specs.Machine.{is_load, is_fault, goes, event_of}
 use Rattle.thread_runs.specs.Runs.{Walk, Outcome, started, advanced, passed, ends, supplied, obeyed, one, run_from, run_of, executed, nothing}
 use Rattle.dataflow.specs.Chains.{Executed, event_place, is_event}
 
-outcome_is : {o p : Outcome} → Some o ≡ Some p → o ≡ p
-outcome_is e = cc
-
 -- what each step of a run keeps holds at its end
 module _ (P : Walk → Type 0) (step : (i : Instruction) (b : Bool) (v : Value) (w : Walk) → is_fault i w.state ≡ false → P w → P (advanced i b v w)) (pass : (x : Line) (l : ℕ) (w : Walk) → P w → P (passed x l w)) where
   at_end : (f : Bool) (w : Walk) (vs : List Value) (o : Outcome) → ends f w vs ≡ Some o → P w → P o.walk
-  at_end f w [] o e h = subst (λ (q : Outcome). P q.walk) (outcome_is e) h
+  at_end f w [] o e h = subst (λ (q : Outcome). P q.walk) (same_Some _ _ e) h
   at_end f w (v ∷ vs) o e h = absurd cc
 
   at_load : (xs : List Line) → ((w : Walk) (vs : List Value) (o : Outcome) → run_from xs w vs ≡ Some o → P w → P o.walk) → (l : Bool) (i : Instruction) (b : Bool) (w : Walk) (vs : List Value) (o : Outcome) → is_fault i w.state ≡ false → supplied l i b (run_from xs) w vs ≡ Some o → P w → P o.walk

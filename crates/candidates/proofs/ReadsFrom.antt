@@ -2,6 +2,7 @@
 use Rattle.std.proofs.Common.{ℕ, suc, ◌≡◌, ◌+◌, ◌↔◌, ◌&&◌, Bool, true, false, cond, nat_eq, List, [], ◌∷◌, ◌++◌, map, filter, Some, slice_get, refl, ap, sym, subst, ◌∙◌, inl, inr, arith, append_assoc, append-nil, eq-eqb}
 use Rattle.std.specs.List.{flat_map, AllZip}
 use Rattle.std.proofs.lemmas.List.{map-append}
+use Rattle.std.proofs.lemmas.Option.{same_Some}
 use Rattle.bit_relations.specs.Pairs.{Union, Path, IsAcyclic}
 use Rattle.thread_runs.specs.declared.value.Value.{Value}
 use Rattle.thread_runs.specs.declared.value.Value.TheVariants.{Number, Address, NoValue}
@@ -55,18 +56,15 @@ store_is (Read l v) (Fence f) e = absurd cc
 store_is (Write l v) b e = absurd cc
 store_is (Fence f) b e = absurd cc
 
-event_is : {x y : Event} → Some x ≡ Some y → x ≡ y
-event_is e = cc
-
 -- the stores that one load may read
 one_load : (es : List Event) (n : ℕ) (e : Event) → slice_get es n ≡ Some e → is_load e ≡ true → IsFiltered (MayRead es n) (stores es) (sources_of es e)
 one_load es n e there load = numbers_filtered is_store (λ s. may_read e.action s.action) (MayRead es n) (λ s h. store_is e.action s.action h) 0 es (λ j s g. (to j s g, back j s g))
   where
     to : (j : ℕ) (s : Event) → slice_get es j ≡ Some s → MayRead es n (0 + j) → may_read e.action s.action ≡ true
     to j s g m =
-        let a : e.action ≡ Read m.0 m.1 = ap (λ (x : Event). x.action) (event_is (sym there ∙ m.2.1)) ∙ m.2.2 in
+        let a : e.action ≡ Read m.0 m.1 = ap (λ (x : Event). x.action) (same_Some _ _ (sym there ∙ m.2.1)) ∙ m.2.2 in
         let z : 0 + j ≡ j = omega arith in
-        let b : s.action ≡ Write m.0 m.1 = ap (λ (x : Event). x.action) (event_is (sym g ∙ sym (ap (λ (k : ℕ). slice_get es k) z) ∙ m.3.1)) ∙ m.3.2 in
+        let b : s.action ≡ Write m.0 m.1 = ap (λ (x : Event). x.action) (same_Some _ _ (sym g ∙ sym (ap (λ (k : ℕ). slice_get es k) z) ∙ m.3.1)) ∙ m.3.2 in
         ap (λ (x : Action). may_read x s.action) a ∙ ap (λ (x : Action). may_read (Read m.0 m.1) x) b ∙ reads_itself m.0 m.1
 
     back : (j : ℕ) (s : Event) → slice_get es j ≡ Some s → may_read e.action s.action ≡ true → MayRead es n (0 + j)

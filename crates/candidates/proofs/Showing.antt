@@ -1,5 +1,5 @@
 -- What a space shows of the executions that its combinations list: their registers, faults and dependencies.
-use Rattle.std.proofs.Common.{Vec, ℕ, zero, suc, Some, ◌≡◌, ◌≤◌, ◌+◌, ◌⊎◌, ◌↔◌, ◌||◌, Bool, true, false, List, [], ◌∷◌, ◌++◌, map, length, slice_get, refl, ap, sym, subst, ◌∙◌, inl, inr, arith, append_assoc, append-nil, Contains}
+use Rattle.std.proofs.Common.{Vec, ℕ, zero, suc, Some, ◌≡◌, ◌≤◌, ◌+◌, ◌⊎◌, ◌↔◌, true, false, List, [], ◌∷◌, ◌++◌, map, length, slice_get, refl, ap, sym, subst, ◌∙◌, inl, inr, arith, append_assoc, append-nil, Contains}
 use Rattle.std.specs.List.{flat_map, AllPairs, AllZip}
 use Rattle.std.specs.declared.alloc.Global.{Global}
 use Rattle.std.proofs.lemmas.List.{map-append, length-map, take_all}

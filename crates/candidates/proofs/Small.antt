@@ -5,6 +5,7 @@ use Rattle.std.specs.declared.alloc.Global.{Global}
 use Rattle.std.proofs.lemmas.List.{length-append}
 use Rattle.std.proofs.lemmas.List.Sums.{sum_by-cons}
 use Rattle.std.proofs.lemmas.List.Elements.{Contains-push, Contains-append_left, Contains-append_right}
+use Rattle.std.proofs.lemmas.Option.{same_Some}
 use Rattle.text_values.specs.declared.test.Test.{Test}
 use Rattle.thread_runs.specs.declared.value.Value.{Value}
 use Rattle.thread_runs.specs.declared.value.Value.TheVariants.{NoValue}
@@ -50,15 +51,12 @@ event_few (Branch c l) v s = omega arith
 event_few (Jump l) v s = omega arith
 event_few (Barrier f) v s = omega arith
 
-outcome_is : {o p : Outcome} → Some o ≡ Some p → o ≡ p
-outcome_is e = cc
-
 -- what is left of the text adds so many
 abbrev pub Adds : List Line → ℕ → Type 0
 Adds xs n = (w : Walk) (vs : List Value) (o : Outcome) → run_from xs w vs ≡ Some o → length o.walk.events ≤ length w.events + n
 
 ends_few : (f : Bool) (w : Walk) (vs : List Value) (o : Outcome) (n : ℕ) → ends f w vs ≡ Some o → length o.walk.events ≤ length w.events + n
-ends_few f w [] o n e = let a : length w.events ≡ length o.walk.events = ap (λ (q : Outcome). length q.walk.events) (outcome_is e) in omega (arith, a)
+ends_few f w [] o n e = let a : length w.events ≡ length o.walk.events = ap (λ (q : Outcome). length q.walk.events) (same_Some _ _ e) in omega (arith, a)
 ends_few f w (v ∷ vs) o n e = absurd cc
 
 module _ (xs : List Line) (n : ℕ) (rest : Adds xs n) where

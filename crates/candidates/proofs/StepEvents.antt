@@ -3,6 +3,7 @@ use Rattle.std.proofs.Common.{ℕ, zero, suc, ◌≡◌, ◌<◌, ◌≤◌, ◌
 use Rattle.std.proofs.lemmas.Bool.{cases_eq, cases_lt}
 use Rattle.std.proofs.lemmas.List.{length-append, get_or_append_left, get_or_at, get_or_past}
 use Rattle.std.proofs.lemmas.List.Concat.{flat_map-append}
+use Rattle.std.proofs.lemmas.Option.{same_Some}
 use Rattle.thread_runs.specs.declared.value.Value.{Value}
 use Rattle.thread_runs.specs.declared.value.Value.TheVariants.{Number, Address, NoValue}
 use Rattle.thread_runs.specs.declared.instruction.Event as run
@@ -31,9 +32,6 @@ pub record Alone (t : ℕ) (i : Instruction) (es : List run.Event) : Type 0 wher
 
 no_fence : {f : Fence} → Some f ≡ None → ⊥
 no_fence e = cc
-
-fence_is : {f g : Fence} → Some f ≡ Some g → f ≡ g
-fence_is e = cc
 
 read_alone : (t : ℕ) (i : Instruction) (x v : Value) → stores_to i ≡ false → fence_of i ≡ None → not (is_address x) ≡ false → Alone t i (Reads x v ∷ [])
 read_alone t i (Number n) v never unfenced h = absurd cc
@@ -64,7 +62,7 @@ alone t (Compare a b) v s h e = absurd cc
 alone t (CompareImmediate a n) v s h e = absurd cc
 alone t (Branch c l) v s h e = absurd cc
 alone t (Jump l) v s h e = absurd cc
-alone t (Barrier f) v s h e = record { event = _; alone = refl; kind = record { of_thread = refl; loads = λ e. absurd cc; stores = λ e. absurd cc; fences = λ g e. ap (λ (x : Fence). FenceAction x) (fence_is e) } }
+alone t (Barrier f) v s h e = record { event = _; alone = refl; kind = record { of_thread = refl; loads = λ e. absurd cc; stores = λ e. absurd cc; fences = λ g e. ap (λ (x : Fence). FenceAction x) (same_Some _ _ e) } }
 
 -- at the place of each step that is an event stands its event
 pub record Stands (t : ℕ) (steps : List RunStep) (es : List run.Event) (n : ℕ) : Type 0 where

@@ -1,6 +1,7 @@
 -- A run makes no access but to a location's address: none of its events is left out.
 use Rattle.std.proofs.Common.{ℕ, ◌≡◌, ◌+◌, Bool, true, false, not, List, [], ◌∷◌, ◌++◌, length, Option, Some, None, refl, ap, subst, arith}
 use Rattle.std.proofs.lemmas.List.{length-append}
+use Rattle.std.proofs.lemmas.Option.{same_Some}
 use Rattle.thread_runs.specs.declared.value.Value.{Value}
 use Rattle.thread_runs.specs.declared.value.Value.TheVariants.{Number, Address, NoValue}
 use Rattle.thread_runs.specs.declared.instruction.Event as run
@@ -50,15 +51,12 @@ event_located (Branch c l) v s h = tt
 event_located (Jump l) v s h = tt
 event_located (Barrier f) v s h = ((Fence f, refl), tt)
 
-outcome_is : {o p : Outcome} → Some o ≡ Some p → o ≡ p
-outcome_is e = cc
-
 -- what is left of the text keeps it so
 abbrev Keeps : List Line → Type 0
 Keeps xs = (w : Walk) (vs : List Value) (o : Outcome) → run_from xs w vs ≡ Some o → AreLocated w.events → AreLocated o.walk.events
 
 ends_located : (f : Bool) (w : Walk) (vs : List Value) (o : Outcome) → ends f w vs ≡ Some o → AreLocated w.events → AreLocated o.walk.events
-ends_located f w [] o e h = subst (λ (q : Outcome). AreLocated q.walk.events) (outcome_is e) h
+ends_located f w [] o e h = subst (λ (q : Outcome). AreLocated q.walk.events) (same_Some _ _ e) h
 ends_located f w (v ∷ vs) o e h = absurd cc
 
 module _ (xs : List Line) (rest : Keeps xs) where

@@ -1,6 +1,5 @@
 -- What words ask for.
 use Rattle.std.proofs.Common.{◌≡◌, ℕ, ◌+◌, ◌-◌, ◌<◌, ◌≤◌, ◌&&◌, List, [], ◌∷◌, suc, length, get_or, take, drop, Bool, true, false, Option, Some, None, ltb, refl, sym, ap, ◌∙◌, arith, length-drop, codes}
-use Rattle.std.proofs.lemmas.Grind.{common_steps}
 use Rattle.std.proofs.lemmas.List.{take_all, take-map, drop-map, length-map}
 use Rattle.std.proofs.lemmas.List.Sums.{position_or_len_is}
 use Rattle.std.specs.List.{list_all}

@@ -1,6 +1,6 @@
 -- Lines that are printed in parts.
 use Rattle.std.proofs.Common.{◌≡◌, ℕ, List, ◌++◌, Bool, codes, append_assoc}
-use Rattle.std.specs.Prelude.{Result, Ok, Err, OnOk, decimal}
+use Rattle.std.specs.Prelude.{decimal}
 use Rattle.compare_report.specs.Log.{line_end, met_word, observation_label, witness_lines}
 
 pub label_joined : (t a b d name : List ℕ) → a ≡ t ++ codes "Observation " → b ≡ a ++ name → d ≡ b ++ codes " " → d ≡ t ++ observation_label name

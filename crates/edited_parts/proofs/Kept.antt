@@ -1,5 +1,5 @@
 -- Orderly parts are kept as the laws of cells ask for it.
-use Rattle.std.proofs.Common.{◌≡◌, ℕ, zero, suc, ◌+◌, ◌<◌, ◌||◌, ◌==◌, Bool, false, eq-eqb, inl, inr, List, [], ◌∷◌, ◌++◌, length, map, true, get_or, Some, slice_get, slice_index_or, All, refl, sym, ap, subst, ◌∙◌, add-zero, zero-add, arith}
+use Rattle.std.proofs.Common.{◌≡◌, ℕ, zero, suc, ◌+◌, ◌<◌, ◌||◌, ◌==◌, Bool, eq-eqb, inl, inr, List, [], ◌∷◌, ◌++◌, length, map, true, get_or, Some, slice_get, slice_index_or, All, refl, sym, ap, subst, ◌∙◌, add-zero, zero-add, arith}
 use Rattle.std.specs.Arc.{arc_value}
 use Rattle.std.specs.List.{AllPairs, AllByRecursion as Each, range_with_len}
 use Rattle.std.proofs.lemmas.List.Kept.{AllPairs-cons}

@@ -2,7 +2,7 @@
 use Rattle.std.proofs.Common.{ℕ, ◌≡◌, suc, inl, inr, List, [], ◌∷◌, length, map, Some, slice_get, refl, sym, ap, ◌∙◌, eqb, eqb-true, arith}
 use Rattle.std.specs.Prelude.{zip}
 use Rattle.std.proofs.lemmas.Bool.{cases_Bool}
-use Rattle.std.proofs.lemmas.Option.{none-some}
+use Rattle.std.proofs.lemmas.Option.{none-some, same_Some}
 use Rattle.memo_core.specs.declared.keys.Output.{Output as Made}
 use Rattle.memo_core.specs.Graph.{named_values, output_at}
 use Rattle.node_values.specs.Values.{NodeContent}
@@ -34,9 +34,6 @@ values_named (o ∷ os) (n ∷ ns) (v ∷ vs) l e =
     let rest = values_named os ns vs (omega (arith, l)) (tail_is (o.name, o.value) (n, v) (named_values os) (zip ns vs) e) in
     ap (λ (w : NodeContent). w ∷ made_values os) first ∙ ap (λ (ws : List NodeContent). v ∷ ws) rest
 
-some_value : (a b : Pair) → Some a ≡ Some b → a ≡ b
-some_value a b e = cc
-
 -- a value is found under a number where both stand at one index
 abbrev pub StandAt : List ℕ → List NodeContent → ℕ → NodeContent → Type 0
 StandAt ns vs x v = (q : ℕ) × (slice_get ns q ≡ Some x) × (slice_get vs q ≡ Some v)
@@ -50,6 +47,6 @@ found_at (o ∷ os) (n ∷ ns) (w ∷ ws) x s v e at =
     let name : o.name ≡ n = ap (λ (p : Pair). p.0) first in
     let value : o.value ≡ w = ap (λ (p : Pair). p.1) first in
     elim (cases_Bool (eqb x o.name)) [
-      | inl same ↦ (0, ap (λ (k : ℕ). Some k) (sym name ∙ sym (eqb-true x o.name same)), ap (λ (u : NodeContent). Some u) (sym value ∙ ap (λ (p : Pair). p.1) (some_value (o.stamp, o.value) (s, v) (rw same at at))))
+      | inl same ↦ (0, ap (λ (k : ℕ). Some k) (sym name ∙ sym (eqb-true x o.name same)), ap (λ (u : NodeContent). Some u) (sym value ∙ ap (λ (p : Pair). p.1) (same_Some (o.stamp, o.value) (s, v) (rw same at at))))
       | inr other ↦ (let rest = found_at os ns ws x s v (tail_is (o.name, o.value) (n, w) (named_values os) (zip ns ws) e) (rw other at at) in (suc rest.0, rest.1, rest.2))
     ]

@@ -3,7 +3,7 @@ use Rattle.std.proofs.Common.{ℕ, ◌≡◌, ◌⊎◌, inl, inr, zero, suc, �
 use Rattle.std.specs.List.{AllZip, flat_map}
 use Rattle.std.specs.declared.alloc.Global.{Global}
 use Rattle.std.proofs.lemmas.List.Elements.{Contains-append_left}
-use Rattle.std.proofs.lemmas.Option.{none-some}
+use Rattle.std.proofs.lemmas.Option.{none-some, same_Some}
 use Rattle.text_values.specs.declared.test.Test.{Test}
 use Rattle.text_values.specs.TestValue.{formula_of}
 use Rattle.ppc_semantics.specs.Lowering.{AreNames, place_names, entry_names, formula_names, test_names}
@@ -34,19 +34,13 @@ has_at (r ∷ rs) zero row e = inl (some e)
     some e = cc
 has_at (r ∷ rs) (suc i) row e = inr (has_at rs i row e)
 
-some_row : {a b : TestRow} → Some a ≡ Some b → a ≡ b
-some_row e = cc
-
-some_test : {a b : Test} → Some a ≡ Some b → a ≡ b
-some_test e = cc
-
 pub find_test : (last : ℕ) (rs : List TestRow) (ts : List Test) (ls : List (Vec (List ℕ) Global)) (i : ℕ) (row : TestRow) (test : Test) → AreTestRows last rs ts ls → AllPairs IsOther rs → AllZip (λ t l. AreNames (test_names t) l.items) ts ls → slice_get rs i ≡ Some row → slice_get ts i ≡ Some test → IsFound last rs ts ls row test
 find_test last [] ts ls i row test h apart names a b = absurd (none-some row a)
 find_test last (r ∷ rs) [] ls i row test h apart names a b = absurd h
 find_test last (r ∷ rs) (t ∷ ts) [] i row test h apart names a b = absurd h
 find_test last (r ∷ rs) (t ∷ ts) (l ∷ ls) zero row test h apart names a b =
-    let same : r ≡ row = some_row a in
-    let also : t ≡ test = some_test b in
+    let same : r ≡ row = same_Some _ _ a in
+    let also : t ≡ test = same_Some _ _ b in
     subst (λ (x : TestRow). IsFound last (r ∷ rs) (t ∷ ts) (l ∷ ls) x test) same
     (subst (λ (x : Test). IsFound last (r ∷ rs) (t ∷ ts) (l ∷ ls) r x) also
     (record { locations = l.items; found = rw (eq-eqb r.id r.id refl) refl; row_is = h.0; names = names.0; there = rw (eq-eqb r.id r.id refl) refl }))

@@ -1,6 +1,6 @@
 -- No group of a model without fault has one name twice.
 use Rattle.std.proofs.Common.{ℕ, ◌≡◌, zero, suc, ◌+◌, inl, inr, Bool, true, false, List, [], ◌∷◌, length, map, Some, slice_get, refl, sym, ap, ◌∙◌, subst}
-use Rattle.std.proofs.lemmas.Option.{none-some}
+use Rattle.std.proofs.lemmas.Option.{none-some, same_Some}
 use Rattle.binding_kinds.specs.declared.fault.ModelFault.{ModelFault}
 use Rattle.binding_kinds.specs.declared.fault.ModelFault.TheVariants as faults
 use Rattle.binding_kinds.specs.declared.scope.Used.{Used}
@@ -21,9 +21,6 @@ bound_names (roles.Group recursive bodies) = map (λ b. b.name) bodies.items
 bound_names (roles.Check check) = []
 bound_names roles.Silent = []
 
-some_name : {a b : List ℕ} → Some a ≡ Some b → a ≡ b
-some_name e = cc
-
 -- ---- the bindings of a group
 
 module _ (ss : List Sense) (names : List Naming) (from : ℕ) (recursive : Bool) where
@@ -36,14 +33,14 @@ module _ (ss : List Sense) (names : List Naming) (from : ℕ) (recursive : Bool)
   -- no name stands earlier
   not_earlier : (earlier : List (List ℕ)) (bs : List Bound) → HasNone earlier bs → (p : ℕ) (x : List ℕ) → slice_get (map (λ b. b.name) bs) p ≡ Some x → IsAmong earlier x → ⊥
   not_earlier earlier [] h p x at a = absurd (none-some x at)
-  not_earlier earlier (b ∷ bs) h zero x at a = h 0 faults.Duplicate (inl (refl, inl (subst (IsAmong earlier) (sym (some_name at)) a, refl)))
+  not_earlier earlier (b ∷ bs) h zero x at a = h 0 faults.Duplicate (inl (refl, inl (subst (IsAmong earlier) (sym (same_Some _ _ at)) a, refl)))
   not_earlier earlier (b ∷ bs) h (suc p) x at a = not_earlier (b.name ∷ earlier) bs (rest_none earlier b bs h) p x at (inr a)
 
   bounds_once : (earlier : List (List ℕ)) (bs : List Bound) → HasNone earlier bs → StandsOnce (map (λ b. b.name) bs)
   bounds_once earlier [] h p q x at also = absurd (none-some x at)
   bounds_once earlier (b ∷ bs) h zero zero x at also = refl
-  bounds_once earlier (b ∷ bs) h zero (suc q) x at also = absurd (not_earlier (b.name ∷ earlier) bs (rest_none earlier b bs h) q x also (inl (some_name at)))
-  bounds_once earlier (b ∷ bs) h (suc p) zero x at also = absurd (not_earlier (b.name ∷ earlier) bs (rest_none earlier b bs h) p x at (inl (some_name also)))
+  bounds_once earlier (b ∷ bs) h zero (suc q) x at also = absurd (not_earlier (b.name ∷ earlier) bs (rest_none earlier b bs h) q x also (inl (same_Some _ _ at)))
+  bounds_once earlier (b ∷ bs) h (suc p) zero x at also = absurd (not_earlier (b.name ∷ earlier) bs (rest_none earlier b bs h) p x at (inl (same_Some _ _ also)))
   bounds_once earlier (b ∷ bs) h (suc p) (suc q) x at also = ap suc (bounds_once (b.name ∷ earlier) bs (rest_none earlier b bs h) p q x at also)
 
 -- ---- what an item is resolved to

@@ -3,7 +3,7 @@ use Rattle.std.proofs.Common.{ℕ, ◌≡◌, ◌<◌, ◌+◌, inl, inr, zero, 
 use Rattle.std.specs.List.{AllByRecursion as Each}
 use Rattle.std.proofs.Math.Seq.{take-length}
 use Rattle.std.proofs.lemmas.Bool.{cases_Bool, or_right}
-use Rattle.std.proofs.lemmas.Option.{none-some, slice_get_within}
+use Rattle.std.proofs.lemmas.Option.{none-some, slice_get_within, same_Some}
 use Rattle.text_values.specs.declared.test.Test.{Test}
 use Rattle.text_values.specs.declared.test.Thread.{Thread}
 use Rattle.text_values.specs.TestValue.{formula_of}
@@ -120,9 +120,6 @@ among_has (u ∷ l) k h = elim (cases_Bool (u == k)) [
 
 -- ---- outputs of items
 
-some_name : {a b : List ℕ} → Some a ≡ Some b → a ≡ b
-some_name e = cc
-
 get_there : (xs : List (List ℕ)) (p : ℕ) → p < length xs → slice_get xs p ≡ Some (get_or xs p [])
 get_there [] p lt = absurd (omega (arith, lt))
 get_there (x ∷ xs) zero lt = refl
@@ -149,7 +146,7 @@ outputs_numbered history roles.Silent p lt = absurd (omega (arith, lt))
 -- the names of a list stand in a history
 named_at : (history names : List (List ℕ)) (p : ℕ) (x : List ℕ) → Each (IsNamed history) names → slice_get names p ≡ Some x → IsNamed history x
 named_at history [] p x all at = absurd (none-some x at)
-named_at history (n ∷ ns) zero x all at = subst (IsNamed history) (some_name at) all.0
+named_at history (n ∷ ns) zero x all at = subst (IsNamed history) (same_Some _ _ at) all.0
 named_at history (n ∷ ns) (suc p) x all at = named_at history ns p x all.1 at
 
 -- the name of a number
@@ -182,9 +179,6 @@ outputs_once history (roles.Check check) all once = one_once
 outputs_once history roles.Silent all once = λ p q x at also. absurd (none-some x at)
 
 -- ---- what a node's job is given
-
-some_given : {a b : GivenContent} → Some a ≡ Some b → a ≡ b
-some_given e = cc
 
 -- the text of a flag is among the inputs of a verdict
 read_behind : (ks ls : List Key) (item : ℕ) → is_read ls item ≡ true → is_read (ks ++ ls) item ≡ true
@@ -231,7 +225,7 @@ flag_among test numbers index (suc j) (q ∷ rs) r name at is =
 
 module _ (s : State) where
   gives_this : (n : Node) (known : GivenContent) → given s n ≡ Some known → (g : GivenContent) → (net_in s).gives n g ≡ true → g ≡ known
-  gives_this n known e g gives = some_given (sym (given_is (given s n) g gives) ∙ e)
+  gives_this n known e g gives = same_Some _ _ (sym (given_is (given s n) g gives) ∙ e)
 
   -- an item of which the part holds what it does is named as it is, where its text is read if it is a flag
   flag_is : (keys : List Key) (own : ℕ) (role : Role) (part : IsHeld s own (role_content role)) → ((name : List ℕ) → flag_name role ≡ Some name → is_read keys own ≡ true) → flag_read s keys own ≡ flag_name role

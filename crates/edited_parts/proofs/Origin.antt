@@ -3,6 +3,7 @@ use Rattle.std.proofs.Common.{ℕ, ◌≡◌, ◌<◌, inl, inr, zero, suc, true
 use Rattle.std.specs.List.{AllByRecursion as Each, flat_map}
 use Rattle.std.specs.Prelude.{slice_index_or}
 use Rattle.std.proofs.lemmas.Bool.{cases_order}
+use Rattle.std.proofs.lemmas.Option.{same_Some}
 use Rattle.memo_core.specs.declared.keys.Kind.{Kind}
 use Rattle.memo_core.specs.declared.keys.Kind.TheVariants as kinds
 use Rattle.memo_core.specs.Step.{Has}
@@ -139,9 +140,6 @@ module _ (models : List ModelReading) (apart : AllPairs AreOther models) (read :
   IsOwn histories kinds.Check of keys = OfItem histories of keys
   IsOwn histories kinds.Verdict of keys = (m : ModelReading) → Has models m → id_in m ≡ of → keys ≡ verdict_inputs m
 
-  some_item : {a b : ResolvedItem} → Some a ≡ Some b → a ≡ b
-  some_item e = cc
-
   same_numbers : (a b : ℕ) (c d : List ℕ) (e f : List ResolvedItem) (g h : List ℕ) → Sound a c e g ≡ Sound b d f h → c ≡ d
   same_numbers a b c d e f g h p = cc
 
@@ -161,7 +159,7 @@ module _ (models : List ModelReading) (apart : AllPairs AreOther models) (read :
       let index : j ≡ i = one_index numbers j i (read_from id numbers items used there).1.apart
       (index_within id numbers items used there j (subst (λ (l : List ℕ). Has l j) u within)) (index_within id numbers items used there i inside)
       (ap (λ (l : List ℕ). get_or l j 0) (sym n) ∙ e) in
-      let one : r ≡ q = some_item (sym found ∙ ap (slice_get items) (sym index) ∙ ap (λ (l : List ResolvedItem). slice_get l j) (sym t) ∙ at) in
+      let one : r ≡ q = same_Some _ _ (sym found ∙ ap (slice_get items) (sym index) ∙ ap (λ (l : List ResolvedItem). slice_get l j) (sym t) ∙ at) in
       ap (item_keys histories numbers items (number_at numbers i)) one ∙ ap (λ (l : List ℕ). item_keys histories l items (number_at numbers i) q) (sym n)
       ∙ ap (λ (l : List ResolvedItem). item_keys histories ms l (number_at numbers i) q) (sym t)
 

@@ -1,5 +1,6 @@
 -- A settled verdict of a cell holds what evaluating from nothing gives.
 use Rattle.std.proofs.Common.{ℕ, ◌≡◌, true, List, [], ◌∷◌, Option, Some, zip, refl, sym, ap, ◌∙◌, subst}
+use Rattle.std.proofs.lemmas.Option.{same_Some}
 use Rattle.text_values.specs.declared.test.Test.{Test}
 use Rattle.text_values.specs.declared.model.ModelText.{ModelText}
 use Rattle.memo_core.specs.declared.keys.Key.{Key}
@@ -66,9 +67,6 @@ module _ (net : Net GivenContent) (memos : List (Memo NodeContent)) (n : Node) w
   fault_holds parts uses is g values outputs gives made =
       let h = subst (λ (x : GivenContent). Makes x values outputs) (is.given_is g gives) made in (_, h, ap output_names (is.given_is g gives))
 
-some_node : {a b : Node} → Some a ≡ Some b → a ≡ b
-some_node e = cc
-
 module _ (s : State) (models : List ModelReading) (kept : IsKept s models) (index : ℕ) (row : TestRow) (test : Test) (test_at : IsTestAt s index row test) where
   solved_in : (memos : List (Memo NodeContent)) → cells.AreSolved makes (net_in s) memos → AreSolved (net_in s) memos
   solved_in memos all = record { solved = all.solved; closed = all.closed }
@@ -94,7 +92,7 @@ module _ (s : State) (models : List ModelReading) (kept : IsKept s models) (inde
 
     pub sound_scratch : SolvedIsFromScratch makes (net_in s) outcome_in (Some (verdict_node row.id id)) (λ o. IsFromScratch test model o)
     sound_scratch memos n all e settled =
-        let same : verdict_node row.id id ≡ n = some_node e in
+        let same : verdict_node row.id id ≡ n = same_Some _ _ e in
         subst (λ (m : Node). (o : Outcome) × cells.Carries outcome_in memos m o × IsFromScratch test model o) same
         (at_verdict memos all (subst (IsSettled (net_in s) memos) (sym same) settled))
 
@@ -118,6 +116,6 @@ module _ (s : State) (models : List ModelReading) (kept : IsKept s models) (inde
 
     pub faulty_scratch : SolvedIsFromScratch makes (net_in s) outcome_in (Some (verdict_node row.id id)) (λ o. IsFromScratch test model o)
     faulty_scratch memos n all e settled =
-        let same : verdict_node row.id id ≡ n = some_node e in
+        let same : verdict_node row.id id ≡ n = same_Some _ _ e in
         subst (λ (m : Node). (o : Outcome) × cells.Carries outcome_in memos m o × IsFromScratch test model o) same
         (at_fault memos all (subst (IsSettled (net_in s) memos) (sym same) settled))

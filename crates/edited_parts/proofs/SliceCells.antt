@@ -2,6 +2,7 @@
 use Rattle.std.proofs.Common.{ℕ, ◌≡◌, zero, suc, List, [], ◌∷◌, map, Option, Some, None, refl, sym, ap, ◌∙◌}
 use Rattle.std.specs.Prelude.{slice_get, option_map, unwrap_or}
 use Rattle.std.specs.Arc.{arc_value}
+use Rattle.std.proofs.lemmas.Option.{same_Some}
 use Rattle.text_values.specs.TestValue.{Content, Formula}
 use Rattle.text_values.specs.declared.test.Quantifier.{Quantifier}
 use Rattle.text_values.specs.ModelValue.{Clause}
@@ -42,9 +43,6 @@ functions_by ns (f ∷ fs) = let e = number_by ns f in let rest = functions_by n
 
 -- ---- items
 
-some_item : {a b : ReadItem} → Some a ≡ Some b → a ≡ b
-some_item e = cc
-
 module _ (ns ms : List ℕ) where
   cell_same : (k l : ℕ) (r q : ResolvedItem) → k ≡ l → read_item ns r ≡ read_item ms q → cell_item ns k r ≡ cell_item ms l q
   cell_same k l r q number e =
@@ -57,7 +55,7 @@ module _ (ns ms : List ℕ) where
   item_same k l None None number e = refl
   item_same k l None (Some q) number e = absurd (let n : None ≡ Some (read_item ms q) = e in cc)
   item_same k l (Some r) None number e = absurd (let n : Some (read_item ns r) ≡ None = e in cc)
-  item_same k l (Some r) (Some q) number e = ap (λ (c : CellItem). Some c) (cell_same k l r q number (some_item e))
+  item_same k l (Some r) (Some q) number e = ap (λ (c : CellItem). Some c) (cell_same k l r q number (same_Some _ _ e))
 
   first_number : (a b : Option ℕ) (ls ks : List (Option ℕ)) → a ∷ ls ≡ b ∷ ks → a ≡ b
   first_number a b ls ks e = cc

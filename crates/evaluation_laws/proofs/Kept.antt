@@ -4,7 +4,7 @@ use Rattle.std.specs.Prelude.{◌==◌, is_some, nat_le, nat_eq, slice_get, if�
 use Rattle.std.specs.List.{AllByRecursion as Each}
 use Rattle.std.proofs.lemmas.Bool.{cases_Bool}
 use Rattle.std.proofs.lemmas.Bool.Decides.{nat_tests}
-use Rattle.std.proofs.lemmas.Option.{none-some}
+use Rattle.std.proofs.lemmas.Option.{none-some, same_Some}
 use Rattle.text_values.specs.ModelValue.{Term, Terms, Atom, AllEvents, EmptyRelation, EmptySet, Join, Mark, Not, On, Apply, NoTerm, OneMore}
 use Rattle.memo_core.specs.Step.{Has}
 use Rattle.binding_kinds.specs.declared.fault.ModelFault.{ModelFault}
@@ -205,12 +205,6 @@ module _ (us : List Usage) (names : List Naming) (ps : List (List ℕ)) where
 
 -- ---- functions that are applied
 
-same_found : {a b : Found} → Some a ≡ Some b → a ≡ b
-same_found e = cc
-
-same_usage : {a b : Usage} → Some a ≡ Some b → a ≡ b
-same_usage e = cc
-
 -- what a name that is applied stands for
 record IsSense (ss : List Sense) (n : ℕ) (o : Option Found) (a : Sense) : Type 0 where
   pub now : Found
@@ -326,7 +320,7 @@ module _ (names : List Naming) where
 
     has_at : (xs : List Usage) (i : ℕ) (w : Usage) → slice_get xs i ≡ Some w → Has xs w
     has_at [] i w e = absurd (none-some w e)
-    has_at (x ∷ xs) zero w e = inl (same_usage e)
+    has_at (x ∷ xs) zero w e = inl (same_Some _ _ e)
     has_at (x ∷ xs) (suc i) w e = inr (has_at xs i w e)
 
     usage_there : (r : Result ℕ ModelFault) (w : Usage) → usage_at s.usages r ≡ Some w → Has s.usages w

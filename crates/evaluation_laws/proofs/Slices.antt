@@ -3,10 +3,11 @@ use Rattle.std.proofs.Common.{ℕ, ◌≡◌, List, [], ◌∷◌, map, Option, 
 use Rattle.std.specs.Prelude.{slice_get, option_map}
 use Rattle.std.specs.Arc.{arc_value}
 use Rattle.std.specs.List.{AllZip}
+use Rattle.std.proofs.lemmas.Option.{same_Some}
 use Rattle.text_values.specs.TestValue.{Content}
 use Rattle.text_values.specs.ModelValue as value
 use Rattle.binding_graph.specs.declared.resolved.ResolvedItem.{ResolvedItem}
-use Rattle.binding_graph.specs.Contents.{RoleContent, role_content}
+use Rattle.binding_graph.specs.Contents.{role_content}
 use Rattle.bench_texts.specs.declared.model.NamedModel.{NamedModel}
 use Rattle.bench_texts.specs.declared.reading.Reading.{Reading}
 use Rattle.bench_texts.specs.declared.reading.Reading.TheVariants as readings
@@ -17,20 +18,14 @@ use Rattle.evaluation_laws.specs.Readings.{read_item, items_read_by, items_read}
 use Rattle.evaluation_laws.proofs.ReadModels.{models_walked}
 use Rattle.evaluation_laws.proofs.Walk.{role_at}
 
-some_role : {a b : RoleContent} → Some a ≡ Some b → a ≡ b
-some_role e = cc
-
-some_uses : {a b : Uses} → Some a ≡ Some b → a ≡ b
-some_uses e = cc
-
 module _ (ns ms : List ℕ) where
   read_one : (o p : Option ResolvedItem) → option_map (λ r. role_content r.role) o ≡ option_map (λ r. role_content r.role) p → option_map (uses_of ns) o ≡ option_map (uses_of ms) p → option_map (read_item ns) o ≡ option_map (read_item ms) p
   read_one None None e f = refl
   read_one None (Some q) e f = absurd (let n : None ≡ Some (role_content q.role) = e in cc)
   read_one (Some r) None e f = absurd (let n : Some (role_content r.role) ≡ None = e in cc)
   read_one (Some r) (Some q) e f =
-      let role : role_content r.role ≡ role_content q.role = some_role e in
-      let uses : uses_of ns r ≡ uses_of ms q = some_uses f in
+      let role : role_content r.role ≡ role_content q.role = same_Some _ _ e in
+      let uses : uses_of ns r ≡ uses_of ms q = same_Some _ _ f in
       λ i. Some (record { role = role i; uses = uses i })
 
   first_uses : (a b : Option Uses) (ls ks : List (Option Uses)) → a ∷ ls ≡ b ∷ ks → a ≡ b

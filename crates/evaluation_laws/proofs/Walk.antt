@@ -3,7 +3,7 @@ use Rattle.std.proofs.Common.{ℕ, ◌≡◌, ◌+◌, ◌-◌, ◌<◌, ◌⊎�
 use Rattle.std.specs.Prelude.{slice_get, option_map}
 use Rattle.std.specs.List.{AllZip, AllByRecursion as Each}
 use Rattle.std.proofs.lemmas.Bool.{cases_Bool}
-use Rattle.std.proofs.lemmas.Option.{none-some}
+use Rattle.std.proofs.lemmas.Option.{none-some, same_Some}
 use Rattle.std.proofs.lemmas.List.{reverse-append, append_assoc}
 use Rattle.text_values.specs.declared.model.Item.{Item}
 use Rattle.text_values.specs.ModelValues as values
@@ -26,9 +26,6 @@ use Rattle.evaluation_laws.proofs.ReadItems.{HasKeptNamesIn, item_kept}
 use Rattle.evaluation_laws.proofs.Stepping.{HasFunction, item_past, IsOwnPair, AreFrom, scope_behind, item_step}
 use Rattle.evaluation_laws.proofs.Side.{Whole, reach, IsWhole, functions_in, IsSeen, names_longer, senses_front, usages_front, many_functions, functions_numbered, next_function, seen_next, here_at, IsLeft, IsSkipped, IsTaken, turn}
 use Rattle.evaluation_laws.proofs.ReadTexts.{same_text, label_moved}
-
-some_item : {a b : ResolvedItem} → Some a ≡ Some b → a ≡ b
-some_item e = cc
 
 -- what an item does
 abbrev pub role_at : List ResolvedItem → ℕ → Option RoleContent
@@ -195,9 +192,6 @@ module _ (w z : Whole) (left_whole : IsWhole w) (right_whole : IsWhole z) where
   Then xs rs us t next =
       (ys : List Item) (qs : List ResolvedItem) (vs : List ℕ) (o : Scope) (bt : ℕ) (cs : List Shared) (ms : List Move) (bs ds : List ResolvedItem) → IsState t o next bt xs ys rs qs us vs cs ms bs ds → IsWalked rs qs us vs bs ds
 
-  some_clause : {a b : value.Clause} → Some a ≡ Some b → a ≡ b
-  some_clause e = cc
-
   first_clause : (a b : Option value.Clause) (ls ks : List (Option value.Clause)) → a ∷ ls ≡ b ∷ ks → a ≡ b
   first_clause a b ls ks e = cc
 
@@ -212,7 +206,7 @@ module _ (w z : Whole) (left_whole : IsWhole w) (right_whole : IsWhole z) where
       let text_left : clause_at w.items at ≡ Some (values.clause_of x) = ap (λ (i : Option Item). option_map values.clause_of i) (here_at w.items xs x at h.left.texts) in
       let text_right : clause_at z.items bt ≡ Some (values.clause_of y) = ap (λ (i : Option Item). option_map values.clause_of i) (here_at z.items ys y bt h.right.texts) in
       let same : clause_at w.items at ≡ clause_at z.items bt = first_clause _ _ _ _ h.texts in
-      let text : values.clause_of x ≡ values.clause_of y = some_clause (sym text_left ∙ (same ∙ text_right)) in
+      let text : values.clause_of x ≡ values.clause_of y = same_Some _ _ (sym text_left ∙ (same ∙ text_right)) in
       let met = meet s o at bt x y xs ys r q rs qs (at ∷ us) (bt ∷ vs) cs ms bs ds used others text h in
       let state : IsState (scope_behind s at (clause_of x)) (scope_behind o bt (clause_of y)) (at + 1) (bt + 1) xs ys rs qs us vs met.behind (Both ∷ ms) (r ∷ bs) (q ∷ ds) = record {
         left = seen_next w s at x xs r rs h.left;

@@ -3,7 +3,7 @@ use Rattle.std.proofs.Common.{ℕ, ◌≡◌, ◌+◌, ◌<◌, ◌≤◌, ◌�
 use Rattle.std.proofs.lemmas.List.{take_more, get_or-take, get_or_past, length-set, length-take, get_or-set_same, get_or-set_other}
 use Rattle.std.proofs.lemmas.List.Elements.{Contains-append_cases}
 use Rattle.std.proofs.lemmas.Option.{none-some, slice_get_within, slice_get_past, slice_get-get_or, get_or_from_slice_get}
-use Rattle.std.proofs.lemmas.Bool.{cases_order, cases_lt, cases_eq, not-false}
+use Rattle.std.proofs.lemmas.Bool.{cases_lt, cases_eq, not-false}
 use Rattle.std.specs.List.{filter_map, cons_option}
 use Rattle.std.specs.Vec.{with_item}
 use Rattle.binding_kinds.specs.declared.scope.Input.{Input}

@@ -1,6 +1,7 @@
 -- Which values can arise, and which ways to read there are.
 use Rattle.std.proofs.Common.{ℕ, ◌≡◌, ◌<◌, ◌≤◌, ◌+◌, ◌⊎◌, inl, inr, List, [], ◌∷◌, ◌++◌, length, get_or, Option, Some, None, arith, sym, subst, refl, ap, ◌∙◌, length-append}
 use Rattle.std.proofs.lemmas.Bool.{cases_eq, cases_lt}
+use Rattle.std.proofs.lemmas.Option.{same_Some}
 use lib.ListN.{get_or-append}
 use Rattle.bit_relations.specs.Pairs.{Union, Plus}
 use Rattle.run_combinations.specs.Events.{ReadsFrom}
@@ -12,9 +13,6 @@ Linked g way = Union g.Need (ReadsFrom g.loads way)
 
 none_is_left : {i : ℕ} → (let o : Option ℕ = None in o) ≡ Some i → ⊥
 none_is_left e = cc
-
-same_index : {i j : ℕ} → Some i ≡ Some j → i ≡ j
-same_index e = cc
 
 -- what has arisen is on no cycle
 uncycled : (n : ℕ) (g : Accesses) (way : List ℕ) → IsProper n g → length g.loads ≤ length way → (x : ℕ) → Derived g way None x → Plus (Linked g way) x x → ⊥
@@ -112,11 +110,11 @@ without_next : (g : Accesses) (f : List ℕ) (s : ℕ) → (Derived g f (Some (l
 without_next g f s never x (stored st needs) = stored st (λ a need. without_next g f s never a (needs a need))
 without_next g f s never x (read i lt other is within d) =
     elim (cases_lt i (length f)) [
-      | inl before ↦ read i lt (λ e. let k : length f ≡ i = same_index e in omega (arith, k, before)) is before (subst (λ (y : ℕ). Derived g f (Some (length f)) y) (kept_read f s i before) (without_next g f s never (get_or (f ++ s ∷ []) i 0) d))
+      | inl before ↦ read i lt (λ e. let k : length f ≡ i = same_Some _ _ e in omega (arith, k, before)) is before (subst (λ (y : ℕ). Derived g f (Some (length f)) y) (kept_read f s i before) (without_next g f s never (get_or (f ++ s ∷ []) i 0) d))
       | inr last ↦ absurd (never (subst (λ (y : ℕ). Derived g f (Some (length f)) y) (read_at f s i (omega (arith, last, within, longer f s))) (without_next g f s never (get_or (f ++ s ∷ []) i 0) d)))
     ]
 without_next g f s never x (chosen i t lt other is past source d) =
-    chosen i t lt (λ e. let k : length f ≡ i = same_index e in omega (arith, k, past, longer f s)) is (omega (arith, past, longer f s)) source (without_next g f s never t d)
+    chosen i t lt (λ e. let k : length f ≡ i = same_Some _ _ e in omega (arith, k, past, longer f s)) is (omega (arith, past, longer f s)) source (without_next g f s never t d)
 
 -- a load does not arise without itself
 itself : (n : ℕ) (g : Accesses) (f : List ℕ) (i x : ℕ) → IsProper n g → i < length g.loads → x ≡ get_or g.loads i 0 → Derived g f (Some i) x → ⊥
@@ -141,11 +139,11 @@ with_choice g f s allowed x (chosen i t lt other is past source d) =
 without_any : (g : Accesses) (f : List ℕ) → ((s : ℕ) → Source g (length f) s → Derived g f (Some (length f)) s → ⊥) → (x : ℕ) → Derived g f None x → Derived g f (Some (length f)) x
 without_any g f never x (stored st needs) = stored st (λ a need. without_any g f never a (needs a need))
 without_any g f never x (read i lt other is within d) =
-    read i lt (λ e. let k : length f ≡ i = same_index e in omega (arith, k, within)) is within (without_any g f never (get_or f i 0) d)
+    read i lt (λ e. let k : length f ≡ i = same_Some _ _ e in omega (arith, k, within)) is within (without_any g f never (get_or f i 0) d)
 without_any g f never x (chosen i t lt other is past source d) =
     elim (cases_eq (length f) i) [
       | inl same ↦ absurd (never t (subst (λ (k : ℕ). Source g k t) (sym same) source) (without_any g f never t d))
-      | inr apart ↦ chosen i t lt (λ e. apart (same_index e)) is past source (without_any g f never t d)
+      | inr apart ↦ chosen i t lt (λ e. apart (same_Some _ _ e)) is past source (without_any g f never t d)
     ]
 
 -- the next load can read what arises without it

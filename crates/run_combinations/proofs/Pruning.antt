@@ -1,5 +1,5 @@
 -- Loads of a location and value that no store has.
-use Rattle.std.proofs.Common.{ℕ, zero, suc, ◌≡◌, ◌<◌, ◌+◌, ◌⊎◌, ◌↔◌, ◌&&◌, Bool, true, false, cond, nat_eq, List, [], ◌∷◌, ◌++◌, map, filter, take, length, get_or, Option, Some, inl, inr, arith, refl, sym, ap, subst, ◌∙◌}
+use Rattle.std.proofs.Common.{ℕ, zero, suc, ◌≡◌, ◌<◌, ◌+◌, ◌⊎◌, ◌↔◌, Bool, true, false, cond, nat_eq, List, [], ◌∷◌, ◌++◌, map, filter, take, length, get_or, Option, Some, inl, inr, arith, refl, sym, ap, subst, ◌∙◌}
 use Rattle.std.specs.List.{flat_map}
 use Rattle.std.proofs.lemmas.List.{take_more}
 use Rattle.std.proofs.lemmas.Bool.{and_parts}
@@ -35,6 +35,7 @@ store_split l v [] fs h = inr h
 store_split l v (e ∷ es) fs (inl h) = inl (inl h)
 store_split l v (e ∷ es) fs (inr h) = elim (store_split l v es fs h) [ inl s ↦ inl (inr s) | inr s ↦ inr s ]
 
+-- what a load may read is a store of its location and value
 value_is : (w v : Value) → same_value w v ≡ true → w ≡ v
 value_is (Number m) (Number n) e = ap (λ (k : ℕ). Number k) (eq_true m n e)
 value_is (Number m) (Address n) e = absurd cc

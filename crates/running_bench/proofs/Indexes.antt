@@ -4,6 +4,7 @@ use Rattle.std.proofs.Common.{refl, sym, ap, subst, ◌∙◌, arith}
 use Rattle.std.specs.Prelude.{nat_lt, if◌then◌else◌, slice_get, IsSome, IfSome, IfNone, SomeIff}
 use Rattle.std.proofs.Math.Nat.{mul-zero}
 use Rattle.std.proofs.lemmas.Bool.{ltb-true}
+use Rattle.std.proofs.lemmas.Option.{same_Some}
 use Rattle.text_values.specs.declared.test.Test.{Test}
 use Rattle.text_values.specs.TestValue.{content_of}
 use Rattle.verdict.specs.declared.answer.Outcome.{Outcome}
@@ -90,9 +91,6 @@ outcome_settled (p ∷ os) (suc j) o h = outcome_settled os j o h
 
 -- ---- the cell of a row
 
-same_cell : (a c : BoardCell Outcome) → Some a ≡ Some c → a ≡ c
-same_cell a c e = cc
-
 settled_by : (columns : List ColumnContent) (row : Option RowContent) (j : ℕ) (o : Outcome) (c : BoardCell Outcome)
     → shown_cell (slice_get (cells_of row) j) ≡ Settled o → cell_of_row columns row j ≡ Some c → IsSome c.outcome
 settled_by columns None j o c h e = cc
@@ -101,7 +99,7 @@ settled_by columns (Some r) j o c h e = by_column (slice_get columns j) e
     by_column : (m : Option ColumnContent) → row_cell r.name m (outcome_at r.cells j) ≡ Some c → IsSome c.outcome
     by_column None f = cc
     by_column (Some m) f =
-        let same = same_cell (cell_with r.name m.name (outcome_at r.cells j)) c f in
+        let same = same_Some (cell_with r.name m.name (outcome_at r.cells j)) c f in
         subst (λ (x : Option Outcome). IsSome x) (ap (λ (k : BoardCell Outcome). k.outcome) same) (outcome_settled r.cells j o h)
 
 -- without a row or a column at its indexes there is no cell

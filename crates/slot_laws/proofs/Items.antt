@@ -3,7 +3,7 @@ use Rattle.std.proofs.Common.{ℕ, ◌≡◌, ◌<◌, ◌+◌, zero, suc, List,
 use Rattle.std.specs.Prelude.{nat_le, slice_get}
 use Rattle.std.specs.List.{AllByRecursion as Each}
 use Rattle.std.proofs.lemmas.Bool.{leb-false}
-use Rattle.std.proofs.lemmas.Option.{none-some}
+use Rattle.std.proofs.lemmas.Option.{none-some, same_Some}
 use Rattle.text_values.specs.declared.predefined.TheConstants.{PREDEFINED}
 use Rattle.text_values.specs.ModelValue.{Term}
 use Rattle.memo_core.specs.Step.{Has}
@@ -233,16 +233,13 @@ module _ (items : List ResolvedItem) where
   rest_later : (at : ℕ) (r : ResolvedItem) (rs : List ResolvedItem) → Later at (r ∷ rs) → Later (at + 1) rs
   rest_later at r rs h k q e = let moved : at + suc k ≡ (at + 1) + k = omega arith in subst (λ (n : ℕ). slice_get items n ≡ Some q) moved (h (suc k) q e)
 
-  some_item : {a b : ResolvedItem} → Some a ≡ Some b → a ≡ b
-  some_item e = cc
-
   walk : (cs : List Clause) (rs : List ResolvedItem) (ss : List Sense) (us : List Usage) (names : List Naming) (at : ℕ) → Later at rs → AreUsages us names → NamesHold (IsEarlier at) names → AreResolved ss us names at cs rs → (k : ℕ) (r : ResolvedItem) → slice_get rs k ≡ Some r → IsClosedItem items (at + k) r
   walk [] [] ss us names at later all hold h k r e = absurd (none-some r e)
   walk [] (q ∷ rs) ss us names at later all hold h k r e = absurd h
   walk (c ∷ cs) [] ss us names at later all hold h k r e = absurd h
   walk (c ∷ cs) (q ∷ rs) ss us names at later all hold h zero r e =
       let none : at ≡ at + 0 = omega arith in
-      subst (λ (n : ℕ). IsClosedItem items n r) none (subst (IsClosedItem items at) (some_item e) (item_closed ss us names at all hold c q h.0))
+      subst (λ (n : ℕ). IsClosedItem items n r) none (subst (IsClosedItem items at) (same_Some _ _ e) (item_closed ss us names at all hold c q h.0))
   walk (c ∷ cs) (q ∷ rs) ss us names at later all hold h (suc k) r e =
       let moved : (at + 1) + k ≡ at + suc k = omega arith in
       let there = here_later at q rs later in

@@ -3,7 +3,7 @@ use Rattle.std.proofs.Common.{ℕ, ◌≡◌, ◌<◌, ◌≤◌, ◌+◌, suc, 
 use Rattle.std.specs.Prelude.{◌==◌, bytes_eq, if◌then◌else◌}
 use Rattle.std.specs.List.{AllByRecursion as Each}
 use Rattle.std.proofs.lemmas.Bool.{cases_Bool}
-use Rattle.std.proofs.lemmas.Option.{none-some}
+use Rattle.std.proofs.lemmas.Option.{none-some, same_Some}
 use Rattle.text_values.specs.declared.predefined.Predefined.{Predefined}
 use Rattle.model_slots.proofs.Lists.{each_reverse}
 use Rattle.binding_kinds.specs.declared.kinds.Kind.TheVariants.{OfRelation}
@@ -59,12 +59,9 @@ own_same (b ∷ bs) names item at slot lt =
 abbrev pub NamesHold : (Input → Type 0) → List Naming → Type 0
 NamesHold P names = (slot : ℕ) (i : Input) → binder_at names slot ≡ Some (binders.Bound i) → P i
 
-some_bound : (a b : Binder) → Some a ≡ Some b → a ≡ b
-some_bound a b e = cc
-
 pub names_more : (P : Input → Type 0) (n : Naming) (names : List Naming) → ((i : Input) → n.binder ≡ binders.Bound i → P i) → NamesHold P names → NamesHold P (n ∷ names)
 names_more P n names first rest slot i h = elim (cases_Bool (length names == slot)) [
-  | inl e ↦ first i (some_bound n.binder (binders.Bound i) (rw e at h))
+  | inl e ↦ first i (same_Some n.binder (binders.Bound i) (rw e at h))
   | inr f ↦ rest slot i (rw f at h)
 ]
 

@@ -3,7 +3,7 @@ use Rattle.std.proofs.Common.{ℕ, ◌≡◌, ◌<◌, ◌≤◌, ◌+◌, ◌�
 use Rattle.std.specs.Prelude.{slice_get, slice_index_or}
 use Rattle.std.specs.List.{AllByRecursion as Each}
 use Rattle.std.proofs.lemmas.Bool.{cases_Bool, cases_order}
-use Rattle.std.proofs.lemmas.Option.{none-some, slice_get_within}
+use Rattle.std.proofs.lemmas.Option.{none-some, slice_get_within, same_Some}
 use Rattle.memo_core.specs.Step.{Has}
 use Rattle.binding_kinds.specs.declared.scope.Input.{Input}
 use Rattle.binding_graph.specs.declared.resolved.ResolvedItem.{ResolvedItem}
@@ -95,9 +95,6 @@ module _ (items : List ResolvedItem) (used : List ℕ) (closed : AreClosed items
 
 -- ---- by names alone
 
-some_item : {a b : ResolvedItem} → Some a ≡ Some b → a ≡ b
-some_item e = cc
-
 module _ (items : List ResolvedItem) (closed : AreClosed items) (b : ℕ) (last : ResolvedItem) (found : slice_get items b ≡ Some last) (loud : last.role ≡ roles.Silent → ⊥) where
   abbrev ByNames : ℕ → Type 0
   ByNames a = (through : List ℕ) × LeadsByNames items a through b
@@ -108,9 +105,9 @@ module _ (items : List ResolvedItem) (closed : AreClosed items) (b : ℕ) (last 
   passed r (n ∷ ns) h k (inr i) = passed r ns h.1 k i
 
   by_function : (a c : ℕ) (r : ResolvedItem) → slice_get items a ≡ Some r → IsPassedOn items r c → (through : List ℕ) → LeadsByNames items c through b → ByNames a
-  by_function a c r at p [] e = absurd (loud (ap (λ (x : ResolvedItem). x.role) (some_item (sym found ∙ ap (slice_get items) (sym e) ∙ p.1)) ∙ p.2))
+  by_function a c r at p [] e = absurd (loud (ap (λ (x : ResolvedItem). x.role) (same_Some _ _ (sym found ∙ ap (slice_get items) (sym e) ∙ p.1)) ∙ p.2))
   by_function a c r at p (d ∷ ds) h =
-      let same : p.0 ≡ h.0.0 = some_item (sym p.1 ∙ h.0.1) in
+      let same : p.0 ≡ h.0.0 = same_Some _ _ (sym p.1 ∙ h.0.1) in
       (d ∷ ds, ((r, at, passed r p.0.inputs.items p.3 d (subst (λ (x : ResolvedItem). NamesItem x d) (sym same) h.0.2)), h.1))
 
   one_step : (a c : ℕ) → UsesAt items a c → ByNames c → ByNames a
@@ -187,7 +184,7 @@ module _ (f : Role → ℕ → List SlotKey) (none : (role : Role) (own : ℕ) �
 
   head_is : (at : ℕ) (r : ResolvedItem) (o : Option ResolvedItem) → Some r ≡ o → key_by f (number_at numbers at) o ≡ f r.role (number_at numbers at)
   head_is at r None g = absurd (none-some r (sym g))
-  head_is at r (Some q) g = ap (λ (x : ResolvedItem). f x.role (number_at numbers at)) (sym (some_item g))
+  head_is at r (Some q) g = ap (λ (x : ResolvedItem). f x.role (number_at numbers at)) (sym (same_Some _ _ g))
 
   abbrev Rest : ℕ → List ResolvedItem → Type 0
   Rest at rs = (is : List ℕ) → AreOf at rs is → keys_by f numbers items is ≡ all_keys f numbers at rs

@@ -1,6 +1,7 @@
 -- The kinds of nodes that items are.
 use Rattle.std.proofs.Common.{ℕ, zero, suc, ◌+◌, ◌≡◌, ◌≢◌, Bool, true, false, List, [], ◌∷◌, length, map, Option, Some, None, slice_get, refl, sym, ap, ◌∙◌, subst, ne_eqb, eq-eqb}
 use Rattle.std.specs.List.{AllByRecursion as Each}
+use Rattle.std.proofs.lemmas.Option.{same_Some}
 use Rattle.memo_core.specs.declared.keys.Kind.{Kind}
 use Rattle.memo_core.specs.declared.keys.Kind.TheVariants as kinds
 use Rattle.memo_core.specs.Names.{kind_number}
@@ -77,15 +78,12 @@ module _ (ss : List Sense) (us : List Usage) (names own : List Naming) (from : �
   one_kind (items.Show hidden shown) r h e = silent_kind r.role kind h.0 e
   one_kind (items.Include n) r h e = silent_kind r.role kind h.0 e
 
-some_is : (a b : ResolvedItem) → Some a ≡ Some b → a ≡ b
-some_is a b e = cc
-
 pub kinds_of_roles : (ss : List Sense) (us : List Usage) (names : List Naming) (at : ℕ) (xs : List code_item.Item) (resolved : List ResolvedItem) → AreResolved ss us names at (map outline_of xs) resolved
     → (index : ℕ) (r : ResolvedItem) (kind : Kind) → slice_get resolved index ≡ Some r → role_kind r.role ≡ Some kind → kind_at xs index ≡ Some kind
 kinds_of_roles ss us names at [] [] h index r kind found e = absurd (let f : None ≡ Some r = found in cc)
 kinds_of_roles ss us names at [] (q ∷ rs) h index r kind found e = absurd h
 kinds_of_roles ss us names at (x ∷ xs) [] h index r kind found e = absurd h
 kinds_of_roles ss us names at (x ∷ xs) (q ∷ rs) h zero r kind found e =
-    one_kind ss us names (extended ss names at (outline_of x)) (length names) kind x q h.0 (ap (λ (p : ResolvedItem). role_kind p.role) (some_is q r found) ∙ e)
+    one_kind ss us names (extended ss names at (outline_of x)) (length names) kind x q h.0 (ap (λ (p : ResolvedItem). role_kind p.role) (same_Some q r found) ∙ e)
 kinds_of_roles ss us names at (x ∷ xs) (q ∷ rs) h (suc index) r kind found e =
     kinds_of_roles (senses_after ss names (outline_of x)) (usages_after us names at (outline_of x)) (extended ss names at (outline_of x)) (at + 1) xs rs h.1 index r kind found e

@@ -1,5 +1,6 @@
 -- A run goes over the lines of its thread one by one.
 use Rattle.std.proofs.Common.{ℕ, ◌≡◌, Bool, true, false, List, [], ◌∷◌, Option, Some, None, refl, ap, sym, subst, ◌∙◌}
+use Rattle.std.proofs.lemmas.Option.{same_Some}
 use Rattle.thread_runs.specs.declared.value.Value.{Value}
 use Rattle.thread_runs.specs.declared.value.Value.TheVariants.{NoValue}
 use Rattle.thread_runs.specs.declared.instruction.Instruction.{Instruction}
@@ -22,9 +23,6 @@ to_run (told.executes {i = i} {xs = xs} {w = w} {vs = vs} e f l h) =
     ap (λ (s : Option ℕ). one s (Does i) (run_from xs) w vs) e ∙ ap (λ (b : Bool). obeyed b i (run_from xs) w vs) f
     ∙ ap (λ (b : Bool). supplied b i (goes i w.state) (run_from xs) w vs) l ∙ to_run h
 
-outcome_is : {o q : Outcome} → Some o ≡ Some q → o ≡ q
-outcome_is e = cc
-
 nothing_is : {o : Outcome} → None ≡ Some o → ⊥
 nothing_is e = cc
 
@@ -36,7 +34,7 @@ module _ (xs : List Line) (o : Outcome) (rest : (w : Walk) (vs : List Value) →
   supply i false us l e f k = told.executes e f l (rest (executing i NoValue w) us k)
 
   obey : (i : Instruction) (b : Bool) (us : List Value) → is_fault i w.state ≡ b → w.seeking ≡ None → obeyed b i (run_from xs) w us ≡ Some o → GoesOver (Does i ∷ xs) w us o
-  obey i true [] f e k = subst (λ (q : Outcome). GoesOver (Does i ∷ xs) w [] q) (outcome_is k) (told.stops e f)
+  obey i true [] f e k = subst (λ (q : Outcome). GoesOver (Does i ∷ xs) w [] q) (same_Some _ _ k) (told.stops e f)
   obey i true (v ∷ us) f e k = absurd (nothing_is k)
   obey i false us f e k = supply i (is_load i) us refl e f k
 
@@ -49,7 +47,7 @@ module _ (xs : List Line) (o : Outcome) (rest : (w : Walk) (vs : List Value) →
   sought x vs None e h = line x vs e (sym (ap (λ (s : Option ℕ). one s x (run_from xs) w vs) e) ∙ h)
 
 to_lines : (xs : List Line) (o : Outcome) (w : Walk) (vs : List Value) → run_from xs w vs ≡ Some o → GoesOver xs w vs o
-to_lines [] o w [] h = subst (λ (q : Outcome). GoesOver [] w [] q) (outcome_is h) told.ends
+to_lines [] o w [] h = subst (λ (q : Outcome). GoesOver [] w [] q) (same_Some _ _ h) told.ends
 to_lines [] o w (v ∷ vs) h = absurd (nothing_is h)
 to_lines (x ∷ xs) o w vs h = sought xs o (to_lines xs o) w x vs w.seeking refl h
 

@@ -5,6 +5,7 @@ use Rattle.std.proofs.lemmas.List.{append-nil, length-map}
 use Rattle.std.proofs.lemmas.List.Elements.{Contains-push, Contains-push_cases, Contains-append_left, Contains-append_right, Contains-append_cases, Contains-get_or, All-nil, All-cons, All-head, All-tail, All-append, All-contains}
 use Rattle.std.proofs.lemmas.List.Kept.{AllPairs-cons}
 use Rattle.std.proofs.lemmas.List.Folds.{flat_map-map}
+use Rattle.std.proofs.lemmas.Option.{same_Some}
 use Rattle.thread_runs.specs.declared.value.Value.{Value}
 use Rattle.thread_runs.specs.declared.value.Value.TheVariants.{NoValue}
 use Rattle.thread_runs.specs.declared.instruction.Instruction.{Instruction}
@@ -125,9 +126,6 @@ module _ (V : List Value) where
       go : (u v : List Value) (s t : Bool) (w x : Walk) → u ≡ v → s ≡ t → w ≡ x → so_made u s w ≡ so_made v t x
       go u v s t w x p q r = cc
 
-  same_outcome : {o p : Outcome} → Some o ≡ Some p → o ≡ p
-  same_outcome e = cc
-
   extends_end : (b c : Beginning) → b.stopped ≡ false → (b ≡ c) ↔ Extends [] b c
   extends_end b c awake = (forth, back)
     where
@@ -141,7 +139,7 @@ module _ (V : List Value) where
 
       ended_so : (vs : List Value) → c.values ≡ b.values ++ vs → ends false b.walk vs ≡ Some (ended c.stopped c.walk) → b ≡ c
       ended_so [] p r =
-          let o = same_outcome r in
+          let o = same_Some _ _ r in
           same_beginning b c (sym (p ∙ append-nil b.values)) (awake ∙ ap (λ (z : Outcome). z.faulted) o) (ap (λ (z : Outcome). z.walk) o)
       ended_so (v ∷ vs) p r = absurd cc
 
@@ -193,7 +191,7 @@ module _ (V : List Value) where
 
       ended_so : (vs : List Value) → c.values ≡ b.values ++ vs → ends true b.walk vs ≡ Some (ended c.stopped c.walk) → a ≡ c
       ended_so [] p r =
-          let o = same_outcome r in
+          let o = same_Some _ _ r in
           same_beginning a c (sym (p ∙ append-nil b.values)) (ap (λ (z : Outcome). z.faulted) o) (ap (λ (z : Outcome). z.walk) o)
       ended_so (v ∷ vs) p r = absurd cc
 

@@ -1,9 +1,10 @@
 -- What a run stores, the text tells.
-use Rattle.std.proofs.Common.{vec_len, ℕ, zero, suc, arith, ◌≡◌, ◌<◌, ◌⊎◌, ◌||◌, ◌&&◌, inl, inr, Bool, true, false, nat_eq, List, [], ◌∷◌, ◌++◌, refl, sym, ap, subst, ◌∙◌, Option, Some, None, slice_get, slice_index_or, slice_set}
+use Rattle.std.proofs.Common.{vec_len, ℕ, zero, suc, arith, ◌≡◌, ◌<◌, ◌⊎◌, ◌||◌, inl, inr, Bool, true, false, nat_eq, List, [], ◌∷◌, ◌++◌, refl, sym, ap, subst, ◌∙◌, Option, Some, None, slice_get, slice_index_or, slice_set}
 use Rattle.std.specs.List.{list_any, Contains}
 use Rattle.std.proofs.lemmas.Bool.Decides.{nat_tests}
 use Rattle.std.proofs.lemmas.List.Elements.{Contains-push, Contains-append_left, Contains-append_right, Contains-append_cases}
 use Rattle.std.proofs.lemmas.Bool.{or_right, and_from}
+use Rattle.std.proofs.lemmas.Option.{same_Some}
 use Rattle.thread_runs.specs.declared.value.Value.{Value}
 use Rattle.thread_runs.specs.declared.value.Value.TheVariants.{Number, Address, NoValue}
 use Rattle.thread_runs.specs.declared.instruction.Instruction.{Instruction}
@@ -117,11 +118,8 @@ module _ (lines : List Line) (first : State) where
   abbrev Goes : List Line → Type 0
   Goes xs = (w : Walk) (vs : List Value) (o : Outcome) → Holds w.state → Told w.events → run_from xs w vs ≡ Some o → Told o.walk.events
 
-  outcome_is : {o q : Outcome} → Some o ≡ Some q → o ≡ q
-  outcome_is e = cc
-
   ends_told : (f : Bool) (w : Walk) (vs : List Value) (o : Outcome) → Told w.events → ends f w vs ≡ Some o → Told o.walk.events
-  ends_told f w [] o t e = subst (λ (q : Outcome). Told q.walk.events) (outcome_is e) t
+  ends_told f w [] o t e = subst (λ (q : Outcome). Told q.walk.events) (same_Some _ _ e) t
   ends_told f w (v ∷ vs) o t e = absurd cc
 
   module _ (xs : List Line) (rest : Goes xs) where
