@@ -37,7 +37,7 @@ pub enum Step {
     /// Two sets to one.
     BlendSets(Blend),
     /// A set to its complement.
-    TurnSet,
+    ComplementSet,
     /// The relation that a name stands for.
     PushRelation(Source),
     /// `0`, the empty relation.
@@ -49,11 +49,11 @@ pub enum Step {
     /// Two sets to their product.
     Multiply,
     /// A set to the identity on it.
-    Restrict,
+    IdentityOn,
     /// A relation to a closure of it, or to its inverse.
     Close(Postfix),
     /// A relation to its complement.
-    TurnRelation,
+    ComplementRelation,
 }
 
 /// An expression whose kind is known, as steps.

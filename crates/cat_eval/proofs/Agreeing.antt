@@ -41,15 +41,15 @@ module _ (P : Source → Type 0) where
   OfStep steps.PushAllEvents = Unit {0}
   OfStep steps.PushNoEvents = Unit {0}
   OfStep (steps.BlendSets how) = Unit {0}
-  OfStep steps.TurnSet = Unit {0}
+  OfStep steps.ComplementSet = Unit {0}
   OfStep (steps.PushRelation source) = P source
   OfStep steps.PushNoPairs = Unit {0}
   OfStep (steps.BlendRelations how) = Unit {0}
   OfStep steps.Compose = Unit {0}
   OfStep steps.Multiply = Unit {0}
-  OfStep steps.Restrict = Unit {0}
+  OfStep steps.IdentityOn = Unit {0}
   OfStep (steps.Close how) = Unit {0}
-  OfStep steps.TurnRelation = Unit {0}
+  OfStep steps.ComplementRelation = Unit {0}
 
   abbrev pub OfSteps : List Step → Type 0
   OfSteps [] = Unit {0}
@@ -64,7 +64,7 @@ module _ (P : Source → Type 0) where
       let two = set_parts t (steps.BlendSets how ∷ rest) one.1 in
       ((one.0, two.0), two.1.1)
   set_parts (SetNot s) rest h =
-      let one = set_parts s (steps.TurnSet ∷ rest) h in
+      let one = set_parts s (steps.ComplementSet ∷ rest) h in
       (one.0, one.1.1)
 
   pub relation_parts : (e : RelTree) (rest : List Step) → OfSteps (rel_code e rest) → OfRelation e × OfSteps rest
@@ -83,13 +83,13 @@ module _ (P : Source → Type 0) where
       let two = set_parts t (steps.Multiply ∷ rest) one.1 in
       ((one.0, two.0), two.1.1)
   relation_parts (OnSet s) rest h =
-      let one = set_parts s (steps.Restrict ∷ rest) h in
+      let one = set_parts s (steps.IdentityOn ∷ rest) h in
       (one.0, one.1.1)
   relation_parts (Close how e) rest h =
       let one = relation_parts e (steps.Close how ∷ rest) h in
       (one.0, one.1.1)
   relation_parts (RelNot e) rest h =
-      let one = relation_parts e (steps.TurnRelation ∷ rest) h in
+      let one = relation_parts e (steps.ComplementRelation ∷ rest) h in
       (one.0, one.1.1)
 
   module _ (input : (index : ℕ) → P (sources.Input index)) (own : (position : ℕ) → P (sources.Own position)) where
@@ -103,15 +103,15 @@ module _ (P : Source → Type 0) where
     of_step steps.PushAllEvents named = tt
     of_step steps.PushNoEvents named = tt
     of_step (steps.BlendSets how) named = tt
-    of_step steps.TurnSet named = tt
+    of_step steps.ComplementSet named = tt
     of_step (steps.PushRelation source) named = of_source source named
     of_step steps.PushNoPairs named = tt
     of_step (steps.BlendRelations how) named = tt
     of_step steps.Compose named = tt
     of_step steps.Multiply named = tt
-    of_step steps.Restrict named = tt
+    of_step steps.IdentityOn named = tt
     of_step (steps.Close how) named = tt
-    of_step steps.TurnRelation named = tt
+    of_step steps.ComplementRelation named = tt
 
     pub of_steps : (xs : List Step) → ((name : Predefined) → Contains (names_in xs) name → P (sources.Predefined name)) → OfSteps xs
     of_steps [] named = tt

@@ -99,7 +99,7 @@ set_past names (SetName x) rest u = later names _ rest u
 set_past names AllEvents rest u = later names _ rest u
 set_past names NoEvent rest u = later names _ rest u
 set_past names (SetBlend how s t) rest u = set_past names s (set_code t (steps.BlendSets how ∷ rest)) (set_past names t (steps.BlendSets how ∷ rest) (later names _ rest u))
-set_past names (SetNot s) rest u = set_past names s (steps.TurnSet ∷ rest) (later names _ rest u)
+set_past names (SetNot s) rest u = set_past names s (steps.ComplementSet ∷ rest) (later names _ rest u)
 
 past : (names : ℕ) (e : RelTree) (rest : List Step) → UsesAny names rest → UsesAny names (rel_code e rest)
 past names (RelName x) rest u = later names _ rest u
@@ -107,9 +107,9 @@ past names NoPair rest u = later names _ rest u
 past names (RelBlend how e f) rest u = past names e (rel_code f (steps.BlendRelations how ∷ rest)) (past names f (steps.BlendRelations how ∷ rest) (later names _ rest u))
 past names (Then e f) rest u = past names e (rel_code f (steps.Compose ∷ rest)) (past names f (steps.Compose ∷ rest) (later names _ rest u))
 past names (Cross s t) rest u = set_past names s (set_code t (steps.Multiply ∷ rest)) (set_past names t (steps.Multiply ∷ rest) (later names _ rest u))
-past names (OnSet s) rest u = set_past names s (steps.Restrict ∷ rest) (later names _ rest u)
+past names (OnSet s) rest u = set_past names s (steps.IdentityOn ∷ rest) (later names _ rest u)
 past names (Close how e) rest u = past names e (steps.Close how ∷ rest) (later names _ rest u)
-past names (RelNot e) rest u = past names e (steps.TurnRelation ∷ rest) (later names _ rest u)
+past names (RelNot e) rest u = past names e (steps.ComplementRelation ∷ rest) (later names _ rest u)
 
 -- what an expression holds, its steps use
 pub holds_uses : (names : ℕ) (e : RelTree) (rest : List Step) → HoldsOne names e → UsesAny names (rel_code e rest)
@@ -122,7 +122,7 @@ holds_uses names (Then e f) rest (inr u) = past names e (rel_code f (steps.Compo
 holds_uses names (Cross s t) rest u = absurd u
 holds_uses names (OnSet s) rest u = absurd u
 holds_uses names (Close how e) rest u = holds_uses names e (steps.Close how ∷ rest) u
-holds_uses names (RelNot e) rest u = holds_uses names e (steps.TurnRelation ∷ rest) u
+holds_uses names (RelNot e) rest u = holds_uses names e (steps.ComplementRelation ∷ rest) u
 
 module _ (n : ℕ) (sets : Source → ℕ → Type 0) (outer : Source → ℕ → ℕ → Type 0) where
   -- where the names that it holds have the same pairs, an expression means the same

@@ -42,15 +42,15 @@ step_passes test (steps.PushSet source) = source_passes test source
 step_passes test steps.PushAllEvents = false
 step_passes test steps.PushNoEvents = false
 step_passes test (steps.BlendSets how) = false
-step_passes test steps.TurnSet = false
+step_passes test steps.ComplementSet = false
 step_passes test (steps.PushRelation source) = source_passes test source
 step_passes test steps.PushNoPairs = false
 step_passes test (steps.BlendRelations how) = false
 step_passes test steps.Compose = false
 step_passes test steps.Multiply = false
-step_passes test steps.Restrict = false
+step_passes test steps.IdentityOn = false
 step_passes test (steps.Close how) = false
-step_passes test steps.TurnRelation = false
+step_passes test steps.ComplementRelation = false
 
 -- whether the expression uses a name that changes so
 abbrev pub steps_read : List Step → Bool
@@ -87,15 +87,15 @@ step_names (steps.PushSet source) = source_names source
 step_names steps.PushAllEvents = []
 step_names steps.PushNoEvents = []
 step_names (steps.BlendSets how) = []
-step_names steps.TurnSet = []
+step_names steps.ComplementSet = []
 step_names (steps.PushRelation source) = source_names source
 step_names steps.PushNoPairs = []
 step_names (steps.BlendRelations how) = []
 step_names steps.Compose = []
 step_names steps.Multiply = []
-step_names steps.Restrict = []
+step_names steps.IdentityOn = []
 step_names (steps.Close how) = []
-step_names steps.TurnRelation = []
+step_names steps.ComplementRelation = []
 
 -- the predefined names in the expressions of an item
 abbrev pub names_in : List Step → List Predefined

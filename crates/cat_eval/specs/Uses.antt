@@ -27,15 +27,15 @@ UsesOne names (steps.PushSet source) = StandsForOne names source
 UsesOne names steps.PushAllEvents = ⊥
 UsesOne names steps.PushNoEvents = ⊥
 UsesOne names (steps.BlendSets how) = ⊥
-UsesOne names steps.TurnSet = ⊥
+UsesOne names steps.ComplementSet = ⊥
 UsesOne names (steps.PushRelation source) = StandsForOne names source
 UsesOne names steps.PushNoPairs = ⊥
 UsesOne names (steps.BlendRelations how) = ⊥
 UsesOne names steps.Compose = ⊥
 UsesOne names steps.Multiply = ⊥
-UsesOne names steps.Restrict = ⊥
+UsesOne names steps.IdentityOn = ⊥
 UsesOne names (steps.Close how) = ⊥
-UsesOne names steps.TurnRelation = ⊥
+UsesOne names steps.ComplementRelation = ⊥
 
 -- some step uses one of these names of the group
 abbrev pub UsesAny : ℕ → List Step → Type 0

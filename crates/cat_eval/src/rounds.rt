@@ -39,14 +39,14 @@ fn uses(step: Step, names: u64) -> bool
         Step::PushAllEvents
         | Step::PushNoEvents
         | Step::BlendSets(_)
-        | Step::TurnSet
+        | Step::ComplementSet
         | Step::PushNoPairs
         | Step::BlendRelations(_)
         | Step::Compose
         | Step::Multiply
-        | Step::Restrict
+        | Step::IdentityOn
         | Step::Close(_)
-        | Step::TurnRelation => false,
+        | Step::ComplementRelation => false,
     }
 }
 

@@ -17,7 +17,7 @@ set_pending (SetName source) rest = refl
 set_pending AllEvents rest = refl
 set_pending NoEvent rest = refl
 set_pending (SetBlend how a b) rest = set_pending a (set_code b (steps.BlendSets how ∷ rest)) ∙ set_pending b (steps.BlendSets how ∷ rest)
-set_pending (SetNot a) rest = set_pending a (steps.TurnSet ∷ rest)
+set_pending (SetNot a) rest = set_pending a (steps.ComplementSet ∷ rest)
 
 -- a tree is the next relation
 rel_pending : (t : RelTree) (rest : List Step) (b : Bool) (bs : List Bool) → pending_from rest ≡ b ∷ bs → pending_from (rel_code t rest) ≡ bs
@@ -26,9 +26,9 @@ rel_pending NoPair rest b bs e = ap without_next e
 rel_pending (RelBlend how x y) rest b bs e = rel_pending x (rel_code y (steps.BlendRelations how ∷ rest)) false bs (rel_pending y (steps.BlendRelations how ∷ rest) false (false ∷ bs) (ap (λ (l : List Bool). next_twice (next_inside l)) e))
 rel_pending (Then x y) rest b bs e = rel_pending x (rel_code y (steps.Compose ∷ rest)) b bs (rel_pending y (steps.Compose ∷ rest) b (b ∷ bs) (ap next_twice e))
 rel_pending (Cross s t) rest b bs e = set_pending s (set_code t (steps.Multiply ∷ rest)) ∙ set_pending t (steps.Multiply ∷ rest) ∙ ap without_next e
-rel_pending (OnSet s) rest b bs e = set_pending s (steps.Restrict ∷ rest) ∙ ap without_next e
+rel_pending (OnSet s) rest b bs e = set_pending s (steps.IdentityOn ∷ rest) ∙ ap without_next e
 rel_pending (Close how x) rest b bs e = rel_pending x (steps.Close how ∷ rest) false bs (ap next_inside e)
-rel_pending (RelNot x) rest b bs e = rel_pending x (steps.TurnRelation ∷ rest) false bs (ap next_inside e)
+rel_pending (RelNot x) rest b bs e = rel_pending x (steps.ComplementRelation ∷ rest) false bs (ap next_inside e)
 
 -- a set belongs to the first of the parts
 set_parts : (s : SetTree) (rest : List Step) (r : Repeats) (xs : List Step) (ps : List Part) → parts_from rest ≡ record { repeats = r; steps = xs } ∷ ps → parts_from (set_code s rest) ≡ record { repeats = r; steps = set_code s xs } ∷ ps
@@ -37,7 +37,7 @@ set_parts AllEvents rest r xs ps e = ap (with_step steps.PushAllEvents) e
 set_parts NoEvent rest r xs ps e = ap (with_step steps.PushNoEvents) e
 set_parts (SetBlend how a b) rest r xs ps e =
     set_parts a (set_code b (steps.BlendSets how ∷ rest)) r (set_code b (steps.BlendSets how ∷ xs)) ps (set_parts b (steps.BlendSets how ∷ rest) r (steps.BlendSets how ∷ xs) ps (ap (with_step (steps.BlendSets how)) e))
-set_parts (SetNot a) rest r xs ps e = set_parts a (steps.TurnSet ∷ rest) r (steps.TurnSet ∷ xs) ps (ap (with_step steps.TurnSet) e)
+set_parts (SetNot a) rest r xs ps e = set_parts a (steps.ComplementSet ∷ rest) r (steps.ComplementSet ∷ xs) ps (ap (with_step steps.ComplementSet) e)
 
 -- a step of a relation that is no factor
 inside : (x : Step) (rest : List Step) (bs : List Bool) (ps : List Part) → makes_relation x ≡ true → pending_from rest ≡ false ∷ bs → parts_from rest ≡ ps → parts_from (x ∷ rest) ≡ with_step x ps
@@ -58,9 +58,9 @@ inner_parts (Then x y) rest bs r xs ps e p =
     (inner_parts y (steps.Compose ∷ rest) (false ∷ bs) r (steps.Compose ∷ xs) ps one (inside steps.Compose rest bs (record { repeats = r; steps = xs } ∷ ps) refl e p))
 inner_parts (Cross s t) rest bs r xs ps e p =
     set_parts s (set_code t (steps.Multiply ∷ rest)) r (set_code t (steps.Multiply ∷ xs)) ps (set_parts t (steps.Multiply ∷ rest) r (steps.Multiply ∷ xs) ps (inside steps.Multiply rest bs (record { repeats = r; steps = xs } ∷ ps) refl e p))
-inner_parts (OnSet s) rest bs r xs ps e p = set_parts s (steps.Restrict ∷ rest) r (steps.Restrict ∷ xs) ps (inside steps.Restrict rest bs (record { repeats = r; steps = xs } ∷ ps) refl e p)
+inner_parts (OnSet s) rest bs r xs ps e p = set_parts s (steps.IdentityOn ∷ rest) r (steps.IdentityOn ∷ xs) ps (inside steps.IdentityOn rest bs (record { repeats = r; steps = xs } ∷ ps) refl e p)
 inner_parts (Close how x) rest bs r xs ps e p = inner_parts x (steps.Close how ∷ rest) bs r (steps.Close how ∷ xs) ps (ap next_inside e) (inside (steps.Close how) rest bs (record { repeats = r; steps = xs } ∷ ps) refl e p)
-inner_parts (RelNot x) rest bs r xs ps e p = inner_parts x (steps.TurnRelation ∷ rest) bs r (steps.TurnRelation ∷ xs) ps (ap next_inside e) (inside steps.TurnRelation rest bs (record { repeats = r; steps = xs } ∷ ps) refl e p)
+inner_parts (RelNot x) rest bs r xs ps e p = inner_parts x (steps.ComplementRelation ∷ rest) bs r (steps.ComplementRelation ∷ xs) ps (ap next_inside e) (inside steps.ComplementRelation rest bs (record { repeats = r; steps = xs } ∷ ps) refl e p)
 
 -- a step of a relation that is a factor
 ends : (x : Step) (rest : List Step) (bs : List Bool) → makes_relation x ≡ true → pending_from rest ≡ true ∷ bs → parts_from (x ∷ rest) ≡ with_last x (parts_from rest)
@@ -88,9 +88,9 @@ outer_parts (Then x y) rest bs e =
     left ∙ ap (λ (l : List Part). map tree_part (factors_of x) ++ l) (right ∙ ap (λ (l : List Part). map tree_part (factors_of y) ++ l) skip) ∙ sym (append_assoc (map tree_part (factors_of x)) (map tree_part (factors_of y)) (parts_from rest)) ∙ ap (λ (l : List Part). l ++ parts_from rest) (sym (map-append tree_part (factors_of x) (factors_of y)))
 outer_parts (Cross s t) rest bs e =
     set_parts s (set_code t (steps.Multiply ∷ rest)) repeats.Once (set_code t (steps.Multiply ∷ [])) (parts_from rest) (set_parts t (steps.Multiply ∷ rest) repeats.Once (steps.Multiply ∷ []) (parts_from rest) (ends steps.Multiply rest bs refl e))
-outer_parts (OnSet s) rest bs e = set_parts s (steps.Restrict ∷ rest) repeats.Once (steps.Restrict ∷ []) (parts_from rest) (ends steps.Restrict rest bs refl e)
+outer_parts (OnSet s) rest bs e = set_parts s (steps.IdentityOn ∷ rest) repeats.Once (steps.IdentityOn ∷ []) (parts_from rest) (ends steps.IdentityOn rest bs refl e)
 outer_parts (Close how x) rest bs e = closed_parts how x rest bs e
-outer_parts (RelNot x) rest bs e = inner_parts x (steps.TurnRelation ∷ rest) bs repeats.Once (steps.TurnRelation ∷ []) (parts_from rest) (ap next_inside e) (ends steps.TurnRelation rest bs refl e)
+outer_parts (RelNot x) rest bs e = inner_parts x (steps.ComplementRelation ∷ rest) bs repeats.Once (steps.ComplementRelation ∷ []) (parts_from rest) (ap next_inside e) (ends steps.ComplementRelation rest bs refl e)
 
 parts_are : (t : RelTree) → parts_from (rel_code t []) ≡ map tree_part (factors_of t)
 parts_are t = outer_parts t [] [] refl ∙ append-nil (map tree_part (factors_of t))

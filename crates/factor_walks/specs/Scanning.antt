@@ -26,9 +26,9 @@ pending_after steps.PushNoPairs bs = without_next bs
 pending_after (steps.BlendRelations how) bs = next_twice (next_inside bs)
 pending_after steps.Compose bs = next_twice bs
 pending_after steps.Multiply bs = without_next bs
-pending_after steps.Restrict bs = without_next bs
+pending_after steps.IdentityOn bs = without_next bs
 pending_after (steps.Close how) bs = next_inside bs
-pending_after steps.TurnRelation bs = next_inside bs
+pending_after steps.ComplementRelation bs = next_inside bs
 pending_after step bs = bs
 
 abbrev pub is_next_factor : List Bool → Bool
@@ -41,7 +41,7 @@ makes_relation (steps.PushSet source) = false
 makes_relation steps.PushAllEvents = false
 makes_relation steps.PushNoEvents = false
 makes_relation (steps.BlendSets how) = false
-makes_relation steps.TurnSet = false
+makes_relation steps.ComplementSet = false
 makes_relation step = true
 
 -- the factor that ends with a step

@@ -77,13 +77,13 @@ fn pending_before(pending: &mut Vec<bool>, step: Step) -> Result<(), AllocError>
     ensures { OnOk result (reverse pending.new.items ≡ pending_after step (reverse pending.old.items)) }
 {
     match step {
-        Step::PushRelation(_) | Step::PushNoPairs | Step::Multiply | Step::Restrict => {
+        Step::PushRelation(_) | Step::PushNoPairs | Step::Multiply | Step::IdentityOn => {
             drop_next(pending);
             Ok(())
         }
         Step::BlendRelations(_) => close_both(pending),
         Step::Compose => push_twice(pending),
-        Step::Close(_) | Step::TurnRelation => close_next(pending),
+        Step::Close(_) | Step::ComplementRelation => close_next(pending),
         _ => Ok(()),
     }
 }
@@ -96,7 +96,7 @@ fn makes_relation(step: Step) -> bool
         | Step::PushAllEvents
         | Step::PushNoEvents
         | Step::BlendSets(_)
-        | Step::TurnSet => false,
+        | Step::ComplementSet => false,
         _ => true,
     }
 }

@@ -107,8 +107,8 @@ fn same_code_step(this: CodeStep, that: CodeStep) -> bool
             CodeStep::BlendSets(other) => part == other,
             _ => false,
         },
-        CodeStep::TurnSet => match that {
-            CodeStep::TurnSet => true,
+        CodeStep::ComplementSet => match that {
+            CodeStep::ComplementSet => true,
             _ => false,
         },
         CodeStep::PushRelation(part) => match that {
@@ -131,16 +131,16 @@ fn same_code_step(this: CodeStep, that: CodeStep) -> bool
             CodeStep::Multiply => true,
             _ => false,
         },
-        CodeStep::Restrict => match that {
-            CodeStep::Restrict => true,
+        CodeStep::IdentityOn => match that {
+            CodeStep::IdentityOn => true,
             _ => false,
         },
         CodeStep::Close(part) => match that {
             CodeStep::Close(other) => part == other,
             _ => false,
         },
-        CodeStep::TurnRelation => match that {
-            CodeStep::TurnRelation => true,
+        CodeStep::ComplementRelation => match that {
+            CodeStep::ComplementRelation => true,
             _ => false,
         },
     }

@@ -17,14 +17,14 @@ set_open (SetName source) rest = refl
 set_open AllEvents rest = refl
 set_open NoEvent rest = refl
 set_open (SetBlend how a b) rest = set_open a (set_code b (steps.BlendSets how ∷ rest)) ∙ set_open b (steps.BlendSets how ∷ rest)
-set_open (SetNot a) rest = set_open a (steps.TurnSet ∷ rest)
+set_open (SetNot a) rest = set_open a (steps.ComplementSet ∷ rest)
 
 set_names : (s : SetTree) (rest : List Step) → names_from (set_code s rest) ≡ names_from rest
 set_names (SetName source) rest = refl
 set_names AllEvents rest = refl
 set_names NoEvent rest = refl
 set_names (SetBlend how a b) rest = set_names a (set_code b (steps.BlendSets how ∷ rest)) ∙ set_names b (steps.BlendSets how ∷ rest)
-set_names (SetNot a) rest = set_names a (steps.TurnSet ∷ rest)
+set_names (SetNot a) rest = set_names a (steps.ComplementSet ∷ rest)
 
 -- a tree is the next relation
 rel_open : (t : RelTree) (rest : List Step) (b : Bool) (bs : List Bool) → open_from rest ≡ b ∷ bs → open_from (rel_code t rest) ≡ bs
@@ -35,9 +35,9 @@ rel_open (RelBlend blends.Intersection x y) rest b bs e = rel_open x (rel_code y
 rel_open (RelBlend blends.Difference x y) rest b bs e = rel_open x (rel_code y (steps.BlendRelations blends.Difference ∷ rest)) false bs (rel_open y (steps.BlendRelations blends.Difference ∷ rest) false (false ∷ bs) (ap (λ (l : List Bool). next_twice (next_inside l)) e))
 rel_open (Then x y) rest b bs e = rel_open x (rel_code y (steps.Compose ∷ rest)) false bs (rel_open y (steps.Compose ∷ rest) false (false ∷ bs) (ap (λ (l : List Bool). next_twice (next_inside l)) e))
 rel_open (Cross s t) rest b bs e = set_open s (set_code t (steps.Multiply ∷ rest)) ∙ set_open t (steps.Multiply ∷ rest) ∙ ap without_next e
-rel_open (OnSet s) rest b bs e = set_open s (steps.Restrict ∷ rest) ∙ ap without_next e
+rel_open (OnSet s) rest b bs e = set_open s (steps.IdentityOn ∷ rest) ∙ ap without_next e
 rel_open (Close how x) rest b bs e = rel_open x (steps.Close how ∷ rest) false bs (ap next_inside e)
-rel_open (RelNot x) rest b bs e = rel_open x (steps.TurnRelation ∷ rest) false bs (ap next_inside e)
+rel_open (RelNot x) rest b bs e = rel_open x (steps.ComplementRelation ∷ rest) false bs (ap next_inside e)
 
 -- what stands inside no union adds no name
 inner_names : (t : RelTree) (rest : List Step) (bs : List Bool) → open_from rest ≡ false ∷ bs → names_from (rel_code t rest) ≡ names_from rest
@@ -56,9 +56,9 @@ inner_names (Then x y) rest bs e =
     let one : open_from (steps.Compose ∷ rest) ≡ false ∷ false ∷ bs = ap (λ (l : List Bool). next_twice (next_inside l)) e in
     inner_names x (rel_code y (steps.Compose ∷ rest)) bs (rel_open y (steps.Compose ∷ rest) false (false ∷ bs) one) ∙ inner_names y (steps.Compose ∷ rest) (false ∷ bs) one
 inner_names (Cross s t) rest bs e = set_names s (set_code t (steps.Multiply ∷ rest)) ∙ set_names t (steps.Multiply ∷ rest)
-inner_names (OnSet s) rest bs e = set_names s (steps.Restrict ∷ rest)
+inner_names (OnSet s) rest bs e = set_names s (steps.IdentityOn ∷ rest)
 inner_names (Close how x) rest bs e = inner_names x (steps.Close how ∷ rest) bs (ap next_inside e)
-inner_names (RelNot x) rest bs e = inner_names x (steps.TurnRelation ∷ rest) bs (ap next_inside e)
+inner_names (RelNot x) rest bs e = inner_names x (steps.ComplementRelation ∷ rest) bs (ap next_inside e)
 
 -- an operand adds the names that it is a union of
 outer_names : (t : RelTree) (rest : List Step) (bs : List Bool) → open_from rest ≡ true ∷ bs → names_from (rel_code t rest) ≡ union_names t ++ names_from rest
@@ -79,9 +79,9 @@ outer_names (Then x y) rest bs e =
     let one : open_from (steps.Compose ∷ rest) ≡ false ∷ false ∷ bs = ap (λ (l : List Bool). next_twice (next_inside l)) e in
     inner_names x (rel_code y (steps.Compose ∷ rest)) bs (rel_open y (steps.Compose ∷ rest) false (false ∷ bs) one) ∙ inner_names y (steps.Compose ∷ rest) (false ∷ bs) one
 outer_names (Cross s t) rest bs e = set_names s (set_code t (steps.Multiply ∷ rest)) ∙ set_names t (steps.Multiply ∷ rest)
-outer_names (OnSet s) rest bs e = set_names s (steps.Restrict ∷ rest)
+outer_names (OnSet s) rest bs e = set_names s (steps.IdentityOn ∷ rest)
 outer_names (Close how x) rest bs e = inner_names x (steps.Close how ∷ rest) bs (ap next_inside e)
-outer_names (RelNot x) rest bs e = inner_names x (steps.TurnRelation ∷ rest) bs (ap next_inside e)
+outer_names (RelNot x) rest bs e = inner_names x (steps.ComplementRelation ∷ rest) bs (ap next_inside e)
 
 pub names_are : (xs : List Step) → IsUnionOf xs (names_from xs)
 names_are xs t code = ap names_from code ∙ outer_names t [] [] refl ∙ append-nil (union_names t)

@@ -24,7 +24,7 @@ open_after (steps.PushSet source) bs = bs
 open_after steps.PushAllEvents bs = bs
 open_after steps.PushNoEvents bs = bs
 open_after (steps.BlendSets how) bs = bs
-open_after steps.TurnSet bs = bs
+open_after steps.ComplementSet bs = bs
 open_after (steps.PushRelation source) bs = without_next bs
 open_after steps.PushNoPairs bs = without_next bs
 open_after (steps.BlendRelations blends.Union) bs = next_twice bs
@@ -32,9 +32,9 @@ open_after (steps.BlendRelations blends.Intersection) bs = next_twice (next_insi
 open_after (steps.BlendRelations blends.Difference) bs = next_twice (next_inside bs)
 open_after steps.Compose bs = next_twice (next_inside bs)
 open_after steps.Multiply bs = without_next bs
-open_after steps.Restrict bs = without_next bs
+open_after steps.IdentityOn bs = without_next bs
 open_after (steps.Close how) bs = next_inside bs
-open_after steps.TurnRelation bs = next_inside bs
+open_after steps.ComplementRelation bs = next_inside bs
 
 abbrev pub is_operand : List Bool → Bool
 is_operand [] = false

@@ -80,13 +80,13 @@ fn open_before(pending: &mut Vec<bool>, step: Step) -> Result<(), AllocError>
     ensures { OnOk result (reverse pending.new.items ≡ open_after step (reverse pending.old.items)) }
 {
     match step {
-        Step::PushRelation(_) | Step::PushNoPairs | Step::Multiply | Step::Restrict => {
+        Step::PushRelation(_) | Step::PushNoPairs | Step::Multiply | Step::IdentityOn => {
             drop_next(pending);
             Ok(())
         }
         Step::BlendRelations(Blend::Union) => push_twice(pending),
         Step::BlendRelations(_) | Step::Compose => close_both(pending),
-        Step::Close(_) | Step::TurnRelation => close_next(pending),
+        Step::Close(_) | Step::ComplementRelation => close_next(pending),
         _ => Ok(()),
     }
 }

@@ -36,7 +36,7 @@ fn step_text(step: Step) -> &'static [u8] {
     match step {
         Step::PushSet(Source::Predefined(Predefined::Loads)) => b"push set R",
         Step::PushRelation(Source::Predefined(Predefined::ProgramOrder)) => b"push relation po",
-        Step::Restrict => b"restrict",
+        Step::IdentityOn => b"restrict",
         Step::Compose => b"compose",
         _ => b"another",
     }
