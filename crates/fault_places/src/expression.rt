@@ -1,6 +1,6 @@
 //! The first fault of an expression, and the sign that it stands at.
 
-ghost use Rattle.std.specs.Prelude.{◌≡◌, ◌||◌, List, reverse, map, option_map};
+ghost use Rattle.std.specs.Prelude.{◌≡◌, List, reverse, map, option_map};
 ghost use Rattle.text_values.specs.ModelValues.{term_of};
 ghost use Rattle.binding_kinds.specs.Value.{entry_of};
 ghost use Rattle.binding_kinds.specs.Senses.{Sense, AreKept, kind_in};
@@ -10,19 +10,13 @@ use crate::application::{application_fault, is_under};
 use crate::kinds::{is_relation, is_set, takes};
 use crate::place::{SignFault, or_later, signed_fault};
 use crate::signs::{infix_sign, postfix_sign};
-use binding_kinds::{Entry, Function, Kind, ModelFault, is_turned, judge, unless};
+use binding_kinds::{Entry, Function, Kind, ModelFault, either, is_turned, judge, unless};
 use text_values::Expression;
 
 fn kind_of(entries: &[Entry], functions: &[Function], term: &Expression) -> Kind
     ensures { (senses : List Sense) → AreKept functions.now senses → result ≡ kind_in senses (reverse (map entry_of entries.now)) (term_of term.now) }
 {
     judge(entries, functions, 0, false, term).kind
-}
-
-fn either(one: bool, other: bool) -> bool
-    ensures { result ≡ (one || other) }
-{
-    one || other
 }
 
 /// The first fault of an expression, seen under a complement or not. The names of the item itself have the slot `from`

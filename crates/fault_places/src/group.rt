@@ -1,48 +1,15 @@
 //! The first fault of a group and of parameters, and the sign that it stands at.
 
 ghost use Rattle.std.specs.Prelude.{◌≡◌, [], List, reverse, map, option_map};
-ghost use Rattle.binding_kinds.specs.Value.{Naming, entry_of, bound_of};
-ghost use Rattle.binding_kinds.specs.GroupNames.{names_of};
-ghost use Rattle.binding_kinds.specs.Senses.{Sense, AreKept, kind_in};
+ghost use Rattle.binding_kinds.specs.Value.{entry_of, bound_of};
+ghost use Rattle.binding_kinds.specs.Senses.{Sense, AreKept};
 ghost use Rattle.binding_kinds.specs.Verdict.{is_seen, of_parameter};
-ghost use Rattle.binding_kinds.specs.First.{of_binding};
 ghost use Rattle.fault_places.specs.Search.{signed_fault_of, signed_fault, first_fault_in_group, first_fault_in_parameters};
 
 use crate::expression::expression_fault;
 use crate::place::{SignFault, or_later, signed_fault};
-use binding_kinds::{Entry, Function, Kind, ModelFault, judge, unless};
+use binding_kinds::{Entry, Function, ModelFault, binding_fault, judge, unless};
 use text_values::{Binding, MAX_PARAMETERS, Name};
-
-/// Whether one of the bindings has the name.
-fn is_seen(before: &[Binding], name: &Name) -> bool
-    ensures { result ≡ is_seen (names_of before.now) name.now }
-{
-    let mut is_found = false;
-    for binding in before {
-        if binding.name.is_same(name) {
-            is_found = true;
-        }
-    }
-    is_found
-}
-
-/// The fault of a binding's own name, whose body has that kind.
-fn binding_fault(
-    body: Kind,
-    recursive: bool,
-    before: &[Binding],
-    binding: &Binding,
-) -> Option<ModelFault>
-    ensures { (senses : List Sense) → (names : List Naming) → body ≡ kind_in senses names (bound_of binding.now).body → result ≡ of_binding senses names recursive (names_of before.now) (bound_of binding.now) }
-{
-    if is_seen(before, &binding.name) {
-        return Some(ModelFault::Duplicate);
-    }
-    if recursive && body == Kind::OfSet {
-        return Some(ModelFault::SetInRec);
-    }
-    None
-}
 
 /// The first fault of the bindings of a group.
 pub fn group_fault<'t>(
