@@ -16,6 +16,7 @@ mod uses;
 mod workspace;
 
 pub use binding_kinds::{Input, Kind, ModelFault};
+pub use declare::declare_own;
 pub use fault::ResolveFault;
 pub use function::read_function;
 pub use items::resolve;

@@ -7,19 +7,15 @@ use Rattle.binding_kinds.specs.declared.scope.Binder.TheVariants as binders
 use Rattle.std.specs.Prelude.{Option, Some, None, is_some, true, false}
 use Rattle.binding_kinds.specs.declared.fault.ModelFault.{ModelFault}
 use Rattle.binding_kinds.specs.declared.function.Function.{Function}
-use Rattle.binding_kinds.specs.declared.kinds.Kind.TheVariants.{OfRelation, OfAny}
+use Rattle.binding_kinds.specs.declared.kinds.Kind.TheVariants.{OfAny}
 use Rattle.text_values.specs.ModelValues.{term_of}
 use Rattle.binding_kinds.specs.Value.{Naming, entry_of, bound_of}
 use Rattle.binding_kinds.specs.Senses.{Sense, IsKept, AreKept, kind_in}
 use Rattle.binding_kinds.specs.Verdict.{or_else, of_parameter, of_parameters}
 use Rattle.binding_kinds.proofs.Applications.{kept_long, kept_more}
 use Rattle.fault_places.specs.Search.{signed_fault, or_later, first_fault_in_parameters}
-use Rattle.binding_kinds.specs.Faults.{with_own, with_all}
+use Rattle.binding_kinds.specs.Faults.{with_all}
 use Rattle.binding_kinds.proofs.Scopes.{rev_push}
-
--- one more recursive name
-pub own_more : (g : List Binding) (i item : ℕ) (d : Binding) (s : List Entry) (e : Entry) → i < length g → e.name ≡ (get_or g i d).name → e.kind ≡ OfRelation → e.binder ≡ binders.Bound (record { item = item; position = i }) → with_own (reverse (map entry_of s)) item i (map bound_of (drop i g)) ≡ with_own (reverse (map entry_of (s ++ e ∷ []))) item (i + 1) (map bound_of (drop (i + 1) g))
-own_more g i item d s e lt name k b = rw (drop-cons g i d lt, rev_push entry_of s e, name, k, b, add-one i) refl
 
 -- one more name whose body sees the outer names
 pub all_more : (ss : List Sense) (outer : List Naming) (g : List Binding) (i item : ℕ) (d : Binding) (s : List Entry) (e : Entry) → i < length g → e.name ≡ (get_or g i d).name → e.kind ≡ kind_in ss outer (term_of (get_or g i d).body) → e.binder ≡ binders.Bound (record { item = item; position = i }) → with_all ss outer (reverse (map entry_of s)) item i (map bound_of (drop i g)) ≡ with_all ss outer (reverse (map entry_of (s ++ e ∷ []))) item (i + 1) (map bound_of (drop (i + 1) g))

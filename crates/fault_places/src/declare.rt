@@ -5,7 +5,7 @@ ghost use Rattle.text_values.specs.ModelValues.{term_of};
 ghost use Rattle.binding_kinds.specs.Value.{Defined, entry_of, bound_of, clause_of};
 ghost use Rattle.binding_kinds.specs.Kinds.{takes_body};
 ghost use Rattle.binding_kinds.specs.Senses.{Sense, AreKept, kind_in};
-ghost use Rattle.binding_kinds.specs.Faults.{with_own, with_all, extended, senses_after};
+ghost use Rattle.binding_kinds.specs.Faults.{with_all, extended, senses_after};
 ghost use Rattle.binding_kinds.specs.Verdict.{unless};
 ghost use Rattle.fault_places.specs.Signs.{check_sign};
 ghost use Rattle.fault_places.specs.Search.{signed_fault_of, signed_fault, or_later, first_fault_in, first_fault_in_item, first_fault_in_parameters, first_fault_in_body};
@@ -15,32 +15,12 @@ use crate::expression::expression_fault;
 use crate::group::{group_fault, parameters_fault};
 use crate::place::{SignFault, or_later, signed_fault};
 use crate::signs::check_sign;
-use binding_graph::read_function;
+use binding_graph::{declare_own, read_function};
 use binding_kinds::{
     Binder, Entry, Function, Input, Kind, ModelFault, Scope, Sight, judge, takes_body, unless,
 };
 use std::alloc::{AllocError, Global};
 use text_values::{Binding, Check, Expression, Item, Name};
-
-/// Adds the names of a recursive group.
-#[tactic(auto, using(binding_kinds::proofs::Scopes::rev_push))]
-fn declare_own(
-    alloc: Global,
-    entries: &mut Vec<Entry>,
-    item: usize,
-    group: &[Binding],
-) -> Result<(), AllocError>
-    ensures { OnOk result (reverse (map entry_of entries.new.items) ≡ with_own (reverse (map entry_of entries.old.items)) item 0 (map bound_of group.now)) }
-{
-    for (position, binding) in group.iter().enumerate() {
-        entries.push(Entry {
-            name: binding.name.copied(alloc)?,
-            kind: Kind::OfRelation,
-            binder: Binder::Bound(Input { item, position }),
-        })?;
-    }
-    Ok(())
-}
 
 /// Adds the names of a group whose bodies see the names before it.
 #[tactic(auto, using(binding_kinds::proofs::Scopes::rev_push))]
