@@ -20,7 +20,7 @@ use crate::scope::{Binder, Entry, find};
 use text_values::{Binding, Expression, MAX_PARAMETERS, Name};
 
 /// The function that a name with so many arguments stands for.
-pub(crate) fn function_of<'a>(
+pub fn function_of<'a>(
     entries: &[Entry],
     functions: &'a [Function],
     name: &Name,
@@ -142,8 +142,8 @@ fn is_among(before: &[Name], name: &Name) -> bool
     is_found
 }
 
-/// The fault of a parameter after those before it.
-fn one_parameter_fault(before: &[Name], parameter: &Name) -> Option<ModelFault>
+/// The fault of a parameter after those before it: it stands there already, or is a ninth.
+pub fn one_parameter_fault(before: &[Name], parameter: &Name) -> Option<ModelFault>
     ensures { result ≡ of_parameter (reverse before.now) parameter.now }
 {
     if is_among(before, parameter) {

@@ -20,7 +20,7 @@ pub enum Kind {
 
 impl Kind {
     /// Whether it may stand where a set is wanted.
-    pub(crate) fn is_set(self) -> bool
+    pub fn is_set(self) -> bool
         ensures { result ≡ is_set self }
     {
         match self {
@@ -31,7 +31,7 @@ impl Kind {
     }
 
     /// Whether it may stand where a relation is wanted.
-    pub(crate) fn is_relation(self) -> bool
+    pub fn is_relation(self) -> bool
         ensures { result ≡ is_relation self }
     {
         match self {
@@ -76,7 +76,7 @@ impl Kind {
 }
 
 /// Whether the operator takes operands of these kinds.
-pub(crate) fn takes(op: Infix, left: Kind, right: Kind) -> bool
+pub fn takes(op: Infix, left: Kind, right: Kind) -> bool
     ensures { result ≡ takes op left right }
 {
     match op {

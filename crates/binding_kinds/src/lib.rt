@@ -22,8 +22,8 @@ pub use judged::{
     Arguments, Judged, either, judged_complement, judged_faulty, judged_identity, judged_infix,
     judged_name, judged_postfix, judged_sign, or_else, unless,
 };
-pub use judging::{binding_fault, judge, parameter_fault};
-pub use kinds::{Kind, is_turned, takes_body};
+pub use judging::{binding_fault, function_of, judge, one_parameter_fault, parameter_fault};
+pub use kinds::{Kind, is_turned, takes, takes_body};
 pub use scope::{Binder, Entry, Found, Input, Scope, Used, find};
 pub use sight::{Meaning, Named, Sight};
 pub use signature::{Signature, weight};

@@ -1,43 +1,15 @@
 //! The fault of an application itself, whatever its arguments' faults are.
 
-ghost use Rattle.std.specs.Prelude.{◌≡◌, ◌<◌, ◌≤◌, List, length, reverse, map, None, Ok, Err, MatchResult};
+ghost use Rattle.std.specs.Prelude.{◌≡◌, ◌<◌, ◌≤◌, List, length, reverse, map, None};
 ghost use Rattle.text_values.specs.ModelValue.{gathered};
 ghost use Rattle.text_values.specs.ModelValues.{term_of};
 ghost use Rattle.binding_kinds.specs.Value.{entry_of};
 ghost use Rattle.binding_kinds.specs.Kinds.{found};
 ghost use Rattle.binding_kinds.specs.Combinations.{digit, number_of};
-ghost use Rattle.binding_kinds.specs.Senses.{Sense, IsKept, AreKept, IsAlike, sense_of, sizes_in, kinds_in, size_applied, under_of, fault_applied};
+ghost use Rattle.binding_kinds.specs.Senses.{Sense, AreKept, IsAlike, sense_of, sizes_in, kinds_in, size_applied, under_of, fault_applied};
 
-use binding_kinds::{Binder, Entry, Function, Kind, MAX_SIZE, ModelFault, find, judge, unless};
+use binding_kinds::{Entry, Function, Kind, MAX_SIZE, ModelFault, function_of, judge, unless};
 use text_values::{Expression, Name};
-
-/// The function that a name with so many arguments stands for.
-fn function_of<'a>(
-    entries: &[Entry],
-    functions: &'a [Function],
-    name: &Name,
-    count: usize,
-) -> Result<&'a Function, ModelFault>
-    ensures { let looked_for = found (reverse (map entry_of entries.now)) name.now in (senses : List Sense) → AreKept functions.now senses → MatchResult result (λ f. (s : Sense) × (sense_of senses count looked_for ≡ Ok s) × IsKept f.now s) (λ k. sense_of senses count looked_for ≡ Err k) }
-{
-    let Some(found) = find(entries, name) else {
-        return Err(ModelFault::Unbound);
-    };
-    match found.binder {
-        Binder::Applicable(function) => match functions.get(function) {
-            None => Err(ModelFault::Arity),
-            Some(one) => {
-                if one.arity == count {
-                    Ok(one)
-                } else {
-                    Err(ModelFault::Arity)
-                }
-            }
-        },
-        Binder::Predefined(_) => Err(ModelFault::Arity),
-        Binder::Bound(_) => Err(ModelFault::Arity),
-    }
-}
 
 fn digit(kind: Kind) -> usize
     ensures value { result ≡ digit kind }

@@ -7,10 +7,9 @@ ghost use Rattle.binding_kinds.specs.Senses.{Sense, AreKept, kind_in};
 ghost use Rattle.fault_places.specs.Search.{signed_fault_of, signed_fault, first_fault_in};
 
 use crate::application::{application_fault, is_under};
-use crate::kinds::{is_relation, is_set, takes};
 use crate::place::{SignFault, or_later, signed_fault};
 use crate::signs::{infix_sign, postfix_sign};
-use binding_kinds::{Entry, Function, Kind, ModelFault, either, is_turned, judge, unless};
+use binding_kinds::{Entry, Function, Kind, ModelFault, either, is_turned, judge, takes, unless};
 use text_values::Expression;
 
 fn kind_of(entries: &[Entry], functions: &[Function], term: &Expression) -> Kind
@@ -51,7 +50,7 @@ pub fn expression_fault<'t>(
         }
         Expression::Marked(op, operand) => {
             let first = expression_fault(entries, functions, from, under, operand);
-            let fits = is_relation(kind_of(entries, functions, operand));
+            let fits = kind_of(entries, functions, operand).is_relation();
             or_later(
                 first,
                 signed_fault(unless(fits, ModelFault::Kind), postfix_sign(*op)),
@@ -61,7 +60,7 @@ pub fn expression_fault<'t>(
             expression_fault(entries, functions, from, true, operand)
         }
         Expression::Identity(operand) => {
-            let fits = is_set(kind_of(entries, functions, operand));
+            let fits = kind_of(entries, functions, operand).is_set();
             let here = signed_fault(unless(fits, ModelFault::Kind), b"[");
             or_later(
                 here,

@@ -3,13 +3,12 @@
 ghost use Rattle.std.specs.Prelude.{◌≡◌, [], List, reverse, map, option_map};
 ghost use Rattle.binding_kinds.specs.Value.{entry_of, bound_of};
 ghost use Rattle.binding_kinds.specs.Senses.{Sense, AreKept};
-ghost use Rattle.binding_kinds.specs.Verdict.{is_seen, of_parameter};
 ghost use Rattle.fault_places.specs.Search.{signed_fault_of, signed_fault, first_fault_in_group, first_fault_in_parameters};
 
 use crate::expression::expression_fault;
 use crate::place::{SignFault, or_later, signed_fault};
-use binding_kinds::{Entry, Function, ModelFault, binding_fault, judge, unless};
-use text_values::{Binding, MAX_PARAMETERS, Name};
+use binding_kinds::{Entry, Function, binding_fault, judge, one_parameter_fault};
+use text_values::{Binding, Name};
 
 /// The first fault of the bindings of a group.
 pub fn group_fault<'t>(
@@ -33,37 +32,13 @@ pub fn group_fault<'t>(
     all
 }
 
-/// Whether one of the parameters has the name.
-#[tactic(auto, using(binding_kinds::proofs::Scopes::rev_next))]
-fn is_among(before: &[Name], name: &Name) -> bool
-    ensures { result ≡ is_seen (reverse before.now) name.now }
-{
-    let mut is_found = false;
-    for parameter in before {
-        if parameter.as_bytes() == name.as_bytes() {
-            is_found = true;
-        }
-    }
-    is_found
-}
-
-/// The fault of a parameter after those before it.
-fn parameter_fault(before: &[Name], parameter: &Name) -> Option<ModelFault>
-    ensures { result ≡ of_parameter (reverse before.now) parameter.now }
-{
-    if is_among(before, parameter) {
-        return Some(ModelFault::Duplicate);
-    }
-    unless(before.len() < MAX_PARAMETERS, ModelFault::TooLarge)
-}
-
 /// The first fault of the parameters of a function.
 pub fn parameters_fault<'t>(parameters: &'t [Name]) -> Option<SignFault<'t>>
     ensures { option_map signed_fault_of result ≡ first_fault_in_parameters [] parameters.now }
 {
     let mut all = None;
     for (index, parameter) in parameters.iter().enumerate() {
-        let own = parameter_fault(&parameters[..index], parameter);
+        let own = one_parameter_fault(&parameters[..index], parameter);
         let one = signed_fault(own, parameter.as_bytes());
         all = or_later(all, one);
     }

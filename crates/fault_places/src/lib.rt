@@ -8,7 +8,6 @@ mod declare;
 mod expression;
 mod group;
 mod items;
-mod kinds;
 mod place;
 mod signs;
 
