@@ -16,7 +16,8 @@ fn copied_label(alloc: Global, label: &Option<Name>) -> Result<Option<Name>, All
     }
 }
 
-fn copied_names(alloc: Global, names: &[Name]) -> Result<Vec<Name>, AllocError>
+/// Copies of names, in order. Errors: out of memory.
+pub fn copied_names(alloc: Global, names: &[Name]) -> Result<Vec<Name>, AllocError>
     ensures { IfOk result (λ v. v.items ≡ names.now) }
 {
     let mut copies = Vec::with_capacity(alloc, names.len())?;

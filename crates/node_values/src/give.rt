@@ -7,8 +7,9 @@ ghost use Rattle.node_values.specs.Parts.{parts_of};
 
 use crate::given::{FaultParts, Given, GivenParts, SpaceParts, VerdictParts};
 use binding_graph::ModelFault;
+use item_copies::copied_names;
 use part_copies::{copied_condition, copied_entries, copied_places, copied_threads};
-use shared_items::{SharedItem, copied_names};
+use shared_items::SharedItem;
 use std::alloc::{AllocError, Global};
 use text_values::{Condition, InitEntry, Name, Place, Thread};
 

@@ -2,8 +2,8 @@
 
 ghost use Rattle.std.specs.Prelude.{◌≡◌, IfOk};
 
+use item_copies::copied_names;
 use std::alloc::{AllocError, Global};
-use text_values::Name;
 use verdict::{CountedState, Evaluation, Outcome, OutcomeResult};
 
 fn copied_state(alloc: Global, state: &CountedState) -> Result<CountedState, AllocError>
@@ -23,16 +23,6 @@ fn copied_states(alloc: Global, states: &[CountedState]) -> Result<Vec<CountedSt
     let mut copies = Vec::new(alloc);
     for state in states {
         copies.push(copied_state(alloc, state)?)?;
-    }
-    Ok(copies)
-}
-
-fn copied_names(alloc: Global, names: &[Name]) -> Result<Vec<Name>, AllocError>
-    ensures { IfOk result (λ copies. copies.items ≡ names.now) }
-{
-    let mut copies = Vec::new(alloc);
-    for name in names {
-        copies.push(name.copied(alloc)?)?;
     }
     Ok(copies)
 }

@@ -7,4 +7,4 @@ pub mod laws;
 mod names;
 
 pub use items::SharedItem;
-pub use names::{copied_names, number_of, only_zero};
+pub use names::{number_of, only_zero};

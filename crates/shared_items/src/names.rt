@@ -8,20 +8,10 @@ ghost use Rattle.shared_items.specs.Naming.{names_in, body_names, number_of, num
 ghost use Rattle.shared_items.specs.Naming.{item_outputs};
 
 use binding_graph::{Body, Role};
+use item_copies::copied_names;
 use std::alloc::{AllocError, Global};
 use std::sync::Arc;
 use text_values::Name;
-
-/// Copies of names, in order. Errors: out of memory.
-pub fn copied_names(alloc: Global, names: &[Name]) -> Result<Vec<Name>, AllocError>
-    ensures { IfOk result (λ v. v.items ≡ names.now) }
-{
-    let mut copies = Vec::with_capacity(alloc, names.len())?;
-    for name in names {
-        copies.push(name.copied(alloc)?)?;
-    }
-    Ok(copies)
-}
 
 /// The number of a name: its index in a history, or how many names that has where it is none of them.
 pub fn number_of(history: &[Name], name: &[u8]) -> usize
