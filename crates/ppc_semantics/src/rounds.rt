@@ -18,7 +18,7 @@ use std::alloc::{AllocError, Global};
 use text_values::Test;
 use thread_runs::{
     Domain, Instruction, Line, MANY, MAX_VALUES, Program, State, Value, add_stored, add_value,
-    free_count, is_load, run_count,
+    free_count, is_load, run_count, thread_lines,
 };
 
 /// The greatest number of combinations of runs.
@@ -106,16 +106,6 @@ fn initial_values(alloc: Global, program: &Program) -> Result<Vec<Value>, AllocE
         add_value(&mut values, *value)?;
     }
     Ok(values)
-}
-
-/// The lines of a thread, and none where it is not there.
-fn thread_lines(program: &Program, thread: usize) -> &[Line]
-    ensures { result.now ≡ (all.thread_of program.now thread).lines }
-{
-    match program.threads.get(thread) {
-        Some(lines) => lines,
-        None => &[],
-    }
 }
 
 /// The values with those that some free run over them stores.

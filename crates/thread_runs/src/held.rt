@@ -59,7 +59,7 @@ fn first_value(program: &Program, thread: usize, r: u8) -> Value
 }
 
 /// The lines of a thread, and none where it is not there.
-fn thread_lines(program: &Program, thread: usize) -> &[Line]
+pub fn thread_lines(program: &Program, thread: usize) -> &[Line]
     ensures { result.now ≡ (all.thread_of program.now thread).lines }
 {
     match program.threads.get(thread) {
