@@ -5,5 +5,5 @@
 mod print;
 mod print_table;
 
-pub use print::{print_condition, put_place, put_value};
+pub use print::{fence_name, print_condition, put_place, put_value};
 pub use print_table::print_test;

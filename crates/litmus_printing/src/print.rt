@@ -102,7 +102,8 @@ fn branch_name(condition: BranchCondition) -> &'static [u8]
     }
 }
 
-fn fence_name(fence: Fence) -> &'static [u8]
+/// How a fence is written: `sync`, `lwsync`, `eieio` or `isync`.
+pub fn fence_name(fence: Fence) -> &'static [u8]
     ensures { result.now ≡ fence_text fence }
 {
     match fence {

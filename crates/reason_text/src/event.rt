@@ -2,16 +2,15 @@
 
 ghost use Rattle.std.specs.Prelude.{◌≡◌, ◌++◌, OnOk};
 ghost use Rattle.std.specs.List.{flat_map};
-ghost use Rattle.litmus_printing.specs.Printing.{fence_text};
 ghost use Rattle.verdict.specs.Final.{value_shown};
 ghost use Rattle.verdict.specs.Text.{name_at, value_text};
 ghost use Rattle.reason_text.specs.Events.{lettered, event_name, value_told, access_text, fence_told, action_text, thread_text, plain_access, indexed_access, instruction_text, instruction_told, event_line};
 
 use candidates::{Action, Event};
-use litmus_printing::put_value;
+use litmus_printing::{fence_name, put_value};
 use ppc_semantics::{Instruction, Value as RunValue};
 use std::alloc::AllocError;
-use text_values::{Fence, Name, Value, put_bytes, put_decimal};
+use text_values::{Name, Value, put_bytes, put_decimal};
 
 /// An event as it is told.
 #[derive(Clone, Copy)]
@@ -110,17 +109,6 @@ fn put_access(
     put_location(text, telling.locations, location)?;
     put_bytes(text, b"]")?;
     put_value_told(text, telling, value)
-}
-
-fn fence_name(fence: Fence) -> &'static [u8]
-    ensures { result.now ≡ fence_text fence }
-{
-    match fence {
-        Fence::Sync => b"sync",
-        Fence::LightweightSync => b"lwsync",
-        Fence::Eieio => b"eieio",
-        Fence::Isync => b"isync",
-    }
 }
 
 #[tactic(auto, unfolding(crate::specs::Events::fence_told))]
