@@ -3,7 +3,7 @@
 ghost use Rattle.std.specs.Prelude.{◌≡◌, ◌++◌, OnOk};
 ghost use Rattle.std.specs.List.{flat_map};
 ghost use Rattle.verdict.specs.Final.{value_shown};
-ghost use Rattle.verdict.specs.Text.{name_at, value_text};
+ghost use Rattle.verdict.specs.Text.{value_text};
 ghost use Rattle.reason_text.specs.Events.{lettered, event_name, value_told, access_text, fence_told, action_text, thread_text, plain_access, indexed_access, instruction_text, instruction_told, event_line};
 
 use candidates::{Action, Event};
@@ -11,6 +11,7 @@ use litmus_printing::{fence_name, put_value};
 use ppc_semantics::{Instruction, Value as RunValue};
 use std::alloc::AllocError;
 use text_values::{Name, Value, put_bytes, put_decimal};
+use verdict::put_location;
 
 /// An event as it is told.
 #[derive(Clone, Copy)]
@@ -56,15 +57,6 @@ pub fn put_name(text: &mut Vec<u8>, initial_count: usize, n: usize) -> Result<()
         put_decimal(text, n as u64)
     } else {
         put_lettered(text, n - initial_count)
-    }
-}
-
-fn put_location(text: &mut Vec<u8>, locations: &[Name], location: usize) -> Result<(), AllocError>
-    ensures { OnOk result (text.new.items ≡ text.old.items ++ name_at locations.now location) }
-{
-    match locations.get(location) {
-        Some(name) => put_bytes(text, name.as_bytes()),
-        None => Ok(()),
     }
 }
 

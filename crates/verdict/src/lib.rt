@@ -16,3 +16,4 @@ pub use answer::{
 };
 pub use judgement::{Raised, outcome, outcome_kept};
 pub use shown_place::ShownPlace;
+pub use state_text::put_location;

@@ -11,7 +11,12 @@ use litmus_printing::put_value;
 use std::alloc::{AllocError, Global};
 use text_values::{Name, Value, put_bytes, put_decimal};
 
-fn put_location(text: &mut Vec<u8>, locations: &[Name], location: usize) -> Result<(), AllocError>
+/// Appends the name of a location, by its index, and nothing where there is none. Errors: out of memory.
+pub fn put_location(
+    text: &mut Vec<u8>,
+    locations: &[Name],
+    location: usize,
+) -> Result<(), AllocError>
     ensures { OnOk result (text.new.items ≡ text.old.items ++ name_at locations.now location) }
 {
     match locations.get(location) {
