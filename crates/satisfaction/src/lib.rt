@@ -7,33 +7,12 @@ ghost use Rattle.candidates.specs.Space.{shown_by};
 ghost use Rattle.text_values.specs.TestValue.{formula_of};
 ghost use Rattle.verdict.specs.Evaluated.{is_satisfied};
 ghost use Rattle.verdict.specs.Final as ends;
-ghost use Rattle.verdict.specs.Meaning.{is_held, joined_by, known_place, known_value, location_of};
+ghost use Rattle.verdict.specs.Meaning.{is_held, joined_by, known_place, known_value};
 
 use candidates::{Action, Execution};
 use ppc_semantics::Value as RunValue;
 use text_values::{Connective, Name, Place, Proposition, Value};
-use verdict::FinalValue;
-
-fn location_of(locations: &[Name], name: &Name) -> Option<usize>
-    ensures { result ≡ location_of locations.now name.now }
-{
-    for (index, location) in locations.iter().enumerate() {
-        if location.is_same(name) {
-            return Some(index);
-        }
-    }
-    None
-}
-
-fn value_shown(value: RunValue) -> FinalValue
-    ensures { result ≡ ends.value_shown value }
-{
-    match value {
-        RunValue::Number(number) => FinalValue::Number(number.cast_signed()),
-        RunValue::Address(location) => FinalValue::Address(location),
-        RunValue::NoValue => FinalValue::NoValue,
-    }
-}
+use verdict::{FinalValue, known_value, location_of, value_shown};
 
 fn final_register(execution: &Execution, thread: usize, register: u8) -> RunValue
     ensures { result ≡ ends.final_register (shown_by execution.now) thread register }
@@ -85,18 +64,6 @@ fn final_value(locations: &[Name], place: &Place, execution: &Execution) -> Opti
         }
         Place::Location(name) => match location_of(locations, name) {
             Some(location) => Some(value_shown(final_word(execution, location))),
-            None => None,
-        },
-    }
-}
-
-fn known_value(locations: &[Name], value: &Value) -> Option<FinalValue>
-    ensures { result ≡ known_value locations.now value.now }
-{
-    match value {
-        Value::Number(number) => Some(FinalValue::Number(*number)),
-        Value::Address(name) => match location_of(locations, name) {
-            Some(location) => Some(FinalValue::Address(location)),
             None => None,
         },
     }

@@ -28,7 +28,8 @@ struct Tally {
     state: Vec<FinalValue>,
 }
 
-fn final_value(value: Value) -> FinalValue
+/// The value of a state that the machine has as this value.
+pub fn value_shown(value: Value) -> FinalValue
     ensures { result ≡ value_shown value }
 {
     match value {
@@ -96,9 +97,9 @@ fn held_value(
 {
     match place {
         ShownPlace::Register(thread, register) => {
-            final_value(final_register(space, combination, thread, register))
+            value_shown(final_register(space, combination, thread, register))
         }
-        ShownPlace::Location(location) => final_value(final_word(combination, order, location)),
+        ShownPlace::Location(location) => value_shown(final_word(combination, order, location)),
     }
 }
 

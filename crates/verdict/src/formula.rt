@@ -25,7 +25,8 @@ pub enum Formula {
     Joined(Connective, Box<Formula>, Box<Formula>),
 }
 
-fn final_value(locations: &[Name], value: &Value) -> Option<FinalValue>
+/// The value of a state for one of the text, or `None` if it names a location that is not one of the test.
+pub fn known_value(locations: &[Name], value: &Value) -> Option<FinalValue>
     ensures { result ≡ known_value locations.now value.now }
 {
     match value {
@@ -55,7 +56,7 @@ fn atom(places: &[ShownPlace], locations: &[Name], place: &Place, value: &Value)
     let Some(shown) = shown_place(locations, place) else {
         return Formula::Constant(false);
     };
-    let Some(value) = final_value(locations, value) else {
+    let Some(value) = known_value(locations, value) else {
         return Formula::Constant(false);
     };
     match place_number(places, shown) {

@@ -14,6 +14,8 @@ mod state_text;
 pub use answer::{
     CountedState, Evaluation, FinalValue, Observation, Outcome, OutcomeResult, Refusal,
 };
+pub use final_states::value_shown;
+pub use formula::known_value;
 pub use judgement::{Raised, outcome, outcome_kept};
-pub use shown_place::ShownPlace;
+pub use shown_place::{ShownPlace, location_of};
 pub use state_text::put_location;
