@@ -15,12 +15,11 @@ use bench_texts::EditFault;
 use desk_rule::Naming;
 use litmusbench::{ByteSink, ByteSource, SessionFault, write_whole};
 use session_edits::refused_edit;
+use session_script::MAX_TURNS;
 use std::alloc::{AllocError, Global};
 use std::sync::Wait;
 use text_values::put_bytes;
 use value_store::StoreName;
-
-const MAX_TURNS: u32 = 16_777_216;
 
 // What a name on a line stands for.
 #[derive(Clone, Copy)]

@@ -9,13 +9,11 @@ ghost use Rattle.session_script.specs.Reading.{waiting_in, left_to, turns_of, wo
 use crate::command::{Command, ScriptRule};
 use crate::parse::request_of;
 use crate::request::{Request, ScriptText};
-use crate::source::{ByteSource, ReadFault, put_front};
+use crate::source::{ByteSource, MAX_TURNS, ReadFault, put_front};
 use crate::state::ScriptReader;
 use crate::words::words_of;
 use std::alloc::{AllocError, Global};
 use text_values::{byte_at, line_length, put_bytes};
-
-const MAX_TURNS: u32 = 16_777_216;
 
 // A text of so many bytes is too long, whatever follows.
 const MOST_OF_TEXT: usize = 65_537;

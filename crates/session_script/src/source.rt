@@ -129,7 +129,8 @@ impl From<AllocError> for ReadFault {
     }
 }
 
-const MAX_TURNS: u32 = 16_777_216;
+/// How often a source is asked for bytes at most, until it ends.
+pub const MAX_TURNS: u32 = 16_777_216;
 
 // The first `most` of these bytes and those behind them.
 pub(crate) fn put_front(bytes: &mut Vec<u8>, more: &[u8], most: usize) -> Result<(), AllocError>
