@@ -6,7 +6,7 @@ ghost use Rattle.command_line.specs.Forms.{texts_of, asked_by, is_path, are_path
 use clap::Error;
 use command_usage::usage;
 use session_script::number_of;
-use std::alloc::{AllocError, Global};
+use std::alloc::Global;
 
 /// The most workers.
 const MOST_WORKERS: u64 = 32;
