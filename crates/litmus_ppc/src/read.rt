@@ -10,12 +10,11 @@ ghost use Rattle.litmus_grammar.specs.TextMachine.{start, first_stage, run};
 ghost use Rattle.litmus_ppc.specs.TextReading.{state_of, Runs, StepsAt};
 ghost use Rattle.litmus_grammar.specs.Texts.{ReadsTest, IsTestFault, ReadsInit, IsInitFault, ReadsThread, IsThreadFault, ReadsCondition, IsConditionFault, ReadsLocations, IsLocationsFault};
 
-use crate::draft::Draft;
 use crate::fault::LitmusFault;
 use crate::parts::is_line_end;
 use crate::reader::Reader;
 use litmus_grammar::TextKind;
-use litmus_tokens::{Front, LitmusRule, Stage, Token, front_of};
+use litmus_tokens::{Front, LitmusRule, Token, front_of};
 use std::alloc::Global;
 use text_values::{Condition, InitEntry, MAX_BYTES, Place, Test, Thread, is_blank};
 
