@@ -8,7 +8,7 @@ use crate::changes::{
     row_index, widened,
 };
 use crate::column::Column;
-use crate::operation::{BoardEdit, BoardOp, CellIndex, NameChange};
+use crate::operation::{BoardOp, CellIndex, NameChange};
 use crate::row::Row;
 use compare_report::Shown;
 use std::alloc::{AllocError, Global};
@@ -16,7 +16,6 @@ use std::marker::Model;
 use std::mem::drop;
 use std::sync::Arc;
 use text_values::Name;
-use verdict::Outcome;
 
 /// For each test and each model what is known of the cell, the printed items of the models, and how many edits were made.
 /// Contracts see it as plain data.
@@ -46,7 +45,7 @@ impl Model for Board {
 
 impl Board {
     ghost use Rattle.board.specs.Contents.{shown, shown_cell, cell_at, items_of};
-    ghost use Rattle.board.specs.Operations.{no_board, after_operation, named_after, opened, settled};
+    ghost use Rattle.board.specs.Operations.{no_board, after_operation, named_after};
 
     /// A board that shows nothing.
     pub fn new(alloc: Global) -> Board
