@@ -13,7 +13,7 @@ ghost use Rattle.node_values.specs.Spaces.{space_content, no_executions};
 ghost use Rattle.node_values.specs.Values.{OfColumn, first_space, space_of, refusal_of, columns_of, answers_of};
 ghost use Rattle.node_values.specs.Views.{given_content, space_parts, verdict_parts};
 
-use crate::given::{FaultParts, Given, GivenParts, SpaceParts, VerdictParts};
+use crate::given::{Given, GivenParts, SpaceParts, VerdictParts};
 use crate::value::NodeValue;
 use binding_graph::{ResolvedItem, Role};
 use candidates::{EvalRefusal, Space, SpaceFault, space};
