@@ -3,7 +3,6 @@
 //! many lines it has, and the last of them.
 
 use litmusbench::{MemorySink, MemorySource, NoListener, SessionFault, eval_stream};
-use std::alloc::AllocError;
 use std::rt::Files;
 use std::{fs, io};
 
