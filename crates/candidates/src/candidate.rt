@@ -6,10 +6,10 @@ ghost use Rattle.candidates.specs.Space.{IsExecution};
 use crate::Combination;
 use crate::ends::final_registers;
 use crate::execution::Execution;
-use crate::same::{Candidates, are_same, are_same_names};
+use crate::same::{Candidates, are_same};
 use ppc_semantics::Value;
 use std::alloc::{AllocError, Global};
-use text_values::Name;
+use text_values::{Name, are_same_names};
 
 /// All candidates of a test: those of each combination in turn.
 pub struct Space {

@@ -8,7 +8,6 @@ use crate::ends::registers_of;
 use crate::{Action, Combination, Event};
 use ppc_semantics::Value;
 use run_combinations::is_same;
-use text_values::Name;
 
 /// The candidates of combinations from one on.
 #[derive(Drop)]
@@ -90,21 +89,6 @@ fn are_same_values(first: &[Value], second: &[Value]) -> bool
     }
     for index in 0..first.len() {
         if !is_same(first[index], second[index]) {
-            return false;
-        }
-    }
-    true
-}
-
-/// Whether the names are the same, in order.
-pub fn are_same_names(first: &[Name], second: &[Name]) -> bool
-    ensures { IsTrue result ↔ (first.now ≡ second.now) }
-{
-    if first.len() != second.len() {
-        return false;
-    }
-    for index in 0..first.len() {
-        if !first[index].is_same(&second[index]) {
             return false;
         }
     }

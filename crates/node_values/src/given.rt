@@ -8,14 +8,14 @@ ghost use Rattle.node_values.specs.Makes.{output_names};
 ghost use Rattle.node_values.specs.Parts.{parts_of};
 ghost use Rattle.node_values.specs.Views.{given_content};
 
-use crate::same::{same_flags, same_names, same_role, same_threads};
+use crate::same::{same_flags, same_role, same_threads};
 use binding_graph::ModelFault;
 use shared_items::{SharedItem, only_zero};
 use std::alloc::{AllocError, Global};
 use std::marker::Model;
 use std::sync::Arc;
 use test_parts::{are_same_entries, are_same_places, is_same_condition};
-use text_values::{Condition, InitEntry, Name, Place, Thread};
+use text_values::{Condition, InitEntry, Name, Place, Thread, are_same_names};
 
 /// The parts of a test that its space reads.
 #[derive(Drop)]
@@ -96,7 +96,8 @@ fn same_condition(this: &Condition, that: &Condition) -> bool
 fn same_item(this: &SharedItem, that: &SharedItem) -> bool
     ensures { IsTrue result ↔ ((shared_role this.now ≡ shared_role that.now) × (shared_history this.now ≡ shared_history that.now)) }
 {
-    same_role(&this.item().role, &that.item().role) && same_names(this.history(), that.history())
+    same_role(&this.item().role, &that.item().role)
+        && are_same_names(this.history(), that.history())
 }
 
 impl GivenParts {
@@ -118,7 +119,7 @@ impl GivenParts {
             GivenParts::Space(parts) => {
                 are_same_entries(init, &parts.init)
                     && same_threads(threads, &parts.threads)
-                    && same_names(locations, &parts.locations)
+                    && are_same_names(locations, &parts.locations)
             }
             GivenParts::Item(_) => false,
             GivenParts::Verdict(_) => false,

@@ -6,22 +6,7 @@ ghost use Rattle.shared_items.specs.Items.{code_content, body_content, role_cont
 
 use binding_graph::{Body, CheckCode, Code, Role, Source, Step as CodeStep};
 use test_parts::are_same_steps;
-use text_values::{Name, Predefined, Thread};
-
-/// Whether the names are the same, in order.
-pub fn same_names(these: &[Name], those: &[Name]) -> bool
-    ensures { IsTrue result ↔ (these.now ≡ those.now) }
-{
-    if these.len() != those.len() {
-        return false;
-    }
-    for index in 0..these.len() {
-        if !these[index].is_same(&those[index]) {
-            return false;
-        }
-    }
-    true
-}
+use text_values::{Name, Predefined, Thread, is_same_label};
 
 /// Whether the names of flags are the same, in order.
 pub fn same_flags(these: &[Option<Name>], those: &[Option<Name>]) -> bool
@@ -31,7 +16,7 @@ pub fn same_flags(these: &[Option<Name>], those: &[Option<Name>]) -> bool
         return false;
     }
     for index in 0..these.len() {
-        if !same_label(&these[index], &those[index]) {
+        if !is_same_label(&these[index], &those[index]) {
             return false;
         }
     }
@@ -186,28 +171,13 @@ fn same_bodies(these: &[Body], those: &[Body]) -> bool
     true
 }
 
-fn same_label(this: &Option<Name>, that: &Option<Name>) -> bool
-    ensures { IsTrue result ↔ (this.now ≡ that.now) }
-{
-    match this {
-        Some(name) => match that {
-            Some(other) => name.is_same(other),
-            None => false,
-        },
-        None => match that {
-            Some(_) => false,
-            None => true,
-        },
-    }
-}
-
 fn same_check(this: &CheckCode, that: &CheckCode) -> bool
     ensures { IsTrue result ↔ (role_content (Role.Check this.now) ≡ role_content (Role.Check that.now)) }
 {
     this.negated == that.negated
         && this.word == that.word
         && same_code(&this.code, &that.code)
-        && same_label(&this.flag, &that.flag)
+        && is_same_label(&this.flag, &that.flag)
 }
 
 /// Whether items do the same.

@@ -1,6 +1,6 @@
 //! The rows of tests.
 
-ghost use Rattle.std.specs.Prelude.{◌≡◌, ◌↔◌, ℕ, Some, IsTrue, IfOk, option_map, length, get_or};
+ghost use Rattle.std.specs.Prelude.{◌≡◌, ℕ, Some, IfOk, option_map, length, get_or};
 ghost use Rattle.text_values.specs.TestValue.{formula_of, steps_of};
 ghost use Rattle.stamped_parts.specs.Contents.{OfCondition, OfObserved, OfLocations, OfInit, OfThread};
 ghost use Rattle.stamped_parts.specs.Stamps.{IsStampOf, next_number};
@@ -9,7 +9,7 @@ ghost use Rattle.stamped_parts.specs.Tests.{entry_of, held_by, stamp_by, thread_
 use bench_nodes::TestRow;
 use std::alloc::{AllocError, Global};
 use test_parts::{are_same_entries, are_same_places, are_same_steps, is_same_condition};
-use text_values::{Condition, InitEntry, Name, Place, Test, Thread};
+use text_values::{Condition, InitEntry, Name, Place, Test, Thread, are_same_names};
 
 /// A test that is there, with its row and the set of its locations.
 #[derive(Clone, Copy)]
@@ -52,21 +52,6 @@ fn observed_stamp(fresh: u64, before: Option<&HeldTest>, observed: &[Place]) -> 
         }
         None => fresh,
     }
-}
-
-// Whether two lists of names are equal.
-fn are_same_names(first: &[Name], second: &[Name]) -> bool
-    ensures { IsTrue result ↔ (first.now ≡ second.now) }
-{
-    if first.len() != second.len() {
-        return false;
-    }
-    for (this, that) in first.iter().zip(second.iter()) {
-        if !this.is_same(that) {
-            return false;
-        }
-    }
-    true
 }
 
 // The stamp of the set of locations.

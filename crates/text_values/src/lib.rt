@@ -28,6 +28,7 @@ pub use model::{
 pub use name::Name;
 pub use predefined::{PREDEFINED, PREDEFINED_COUNT, Predefined};
 pub use put::{put_between, put_bytes, put_decimal};
+pub use same::{are_same_names, is_same_label};
 pub use test::{
     Condition, Connective, InitEntry, Place, Proposition, Quantifier, Step, Test, Thread, Value,
 };

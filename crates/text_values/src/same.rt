@@ -209,7 +209,8 @@ impl Expression {
     }
 }
 
-fn are_same_names(these: &[Name], those: &[Name]) -> bool
+/// Whether the names are the same, in order.
+pub fn are_same_names(these: &[Name], those: &[Name]) -> bool
     ensures { IsTrue result ↔ (these.now ≡ those.now) }
 {
     if these.len() != those.len() {
@@ -223,7 +224,8 @@ fn are_same_names(these: &[Name], those: &[Name]) -> bool
     true
 }
 
-fn is_same_label(this: &Option<Name>, that: &Option<Name>) -> bool
+/// Whether two labels are one: both are absent, or both have one name.
+pub fn is_same_label(this: &Option<Name>, that: &Option<Name>) -> bool
     ensures { IsTrue result ↔ (this.now ≡ that.now) }
 {
     match this {

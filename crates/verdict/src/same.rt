@@ -4,26 +4,12 @@ ghost use Rattle.std.specs.Prelude.{◌≡◌, ◌↔◌, IsTrue};
 ghost use Rattle.verdict.specs.declared.answer.OutcomeResult.TheVariants as results;
 
 use crate::answer::{CountedState, Evaluation, FinalValue, Outcome, OutcomeResult, Refusal};
-use text_values::Name;
+use text_values::are_same_names;
 
 fn same_values(left: &[FinalValue], right: &[FinalValue]) -> bool
     ensures { IsTrue result ↔ (left.now ≡ right.now) }
 {
     left == right
-}
-
-fn same_names(left: &[Name], right: &[Name]) -> bool
-    ensures { IsTrue result ↔ (left.now ≡ right.now) }
-{
-    if left.len() != right.len() {
-        return false;
-    }
-    for index in 0..left.len() {
-        if !left[index].is_same(&right[index]) {
-            return false;
-        }
-    }
-    true
 }
 
 fn same_states(left: &[CountedState], right: &[CountedState]) -> bool
@@ -61,7 +47,7 @@ impl Evaluation {
             && self.negative == other.negative
             && self.observation == other.observation
             && self.ok == other.ok
-            && same_names(&self.flags, &other.flags)
+            && are_same_names(&self.flags, &other.flags)
             && same_states(&self.states, &other.states)
     }
 }
