@@ -110,6 +110,6 @@ all_executions t initial xs h x = (to, back)
     back is =
         let over : IsExecution initial (threads_of h.program) (Contains h.values) x =
         subst (λ (vs : List Value). IsExecution vs (threads_of h.program) (Contains h.values) x) (sym h.starts)
-        (over_any_domain t h.program h.values h.of_test h.domain x (subst (λ (vs : List Value). IsExecution vs (threads_of h.program) IsOne x) h.starts is)) in
+        (over_any_domain t h.program h.values h.of_test h.domain.last x (subst (λ (vs : List Value). IsExecution vs (threads_of h.program) IsOne x) h.starts is)) in
         filtered_there (IsExecution initial (threads_of h.program) (Contains h.values)) (flat_map (over_runs initial) (product h.executions.runs)) xs h.executions.executions x
         (listed initial (threads_of h.program) h.values h.executions.runs h.executions.of_threads x over) over

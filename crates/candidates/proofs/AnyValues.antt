@@ -21,7 +21,7 @@ use Rattle.thread_runs.specs.Machine.{is_load as loads_from}
 use Rattle.thread_runs.specs.Runs.{Thread, Run, IsRun, InDomain, StoresFreely, executed, loaded_at, started}
 use Rattle.thread_runs.specs.AllRuns.{thread_of, lines_at}
 use Rattle.thread_runs.specs.ValueSet.{IsOne}
-use Rattle.ppc_semantics.specs.Domain.{IsDomain, threads_from, threads_of, has_load, load_total}
+use Rattle.ppc_semantics.specs.Domain.{IsRound, threads_from, threads_of, has_load, load_total}
 use Rattle.dataflow.specs.Chains.{IsNeed, event_place}
 use Rattle.dataflow.specs.Execution.{Way}
 use Rattle.dataflow.proofs.DomainLaw.{all_there, stored_freely}
@@ -436,7 +436,7 @@ zip_as R S (x ∷ xs) [] each h = absurd h
 zip_as R S (x ∷ xs) (y ∷ ys) each h = (each 0 x y refl h.0, zip_as R S xs ys (λ k u w e r. each (suc k) u w e r) h.1)
 
 -- the law
-pub over_domain : (p : Program) (V : List Value) (some : Value) → IsDomain p V → Contains p.initial.items some → (x : Execution) → IsExecution p.initial.items (threads_of p) IsOne x → IsExecution p.initial.items (threads_of p) (Contains V) x
+pub over_domain : (p : Program) (V : List Value) (some : Value) → IsRound p (load_total p) V → Contains p.initial.items some → (x : Execution) → IsExecution p.initial.items (threads_of p) IsOne x → IsExecution p.initial.items (threads_of p) (Contains V) x
 over_domain p V some d begins x is = record {
   runs = zip_as (λ t r. IsRun t IsOne r) (λ t r. IsRun t (Contains V) r) (threads_of p) x.runs (λ its t r there h. ((λ k v lt. in_values its r there (get_or r.values k v) (Contains-get_or r.values k v lt)), h.1)) is.runs;
   reads = is.reads;
@@ -451,4 +451,4 @@ over_domain p V some d begins x is = record {
     in_values its r there v c =
         let n : ℕ = length (loads (events p.initial.items x.runs)) in
         let z : (load_total p - n) + n ≡ load_total p = omega (arith, few) in
-        (d.last.exact v).1 (subst (λ (k : ℕ). InDomain p.initial.items (threads_of p) k v) z (later p.initial.items (threads_of p) v n (load_total p - n) (value_in p.initial.items (threads_of p) some begins x is its r there v c)))
+        (d.exact v).1 (subst (λ (k : ℕ). InDomain p.initial.items (threads_of p) k v) z (later p.initial.items (threads_of p) v n (load_total p - n) (value_in p.initial.items (threads_of p) some begins x is its r there v c)))

@@ -174,7 +174,7 @@ covers t p V x is domain executes store c =
     run_below its r there =
         let o : RunOf (Contains V) (threads_of p) r = thread_of_run (Contains V) (threads_of p) x.runs its r over.runs there in
         (run_kept (length p.initial.items) o.thread.lines (started o.thread.first) r.values r.outcome o.is.1
-        (λ i d lt. domain_below t p is (load_total p) (get_or r.values i d) ((domain.last.exact (get_or r.values i d)).0 (o.is.0 i d lt)))
+        (λ i d lt. domain_below t p is (load_total p) (get_or r.values i d) ((domain.exact (get_or r.values i d)).0 (o.is.0 i d lt)))
         (begins_kept t p is o.thread o.there)).events
 
     all_below : StoresBelow (length p.initial.items) (events p.initial.items x.runs)

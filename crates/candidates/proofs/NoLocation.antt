@@ -23,7 +23,7 @@ use Rattle.thread_runs.specs.Machine.{register, with_register, sum_of, outcome_o
 use Rattle.thread_runs.specs.Runs.{Walk, Outcome, Thread, Run, IsRun, started, advanced, run_of}
 use Rattle.thread_runs.specs.AllRuns.{thread_of, first_of}
 use Rattle.thread_runs.specs.ValueSet.{IsOne}
-use Rattle.ppc_semantics.specs.Domain.{IsDomain, threads_from, threads_of}
+use Rattle.ppc_semantics.specs.Domain.{IsRound, load_total, threads_from, threads_of}
 use Rattle.ppc_semantics.specs.Lowering.{IsProgram, Starts, AreRegisters, value_of, test_names, entry_names, place_names, value_names, formula_names}
 use Rattle.text_values.specs.TestValue.{formula_of}
 use Rattle.candidates.proofs.AnyValues.{over_domain, zip_as, thread_of_run, RunOf}
@@ -185,7 +185,7 @@ module _ (t : Test) (p : Program) (is : IsProgram t p) (none : p.initial.items �
           none_loaded o.thread.lines o.thread.first r.values r.outcome (thread_plain (vec_len p.threads) o.thread o.there) o.is.1
 
 -- so the law of the domain holds for each test
-pub over_any_domain : (t : Test) (p : Program) (V : List Value) → IsProgram t p → IsDomain p V → (x : Execution) → IsExecution p.initial.items (threads_of p) IsOne x → IsExecution p.initial.items (threads_of p) (Contains V) x
+pub over_any_domain : (t : Test) (p : Program) (V : List Value) → IsProgram t p → IsRound p (load_total p) V → (x : Execution) → IsExecution p.initial.items (threads_of p) IsOne x → IsExecution p.initial.items (threads_of p) (Contains V) x
 over_any_domain t p V is d x e = go p.initial.items refl
   where
     go : (vs : List Value) → p.initial.items ≡ vs → IsExecution p.initial.items (threads_of p) (Contains V) x

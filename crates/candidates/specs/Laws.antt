@@ -4,7 +4,7 @@ use Rattle.std.specs.List.{AllZip}
 use Rattle.text_values.specs.declared.test.Test.{Test}
 use Rattle.thread_runs.specs.declared.instruction.Program.{Program}
 use Rattle.thread_runs.specs.declared.value.Value.{Value}
-use Rattle.ppc_semantics.specs.Domain.{IsDomain, threads_of}
+use Rattle.ppc_semantics.specs.Domain.{IsRound, load_total, threads_of}
 use Rattle.ppc_semantics.specs.Lowering.{IsProgram}
 use Rattle.candidates.specs.declared.fault.EvalRefusal.{EvalRefusal}
 use Rattle.thread_runs.specs.ValueSet.{IsOne}
@@ -21,10 +21,10 @@ use Rattle.candidates.specs.declared.candidate.Space.{Space}
 use Rattle.candidates.specs.Listed.{AreTestExecutions, Shows, ListsExecutions, IsRefusal}
 
 -- the law of the domain: what is shown, where the loads of the execution take any values whatever, is an execution over
--- the domain of the test
+-- the values of the last round, also of a test that is refused for a bound
 abbrev pub LosesNoValue : Test → shown.Execution → Type 0
 LosesNoValue t e =
-    (p : Program) (V : List Value) (x : Execution) → IsProgram t p → IsDomain p V → Shows p.initial.items x (shown_by e)
+    (p : Program) (V : List Value) (x : Execution) → IsProgram t p → IsRound p (load_total p) V → Shows p.initial.items x (shown_by e)
     → IsExecution p.initial.items (threads_of p) IsOne x → IsExecution p.initial.items (threads_of p) (Contains V) x
 
 -- a test has one list of executions
@@ -59,7 +59,7 @@ pub record IsCovered (initial : List Value) (x : Execution) (store : ℕ) : Type
 -- each does: an execution makes no store but at a location of the test
 abbrev pub CoversEachStore : Test → Type 0
 CoversEachStore t =
-    (p : Program) (V : List Value) (x : Execution) → IsProgram t p → IsDomain p V → IsExecution p.initial.items (threads_of p) IsOne x
+    (p : Program) (V : List Value) (x : Execution) → IsProgram t p → IsRound p (load_total p) V → IsExecution p.initial.items (threads_of p) IsOne x
     → (store : ℕ) → Contains (stores (events p.initial.items x.runs)) store → IsCovered p.initial.items x store
 
 -- a test has one outcome: a space or a refusal, and one refusal at most

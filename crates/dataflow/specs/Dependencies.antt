@@ -1,6 +1,7 @@
 -- The dependencies of a run, as lists of pairs.
-use Rattle.std.specs.Prelude.{ℕ, ◌<◌, ◌↔◌, List, Contains, slice_index}
+use Rattle.std.specs.Prelude.{◌≡◌, ℕ, ◌<◌, ◌↔◌, List, [], Contains, slice_index}
 use Rattle.dataflow.specs.declared.lists.Links.{Links}
+use Rattle.dataflow.specs.DependencyLists.{dependency_lists, no_dependencies}
 use Rattle.dataflow.specs.Chains.{Executed, IsAddr, IsData, IsCtrl, IsCtrlIsync, IsNeed, IsRising, IsListOf}
 use Rattle.bit_relations.specs.Relation.{Bit}
 
@@ -11,6 +12,11 @@ pub record AreLinks (at : Executed) (links : Links) : Type 0 where
   pub ctrl : IsListOf IsCtrl at links.dependencies.ctrl_pairs.items
   pub ctrlisync : IsListOf IsCtrlIsync at links.dependencies.ctrlisync_pairs.items
   pub need : IsListOf IsNeed at links.need_pairs.items
+
+-- there are none
+pub record HasNoLinks (links : Links) : Type 0 where
+  pub dependencies : dependency_lists links.dependencies ≡ no_dependencies
+  pub need : links.need_pairs.items ≡ []
 
 -- the pairs of an index whose bit a word has, and the index of the word
 pub record ArePairs (words : List ℕ) (count : ℕ) (ps : List (ℕ × ℕ)) : Type 0 where

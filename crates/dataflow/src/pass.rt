@@ -136,7 +136,8 @@ fn pairs(alloc: Global, columns: &Columns, count: usize) -> Result<Vec<(usize, u
 }
 
 fn no_links(alloc: Global) -> Links
-    ensures { (n : ℕ) → IsWithin n result }
+    ensures within { (n : ℕ) → IsWithin n result }
+    ensures none { found.HasNoLinks result }
 {
     Links {
         dependencies: Dependencies::none(alloc),
@@ -170,6 +171,7 @@ impl Workspace {
     pub fn links(&mut self, alloc: Global, run: &Run) -> Result<Links, AllocError>
         ensures within { IfOk result (IsWithin (chains.event_place (runs.executed run.now.steps.items) (length run.now.steps.items))) }
         ensures exact { chains.event_place (runs.executed run.now.steps.items) (length run.now.steps.items) ≤ 128 → IfOk result (found.AreLinks (runs.executed run.now.steps.items)) }
+        ensures none { 128 < chains.event_place (runs.executed run.now.steps.items) (length run.now.steps.items) → IfOk result found.HasNoLinks }
     {
         let steps = &run.steps;
         let count = event_count(steps);
@@ -202,6 +204,7 @@ impl Workspace {
 pub fn links(alloc: Global, run: &Run) -> Result<Links, AllocError>
     ensures within { IfOk result (IsWithin (chains.event_place (runs.executed run.now.steps.items) (length run.now.steps.items))) }
     ensures exact { chains.event_place (runs.executed run.now.steps.items) (length run.now.steps.items) ≤ 128 → IfOk result (found.AreLinks (runs.executed run.now.steps.items)) }
+    ensures none { 128 < chains.event_place (runs.executed run.now.steps.items) (length run.now.steps.items) → IfOk result found.HasNoLinks }
 {
     let mut workspace = Workspace::new();
     workspace.links(alloc, run)

@@ -5,7 +5,7 @@ use Rattle.dataflow.proofs.LinkLists.{list_of, reach_loads, ctrl_loads, ctrlisyn
 use Rattle.dataflow.proofs.pass.Workspace.links.Goals as goal
 
 pub returns-then-count-gt128-clause-within : goal.returns-then-count-gt128-clause-within
-returns-then-count-gt128-clause-within c = c.no_links.ensures (event_place (executed c.args.run.now.steps.items) (length c.args.run.now.steps.items))
+returns-then-count-gt128-clause-within c = c.no_links.ensures.within (event_place (executed c.args.run.now.steps.items) (length c.args.run.now.steps.items))
 
 pub returns-clause-exact : goal.returns-clause-exact
 returns-clause-exact c = λ few. record {
