@@ -1,15 +1,7 @@
-pub mod Alike
-pub mod Using
-pub mod AlikeItems
-pub mod Applied
-pub mod AlikeModels
-pub mod Before
-pub mod AlikeTexts
 pub mod Sole
 pub mod Resolving
 pub mod Saying
 pub mod Kept
-pub mod Sound
 pub mod Common
 pub mod ReadItems
 pub mod Stepping

@@ -18,14 +18,14 @@ use Rattle.binding_graph.specs.declared.resolved.ResolvedItem.{ResolvedItem}
 use Rattle.binding_graph.specs.Inputs.{inputs_of}
 use Rattle.binding_graph.specs.Resolved.{IsResolvedIn}
 use Rattle.binding_graph.specs.Usages.{Usage, with_values, with_functions, with_all_values, with_all_functions}
-use Rattle.evaluation_laws.specs.ItemLaws.{Scope, with_names}
+use Rattle.reading_laws.specs.ItemLaws.{Scope, with_names}
 use Rattle.model_slots.proofs.Lists.{has_reverse, has_map}
 use Rattle.slot_laws.proofs.Naming.{binder_at, at_below, found_at, own_same}
 use Rattle.slot_laws.proofs.Using.{IsBoundBy, items_in}
 use Rattle.std.proofs.lemmas.Bool.{leb-false}
-use Rattle.std.proofs.lemmas.Option.{same_Some}
-use Rattle.evaluation_laws.proofs.Kept.{Reach, IsKept, HasNames, HasKeptNames, Grows, values_grow, functions_grow, term_bound, term_kept}
-use Rattle.evaluation_laws.proofs.Sound.{sound_term, sound_group, sound_body}
+use Rattle.reading_laws.proofs.Named.{HasNames}
+use Rattle.evaluation_laws.proofs.Kept.{Reach, IsKept, HasKeptNames, Grows, values_grow, functions_grow, term_bound, term_kept}
+use Rattle.reading_laws.proofs.Sound.{sound_term, sound_group, sound_body}
 
 -- each name of an item is kept: the bodies of a recursive group see its own names too
 abbrev pub HasKeptNamesIn : Reach → Scope → List Naming → Clause → Type 0
@@ -78,6 +78,9 @@ module _ (outer : List Naming) (u : Reach) (s : Scope) (from : ℕ)
 
 -- ---- the names of the item itself
 
+same_found : {a b : Found} → Some a ≡ Some b → a ≡ b
+same_found e = cc
+
 abbrev IsOwn : ℕ → Found → Type 0
 IsOwn item f = (p : ℕ) × (f.binder ≡ binders.Bound (record { item = item; position = p }))
 
@@ -86,7 +89,7 @@ own_found [] names item at x f e = inl e
 own_found (b ∷ bs) names item at x f e = at_first (own_found bs (naming_at item at b OfRelation ∷ names) item (suc at) x f e)
   where
     at_test : (t : Bool) → (if t then Some (record { slot = length names; kind = OfRelation; binder = binders.Bound (record { item = item; position = at }) }) else found names x) ≡ Some f → (found names x ≡ Some f) ⊎ IsOwn item f
-    at_test true h = inr (at, ap (λ (g : Found). g.binder) (sym (same_Some _ _ h)))
+    at_test true h = inr (at, ap (λ (g : Found). g.binder) (sym (same_found h)))
     at_test false h = inl h
 
     at_first : (found (naming_at item at b OfRelation ∷ names) x ≡ Some f) ⊎ IsOwn item f → (found names x ≡ Some f) ⊎ IsOwn item f

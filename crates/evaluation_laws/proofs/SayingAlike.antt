@@ -15,7 +15,7 @@ use Rattle.verdict.specs.Kept.{Flag}
 use Rattle.memo_graph.specs.Answers.{AreNamed, HasColumns, HasAnswers, IsValued, IsSaidAs, IsSaidBy, AreSaid, IsRising}
 use Rattle.memo_graph.proofs.Knowing.{least_of}
 use Rattle.evaluation_laws.specs.Alignment.{Move, First, Second, Both, pairs_of, IsPaired, AreAligned}
-use Rattle.evaluation_laws.proofs.Common.{IsSamePair, contains_one_of}
+use Rattle.reading_laws.proofs.Lists.{IsSamePair, contains_one_of}
 
 -- ---- an item
 

@@ -19,11 +19,13 @@ use Rattle.binding_graph.specs.declared.resolved.ResolvedItem.{ResolvedItem}
 use Rattle.binding_graph.specs.Reach.{is_check}
 use Rattle.binding_graph.specs.Resolved.{AreResolved, AreLabelled}
 use Rattle.binding_graph.specs.Usages.{Usage, usage_of_function, usages_after, with_values}
-use Rattle.evaluation_laws.specs.ItemLaws.{Scope, with_function}
+use Rattle.reading_laws.specs.ItemLaws.{Scope, with_function}
 use Rattle.model_slots.proofs.Lists.{each_to, each_reverse}
 use Rattle.slot_laws.proofs.Naming.{at_below, one_more, found_at}
 use Rattle.slot_laws.proofs.Using.{IsBoundBy}
-use Rattle.evaluation_laws.proofs.Kept.{Reach, Grows, map_at, term_bound}
+use Rattle.reading_laws.proofs.Named.{map_at}
+use Rattle.reading_laws.proofs.Before.{next_counts}
+use Rattle.evaluation_laws.proofs.Kept.{Reach, Grows, term_bound}
 use Rattle.evaluation_laws.proofs.Common.{IsFront, front_append}
 use Rattle.evaluation_laws.proofs.Stepping.{scope_behind}
 
@@ -120,15 +122,6 @@ next_counted s at Mute all rest e = e
 next_counted s at (Defined n ps b) all rest e =
     let u = usage_of_function s.usages s.names at ps b in
     e ∙ sym (ap (λ (l : List ℕ). l ++ rest) (map-append (λ (v : Usage). v.item) s.usages (u ∷ [])) ∙ append_assoc (map (λ (v : Usage). v.item) s.usages) (at ∷ []) rest)
-
-next_counts : (s : Scope) (at : ℕ) (c : Clause) → map (λ (u : Usage). u.arity) s.usages ≡ map (λ (b : Sense). b.arity) s.senses → map (λ (u : Usage). u.arity) (usages_after s.usages s.names at c) ≡ map (λ (b : Sense). b.arity) (senses_after s.senses s.names c)
-next_counts s at (Group r bs) e = e
-next_counts s at (Check w t) e = e
-next_counts s at Mute e = e
-next_counts s at (Defined n ps b) e =
-    let u = usage_of_function s.usages s.names at ps b in
-    let a = sense_of_function s.senses s.names ps b in
-    map-append (λ (v : Usage). v.arity) s.usages (u ∷ []) ∙ (ap (λ (l : List ℕ). l ++ length ps ∷ []) e ∙ sym (map-append (λ (v : Sense). v.arity) s.senses (a ∷ [])))
 
 no_outer : (names : List Naming) (x : List ℕ) (f : Found) → found names x ≡ Some f → nat_le (length names) f.slot ≡ true → ⊥
 no_outer names x f e t = let lt = at_below names f.slot f.binder (found_at names x f e) in let low : nat_le (length names) f.slot ≡ false = grind (arith, nat_tests, lt) in let n : true ≡ false = sym t ∙ low in cc

@@ -1,5 +1,5 @@
 -- One item that both models have: it does the same in both, and what is seen after it stands for the same.
-use Rattle.std.proofs.Common.{ℕ, ◌≡◌, ◌+◌, ◌⊎◌, suc, List, [], ◌∷◌, ◌++◌, length, true, false, Some, Contains, refl, sym, ap, ◌∙◌, subst, inl, inr, arith}
+use Rattle.std.proofs.Common.{ℕ, ◌≡◌, ◌+◌, ◌⊎◌, suc, List, [], ◌∷◌, length, true, false, Some, Contains, refl, sym, ap, ◌∙◌, subst, inl, inr, arith}
 use Rattle.std.specs.Prelude.{slice_get}
 use Rattle.std.specs.List.{AllByRecursion as Each}
 use Rattle.text_values.specs.ModelValue.{Term}
@@ -14,26 +14,16 @@ use Rattle.binding_kinds.specs.Senses.{Sense, kind_in}
 use Rattle.binding_kinds.specs.Functions.{sense_of_function}
 use Rattle.binding_kinds.specs.Faults.{naming_at, with_own, with_all, extended, senses_after}
 use Rattle.binding_graph.specs.Usages.{usage_of_function, usages_after}
-use Rattle.evaluation_laws.specs.ItemLaws.{Scope, IsPairing, HasSameNames, HasSameNamesIn, with_names}
-use Rattle.evaluation_laws.proofs.Alike.{kind_same}
-use Rattle.evaluation_laws.proofs.Applied.{alike_sense, alike_usage}
+use Rattle.reading_laws.specs.ItemLaws.{Scope, IsPairing, HasSameNames, HasSameNamesIn, with_names}
+use Rattle.reading_laws.proofs.Alike.{kind_same}
+use Rattle.reading_laws.proofs.Applied.{alike_sense, alike_usage}
+use Rattle.reading_laws.proofs.Before.{get_last}
 use Rattle.evaluation_laws.proofs.Kept.{Reach, HasKeptNames}
-use Rattle.evaluation_laws.proofs.Common.{Shared, Looks, look_past, look_one, found_here, slots_of, inputs_of, pairing_of, AreShared, front_append, sense_within, used_within, all_within, within_one, contains_here, contains_one_of, IsSamePair, falling_below, IsPlaced, placed_pairing, term_same}
+use Rattle.reading_laws.proofs.Added.{with_kinds, own_kinds, all_kinds}
+use Rattle.reading_laws.proofs.Told.{found_here}
+use Rattle.reading_laws.proofs.Lists.{contains_here, contains_one_of, IsSamePair}
+use Rattle.evaluation_laws.proofs.Common.{Shared, Looks, look_past, look_one, slots_of, inputs_of, pairing_of, AreShared, front_append, sense_within, used_within, all_within, within_one, falling_below, IsPlaced, placed_pairing, term_same}
 use Rattle.evaluation_laws.proofs.ReadItems.{HasKeptNamesIn}
-
--- ---- the names of a group
-
-abbrev pub with_kinds : (Bound → Kind) → List Naming → ℕ → ℕ → List Bound → List Naming
-with_kinds K names item at [] = names
-with_kinds K names item at (b ∷ bs) = with_kinds K (naming_at item at b (K b) ∷ names) item (suc at) bs
-
-own_kinds : (names : List Naming) (item at : ℕ) (bs : List Bound) → with_kinds (λ b. OfRelation) names item at bs ≡ with_own names item at bs
-own_kinds names item at [] = refl
-own_kinds names item at (b ∷ bs) = own_kinds (naming_at item at b OfRelation ∷ names) item (suc at) bs
-
-all_kinds : (ss : List Sense) (outer names : List Naming) (item at : ℕ) (bs : List Bound) → with_kinds (λ b. kind_in ss outer b.body) names item at bs ≡ with_all ss outer names item at bs
-all_kinds ss outer names item at [] = refl
-all_kinds ss outer names item at (b ∷ bs) = all_kinds ss outer (naming_at item at b (kind_in ss outer b.body) ∷ names) item (suc at) bs
 
 -- ---- names that are not used
 
@@ -131,10 +121,6 @@ module _ (u v : Reach) (at bt : ℕ) where
 abbrev pub scope_behind : Scope → ℕ → Clause → Scope
 scope_behind s at c = record { senses = senses_after s.senses s.names c; usages = usages_after s.usages s.names at c; names = extended s.senses s.names at c }
 
-pub last_at : {X : Type 0} (xs : List X) (x : X) → slice_get (xs ++ x ∷ []) (length xs) ≡ Some x
-last_at [] x = refl
-last_at (y ∷ xs) x = last_at xs x
-
 -- the names of the item stand for the same in both, and so does what is seen behind it
 pub record IsStep (u v : Reach) (s o : Scope) (at bt : ℕ) (c : Clause) (P : Input → Input → Type 0) : Type 0 where
   pub during : List Shared
@@ -194,13 +180,13 @@ module _ (u v : Reach) (s o : Scope) (at bt : ℕ) (cs : List Shared) (shared : 
               matched = record {
                 sense = sense;
                 other = other;
-                has_sense = last_at s.senses sense;
-                has_other = last_at o.senses other;
+                has_sense = get_last s.senses sense;
+                has_other = get_last o.senses other;
                 same = sense_within (pairing_of cs) (pairing_of (c ∷ cs)) within sense other (alike_sense (pairing_of cs) s o ps b names);
                 usage = usage;
                 more = else_usage;
-                has_usage = subst (λ (k : ℕ). slice_get t.usages k ≡ Some usage) many (last_at s.usages usage);
-                has_more = subst (λ (k : ℕ). slice_get q.usages k ≡ Some else_usage) more (last_at o.usages else_usage);
+                has_usage = subst (λ (k : ℕ). slice_get t.usages k ≡ Some usage) many (get_last s.usages usage);
+                has_more = subst (λ (k : ℕ). slice_get q.usages k ≡ Some else_usage) more (get_last o.usages else_usage);
                 used = used_within (pairing_of cs) (pairing_of (c ∷ cs)) within usage.values else_usage.values (alike_usage (pairing_of cs) low_pairing.one s o ps b at bt names);
               };
             },

@@ -18,10 +18,11 @@ use Rattle.binding_graph.specs.Contents.{RoleContent, role_content}
 use Rattle.binding_graph.specs.Reach.{is_check}
 use Rattle.binding_graph.specs.Resolved.{IsResolvedIn}
 use Rattle.bench_slices.specs.Slices.{clause_at}
-use Rattle.evaluation_laws.specs.ItemLaws.{Scope, DoTheSame}
-use Rattle.evaluation_laws.proofs.AlikeItems.{alike_items}
+use Rattle.reading_laws.specs.ItemLaws.{Scope, DoTheSame}
+use Rattle.reading_laws.proofs.AlikeItems.{alike_items}
 use Rattle.evaluation_laws.specs.Alignment.{Move, First, Second, Both, pairs_of, IsPaired, AreAligned}
-use Rattle.evaluation_laws.proofs.Common.{Shared, inputs_of, pairing_of, AreShared, all_within, within_self, contains_here, contains_later, falling_more}
+use Rattle.reading_laws.proofs.Lists.{contains_here, contains_later}
+use Rattle.evaluation_laws.proofs.Common.{Shared, inputs_of, pairing_of, AreShared, all_within, within_self, falling_more}
 use Rattle.evaluation_laws.proofs.ReadItems.{HasKeptNamesIn, item_kept}
 use Rattle.evaluation_laws.proofs.Stepping.{HasFunction, item_past, IsOwnPair, AreFrom, scope_behind, item_step}
 use Rattle.evaluation_laws.proofs.Side.{Whole, reach, IsWhole, functions_in, IsSeen, names_longer, senses_front, usages_front, many_functions, functions_numbered, next_function, seen_next, here_at, IsLeft, IsSkipped, IsTaken, turn}

@@ -1,4 +1,3 @@
-pub mod ItemLaws
 pub mod Laws
 pub mod Readings
 pub mod Alignment

@@ -1,7 +1,5 @@
 //! Laws of evaluation.
 //!
-//! - What an item is resolved to depends only on its text and on what its names stand for: specs/ItemLaws, after `Resolved`
-//!   of `binding_graph/specs`.
 //! - Evaluating from nothing gives one outcome, from one list of columns and of answers of each item: specs/Laws, after
 //!   `FromScratch` of `memo_graph/specs`.
 //! - Two models whose slices for a test are equal are read alike: specs/Readings, after `Slices` of `bench_slices/specs`;
@@ -9,7 +7,6 @@
 //! - What a cell gives from nothing depends on what its slice has: specs/SliceLaws.
 #![tactic(auto)]
 
-ghost use Rattle.evaluation_laws.specs.ItemLaws.{Pairing, Scope, IsAlikeFunction, HaveAlikeItems, HaveItemsAlikeByText};
 ghost use Rattle.evaluation_laws.specs.Laws.{HasOneColumns, HasOneAnswers, HasOneResolution, HasCodedItems, HasOneOutcome};
 ghost use Rattle.std.specs.Prelude.{◌≡◌};
 ghost use Rattle.text_values.specs.TestValue.{Content};
@@ -22,30 +19,6 @@ ghost use Rattle.evaluation_laws.specs.SliceLaws.{GiveTheSame, ItemsDecide, Slic
 use binding_graph::Role;
 use candidates::Space;
 use text_values::{ModelText, Test};
-
-/// Items of one text whose names stand for the same in two models are resolved to the same steps, at whatever index they
-/// stand, and use names that stand for each other, in the same order.
-pub fn items_are_alike(model: &ModelText, other: &ModelText)
-    ensures { HaveAlikeItems model.now other.now }
-{
-    let _model = model;
-    let _other = other;
-}
-
-/// A function whose names stand for the same in two models is the same to those who apply it in both.
-pub fn functions_are_alike()
-    ensures { (p : Pairing) (s o : Scope) → IsAlikeFunction p s o }
-{}
-
-/// Items of one text are resolved to the same steps, at whatever indices of two models they stand, and use names that stand
-/// for each other, in the same order, where their names are resolved alike: to what stands for the same, of one kind, and to
-/// functions of one text whose own names are resolved alike in turn.
-pub fn items_by_what_they_say(model: &ModelText, other: &ModelText)
-    ensures { HaveItemsAlikeByText model.now other.now }
-{
-    let _model = model;
-    let _other = other;
-}
 
 /// An item has one list of columns over a space, given those of its inputs.
 pub fn columns_are_one(role: &Role, space: &Space)

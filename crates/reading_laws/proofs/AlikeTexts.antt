@@ -17,12 +17,13 @@ use Rattle.binding_kinds.specs.Meanings.{parameter_of}
 use Rattle.binding_kinds.specs.Applicable.{applied, applied_binder, applied_of}
 use Rattle.binding_kinds.specs.Senses.{Sense, sense_of, sense_of_binder, with_arity, count_of}
 use Rattle.binding_kinds.specs.Functions.{sense_seen, sense_of_function}
+use Rattle.binding_graph.specs.declared.resolved.ResolvedItem.{ResolvedItem}
 use Rattle.binding_graph.specs.Usages.{Usage, usage_at, values_of, usage_of_function}
-use Rattle.evaluation_laws.specs.ItemLaws.{Scope, Sight, Matching, Pairing, IsSameSense, IsSameFunction, AreSameUsed, HasSameNames, HaveSameNames, HasSameNamesIn, with_names, first_scope, scope_at, own_at, functions_before, IsFunctionAlike, IsAppliedAlike, IsNamedAlike, AreNamedAlike, IsNamedAlikeIn, IsNamedAlikeAt, HasAlikeFunctions, HaveItemsAlikeByText}
-use Rattle.evaluation_laws.proofs.Using.{IsOne}
-use Rattle.evaluation_laws.proofs.Applied.{alike_sense, alike_usage}
-use Rattle.evaluation_laws.proofs.AlikeModels.{alike_in_models}
-use Rattle.evaluation_laws.proofs.Before.{IsFunctionAt, function_at}
+use Rattle.reading_laws.specs.ItemLaws.{Scope, Sight, Matching, Pairing, IsSameSense, IsSameFunction, AreSameUsed, HasSameNames, HaveSameNames, HasSameNamesIn, with_names, first_scope, scope_at, own_at, functions_before, IsFunctionAlike, IsAppliedAlike, IsNamedAlike, AreNamedAlike, IsNamedAlikeIn, IsNamedAlikeAt, HasAlikeFunctions, IsItemAt, SayTheSame, DoTheSame, IsResolvedAlike, HaveItemsAlikeByText}
+use Rattle.reading_laws.proofs.Using.{IsOne}
+use Rattle.reading_laws.proofs.Applied.{alike_sense, alike_usage}
+use Rattle.reading_laws.proofs.AlikeModels.{alike_at}
+use Rattle.reading_laws.proofs.Before.{IsFunctionAt, function_at}
 
 -- ---- functions as they are applied
 
@@ -241,10 +242,12 @@ module _ (m : Matching) (one : IsOne m.pairing) (names more : List Naming) (mode
       let b = function_at (first_scope more) 0 other l g g g j (omega arith) (omega arith) e in
       one_function k l f g i j a b paired (seen_same most a.behind b.behind (omega (arith, a.before, few)))
 
-pub alike_by_text : (model other : ModelText) → HaveItemsAlikeByText model other
-alike_by_text model other m names more resolved others k l x y r q h g e same =
-    let first = model.items.items in
-    let second = other.items.items in
+pub alike_by : (first second : List Item) (m : Matching) (names more : List Naming) (resolved others : List ResolvedItem) (k l : ℕ) (x y : Item) (r q : ResolvedItem) → IsItemAt names first resolved k x r → IsItemAt more second others l y q → SayTheSame x y
+    → IsResolvedAlike m names more first second k l x → DoTheSame m.pairing r q
+alike_by first second m names more resolved others k l x y r q h g e same =
     let sees = seen_same m same.pairing.one names more first second same.functions k k l (omega arith) in
     let told = item_same m (functions_before 0 first k) (functions_before 0 second l) (scope_at (first_scope names) 0 first k) (scope_at (first_scope more) 0 second l) sees (own_at (first_scope names) 0 first k) (own_at (first_scope more) 0 second l) (clause_of x) same.item in
-    alike_in_models model other m.pairing names more resolved others k l x y r q h g e (record { pairing = same.pairing; same = told })
+    alike_at first second m.pairing names more resolved others k l x y r q h g e (record { pairing = same.pairing; same = told })
+
+pub alike_by_text : (model other : ModelText) → HaveItemsAlikeByText model other
+alike_by_text model other = alike_by model.items.items other.items.items

@@ -22,7 +22,7 @@ use Rattle.binding_kinds.specs.Functions.{sense_seen, sense_of_function}
 use Rattle.binding_graph.specs.declared.resolved.ResolvedItem.{ResolvedItem}
 use Rattle.binding_graph.specs.Usages.{Usage, values_of, usage_seen, usage_of_function, usages_after}
 use Rattle.binding_graph.specs.Resolved.{IsResolvedIn, AreResolved, IsLabelledAs, AreLabelled}
-use Rattle.column_laws.specs.Items.{role_content}
+use Rattle.binding_graph.specs.Contents.{role_content}
 
 -- what an expression sees: functions, what they use, and names
 pub record Scope : Type 0 where

@@ -10,12 +10,13 @@ use Rattle.binding_kinds.specs.declared.scope.Binder.TheVariants as binders
 use Rattle.binding_kinds.specs.declared.scope.Found.{Found}
 use Rattle.binding_kinds.specs.Value.{Bound}
 use Rattle.binding_kinds.specs.Kinds.{found, is_turned}
+use Rattle.binding_kinds.specs.Fits.{IsValue}
 use Rattle.binding_kinds.specs.Meanings.{parameter_of}
 use Rattle.binding_kinds.specs.Senses.{Sense, sense_of, count_of, sizes_in, kinds_in, under_of}
 use Rattle.binding_kinds.specs.Faults.{width, IsFaultOfUse, IsFaultOfName, IsFaultOfApplication, IsFaultAt, IsFaultAmong, IsFaultIn, IsFaultInside, IsFaultApplied, IsFaultOfBody, IsFaultOfBodies}
 use Rattle.binding_graph.specs.Usages.{Usage}
-use Rattle.evaluation_laws.specs.ItemLaws.{Scope}
-use Rattle.evaluation_laws.proofs.Kept.{IsValue, IsNamed, IsApplied, HasNames, HaveNames, applied_by}
+use Rattle.reading_laws.specs.ItemLaws.{Scope}
+use Rattle.reading_laws.proofs.Named.{IsNamed, IsApplied, HasNames, HaveNames, applied_by}
 
 value_by : (from : ℕ) (under : Bool) (slot : ℕ) (b : Binder) → ((k : ModelFault) → IsFaultOfUse b from under slot k → ⊥) → IsValue b
 value_by from under slot (binders.Predefined p) none = tt

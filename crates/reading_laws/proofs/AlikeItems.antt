@@ -21,11 +21,11 @@ use Rattle.binding_graph.specs.Inputs.{inputs_of}
 use Rattle.binding_graph.specs.Meaning.{IsCode, set_of, relation_of, steps_of}
 use Rattle.binding_graph.specs.Resolved.{AreBodies, IsGroupRole, IsCheckRole, HasUses, IsLabelled}
 use Rattle.binding_graph.specs.Usages.{with_values, with_all_values}
-use Rattle.column_laws.specs.Items as content
-use Rattle.column_laws.specs.Items.{code_content, body_content, role_content}
-use Rattle.evaluation_laws.specs.ItemLaws.{Scope, Pairing, IsPairing, AreSameUsed, HasSameNames, IsAlike}
-use Rattle.evaluation_laws.proofs.Alike.{formula_same, kind_same}
-use Rattle.evaluation_laws.proofs.Using.{values_same, set_same, relation_same}
+use Rattle.binding_graph.specs.Contents as content
+use Rattle.binding_graph.specs.Contents.{code_content, body_content, role_content}
+use Rattle.reading_laws.specs.ItemLaws.{Scope, Pairing, IsPairing, AreSameUsed, HasSameNames, IsAlike}
+use Rattle.reading_laws.proofs.Alike.{formula_same, kind_same}
+use Rattle.reading_laws.proofs.Using.{values_same, set_same, relation_same}
 
 -- ---- inputs
 

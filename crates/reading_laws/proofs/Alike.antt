@@ -4,7 +4,6 @@ use Rattle.std.specs.Prelude.{nat_lt, nat_eq, if◌then◌else◌}
 use Rattle.std.specs.List.{AllZip}
 use Rattle.text_values.specs.ModelValue.{Term, Terms, Atom, AllEvents, EmptyRelation, EmptySet, Join, Mark, Not, On, Apply, NoTerm, OneMore}
 use Rattle.binding_kinds.specs.declared.fault.ModelFault.{ModelFault}
-use Rattle.binding_kinds.specs.declared.fault.ModelFault.TheVariants as faults
 use Rattle.binding_kinds.specs.declared.kinds.Kind.{Kind}
 use Rattle.binding_kinds.specs.declared.kinds.Kind.TheVariants.{OfAny}
 use Rattle.binding_kinds.specs.declared.scope.Binder.{Binder}
@@ -16,7 +15,7 @@ use Rattle.binding_kinds.specs.Meanings.{parameter_of}
 use Rattle.binding_kinds.specs.Formula.{Formula, Value, Parameter, Everything, NoPairs, NoEvents, Joined, Marked, Complement, Identity, filled, constant_of, factor_of}
 use Rattle.binding_kinds.specs.Senses.{Sense, sense_of, size_of_arguments, size_with, size_applied, kind_applied, size_in, sizes_in, kind_in, kinds_in, count_of}
 use Rattle.binding_kinds.specs.Functions.{sense_seen, bound_formula, named_formula, applied_formula, formula_in, formulas_in}
-use Rattle.evaluation_laws.specs.ItemLaws.{Scope, Pairing, IsSameBinder, IsSameFound, IsSameName, IsSameUnless, IsSameFormula, IsSameSense, IsSameFunction, HasSameNames, HaveSameNames}
+use Rattle.reading_laws.specs.ItemLaws.{Scope, Pairing, IsSameBinder, IsSameFound, IsSameName, IsSameUnless, IsSameFormula, IsSameSense, IsSameFunction, HasSameNames, HaveSameNames}
 use Rattle.binding_kinds.proofs.Applications.{long_kinds, found_arity}
 
 -- ---- forms

@@ -1,21 +1,31 @@
 -- The functions that an item sees are those of the items before it.
-use Rattle.std.proofs.Common.{ℕ, ◌≡◌, ◌+◌, ◌<◌, zero, suc, List, [], ◌∷◌, ◌++◌, length, Option, Some, None, refl, ap, ◌∙◌, arith}
+use Rattle.std.proofs.Common.{ℕ, ◌≡◌, ◌+◌, ◌<◌, zero, suc, List, [], ◌∷◌, ◌++◌, length, map, Option, Some, None, refl, sym, ap, ◌∙◌, arith}
 use Rattle.std.specs.Prelude.{slice_get, unwrap_or}
+use Rattle.std.proofs.lemmas.List.{map-append}
+use Rattle.std.proofs.lemmas.Option.{none-some}
 use Rattle.text_values.specs.declared.model.Item.{Item}
 use Rattle.text_values.specs.declared.model.Item.TheVariants as items
 use Rattle.text_values.specs.ModelValue.{Term}
 use Rattle.text_values.specs.ModelValues.{term_of}
-use Rattle.binding_kinds.specs.Value.{Defined, clause_of}
+use Rattle.binding_kinds.specs.Value.{Clause, Group, Check, Mute, Defined, clause_of}
 use Rattle.binding_kinds.specs.Senses.{Sense}
 use Rattle.binding_kinds.specs.Faults.{senses_after}
 use Rattle.binding_kinds.specs.Functions.{sense_of_function}
 use Rattle.binding_graph.specs.Usages.{Usage, usage_of_function, usages_after}
-use Rattle.evaluation_laws.specs.ItemLaws.{Scope, scope_after, scope_at, functions_before}
-use Rattle.cat_eval.proofs.Columns.{get_kept, get_last}
+use Rattle.reading_laws.specs.ItemLaws.{Scope, scope_after, scope_at, functions_before}
 
 -- ---- lists that grow
 
-one_longer : {X : Type 0} (xs : List X) (x : X) → length (xs ++ x ∷ []) ≡ length xs + 1
+pub get_kept : {X : Type 0} (xs ys : List X) (k : ℕ) (x : X) → slice_get xs k ≡ Some x → slice_get (xs ++ ys) k ≡ Some x
+get_kept [] ys k x e = absurd (none-some x e)
+get_kept (z ∷ zs) ys zero x e = e
+get_kept (z ∷ zs) ys (suc k) x e = get_kept zs ys k x e
+
+pub get_last : {X : Type 0} (xs : List X) (x : X) → slice_get (xs ++ x ∷ []) (length xs) ≡ Some x
+get_last [] x = refl
+get_last (z ∷ zs) x = get_last zs x
+
+pub one_longer : {X : Type 0} (xs : List X) (x : X) → length (xs ++ x ∷ []) ≡ length xs + 1
 one_longer [] x = refl
 one_longer (z ∷ zs) x =
     let rest = one_longer zs x in
@@ -38,6 +48,16 @@ usage_after s at (items.Check c l) n u h = h
 usage_after s at (items.Flag c l) n u h = h
 usage_after s at (items.Show f t) n u h = h
 usage_after s at (items.Include f) n u h = h
+
+-- senses and usages of functions have the same numbers of parameters
+pub next_counts : (s : Scope) (at : ℕ) (c : Clause) → map (λ (u : Usage). u.arity) s.usages ≡ map (λ (b : Sense). b.arity) s.senses → map (λ (u : Usage). u.arity) (usages_after s.usages s.names at c) ≡ map (λ (b : Sense). b.arity) (senses_after s.senses s.names c)
+next_counts s at (Group r bs) e = e
+next_counts s at (Check w t) e = e
+next_counts s at Mute e = e
+next_counts s at (Defined n ps b) e =
+    let u = usage_of_function s.usages s.names at ps b in
+    let a = sense_of_function s.senses s.names ps b in
+    map-append (λ (v : Usage). v.arity) s.usages (u ∷ []) ∙ (ap (λ (l : List ℕ). l ++ length ps ∷ []) e ∙ sym (map-append (λ (v : Sense). v.arity) s.senses (a ∷ [])))
 
 sense_kept : (s : Scope) (at : ℕ) (xs : List Item) (k n : ℕ) (a : Sense) → slice_get s.senses n ≡ Some a → slice_get (scope_at s at xs k).senses n ≡ Some a
 sense_kept s at [] k n a h = h

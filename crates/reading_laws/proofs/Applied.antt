@@ -16,9 +16,9 @@ use Rattle.binding_kinds.specs.Meanings.{parameter_of}
 use Rattle.binding_kinds.specs.Senses.{Sense, sense_of, count_of}
 use Rattle.binding_kinds.specs.Functions.{with_parameters, sense_seen, kind_of_sense, kind_of_body, kinds_of_body, sense_of_function}
 use Rattle.binding_graph.specs.Usages.{with_values, usage_of_function}
-use Rattle.evaluation_laws.specs.ItemLaws.{Scope, Pairing, IsSameUnless, IsSameFunction, IsSameSense, AreSameUsed, HasSameNames, HaveSameNames, IsAlikeFunction}
-use Rattle.evaluation_laws.proofs.Alike.{HasArity, found_kind, formula_same}
-use Rattle.evaluation_laws.proofs.Using.{IsOne, values_inside}
+use Rattle.reading_laws.specs.ItemLaws.{Scope, Pairing, IsSameUnless, IsSameFunction, IsSameSense, AreSameUsed, HasSameNames, HaveSameNames, IsAlikeFunction}
+use Rattle.reading_laws.proofs.Alike.{HasArity, found_kind, formula_same}
+use Rattle.reading_laws.proofs.Using.{IsOne, values_inside}
 use Rattle.binding_kinds.proofs.Applications.{found_arity}
 
 -- ---- names behind parameters

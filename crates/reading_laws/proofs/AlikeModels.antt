@@ -7,8 +7,8 @@ use Rattle.text_values.specs.declared.model.ModelText.{ModelText}
 use Rattle.binding_kinds.specs.Value.{Naming, Clause, clause_of}
 use Rattle.binding_graph.specs.declared.resolved.ResolvedItem.{ResolvedItem}
 use Rattle.binding_graph.specs.Resolved.{IsResolvedIn, AreResolved, IsLabelled, IsLabelledAs, AreLabelled}
-use Rattle.evaluation_laws.specs.ItemLaws.{Scope, IsItem, label_of, SayTheSame, scope_after, scope_at, own_at, first_scope, HaveAlikeItems}
-use Rattle.evaluation_laws.proofs.AlikeItems.{alike_items}
+use Rattle.reading_laws.specs.ItemLaws.{Scope, Pairing, IsItem, IsItemAt, HasSameNamesAt, DoTheSame, label_of, SayTheSame, scope_after, scope_at, own_at, first_scope, HaveAlikeItems}
+use Rattle.reading_laws.proofs.AlikeItems.{alike_items}
 
 -- ---- items of one text
 
@@ -40,7 +40,7 @@ item_moved s own from x y r e h = (
 
 -- ---- the item of an index
 
-item_at : (s : Scope) (at : ℕ) (xs : List Item) (rs : List ResolvedItem) (k : ℕ) (x : Item) (r : ResolvedItem) → AreResolved s.senses s.usages s.names at (map clause_of xs) rs → AreLabelled xs rs → slice_get xs k ≡ Some x → slice_get rs k ≡ Some r → IsItem (scope_at s at xs k) (own_at s at xs k) (length (scope_at s at xs k).names) x r
+pub item_at : (s : Scope) (at : ℕ) (xs : List Item) (rs : List ResolvedItem) (k : ℕ) (x : Item) (r : ResolvedItem) → AreResolved s.senses s.usages s.names at (map clause_of xs) rs → AreLabelled xs rs → slice_get xs k ≡ Some x → slice_get rs k ≡ Some r → IsItem (scope_at s at xs k) (own_at s at xs k) (length (scope_at s at xs k).names) x r
 item_at s at [] rs k x r h l is_x is_r = absurd (let n : None ≡ Some x = is_x in cc)
 item_at s at (y ∷ ys) [] k x r h l is_x is_r = absurd h
 item_at s at (y ∷ ys) (q ∷ qs) zero x r h l is_x is_r =
@@ -52,12 +52,16 @@ item_at s at (y ∷ ys) (q ∷ qs) zero x r h l is_x is_r =
     subst (λ (p : ResolvedItem). IsItem s own (length s.names) x p) item same_item
 item_at s at (y ∷ ys) (q ∷ qs) (suc k) x r h l is_x is_r = item_at (scope_after s at y) (at + 1) ys qs k x r h.1 l.1 is_x is_r
 
-pub alike_in_models : (model other : ModelText) → HaveAlikeItems model other
-alike_in_models model other p names more resolved others k l x y r q h g e same =
-    let s = scope_at (first_scope names) 0 model.items.items k in
-    let o = scope_at (first_scope more) 0 other.items.items l in
-    let own = own_at (first_scope names) 0 model.items.items k in
-    let owned = own_at (first_scope more) 0 other.items.items l in
-    let left : IsItem s own (length s.names) x r = item_at (first_scope names) 0 model.items.items resolved k x r h.all h.labels h.text h.item in
-    let right : IsItem o owned (length o.names) y q = item_at (first_scope more) 0 other.items.items others l y q g.all g.labels g.text g.item in
+pub alike_at : (model other : List Item) (p : Pairing) (names more : List Naming) (resolved others : List ResolvedItem) (k l : ℕ) (x y : Item) (r q : ResolvedItem) → IsItemAt names model resolved k x r → IsItemAt more other others l y q → SayTheSame x y
+    → HasSameNamesAt p names more model other k l x → DoTheSame p r q
+alike_at model other p names more resolved others k l x y r q h g e same =
+    let s = scope_at (first_scope names) 0 model k in
+    let o = scope_at (first_scope more) 0 other l in
+    let own = own_at (first_scope names) 0 model k in
+    let owned = own_at (first_scope more) 0 other l in
+    let left : IsItem s own (length s.names) x r = item_at (first_scope names) 0 model resolved k x r h.all h.labels h.text h.item in
+    let right : IsItem o owned (length o.names) y q = item_at (first_scope more) 0 other others l y q g.all g.labels g.text g.item in
     alike_items x p s o own owned (length s.names) (length o.names) r q same.pairing same.same left (item_moved o owned (length o.names) x y q e right)
+
+pub alike_in_models : (model other : ModelText) → HaveAlikeItems model other
+alike_in_models model other = alike_at model.items.items other.items.items

@@ -19,7 +19,7 @@ use Rattle.binding_graph.specs.Inputs.{index_of, noted, with_binder, with_name}
 use Rattle.binding_graph.specs.Meaning.{source_of_binder, source_of, joined_sets, joined_relations, set_of, relation_of}
 use Rattle.binding_graph.specs.Trees.{SetName, SetNot, RelName, OnSet, Close, RelNot}
 use Rattle.binding_graph.specs.Usages.{all_noted, values_of, usage_seen, with_meaning, with_values, with_values_among}
-use Rattle.evaluation_laws.specs.ItemLaws.{Scope, Pairing, IsPairing, IsSameBinder, IsSameFound, IsSameName, IsSameUnless, IsSameFormula, IsSameUsed, AreSameUsed, HasSameNames, HaveSameNames}
+use Rattle.reading_laws.specs.ItemLaws.{Scope, Pairing, IsPairing, IsSameBinder, IsSameFound, IsSameName, IsSameUnless, IsSameFormula, IsSameUsed, AreSameUsed, HasSameNames, HaveSameNames}
 
 bool_same : (x y : Bool) → (x ≡ true → y ≡ true) → (y ≡ true → x ≡ true) → x ≡ y
 bool_same true y f g = sym (f refl)

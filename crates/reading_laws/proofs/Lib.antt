@@ -1,0 +1,12 @@
+pub mod Alike
+pub mod Using
+pub mod AlikeItems
+pub mod Applied
+pub mod AlikeModels
+pub mod Before
+pub mod AlikeTexts
+pub mod Named
+pub mod Sound
+pub mod Told
+pub mod Added
+pub mod Lists
