@@ -9,4 +9,9 @@ pub mod Named
 pub mod Sound
 pub mod Told
 pub mod Added
+pub mod Placed
+pub mod Used
 pub mod Lists
+pub mod Whole
+pub mod Uses
+pub mod Known
