@@ -15,3 +15,10 @@ pub mod Lists
 pub mod Whole
 pub mod Uses
 pub mod Known
+pub mod Seen
+pub mod Visible
+pub mod Both
+pub mod Terms
+pub mod Own
+pub mod Matched
+pub mod Again

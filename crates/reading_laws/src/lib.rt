@@ -1,8 +1,12 @@
-//! Laws of resolution: what an item is resolved to depends only on its text and on what its names stand for. Read
-//! specs/ItemLaws first, after `Resolved` of `binding_graph/specs`.
+//! Laws of resolution.
+//!
+//! - What an item is resolved to depends only on its text and on what its names stand for: specs/ItemLaws, after `Resolved`
+//!   of `binding_graph/specs`.
+//! - After an edit of its model an item does what it did, if it says what it said and uses what it used: specs/Reread.
 #![tactic(auto)]
 
 ghost use Rattle.reading_laws.specs.ItemLaws.{Pairing, Scope, IsAlikeFunction, HaveAlikeItems, HaveItemsAlikeByText};
+ghost use Rattle.reading_laws.specs.Reread.{UsesAreSeen, ItemsAreReadAgain};
 
 use text_values::ModelText;
 
@@ -29,3 +33,16 @@ pub fn items_by_what_they_say(model: &ModelText, other: &ModelText)
     let _model = model;
     let _other = other;
 }
+
+/// All names of other items that an item of a model without fault uses have a number, a spelling and a kind, and all functions
+/// that it applies a number and a text.
+pub fn uses_are_seen()
+    ensures { UsesAreSeen }
+{}
+
+/// In two models without fault whose common items stand in one order, an item of one number and one text does the same, if the
+/// names of other items that it uses have the same numbers, spellings and kinds, and the functions that it applies the same
+/// numbers and texts.
+pub fn items_are_read_again()
+    ensures { ItemsAreReadAgain }
+{}
