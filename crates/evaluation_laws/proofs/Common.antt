@@ -3,7 +3,7 @@ use Rattle.std.proofs.Common.{ℕ, ◌≡◌, ◌↔◌, ◌+◌, ◌-◌, ◌<�
 use Rattle.std.specs.Prelude.{bytes_eq, nat_le, slice_get, if◌then◌else◌}
 use Rattle.std.specs.List.{AllByRecursion as Each}
 use Rattle.std.proofs.lemmas.Bool.Decides.{nat_tests}
-use Rattle.std.proofs.lemmas.Option.{none-some}
+use Rattle.std.proofs.lemmas.Option.{none-some, same_Some}
 use Rattle.text_values.specs.ModelValue.{Term, Terms, Atom, AllEvents, EmptyRelation, EmptySet, Join, Mark, Not, On, Apply, NoTerm, OneMore}
 use Rattle.binding_kinds.specs.declared.scope.Binder.{Binder}
 use Rattle.binding_kinds.specs.declared.scope.Binder.TheVariants as binders
@@ -41,15 +41,12 @@ first (c ∷ cs) x = if bytes_eq c.name x then Some c else first cs x
 abbrev pub Looks : Reach → List Naming → (Shared → Found) → List Shared → Type 0
 Looks u names side cs = (x : List ℕ) (f : Found) → found names x ≡ Some f → IsKept u f.binder → (c : Shared) × (first cs x ≡ Some c) × (side c ≡ f)
 
-same_found : {a b : Found} → Some a ≡ Some b → a ≡ b
-same_found e = cc
-
 -- a name that is not used
 pub look_past : (u : Reach) (side : Shared → Found) (names : List Naming) (cs : List Shared) (n : Naming) → (IsKept u n.binder → ⊥) → Looks u names side cs → Looks u (n ∷ names) side cs
 look_past u side names cs n unused look x f is kept = at_test (bytes_eq n.name x) is
   where
     at_test : (t : Bool) → (if t then Some (found_here names n) else found names x) ≡ Some f → (c : Shared) × (first cs x ≡ Some c) × (side c ≡ f)
-    at_test true e = absurd (unused (subst (λ (g : Found). IsKept u g.binder) (sym (same_found e)) kept))
+    at_test true e = absurd (unused (subst (λ (g : Found). IsKept u g.binder) (sym (same_Some _ _ e)) kept))
     at_test false e = look x f e kept
 
 -- one that is
@@ -57,7 +54,7 @@ pub look_one : (u : Reach) (side : Shared → Found) (names : List Naming) (cs :
 look_one u side names cs n c name here look x f is kept = at_test (bytes_eq n.name x) (ap (λ (l : List ℕ). bytes_eq l x) name) is
   where
     at_test : (t : Bool) → bytes_eq c.name x ≡ t → (if t then Some (found_here names n) else found names x) ≡ Some f → (d : Shared) × (first (c ∷ cs) x ≡ Some d) × (side d ≡ f)
-    at_test true t e = (c, rw t refl, here ∙ same_found e)
+    at_test true t e = (c, rw t refl, here ∙ same_Some _ _ e)
     at_test false t e = let old = look x f e kept in (old.0, rw t old.1, old.2)
 
 -- ---- what stands for what
@@ -257,21 +254,13 @@ placed_pairing cs n m k l falling placed = record {
 -- ---- names that stand for the same
 
 module _ (u v : Reach) (s o : Scope) (cs : List Shared) (shared : AreShared u v s o cs) where
-  same_shared : {a b : Shared} → Some a ≡ Some b → a ≡ b
-  same_shared e = cc
-
-  same_sense : {a b : Sense} → Some a ≡ Some b → a ≡ b
-  same_sense e = cc
-
-  same_usage : {a b : Usage} → Some a ≡ Some b → a ≡ b
-  same_usage e = cc
 
   common_at : (ds : List Shared) (x : List ℕ) (c : Shared) → Each (IsCommon (pairing_of cs) s o) ds → first ds x ≡ Some c → IsCommon (pairing_of cs) s o c
   common_at [] x c all e = absurd (none-some c e)
   common_at (d ∷ ds) x c all e = at_test (λ h. common_at ds x c all.1 h) (bytes_eq d.name x) e
     where
       at_test : (first ds x ≡ Some c → IsCommon (pairing_of cs) s o c) → (t : Bool) → (if t then Some d else first ds x) ≡ Some c → IsCommon (pairing_of cs) s o c
-      at_test rest true h = subst (IsCommon (pairing_of cs) s o) (same_shared h) all.0
+      at_test rest true h = subst (IsCommon (pairing_of cs) s o) (same_Some _ _ h) all.0
       at_test rest false h = rest h
 
   -- what one name is in both
@@ -284,7 +273,7 @@ module _ (u v : Reach) (s o : Scope) (cs : List Shared) (shared : AreShared u v 
   both_found x f g is kept at there =
       let l = shared.left x f is kept in
       let r = shared.right x g at there in
-      let one : l.0 ≡ r.0 = same_shared (sym l.1 ∙ r.1) in
+      let one : l.0 ≡ r.0 = same_Some _ _ (sym l.1 ∙ r.1) in
       let common = common_at cs x l.0 shared.common l.1 in
       let right : l.0.right ≡ g = ap (λ (c : Shared). c.right) one ∙ r.2 in
       let here : IsBoth l.0.left l.0.right = record { slots = common.slots; kinds = common.kinds; matched = common.matched } in
@@ -323,10 +312,10 @@ module _ (u v : Reach) (s o : Scope) (cs : List Shared) (shared : AreShared u v 
         let both = both_found x a.now b.now a.there (subst (IsKept u) (sym a.binder) l.kept) b.there (subst (IsKept v) (sym b.binder) r.kept) in
         let half : IsMatched (pairing_of cs) s o (binders.Applicable a.at) b.now.binder = subst (λ (y : Binder). IsMatched (pairing_of cs) s o y b.now.binder) a.binder both.matched in
         let m : IsSameApplied (pairing_of cs) s o a.at b.at = subst (λ (y : Binder). IsMatched (pairing_of cs) s o (binders.Applicable a.at) y) b.binder half in
-        let one : m.sense ≡ a.sense = same_sense (sym m.has_sense ∙ a.has_sense) in
-        let two : m.other ≡ b.sense = same_sense (sym m.has_other ∙ b.has_sense) in
-        let three : m.usage ≡ a.usage = same_usage (sym m.has_usage ∙ a.has_usage) in
-        let four : m.more ≡ b.usage = same_usage (sym m.has_more ∙ b.has_usage) in
+        let one : m.sense ≡ a.sense = same_Some _ _ (sym m.has_sense ∙ a.has_sense) in
+        let two : m.other ≡ b.sense = same_Some _ _ (sym m.has_other ∙ b.has_sense) in
+        let three : m.usage ≡ a.usage = same_Some _ _ (sym m.has_usage ∙ a.has_usage) in
+        let four : m.more ≡ b.usage = same_Some _ _ (sym m.has_more ∙ b.has_usage) in
         let same : IsSameSense (pairing_of cs) a.sense b.sense = subst (λ (y : Sense). IsSameSense (pairing_of cs) y b.sense) one (subst (λ (y : Sense). IsSameSense (pairing_of cs) m.sense y) two m.same) in
         let used : AreSameUsed (pairing_of cs) a.usage.values b.usage.values = subst (λ (y : Usage). AreSameUsed (pairing_of cs) y.values b.usage.values) three (subst (λ (y : Usage). AreSameUsed (pairing_of cs) m.usage.values y.values) four m.used) in
         record {

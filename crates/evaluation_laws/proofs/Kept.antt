@@ -3,7 +3,7 @@ use Rattle.std.proofs.Common.{ℕ, ◌≡◌, zero, suc, List, [], ◌∷◌, ma
 use Rattle.std.specs.Prelude.{◌==◌, is_some, nat_le, slice_get, if◌then◌else◌}
 use Rattle.std.specs.List.{AllByRecursion as Each}
 use Rattle.std.proofs.lemmas.Bool.{cases_Bool}
-use Rattle.std.proofs.lemmas.Option.{none-some}
+use Rattle.std.proofs.lemmas.Option.{none-some, same_Some}
 use Rattle.text_values.specs.ModelValue.{Term, Terms, Atom, AllEvents, EmptyRelation, EmptySet, Join, Mark, Not, On, Apply, NoTerm, OneMore}
 use Rattle.memo_core.specs.Step.{Has}
 use Rattle.binding_kinds.specs.declared.fault.ModelFault.{ModelFault}
@@ -164,9 +164,6 @@ module _ (us : List Usage) (names : List Naming) (ps : List (List ℕ)) where
 
 -- ---- what is used is kept
 
-same_usage : {a b : Usage} → Some a ≡ Some b → a ≡ b
-same_usage e = cc
-
 same_bound : (i j : Input) → Some (binders.Bound i) ≡ Some (binders.Bound j) → i.item ≡ j.item
 same_bound i j e = ap (λ (k : Input). k.item) (bound (some e))
   where
@@ -212,7 +209,7 @@ module _ (names : List Naming) where
 
     has_at : (xs : List Usage) (i : ℕ) (w : Usage) → slice_get xs i ≡ Some w → Has xs w
     has_at [] i w e = absurd (none-some w e)
-    has_at (x ∷ xs) zero w e = inl (same_usage e)
+    has_at (x ∷ xs) zero w e = inl (same_Some _ _ e)
     has_at (x ∷ xs) (suc i) w e = inr (has_at xs i w e)
 
     usage_there : (r : Result ℕ ModelFault) (w : Usage) → usage_at s.usages r ≡ Some w → Has s.usages w

@@ -23,6 +23,7 @@ use Rattle.model_slots.proofs.Lists.{has_reverse, has_map}
 use Rattle.slot_laws.proofs.Naming.{binder_at, at_below, found_at, own_same}
 use Rattle.slot_laws.proofs.Using.{IsBoundBy, items_in}
 use Rattle.std.proofs.lemmas.Bool.{leb-false}
+use Rattle.std.proofs.lemmas.Option.{same_Some}
 use Rattle.reading_laws.proofs.Named.{HasNames}
 use Rattle.evaluation_laws.proofs.Kept.{Reach, IsKept, HasKeptNames, Grows, values_grow, functions_grow, term_bound, term_kept}
 use Rattle.reading_laws.proofs.Sound.{sound_term, sound_group, sound_body}
@@ -78,9 +79,6 @@ module _ (outer : List Naming) (u : Reach) (s : Scope) (from : ℕ)
 
 -- ---- the names of the item itself
 
-same_found : {a b : Found} → Some a ≡ Some b → a ≡ b
-same_found e = cc
-
 abbrev IsOwn : ℕ → Found → Type 0
 IsOwn item f = (p : ℕ) × (f.binder ≡ binders.Bound (record { item = item; position = p }))
 
@@ -89,7 +87,7 @@ own_found [] names item at x f e = inl e
 own_found (b ∷ bs) names item at x f e = at_first (own_found bs (naming_at item at b OfRelation ∷ names) item (suc at) x f e)
   where
     at_test : (t : Bool) → (if t then Some (record { slot = length names; kind = OfRelation; binder = binders.Bound (record { item = item; position = at }) }) else found names x) ≡ Some f → (found names x ≡ Some f) ⊎ IsOwn item f
-    at_test true h = inr (at, ap (λ (g : Found). g.binder) (sym (same_found h)))
+    at_test true h = inr (at, ap (λ (g : Found). g.binder) (sym (same_Some _ _ h)))
     at_test false h = inl h
 
     at_first : (found (naming_at item at b OfRelation ∷ names) x ≡ Some f) ⊎ IsOwn item f → (found names x ≡ Some f) ⊎ IsOwn item f

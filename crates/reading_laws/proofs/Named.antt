@@ -55,12 +55,6 @@ abbrev mutual
 
 -- ---- functions that are applied
 
-same_found : {a b : Found} → Some a ≡ Some b → a ≡ b
-same_found e = cc
-
-same_usage : {a b : Usage} → Some a ≡ Some b → a ≡ b
-same_usage e = cc
-
 -- what a name that is applied stands for
 record IsSense (ss : List Sense) (n : ℕ) (o : Option Found) (a : Sense) : Type 0 where
   pub now : Found
