@@ -254,7 +254,6 @@ placed_pairing cs n m k l falling placed = record {
 -- ---- names that stand for the same
 
 module _ (u v : Reach) (s o : Scope) (cs : List Shared) (shared : AreShared u v s o cs) where
-
   common_at : (ds : List Shared) (x : List ℕ) (c : Shared) → Each (IsCommon (pairing_of cs) s o) ds → first ds x ≡ Some c → IsCommon (pairing_of cs) s o c
   common_at [] x c all e = absurd (none-some c e)
   common_at (d ∷ ds) x c all e = at_test (λ h. common_at ds x c all.1 h) (bytes_eq d.name x) e
