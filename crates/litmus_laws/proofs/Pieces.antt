@@ -349,7 +349,7 @@ module _ (b : ℕ) (bs : List ℕ) (o : IsOpen b bs) (letter : is_letter b ≡ t
           is_equals = passes_at_first is_equals line 0 within;
           within = omega arith;
           ascii = λ k lt. fails_before_first is_not_ascii line k 0 (omega arith);
-          not-true = λ lt. ap (λ (k : ℕ). is_not_ascii (slice_index line k)) (long ∙ ascii) ∙ passes_at_first is_not_ascii line 0 (omega arith);
+          stops = λ lt. ap (λ (k : ℕ). is_not_ascii (slice_index line k)) (long ∙ ascii) ∙ passes_at_first is_not_ascii line 0 (omega arith);
         }) refl,
       )
     where
@@ -472,8 +472,8 @@ letter_ascii b h = grind (arith, nat_tests)
 keyline_bytes : (s rest : List ℕ) → IsKeyline s rest → 0 < length s
 keyline_bytes [] rest k =
     let lt = k.in_line in
-    let not-true = k.stops (omega arith) in
-    absurd (opposite (is_not_ascii (slice_index k.line 0)) not-true (letter_ascii (slice_index k.line 0) k.letter))
+    let stops = k.stops (omega arith) in
+    absurd (opposite (is_not_ascii (slice_index k.line 0)) stops (letter_ascii (slice_index k.line 0) k.letter))
 keyline_bytes (b ∷ bs) rest k = omega arith
 
 word_bytes : (s rest : List ℕ) → IsWord s rest → 0 < length s
