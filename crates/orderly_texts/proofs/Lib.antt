@@ -1,2 +1,4 @@
 pub mod Lists
+pub mod Order
 pub mod Orderly
+pub mod Splices

@@ -30,11 +30,11 @@ some_none : (f : EditFault) → Some f ≡ None → ⊥
 some_none f h = cc
 
 -- what an edit names is there
-is_there : (b : Bool) (f : EditFault) (later : Option EditFault) → unless b f later ≡ None → b ≡ true
+pub is_there : (b : Bool) (f : EditFault) (later : Option EditFault) → unless b f later ≡ None → b ≡ true
 is_there true f later h = refl
 is_there false f later h = absurd (some_none f h)
 
-then_there : (b : Bool) (f : EditFault) (later : Option EditFault) → unless b f later ≡ None → later ≡ None
+pub then_there : (b : Bool) (f : EditFault) (later : Option EditFault) → unless b f later ≡ None → later ≡ None
 then_there true f later h = h
 then_there false f later h = absurd (some_none f h)
 
@@ -100,24 +100,26 @@ kept_changed t i g a f o = items_changed t i t.next g grows (omega arith) low o
 items_at : (t : BenchTexts) (name : List ℕ) (m : PlainModel) → StandsAt (model_index name t.models) t.models m → model_items t name ≡ m.items
 items_at t name m s = stands_get (λ x. x.items) (model_index name t.models) t.models m [] s
 
-item_set : (t : BenchTexts) (name : List ℕ) (item : ℕ) (c : Clause) → has_item t name item ≡ true → IsOrderly t
-    → IsOrderly (with_models (changed_at (model_index name t.models) (with_items (put_at (index_in t name item) (record { number = item; clause = c })))) t.next t)
-item_set t name item c there o = kept_changed t (model_index name t.models) (put_at (index_in t name item) (record { number = item; clause = c }))
-    (λ m s h. subst AreApart (sym (same m s)) h)
-    (λ m s n h. subst (λ (ns : List ℕ). Has ns n) (same m s) h)
-    o
+-- an item that is set keeps its number
+pub numbers_set : (t : BenchTexts) (name : List ℕ) (item : ℕ) (c : Clause) → has_item t name item ≡ true → (m : PlainModel) → StandsAt (model_index name t.models) t.models m
+    → numbers_of (with_items (put_at (index_in t name item) (record { number = item; clause = c })) m) ≡ numbers_of m
+numbers_set t name item c there m s = by_items (model_items t name) (items_at t name m s) there
   where
     within : (i n : ℕ) → nat_lt i n ≡ true → i < n
     within i n h = grind (arith, nat_tests)
 
-    by_items : (m : PlainModel) (is : List NumberedItem) → is ≡ m.items → nat_lt (item_index item is) (length is) ≡ true
+    by_items : (is : List NumberedItem) → is ≡ m.items → nat_lt (item_index item is) (length is) ≡ true
         → map (λ i. i.number) (put_at (item_index item is) (record { number = item; clause = c }) m.items) ≡ numbers_of m
-    by_items m is e h =
+    by_items is e h =
         let lt : item_index item m.items < length m.items = within (item_index item m.items) (length m.items) (rw e at h) in
         rw e (keys_put (λ i. i.number) (λ i. i.number == item) item (λ i t. eqb-true i.number item t) (record { number = item; clause = c }) m.items refl lt)
 
-    same : (m : PlainModel) → StandsAt (model_index name t.models) t.models m → numbers_of (with_items (put_at (index_in t name item) (record { number = item; clause = c })) m) ≡ numbers_of m
-    same m s = by_items m (model_items t name) (items_at t name m s) there
+item_set : (t : BenchTexts) (name : List ℕ) (item : ℕ) (c : Clause) → has_item t name item ≡ true → IsOrderly t
+    → IsOrderly (with_models (changed_at (model_index name t.models) (with_items (put_at (index_in t name item) (record { number = item; clause = c })))) t.next t)
+item_set t name item c there o = kept_changed t (model_index name t.models) (put_at (index_in t name item) (record { number = item; clause = c }))
+    (λ m s h. subst AreApart (sym (numbers_set t name item c there m s)) h)
+    (λ m s n h. subst (λ (ns : List ℕ). Has ns n) (numbers_set t name item c there m s) h)
+    o
 
 item_removed : (t : BenchTexts) (at index : ℕ) → IsOrderly t → IsOrderly (with_models (changed_at at (with_items (λ is. remove is index))) t.next t)
 item_removed t at index o = kept_changed t at (λ is. remove is index)
@@ -142,7 +144,7 @@ item_inserted t at index c o = items_changed t at (t.next + 1) put grows (omega 
 
 -- ---- a model put
 
-numbers_from : (n : ℕ) (cs : List Clause) (k : ℕ) → Has (map (λ i. i.number) (numbered_items n cs)) k → (n ≤ k) × (k < n + length cs)
+pub numbers_from : (n : ℕ) (cs : List Clause) (k : ℕ) → Has (map (λ i. i.number) (numbered_items n cs)) k → (n ≤ k) × (k < n + length cs)
 numbers_from n [] k h = absurd h
 numbers_from n (c ∷ cs) k h = elim h [
   | inl e ↦ (omega (arith, e), omega (arith, e))
