@@ -19,6 +19,7 @@ use Rattle.memo_core.specs.declared.keys.Key.TheVariants.{Output}
 use Rattle.memo_core.specs.Graph.{Memo, Net, at, input_nodes}
 use Rattle.memo_core.specs.Right as core
 use Rattle.memo_graph.specs.FromScratch.{IsFaultless, AreItemsOf, IsFromScratch}
+use Rattle.shared_items.specs.Naming.{SeenName, item_outputs}
 use Rattle.node_values.specs.Givens.{GivenContent, asked, ForSpace, ForItem, ForVerdict}
 use Rattle.shared_items.specs.Items.{role_content}
 use Rattle.node_values.specs.Makes.{Makes, output_names, refused}
@@ -50,13 +51,13 @@ one_is : (v w : NodeContent) → ◌≡◌ {A = List NodeContent} (v ∷ []) (w 
 one_is v w e = cc
 
 -- a check gives one value
-check_gives : (role : Role) (history : List (List ℕ)) (values outputs : List NodeContent) → is_check role ≡ true → Makes (ForItem (role_content role) history) values outputs → (v : NodeContent) × (outputs ≡ v ∷ [])
+check_gives : (role : Role) (history : List SeenName) (values outputs : List NodeContent) → is_check role ≡ true → Makes (ForItem (role_content role) (item_outputs (role_content role) history)) values outputs → (v : NodeContent) × (outputs ≡ v ∷ [])
 check_gives (roles.Group recursive bodies) history values outputs check made = absurd (let e : false ≡ true = check in cc)
-check_gives (roles.Check c) history values outputs check made = (_, made.1)
+check_gives (roles.Check c) history values outputs check made = (_, made.0.1)
 check_gives roles.Silent history values outputs check made = absurd (let e : false ≡ true = check in cc)
 
 -- its name is 0
-check_name : (role : Role) (history : List (List ℕ)) → is_check role ≡ true → slice_get (output_names (ForItem (role_content role) history)) 0 ≡ Some 0
+check_name : (role : Role) (history : List SeenName) → is_check role ≡ true → slice_get (output_names (ForItem (role_content role) (item_outputs (role_content role) history))) 0 ≡ Some 0
 check_name (roles.Group recursive bodies) history check = absurd (let e : false ≡ true = check in cc)
 check_name (roles.Check c) history check = refl
 check_name roles.Silent history check = absurd (let e : false ≡ true = check in cc)
@@ -67,7 +68,7 @@ check_is_node (roles.Check c) h = refl
 check_is_node roles.Silent h = h
 
 -- what has a named output is a node
-named_is_node : (role : Role) (history : List (List ℕ)) (place x : ℕ) → slice_get (output_names (ForItem (role_content role) history)) place ≡ Some x → is_node role ≡ true
+named_is_node : (role : Role) (history : List SeenName) (place x : ℕ) → slice_get (output_names (ForItem (role_content role) (item_outputs (role_content role) history))) place ≡ Some x → is_node role ≡ true
 named_is_node (roles.Group recursive bodies) history place x h = refl
 named_is_node (roles.Check c) history place x h = refl
 named_is_node roles.Silent history place x h = absurd (none-some x h)
@@ -124,7 +125,8 @@ module _ (net : Net GivenContent) (memos : List (Memo NodeContent)) (held : Node
       → Makes (item_given nodes index r) values (values_in memos (nodes.item index)) → IsSolvedItem table index r
   item_from index r [] us ns hs present made = absurd present
   item_from index r (v ∷ vs) us ns hs present made =
-      (vs, names_valued r.inputs.items vs us ns hs present.1, subst (λ (w : NodeContent). Makes (item_given nodes index r) (w ∷ vs) (values_in memos (nodes.item index))) (space_is v present.0) made)
+      let over = subst (λ (w : NodeContent). Makes (item_given nodes index r) (w ∷ vs) (values_in memos (nodes.item index))) (space_is v present.0) made in
+      (vs, names_valued r.inputs.items vs us ns hs present.1, over.0)
 
   item_solved : (index : ℕ) (r : ResolvedItem) → needed index ≡ true → slice_get items index ≡ Some r → is_node r.role ≡ true → IsSolvedItem table index r
   item_solved index r needs found node =

@@ -10,11 +10,11 @@ use Rattle.binding_graph.specs.declared.resolved.ResolvedItem.{ResolvedItem}
 use Rattle.binding_graph.specs.declared.resolved.Role.{Role}
 use Rattle.binding_graph.specs.declared.resolved.Role.TheVariants as roles
 use Rattle.shared_items.specs.Items.{RoleContent, Group, Check, Silent, role_content}
-use Rattle.shared_items.specs.Naming.{names_in, number_of}
+use Rattle.shared_items.specs.Naming.{SeenName, names_in, number_of}
 use Rattle.bench_nodes.specs.declared.table.SlotKey.{SlotKey}
 use Rattle.bench_nodes.specs.declared.table.SlotKey.TheVariants as slots
 use Rattle.bench_nodes.specs.Nodes.{has_slot, slot_keys}
-use Rattle.model_slots.specs.Slots.{name_of as bound_name, input_name, number_at, space_key, item_keys, name_key, flag_key, answer_key, key_by, keys_by, verdict_keys}
+use Rattle.model_slots.specs.Slots.{no_name, name_of as bound_name, input_name, number_at, space_key, item_keys, name_key, flag_key, answer_key, key_by, keys_by, verdict_keys}
 use Rattle.model_slots.specs.Tables.{ModelReading, Sound, IsNameOf, UsesNames, AreOrderedItems, name_count}
 use Rattle.model_slots.proofs.Lists.{each_map, each_to, each_has, has_map}
 use Rattle.slot_laws.specs.Closed.{AreClosed, IsPassedOn}
@@ -36,7 +36,7 @@ IsOfKind Silent kind = ⊥
 
 -- the number of the name at a position of an item, in the history that its part holds
 abbrev pub number_in : Option PartContent → ℕ → ℕ
-number_in (Some (OfRole role history)) position = number_of history (get_or (names_in role) position [])
+number_in (Some (OfRole role history)) position = number_of history (get_or (names_in role) position no_name)
 number_in _ position = 0
 
 -- where the parts of items hold this
@@ -74,9 +74,9 @@ name_is s numbers items name held is =
     let own = number_at numbers name.item in
     let part = held name.item is.0 is.1 in
     let history : histories s own ≡ part.0 = held_history_is s own (role_content is.0.role) part.0 part.1 in
-    let named : input_name items name ≡ get_or (names_in (role_content is.0.role)) name.position [] = ap (λ (o : Option ResolvedItem). bound_name o name.position) is.1 in
-    ap (λ (h : List (List ℕ)). slots.Value kinds.Group own (number_of h (input_name items name))) history
-    ∙ ap (λ (n : List ℕ). slots.Value kinds.Group own (number_of part.0 n)) named
+    let named : input_name items name ≡ get_or (names_in (role_content is.0.role)) name.position no_name = ap (λ (o : Option ResolvedItem). bound_name o name.position) is.1 in
+    ap (λ (h : List SeenName). slots.Value kinds.Group own (number_of h (input_name items name))) history
+    ∙ ap (λ (n : SeenName). slots.Value kinds.Group own (number_of part.0 n)) named
     ∙ sym (ap (λ (o : Option PartContent). slots.Value kinds.Group own (number_in o name.position)) part.1)
 
 names_are : (s : State) (numbers : List ℕ) (items : List ResolvedItem) (names : List Input) → AreHeld s numbers items → Each (IsNameOf items) names → map (name_key (histories s) numbers items) names ≡ map (used_key (content s 0)) (map (name_of numbers) names)

@@ -8,6 +8,7 @@ use Rattle.bench_texts.specs.BenchTexts.{put_at}
 use Rattle.bench_texts.specs.declared.model.NamedModel.{NamedModel}
 use Rattle.bench_texts.proofs.Lists.{map-put_at, set-put_at, map-remove}
 use Rattle.bench_nodes.specs.declared.table.ModelRow.{ModelRow}
+use Rattle.shared_items.specs.Naming.{SeenName}
 use Rattle.model_slots.specs.Slots.{PlainSlot}
 use Rattle.model_slots.specs.Tables.{ModelReading, slots_in}
 use Rattle.stamped_parts.specs.declared.model_rows.HeldModel.{HeldModel}
@@ -115,7 +116,7 @@ no_readings rs ms i past = elim (cases_lt i (length rs)) [
     none [] ms e = refl
     none (r ∷ rs) ms e = ap (λ (l : List (Bor NamedModel)). readings_of (r ∷ rs) (map now l)) e
 
-pub all_read : (histories : ℕ → List (List ℕ)) (slots : List PlainSlot) (rs : List ModelRow) (ms : List (Bor NamedModel)) (i : ℕ) → min (length rs) (length ms) ≤ i → slots ++ flat_map (slots_in histories) (readings_of (drop i rs) (map now (drop i ms))) ≡ slots
+pub all_read : (histories : ℕ → List SeenName) (slots : List PlainSlot) (rs : List ModelRow) (ms : List (Bor NamedModel)) (i : ℕ) → min (length rs) (length ms) ≤ i → slots ++ flat_map (slots_in histories) (readings_of (drop i rs) (map now (drop i ms))) ≡ slots
 all_read histories slots rs ms i past = ap (λ (l : List ModelReading). slots ++ flat_map (slots_in histories) l) (no_readings rs ms i past) ∙ append-nil slots
 
 -- ---- facts

@@ -11,6 +11,7 @@ use Rattle.binding_kinds.specs.Value.{clause_of}
 use Rattle.binding_kinds.specs.declared.fault.ModelFault.{ModelFault}
 use Rattle.binding_graph.specs.declared.resolved.ResolvedItem.{ResolvedItem}
 use Rattle.memo_core.specs.Step.{Has}
+use Rattle.shared_items.specs.Naming.{SeenName}
 use Rattle.shared_items.specs.declared.items.SharedItem.{SharedItem}
 use Rattle.shared_items.specs.Items.{held_history}
 use Rattle.bench_texts.proofs.Lists.{map-remove}
@@ -101,7 +102,7 @@ history_raised last number rows items = let same = each rows items in λ k of. s
     each : (rows : List ItemRow) (items : List (Option SharedItem)) (of : ℕ) → item_history (map (raised_item last number) rows) items of ≡ item_history rows items of
     each [] items of = refl
     each (i ∷ is) [] of = refl
-    each (i ∷ is) (s ∷ ss) of = ap (λ (h : List (List ℕ)). if i.number == of then held_history s else h) (each is ss of)
+    each (i ∷ is) (s ∷ ss) of = ap (λ (h : List SeenName). if i.number == of then held_history s else h) (each is ss of)
 
 split_each : (P : ItemFact → Type 0) (fs gs : List ItemFact) → Each P (fs ++ gs) → Each P fs × Each P gs
 split_each P [] gs h = (tt, h)
@@ -170,7 +171,7 @@ module _ (p q : Parts) (tests : List Test) (models ms : List NamedModel) (hs : L
   faults : q.faults.items ≡ map fault_of ms
   faults = puts.faults ∙ are_made.faults
 
-  abbrev made_histories : ℕ → List (List ℕ)
+  abbrev made_histories : ℕ → List SeenName
   made_histories = item_history m.items.rows.items m.items.roles.items
 
   histories_now : made_histories ≡ item_history q.table.items.items q.roles.items
@@ -182,7 +183,7 @@ module _ (p q : Parts) (tests : List Test) (models ms : List NamedModel) (hs : L
   pub models_built : IsBuilt (state_of q tests) (readings_of q.table.models.items ms)
   models_built = record {
     slots = ap (λ (l : List Slot). map plain l) puts.slots ∙ (are_made.slots ∙ (ap (all_slots made_histories) (sym (readings_raised p.last number m.rows.items ms) ∙ ap (λ (l : List ModelRow). readings_of l ms) (sym puts.rows))
-        ∙ ap (λ (h : ℕ → List (List ℕ)). all_slots h (readings_of q.table.models.items ms)) histories_now));
+        ∙ ap (λ (h : ℕ → List SeenName). all_slots h (readings_of q.table.models.items ms)) histories_now));
     models_in = models_in (state_of q tests) q.table.models.items ms (λ of has. ap (λ (l : List (Option ModelFault)). fault_content q.table.models.items l of) faults) apart_ids ordered does is_now.read;
     items = subst (λ (n : ℕ). AllZip (IsItemRow n) q.table.items.items q.roles.items) (sym last)
         (subst (λ (l : List (Option SharedItem)). AllZip (IsItemRow number) q.table.items.items l) (sym puts.roles)

@@ -29,11 +29,11 @@ use Rattle.bench_nodes.proofs.Laws.{used_by}
 use Rattle.node_values.specs.Givens.{GivenContent, ForSpace, ForItem, ForVerdict, ForFault, asked, faulted}
 use Rattle.shared_items.specs.Items.{role_content}
 use Rattle.node_values.specs.Makes.{output_names}
-use Rattle.shared_items.specs.Naming.{names_in, body_names, number_of, IsNamed, AreNamed}
+use Rattle.shared_items.specs.Naming.{SeenName, item_outputs as numbers_in, names_in, body_names, number_of, IsNamed, AreNamed}
 use Rattle.shared_items.proofs.Naming.{number_tells}
 use Rattle.node_values.specs.Parts.{parts_of}
 use Rattle.edited_parts.specs.Solved.{is_node, flag_name, flag_names}
-use Rattle.model_slots.specs.Slots.{name_of as bound_name, number_at, function_key, name_key, space_key, item_keys, flag_key, answer_key, keys_by, verdict_keys}
+use Rattle.model_slots.specs.Slots.{no_name, name_of as bound_name, number_at, function_key, name_key, space_key, item_keys, flag_key, answer_key, keys_by, verdict_keys}
 use Rattle.model_slots.specs.Tables.{ModelReading, Sound, Faulty, name_count, IsNameOf}
 use Rattle.model_slots.proofs.Lists.{has_map, contains_has, each_has, each_from_has}
 use Rattle.slot_laws.specs.Closed.{predefined_names, all_keys}
@@ -120,12 +120,12 @@ among_has (u ∷ l) k h = elim (cases_Bool (u == k)) [
 
 -- ---- outputs of items
 
-get_there : (xs : List (List ℕ)) (p : ℕ) → p < length xs → slice_get xs p ≡ Some (get_or xs p [])
+get_there : (xs : List SeenName) (p : ℕ) → p < length xs → slice_get xs p ≡ Some (get_or xs p no_name)
 get_there [] p lt = absurd (omega (arith, lt))
 get_there (x ∷ xs) zero lt = refl
 get_there (x ∷ xs) (suc p) lt = get_there xs p (omega (arith, lt))
 
-get_mapped : (f : List ℕ → ℕ) (xs : List (List ℕ)) (p : ℕ) → slice_get (map f xs) p ≡ option_map f (slice_get xs p)
+get_mapped : (f : SeenName → ℕ) (xs : List SeenName) (p : ℕ) → slice_get (map f xs) p ≡ option_map f (slice_get xs p)
 get_mapped f [] p = refl
 get_mapped f (x ∷ xs) zero = refl
 get_mapped f (x ∷ xs) (suc p) = get_mapped f xs p
@@ -135,7 +135,7 @@ names_many [] = refl
 names_many (b ∷ bs) = ap suc (names_many bs)
 
 -- the output at a name's position goes by the number of the name
-outputs_numbered : (history : List (List ℕ)) (role : Role) (p : ℕ) → p < name_count role → slice_get (output_names (ForItem (role_content role) history)) p ≡ Some (number_of history (get_or (names_in (role_content role)) p []))
+outputs_numbered : (history : List SeenName) (role : Role) (p : ℕ) → p < name_count role → slice_get (output_names (ForItem (role_content role) (numbers_in (role_content role) history))) p ≡ Some (number_of history (get_or (names_in (role_content role)) p no_name))
 outputs_numbered history (roles.Group recursive bodies) p lt =
     let names = body_names bodies.items in
     let many = names_many bodies.items in
@@ -144,13 +144,13 @@ outputs_numbered history (roles.Check check) p lt = absurd (omega (arith, lt))
 outputs_numbered history roles.Silent p lt = absurd (omega (arith, lt))
 
 -- the names of a list stand in a history
-named_at : (history names : List (List ℕ)) (p : ℕ) (x : List ℕ) → Each (IsNamed history) names → slice_get names p ≡ Some x → IsNamed history x
+named_at : (history names : List SeenName) (p : ℕ) (x : SeenName) → Each (IsNamed history) names → slice_get names p ≡ Some x → IsNamed history x
 named_at history [] p x all at = absurd (none-some x at)
 named_at history (n ∷ ns) zero x all at = subst (IsNamed history) (same_Some _ _ at) all.0
 named_at history (n ∷ ns) (suc p) x all at = named_at history ns p x all.1 at
 
 -- the name of a number
-name_behind : (f : List ℕ → ℕ) (o : Option (List ℕ)) (n : ℕ) → option_map f o ≡ Some n → (x : List ℕ) × (o ≡ Some x) × (f x ≡ n)
+name_behind : (f : SeenName → ℕ) (o : Option SeenName) (n : ℕ) → option_map f o ≡ Some n → (x : SeenName) × (o ≡ Some x) × (f x ≡ n)
 name_behind f None n e = absurd (none-some n e)
 name_behind f (Some x) n e = (x, refl, some_number e)
   where
@@ -158,22 +158,24 @@ name_behind f (Some x) n e = (x, refl, some_number e)
     some_number e = cc
 
 -- names that stand once in a list, and stand in a history, have numbers that stand once
-mapped_once : (history names : List (List ℕ)) → Each (IsNamed history) names → StandsOnce names → StandsOnce (map (number_of history) names)
+mapped_once : (history names : List SeenName) → Each (IsNamed history) names → StandsOnce names → StandsOnce (map (number_of history) names)
 mapped_once history names all once p q n at also =
     let a = name_behind (number_of history) (slice_get names p) n (sym (get_mapped (number_of history) names p) ∙ at) in
     let b = name_behind (number_of history) (slice_get names q) n (sym (get_mapped (number_of history) names q) ∙ also) in
     let same : a.0 ≡ b.0 = number_tells history a.0 b.0 (named_at history names p a.0 all a.1) (a.2 ∙ sym b.2) in
-    once p q a.0 a.1 (b.1 ∙ ap (λ (x : List ℕ). Some x) (sym same))
+    once p q a.0 a.1 (b.1 ∙ ap (λ (x : SeenName). Some x) (sym same))
+
+-- how the name at a position is spelt
+spelt_at : (bodies : List Body) (p : ℕ) (x : SeenName) → slice_get (body_names bodies) p ≡ Some x → slice_get (map (λ b. b.name) bodies) p ≡ Some x.name
+spelt_at [] p x at = absurd (none-some x at)
+spelt_at (b ∷ bs) zero x at = ap (λ (n : SeenName). Some n.name) (same_Some _ _ at)
+spelt_at (b ∷ bs) (suc p) x at = spelt_at bs p x at
 
 body_once : (bodies : List Body) → StandsOnce (map (λ b. b.name) bodies) → StandsOnce (body_names bodies)
-body_once bodies once = subst (λ (l : List (List ℕ)). StandsOnce l) (same bodies) once
-  where
-    same : (bs : List Body) → map (λ b. b.name) bs ≡ body_names bs
-    same [] = refl
-    same (b ∷ bs) = ap (λ (l : List (List ℕ)). b.name ∷ l) (same bs)
+body_once bodies once p q x at also = once p q x.name (spelt_at bodies p x at) (spelt_at bodies q x also)
 
 -- no two outputs of an item go by one number
-outputs_once : (history : List (List ℕ)) (role : Role) → AreNamed history (role_content role) → StandsOnce (bound_names role) → StandsOnce (output_names (ForItem (role_content role) history))
+outputs_once : (history : List SeenName) (role : Role) → AreNamed history (role_content role) → StandsOnce (bound_names role) → StandsOnce (output_names (ForItem (role_content role) (numbers_in (role_content role) history)))
 outputs_once history (roles.Group recursive bodies) all once = mapped_once history (body_names bodies.items) all (body_once bodies.items once)
 outputs_once history (roles.Check check) all once = one_once
 outputs_once history roles.Silent all once = λ p q x at also. absurd (none-some x at)
@@ -330,7 +332,7 @@ module _ (s : State) where
 
       history_holds : (k : ℕ) (r : ResolvedItem) → slice_get items k ≡ Some r → AreNamed (histories s (number_at numbers k)) (role_content r.role)
       history_holds k r at_k =
-          subst (λ (h : List (List ℕ)). AreNamed h (role_content r.role)) (sym (history_is k r at_k))
+          subst (λ (h : List SeenName). AreNamed h (role_content r.role)) (sym (history_is k r at_k))
           (content_named s.parts.table.items.items s.parts.roles.items (number_at numbers k) (role_content r.role) (held k r at_k).0 (held k r at_k).1)
 
       number_is : (name : Input) → IsNameOf items name → IsNumberOf items nodes name
@@ -369,7 +371,7 @@ module _ (s : State) where
       item_given_is k r ks at_k e =
           ap (λ (l : List SlotKey). given_item (contents s (keys_at id l))) e
           ∙ ap (λ (o : Option PartContent). given_item (o ∷ contents s (keys_at id (map (function_key numbers) r.functions.items ++ space_key ∷ map (name_key (histories s) numbers items) r.inputs.items)))) (held k r at_k).1
-          ∙ ap (λ (h : List (List ℕ)). Some (ForItem (role_content r.role) h)) (sym (history_is k r at_k))
+          ∙ ap (λ (h : List SeenName). Some (ForItem (role_content r.role) (numbers_in (role_content r.role) h))) (sym (history_is k r at_k))
 
       abbrev ItemIs : ℕ → ResolvedItem → Node → Type 0
       ItemIs k r n = IsNode (net_in s) n (item_given nodes k r) (Output (space_node id) 0 ∷ map (name_output nodes) r.inputs.items)

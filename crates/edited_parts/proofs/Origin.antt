@@ -14,6 +14,7 @@ use Rattle.bench_nodes.specs.declared.table.Slot.{Slot}
 use Rattle.bench_nodes.specs.declared.table.SlotKey.{SlotKey}
 use Rattle.bench_nodes.specs.declared.table.SlotKey.TheVariants as slots
 use Rattle.bench_nodes.specs.Nodes.{has_slot, slot_keys}
+use Rattle.shared_items.specs.Naming.{SeenName}
 use Rattle.model_slots.specs.Slots.{PlainSlot, plain, number_at, item_keys, slots_of, item_slots, used_slots, verdict_keys}
 use Rattle.model_slots.specs.Tables.{ModelReading, Sound, Faulty, space_slots, slots_in, all_slots}
 use Rattle.model_slots.proofs.Lists.{each_append, has_contains, each_has}
@@ -33,7 +34,7 @@ verdict_inputs (Faulty id fault) = slots.Test 2 ∷ slots.Fault id ∷ []
 
 -- ---- what holds of the space, of items and of verdicts holds of each slot
 
-module _ (histories : ℕ → List (List ℕ)) (P : Kind → ℕ → List SlotKey → Type 0) (models : List ModelReading)
+module _ (histories : ℕ → List SeenName) (P : Kind → ℕ → List SlotKey → Type 0) (models : List ModelReading)
     (space : (id : ℕ) (numbers : List ℕ) (items : List ResolvedItem) (used : List ℕ) → Has models (Sound id numbers items used) → P kinds.Space 0 [])
     (item : (id : ℕ) (numbers : List ℕ) (items : List ResolvedItem) (used : List ℕ) → Has models (Sound id numbers items used) → (i : ℕ) (r : ResolvedItem) (kind : Kind) → Has used i → slice_get items i ≡ Some r → HasKind r.role kind → P kind (number_at numbers i) (item_keys histories numbers items (number_at numbers i) r))
     (verdict : (m : ModelReading) → Has models m → P kinds.Verdict (id_in m) (verdict_inputs m)) where
@@ -130,11 +131,11 @@ module _ (models : List ModelReading) (apart : AllPairs AreOther models) (read :
       omega (arith, lt, many)
 
   -- the inputs of the item of that number
-  abbrev OfItem : (ℕ → List (List ℕ)) → ℕ → List SlotKey → Type 0
+  abbrev OfItem : (ℕ → List SeenName) → ℕ → List SlotKey → Type 0
   OfItem histories of keys =
       (id : ℕ) (numbers : List ℕ) (items : List ResolvedItem) (used : List ℕ) → Has models (Sound id numbers items used) → (i : ℕ) (r : ResolvedItem) → Has used i → slice_get items i ≡ Some r → number_at numbers i ≡ of → keys ≡ item_keys histories numbers items of r
 
-  abbrev IsOwn : (ℕ → List (List ℕ)) → Kind → ℕ → List SlotKey → Type 0
+  abbrev IsOwn : (ℕ → List SeenName) → Kind → ℕ → List SlotKey → Type 0
   IsOwn histories kinds.Space of keys = Unit {0}
   IsOwn histories kinds.Group of keys = OfItem histories of keys
   IsOwn histories kinds.Check of keys = OfItem histories of keys
@@ -149,7 +150,7 @@ module _ (models : List ModelReading) (apart : AllPairs AreOther models) (read :
   same_used : (a b : ℕ) (c d : List ℕ) (e f : List ResolvedItem) (g h : List ℕ) → Sound a c e g ≡ Sound b d f h → g ≡ h
   same_used a b c d e f g h p = cc
 
-  of_item : (histories : ℕ → List (List ℕ)) (id : ℕ) (numbers : List ℕ) (items : List ResolvedItem) (used : List ℕ) → Has models (Sound id numbers items used) → (i : ℕ) (r : ResolvedItem) → Has used i → slice_get items i ≡ Some r → OfItem histories (number_at numbers i) (item_keys histories numbers items (number_at numbers i) r)
+  of_item : (histories : ℕ → List SeenName) (id : ℕ) (numbers : List ℕ) (items : List ResolvedItem) (used : List ℕ) → Has models (Sound id numbers items used) → (i : ℕ) (r : ResolvedItem) → Has used i → slice_get items i ≡ Some r → OfItem histories (number_at numbers i) (item_keys histories numbers items (number_at numbers i) r)
   of_item histories id numbers items used there i r inside found jd ms js us also j q within at e =
       let same = same_model models (Sound jd ms js us) (Sound id numbers items used) apart also there
       (λ o. o.numbers (number_at numbers i) (subst (Has ms) e (number_there ms j (index_within jd ms js us also j within))) (number_there numbers i (index_within id numbers items used there i inside))) in
@@ -163,7 +164,7 @@ module _ (models : List ModelReading) (apart : AllPairs AreOther models) (read :
       ap (item_keys histories numbers items (number_at numbers i)) one ∙ ap (λ (l : List ℕ). item_keys histories l items (number_at numbers i) q) (sym n)
       ∙ ap (λ (l : List ResolvedItem). item_keys histories ms l (number_at numbers i) q) (sym t)
 
-  own_item : (histories : ℕ → List (List ℕ)) (id : ℕ) (numbers : List ℕ) (items : List ResolvedItem) (used : List ℕ) → Has models (Sound id numbers items used) → (i : ℕ) (r : ResolvedItem) (kind : Kind) → Has used i → slice_get items i ≡ Some r → HasKind r.role kind → IsOwn histories kind (number_at numbers i) (item_keys histories numbers items (number_at numbers i) r)
+  own_item : (histories : ℕ → List SeenName) (id : ℕ) (numbers : List ℕ) (items : List ResolvedItem) (used : List ℕ) → Has models (Sound id numbers items used) → (i : ℕ) (r : ResolvedItem) (kind : Kind) → Has used i → slice_get items i ≡ Some r → HasKind r.role kind → IsOwn histories kind (number_at numbers i) (item_keys histories numbers items (number_at numbers i) r)
   own_item histories id numbers items used there i r kind inside found has = by_role r.role has
     where
       of : OfItem histories (number_at numbers i) (item_keys histories numbers items (number_at numbers i) r)
@@ -174,7 +175,7 @@ module _ (models : List ModelReading) (apart : AllPairs AreOther models) (read :
       by_role (roles.Check check) e = subst (λ (k : Kind). IsOwn histories k (number_at numbers i) (item_keys histories numbers items (number_at numbers i) r)) (sym e) of
       by_role roles.Silent e = absurd e
 
-  own_verdict : (histories : ℕ → List (List ℕ)) (m : ModelReading) → Has models m → IsOwn histories kinds.Verdict (id_in m) (verdict_inputs m)
+  own_verdict : (histories : ℕ → List SeenName) (m : ModelReading) → Has models m → IsOwn histories kinds.Verdict (id_in m) (verdict_inputs m)
   own_verdict histories m there n also e = ap verdict_inputs (sym (same_model models n m apart also there (λ o. o.ids e)))
 
   -- ---- of which model and item a slot is
@@ -222,7 +223,7 @@ module _ (models : List ModelReading) (apart : AllPairs AreOther models) (read :
       by_role (roles.Check check) e = subst (λ (k : Kind). Origin k (number_at numbers i)) (sym e) (of_kind kinds.Check (subst (HasKind r.role) e has))
       by_role roles.Silent e = absurd e
 
-  module _ (histories : ℕ → List (List ℕ)) (ss : List Slot) (are : map plain ss ≡ all_slots histories models) where
+  module _ (histories : ℕ → List SeenName) (ss : List Slot) (are : map plain ss ≡ all_slots histories models) where
     pub origin : (kind : Kind) (of : ℕ) → has_slot ss kind of ≡ true → Origin kind of
     origin kind of has = slot_inputs (λ k n keys. Origin k n) ss kind of
         (subst (Each (λ p. Origin p.kind p.of)) (sym are) (slots_by histories (λ k n keys. Origin k n) models

@@ -16,6 +16,7 @@ use Rattle.bench_nodes.specs.declared.table.SlotKey.{SlotKey}
 use Rattle.bench_nodes.specs.declared.table.SlotKey.TheVariants as slots
 use Rattle.bench_nodes.specs.Nodes.{used, keys_at, has_slot, slot_keys, inputs_of}
 use Rattle.bench_nodes.proofs.Laws.{used_slot}
+use Rattle.shared_items.specs.Naming.{SeenName}
 use Rattle.model_slots.specs.Slots.{number_at, function_key, name_key, space_key, item_keys, flag_key, answer_key, key_by, keys_by, verdict_keys}
 use Rattle.model_slots.specs.Tables.{ModelReading, Sound, name_count, IsNameOf}
 use Rattle.model_slots.proofs.Lists.{has_append, has_behind, has_map, has_contains, contains_has, each_has}
@@ -57,7 +58,7 @@ name_of_item [] k h = absurd h
 name_of_item (n ∷ ns) k (inl e) = (n, inl refl, e)
 name_of_item (n ∷ ns) k (inr h) = let r = name_of_item ns k h in (r.0, inr r.1, r.2)
 
-pub name_among : (histories : ℕ → List (List ℕ)) (numbers : List ℕ) (items : List ResolvedItem) (own : ℕ) (r : ResolvedItem) (name : Input) → Has r.inputs.items name → Has (item_keys histories numbers items own r) (name_key histories numbers items name)
+pub name_among : (histories : ℕ → List SeenName) (numbers : List ℕ) (items : List ResolvedItem) (own : ℕ) (r : ResolvedItem) (name : Input) → Has r.inputs.items name → Has (item_keys histories numbers items own r) (name_key histories numbers items name)
 name_among histories numbers items own r name h =
     has_behind (slots.Item own ∷ map (function_key numbers) r.functions.items) (space_key ∷ map (name_key histories numbers items) r.inputs.items) (name_key histories numbers items name) (inr (has_map (name_key histories numbers items) r.inputs.items name h))
 

@@ -11,6 +11,7 @@ use Rattle.memo_core.specs.Graph.{input_nodes}
 use Rattle.memo_core.specs.Right.{IsSamePart, IsUntouchedBy}
 use Rattle.memo_core.specs.Step.{Has}
 use Rattle.binding_kinds.specs.declared.fault.ModelFault.{ModelFault}
+use Rattle.shared_items.specs.Naming.{SeenName}
 use Rattle.shared_items.specs.Items.{RoleContent, Group, Check, Silent}
 use Rattle.bench_nodes.specs.declared.table.SlotKey.{SlotKey}
 use Rattle.bench_nodes.specs.declared.table.SlotKey.TheVariants as slots
@@ -102,7 +103,7 @@ module _ (s t : State) (test : ℕ) where
     module _ (id : ℕ) (cs : List (Option CellItem)) (was : IsCellIn s id cs) (is : IsCellIn t id cs) (items : EqualPartsKeepStamps s t 0) (names : EqualItemsKeepNames s t) (may : (kind : Kind) (of : ℕ) → has_slot t.parts.table.slots.items kind of ≡ true → keeps t.parts (record { kind = kind; test = test; of = of }) ≡ true) where
       -- an item that does the same before and after has one history
       held_still : (of : ℕ) (role : RoleContent) (before : IsHeld s of role) → IsHeld t of role → content t 0 of ≡ Some (OfRole role before.0)
-      held_still of role before after = after.1 ∙ ap (λ (h : List (List ℕ)). Some (OfRole role h)) (names of role before.0 after.0 before.1 after.1)
+      held_still of role before after = after.1 ∙ ap (λ (h : List SeenName). Some (OfRole role h)) (names of role before.0 after.0 before.1 after.1)
 
       role_left : (of : ℕ) (role : RoleContent) → IsHeld s of role → IsHeld t of role → KeepsStamp s t 0 of
       role_left of role before after = items of (OfRole role before.0) before.1 (held_still of role before after)

@@ -6,6 +6,7 @@ use Rattle.memo_core.specs.Right.{IsUntouchedBy}
 use Rattle.memo_core.specs.Step.{Has}
 use Rattle.binding_kinds.specs.declared.scope.Input.{Input}
 use Rattle.binding_graph.specs.declared.resolved.ResolvedItem.{ResolvedItem}
+use Rattle.shared_items.specs.Naming.{SeenName}
 use Rattle.shared_items.specs.Items.{RoleContent, role_content}
 use Rattle.bench_nodes.specs.Nodes.{part_stamp, used, has_test, space_keys}
 use Rattle.model_slots.specs.Slots.{number_at}
@@ -58,7 +59,7 @@ EqualPartsKeepStamps s t part = (of : ℕ) (c : PartContent) → content s part 
 -- an item that does what it did has the history that it had
 abbrev pub EqualItemsKeepNames : State → State → Type 0
 EqualItemsKeepNames s t =
-    (of : ℕ) (role : RoleContent) (history names : List (List ℕ)) → content s 0 of ≡ Some (OfRole role history) → content t 0 of ≡ Some (OfRole role names) → names ≡ history
+    (of : ℕ) (role : RoleContent) (history names : List SeenName) → content s 0 of ≡ Some (OfRole role history) → content t 0 of ≡ Some (OfRole role names) → names ≡ history
 
 -- the parts of the test have their stamps of before, and its space has the same inputs
 pub record IsTestLeft (s t : State) (test : ℕ) : Type 0 where

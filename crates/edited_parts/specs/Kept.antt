@@ -17,7 +17,7 @@ use Rattle.binding_graph.specs.declared.resolved.Role.TheVariants as roles
 use Rattle.binding_graph.specs.Reach.{AreReached}
 use Rattle.binding_graph.specs.Resolved.{AreResolved}
 use Rattle.bench_nodes.specs.declared.table.TestRow.{TestRow}
-use Rattle.shared_items.specs.Naming.{number_of}
+use Rattle.shared_items.specs.Naming.{SeenName, number_of}
 use Rattle.model_slots.specs.Slots.{number_at, input_name}
 use Rattle.model_slots.specs.Tables.{ModelReading, Sound, Faulty}
 use Rattle.slot_laws.specs.Closed.{predefined_names}
@@ -96,11 +96,11 @@ abbrev pub verdict_node : ℕ → ℕ → Node
 verdict_node test id = record { kind = kinds.Verdict; test = test; of = id }
 
 -- the number of a name that an item uses, in the history of the name's item
-abbrev pub name_number : (ℕ → List (List ℕ)) → List ℕ → List ResolvedItem → Input → ℕ
+abbrev pub name_number : (ℕ → List SeenName) → List ℕ → List ResolvedItem → Input → ℕ
 name_number histories numbers items name = number_of (histories (number_at numbers name.item)) (input_name items name)
 
 -- the nodes of a test under a model without fault, where items have these histories
-abbrev pub nodes_of : (ℕ → List (List ℕ)) → ℕ → ℕ → List ℕ → List ResolvedItem → CellNodes
+abbrev pub nodes_of : (ℕ → List SeenName) → ℕ → ℕ → List ℕ → List ResolvedItem → CellNodes
 nodes_of histories test id numbers items = record {
   space = space_node test;
   item = item_node test numbers items;

@@ -15,6 +15,7 @@ use Rattle.memo_core.specs.Graph.{Memo, Net, at, IsSettled}
 use Rattle.memo_core.specs.Laws.{IsUsedClosed}
 use Rattle.memo_core.specs.Right as core
 use Rattle.memo_core.specs.Step.{Has}
+use Rattle.shared_items.specs.Naming.{SeenName, item_outputs}
 use Rattle.node_values.specs.Givens.{GivenContent, asked, faulted, ForSpace, ForItem, ForVerdict, ForFault}
 use Rattle.shared_items.specs.Items.{role_content}
 use Rattle.node_values.specs.Makes.{output_names}
@@ -28,7 +29,7 @@ use Rattle.edited_parts.specs.Solved.{is_node, flag_names}
 pub record CellNodes : Type 0 where
   pub space : Node
   pub item : ℕ → Node
-  pub history : ℕ → List (List ℕ)
+  pub history : ℕ → List SeenName
   pub name : Input → ℕ
   pub verdict : Node
 
@@ -52,9 +53,9 @@ check_keys nodes index (r ∷ rs) = (if is_check r.role then Output (nodes.item 
 abbrev pub StandsOnce : {A : Type 0} → List A → Type 0
 StandsOnce {A} xs = (p q : ℕ) (x : A) → slice_get xs p ≡ Some x → slice_get xs q ≡ Some x → p ≡ q
 
--- what the node of an item is given: what the item does, and its history
+-- what the node of an item is given: what the item does, and the numbers by which its outputs go
 abbrev pub item_given : CellNodes → ℕ → ResolvedItem → GivenContent
-item_given nodes index r = ForItem (role_content r.role) (nodes.history index)
+item_given nodes index r = ForItem (role_content r.role) (item_outputs (role_content r.role) (nodes.history index))
 
 abbrev pub name_output : CellNodes → Input → Key
 name_output nodes name = Output (nodes.item name.item) (nodes.name name)

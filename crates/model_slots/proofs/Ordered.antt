@@ -18,6 +18,7 @@ use Rattle.bench_nodes.specs.declared.table.SlotKey.TheVariants as slots
 use Rattle.bench_nodes.specs.Nodes.{is_slot, has_slot}
 use Rattle.bench_nodes.specs.Order.{IsBehind, AreOrderedAfter, IsOrdered}
 use Rattle.model_slots.proofs.Lists.{each_append}
+use Rattle.shared_items.specs.Naming.{SeenName}
 use Rattle.model_slots.specs.Slots.{PlainSlot, plain, number_at, function_key, name_key, space_key, item_keys, slots_of, item_slots, used_slots, flag_key, answer_key, key_by, keys_by, verdict_keys, sound_slots}
 use Rattle.model_slots.specs.Tables.{ModelReading, Sound, Faulty, name_count, IsNameOf, UsesNames, AreOrderedItems, IsOrderedModel, space_slot, space_slots, slots_in, all_slots}
 
@@ -90,7 +91,7 @@ ordered_append before (x ∷ xs) ys h g = (h.0, ordered_append (x ∷ before) xs
 
 -- ---- items
 
-module _ (histories : ℕ → List (List ℕ)) (numbers : List ℕ) (items : List ResolvedItem) where
+module _ (histories : ℕ → List SeenName) (numbers : List ℕ) (items : List ResolvedItem) where
   -- the groups among some items have slots
   abbrev HasGroups : List ℕ → List PlainSlot → Type 0
   HasGroups indexes before =
@@ -201,7 +202,7 @@ abbrev NeedsSpace : List PlainSlot → ModelReading → Type 0
 NeedsSpace before (Sound id numbers items used) = has_plain before kinds.Space 0 ≡ true
 NeedsSpace before (Faulty id fault) = ⊤
 
-model_ordered : (histories : ℕ → List (List ℕ)) (before : List PlainSlot) (m : ModelReading) → NeedsSpace before m → IsOrderedModel m → ArePlainOrdered before (slots_in histories m)
+model_ordered : (histories : ℕ → List SeenName) (before : List PlainSlot) (m : ModelReading) → NeedsSpace before m → IsOrderedModel m → ArePlainOrdered before (slots_in histories m)
 model_ordered histories before (Sound id numbers items used) space h = sound_ordered histories numbers items before id used space h
 model_ordered histories before (Faulty id fault) space h = ((tt, (tt, tt)), tt)
 
@@ -213,7 +214,7 @@ needs_kept : (ss before : List PlainSlot) (ms : List ModelReading) → Each (Nee
 needs_kept ss before [] h = tt
 needs_kept ss before (m ∷ ms) h = (need_kept ss before m h.0, needs_kept ss before ms h.1)
 
-models_ordered : (histories : ℕ → List (List ℕ)) (before : List PlainSlot) (ms : List ModelReading) → Each (NeedsSpace before) ms → Each IsOrderedModel ms → ArePlainOrdered before (flat_map (slots_in histories) ms)
+models_ordered : (histories : ℕ → List SeenName) (before : List PlainSlot) (ms : List ModelReading) → Each (NeedsSpace before) ms → Each IsOrderedModel ms → ArePlainOrdered before (flat_map (slots_in histories) ms)
 models_ordered histories before [] space h = tt
 models_ordered histories before (m ∷ ms) space h =
     ordered_append before (slots_in histories m) (flat_map (slots_in histories) ms) (model_ordered histories before m space.0 h.0)
@@ -234,9 +235,9 @@ space_ordered [] = tt
 space_ordered (Sound id numbers items used ∷ ms) = (tt, tt)
 space_ordered (Faulty id fault ∷ ms) = space_ordered ms
 
-all_ordered : (histories : ℕ → List (List ℕ)) (ms : List ModelReading) → Each IsOrderedModel ms → ArePlainOrdered [] (all_slots histories ms)
+all_ordered : (histories : ℕ → List SeenName) (ms : List ModelReading) → Each IsOrderedModel ms → ArePlainOrdered [] (all_slots histories ms)
 all_ordered histories ms h =
     ordered_append [] (space_slots ms) (flat_map (slots_in histories) ms) (space_ordered ms) (models_ordered histories (onto (space_slots ms) []) ms (space_enough ms) h)
 
-pub table_ordered : (t : NodeTable) (histories : ℕ → List (List ℕ)) (ms : List ModelReading) → map plain t.slots.items ≡ all_slots histories ms → Each IsOrderedModel ms → IsOrdered t
+pub table_ordered : (t : NodeTable) (histories : ℕ → List SeenName) (ms : List ModelReading) → map plain t.slots.items ≡ all_slots histories ms → Each IsOrderedModel ms → IsOrdered t
 table_ordered t histories ms e h = ordered_slots [] t.slots.items (subst (ArePlainOrdered []) (sym e) (all_ordered histories ms h))

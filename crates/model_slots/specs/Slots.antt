@@ -1,15 +1,16 @@
 -- The nodes that a model gives each test, with their inputs in order: texts first, then the space, then what other nodes give.
--- An output of a group goes by the number of its name in the history of its item: `histories` gives that of each item, by the
--- item's number.
+-- An output of a group goes by the number of its name, as other items see it, in the history of its item: `histories` gives that
+-- of each item, by the item's number.
 use Rattle.std.specs.Prelude.{ℕ, ◌==◌, List, [], ◌∷◌, ◌++◌, map, get_or, slice_get, Option, Some, None, if◌then◌else◌}
 use Rattle.memo_core.specs.declared.keys.Kind.{Kind}
 use Rattle.memo_core.specs.declared.keys.Kind.TheVariants as kinds
+use Rattle.binding_kinds.specs.declared.kinds.Kind.TheVariants.{OfAny}
 use Rattle.binding_kinds.specs.declared.scope.Input.{Input}
 use Rattle.binding_graph.specs.declared.resolved.ResolvedItem.{ResolvedItem}
 use Rattle.binding_graph.specs.declared.resolved.Role.{Role}
 use Rattle.binding_graph.specs.declared.resolved.Role.TheVariants as roles
 use Rattle.shared_items.specs.Items.{held_history, role_content}
-use Rattle.shared_items.specs.Naming.{names_in, number_of}
+use Rattle.shared_items.specs.Naming.{SeenName, names_in, number_of}
 use Rattle.shared_items.specs.declared.items.SharedItem.{SharedItem}
 use Rattle.bench_nodes.specs.declared.table.ItemRow.{ItemRow}
 use Rattle.bench_nodes.specs.declared.table.Slot.{Slot}
@@ -35,33 +36,37 @@ abbrev pub function_key : List ℕ → ℕ → SlotKey
 function_key numbers f = slots.Item (number_at numbers f)
 
 -- the history of the item of a number, empty where none is known
-abbrev pub item_history : List ItemRow → List (Option SharedItem) → ℕ → List (List ℕ)
+abbrev pub item_history : List ItemRow → List (Option SharedItem) → ℕ → List SeenName
 item_history [] roles number = []
 item_history (i ∷ is) [] number = []
 item_history (i ∷ is) (r ∷ rs) number = if i.number == number then held_history r else item_history is rs number
 
 -- likewise as the code holds them
-abbrev pub histories_in : Histories → ℕ → List (List ℕ)
+abbrev pub histories_in : Histories → ℕ → List SeenName
 histories_in h = item_history h.rows.now h.roles.now
 
--- the name at a position of an item
-abbrev pub name_of : Option ResolvedItem → ℕ → List ℕ
-name_of None position = []
-name_of (Some r) position = get_or (names_in (role_content r.role)) position []
+-- where there is no name
+abbrev pub no_name : SeenName
+no_name = record { name = []; kind = OfAny }
+
+-- the name at a position of an item, with its kind
+abbrev pub name_of : Option ResolvedItem → ℕ → SeenName
+name_of None position = no_name
+name_of (Some r) position = get_or (names_in (role_content r.role)) position no_name
 
 -- the name that an input is
-abbrev pub input_name : List ResolvedItem → Input → List ℕ
+abbrev pub input_name : List ResolvedItem → Input → SeenName
 input_name items i = name_of (slice_get items i.item) i.position
 
 -- the column of a name of another item
-abbrev pub name_key : (ℕ → List (List ℕ)) → List ℕ → List ResolvedItem → Input → SlotKey
+abbrev pub name_key : (ℕ → List SeenName) → List ℕ → List ResolvedItem → Input → SlotKey
 name_key histories numbers items i = slots.Value kinds.Group (number_at numbers i.item) (number_of (histories (number_at numbers i.item)) (input_name items i))
 
 abbrev pub space_key : SlotKey
 space_key = slots.Value kinds.Space 0 0
 
 -- the inputs of an item of that number: its own text, the texts of the functions that it applies, the space, and the names that it uses
-abbrev pub item_keys : (ℕ → List (List ℕ)) → List ℕ → List ResolvedItem → ℕ → ResolvedItem → List SlotKey
+abbrev pub item_keys : (ℕ → List SeenName) → List ℕ → List ResolvedItem → ℕ → ResolvedItem → List SlotKey
 item_keys histories numbers items own r =
     slots.Item own ∷ map (function_key numbers) r.functions.items ++ space_key ∷ map (name_key histories numbers items) r.inputs.items
 
@@ -71,12 +76,12 @@ slots_of (roles.Group recursive bodies) own keys = record { kind = kinds.Group; 
 slots_of (roles.Check check) own keys = record { kind = kinds.Check; of = own; inputs = keys } ∷ []
 slots_of roles.Silent own keys = []
 
-abbrev pub item_slots : (ℕ → List (List ℕ)) → List ℕ → List ResolvedItem → ℕ → Option ResolvedItem → List PlainSlot
+abbrev pub item_slots : (ℕ → List SeenName) → List ℕ → List ResolvedItem → ℕ → Option ResolvedItem → List PlainSlot
 item_slots histories numbers items own None = []
 item_slots histories numbers items own (Some r) = slots_of r.role own (item_keys histories numbers items own r)
 
 -- of the items at some indexes
-abbrev pub used_slots : (ℕ → List (List ℕ)) → List ℕ → List ResolvedItem → List ℕ → List PlainSlot
+abbrev pub used_slots : (ℕ → List SeenName) → List ℕ → List ResolvedItem → List ℕ → List PlainSlot
 used_slots histories numbers items [] = []
 used_slots histories numbers items (i ∷ is) =
     item_slots histories numbers items (number_at numbers i) (slice_get items i) ++ used_slots histories numbers items is
@@ -114,7 +119,7 @@ verdict_keys numbers items used =
     slots.Test 2 ∷ slots.Test 3 ∷ keys_by flag_key numbers items used ++ space_key ∷ keys_by answer_key numbers items used
 
 -- of a model without fault: its items, and its verdict
-abbrev pub sound_slots : (ℕ → List (List ℕ)) → ℕ → List ℕ → List ResolvedItem → List ℕ → List PlainSlot
+abbrev pub sound_slots : (ℕ → List SeenName) → ℕ → List ℕ → List ResolvedItem → List ℕ → List PlainSlot
 sound_slots histories id numbers items used =
     used_slots histories numbers items used ++ record { kind = kinds.Verdict; of = id; inputs = verdict_keys numbers items used } ∷ []
 

@@ -8,6 +8,7 @@ use Rattle.binding_kinds.specs.declared.scope.Input.{Input}
 use Rattle.binding_graph.specs.declared.resolved.ResolvedItem.{ResolvedItem}
 use Rattle.binding_graph.specs.declared.resolved.Role.{Role}
 use Rattle.binding_graph.specs.declared.resolved.Role.TheVariants as roles
+use Rattle.shared_items.specs.Naming.{SeenName}
 use Rattle.model_slots.specs.Slots.{PlainSlot, sound_slots, faulty_slots}
 
 -- A model by its number, as it is read. It has no fault: its items with their numbers, and the indexes of those that checks
@@ -54,10 +55,10 @@ space_slots (Sound id numbers items used ∷ ms) = space_slot ∷ []
 space_slots (Faulty id fault ∷ ms) = space_slots ms
 
 -- the nodes of a model, where items have these histories
-abbrev pub slots_in : (ℕ → List (List ℕ)) → ModelReading → List PlainSlot
+abbrev pub slots_in : (ℕ → List SeenName) → ModelReading → List PlainSlot
 slots_in histories (Sound id numbers items used) = sound_slots histories id numbers items used
 slots_in histories (Faulty id fault) = faulty_slots id
 
 -- the nodes of each test: its space, and those of each model
-abbrev pub all_slots : (ℕ → List (List ℕ)) → List ModelReading → List PlainSlot
+abbrev pub all_slots : (ℕ → List SeenName) → List ModelReading → List PlainSlot
 all_slots histories models = space_slots models ++ flat_map (slots_in histories) models

@@ -5,8 +5,7 @@ ghost use Rattle.shared_items.specs.Items.{held_history};
 ghost use Rattle.model_slots.specs.Slots.{item_history};
 
 use bench_nodes::ItemRow;
-use shared_items::SharedItem;
-use text_values::Name;
+use shared_items::{SeenName, SharedItem};
 
 /// The items by their numbers, and beside each what it does, with its history.
 #[derive(Clone, Copy)]
@@ -18,7 +17,7 @@ pub struct Histories<'h> {
 }
 
 // The names that an item has had, none where it was never known what it does.
-fn held_history(role: &Option<SharedItem>) -> &[Name]
+fn held_history(role: &Option<SharedItem>) -> &[SeenName]
     ensures { result.now ≡ held_history role.now }
 {
     match role {
@@ -32,7 +31,7 @@ pub(crate) fn item_history<'h>(
     rows: &'h [ItemRow],
     roles: &'h [Option<SharedItem>],
     number: u64,
-) -> &'h [Name]
+) -> &'h [SeenName]
     ensures { result.now ≡ item_history rows.now roles.now number }
 {
     for at in 0..rows.len().min(roles.len()) {

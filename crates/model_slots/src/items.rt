@@ -4,11 +4,11 @@ ghost use Rattle.std.specs.Prelude.{◌≡◌, ◌∷◌, ◌++◌, [], IfOk, ma
 ghost use Rattle.shared_items.specs.Items.{role_content};
 ghost use Rattle.shared_items.specs.Naming.{names_in};
 ghost use Rattle.bench_nodes.specs.declared.table.SlotKey.TheVariants as slots;
-ghost use Rattle.model_slots.specs.Slots.{plain, number_at, histories_in, input_name, function_key, name_key, space_key, item_keys, slots_of, used_slots};
+ghost use Rattle.model_slots.specs.Slots.{plain, number_at, histories_in, no_name, input_name, function_key, name_key, space_key, item_keys, slots_of, used_slots};
 
 use crate::histories::{Histories, item_history};
 use bench_nodes::{Slot, SlotKey};
-use binding_graph::{Input, ResolvedItem, Role};
+use binding_graph::{Input, Kind as ValueKind, ResolvedItem, Role};
 use memo_core::keys::Kind;
 use shared_items::number_of;
 use std::alloc::{AllocError, Global};
@@ -50,30 +50,31 @@ fn function_keys(
     Ok(keys)
 }
 
-// The name at a position of an item, empty where there is none.
-fn bound_name(role: &Role, position: usize) -> &[u8]
-    ensures { result.now ≡ get_or (names_in (role_content role.now)) position [] }
+// The name at a position of an item with its kind, an empty one where there is none.
+fn bound_name(role: &Role, position: usize) -> (&[u8], ValueKind)
+    ensures { record { name = result.0.now; kind = result.1 } ≡ get_or (names_in (role_content role.now)) position no_name }
 {
     match role {
         Role::Group { bodies, .. } => {
             if position < bodies.len() {
-                bodies[position].name.as_bytes()
+                let body = &bodies[position];
+                (body.name.as_bytes(), body.code.kind)
             } else {
-                &[]
+                (&[], ValueKind::OfAny)
             }
         }
-        Role::Check(_) => &[],
-        Role::Silent => &[],
+        Role::Check(_) => (&[], ValueKind::OfAny),
+        Role::Silent => (&[], ValueKind::OfAny),
     }
 }
 
-// The name that an input is, empty where it is none.
-fn input_name<'i>(items: &'i [ResolvedItem], input: &Input) -> &'i [u8]
-    ensures { result.now ≡ input_name items.now input.now }
+// The name that an input is with its kind, an empty one where it is none.
+fn input_name<'i>(items: &'i [ResolvedItem], input: &Input) -> (&'i [u8], ValueKind)
+    ensures { record { name = result.0.now; kind = result.1 } ≡ input_name items.now input.now }
 {
     match items.get(input.item) {
         Some(item) => bound_name(&item.role, input.position),
-        None => &[],
+        None => (&[], ValueKind::OfAny),
     }
 }
 
@@ -87,7 +88,8 @@ fn name_key(
 {
     let own = number_at(numbers, input.item);
     let history = item_history(histories.rows, histories.roles, own);
-    let number = number_of(history, input_name(items, input));
+    let (name, kind) = input_name(items, input);
+    let number = number_of(history, name, kind);
     SlotKey::Value(Kind::Group, own, number as u64)
 }
 

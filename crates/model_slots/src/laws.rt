@@ -2,6 +2,7 @@
 
 ghost use Rattle.std.specs.Prelude.{◌≡◌, ℕ, List, map};
 ghost use Rattle.std.specs.List.{AllByRecursion as Each};
+ghost use Rattle.shared_items.specs.Naming.{SeenName};
 ghost use Rattle.bench_nodes.specs.declared.table.NodeTable.{NodeTable};
 ghost use Rattle.bench_nodes.specs.Order.{IsOrdered};
 ghost use Rattle.model_slots.specs.Slots.{plain};
@@ -10,5 +11,5 @@ ghost use Rattle.model_slots.specs.Tables.{ModelReading, IsOrderedModel, all_slo
 /// In a table of the slots of models whose items use names of earlier items alone, each slot stands behind those that it
 /// uses.
 pub fn tables_are_ordered()
-    ensures { (table : NodeTable) (histories : ℕ → List (List ℕ)) (models : List ModelReading) → map plain table.slots.items ≡ all_slots histories models → Each IsOrderedModel models → IsOrdered table }
+    ensures { (table : NodeTable) (histories : ℕ → List SeenName) (models : List ModelReading) → map plain table.slots.items ≡ all_slots histories models → Each IsOrderedModel models → IsOrdered table }
 {}

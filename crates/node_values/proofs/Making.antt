@@ -20,12 +20,15 @@ use Rattle.verdict.specs.declared.answer.Outcome.{Outcome}
 use Rattle.verdict.specs.declared.judgement.Raised.{Raised}
 use Rattle.verdict.specs.Evaluated.{IsOutcome}
 use Rattle.verdict.specs.Kept.{Flag, of_raised}
-use Rattle.shared_items.specs.Items.{role_content}
-use Rattle.node_values.specs.Makes.{HasColumns, HasAnswers, checks_among, flags_among, IsVerdict}
+use Rattle.shared_items.specs.Items.{RoleContent, role_content}
+use Rattle.shared_items.specs.Naming.{SeenName, item_outputs}
+use Rattle.node_values.specs.Givens.{ForItem}
+use Rattle.node_values.specs.Makes.{MakesItem, Makes, HasColumns, HasAnswers, checks_among, flags_among, IsVerdict}
 use Rattle.node_values.specs.Spaces.{SpaceContent, space_content, no_executions}
 use Rattle.node_values.specs.Values.{NodeContent, first_space, space_of, columns_of, answers_of}
 use Rattle.node_values.specs.Views.{verdict_parts}
 use Rattle.node_values.specs.declared.given.VerdictParts.{VerdictParts}
+use Rattle.node_values.proofs.Counting.{item_many}
 use Rattle.node_values.proofs.Finding.{rest_here, rest_there, checks_from, flags_from, among_end, checks_here, flags_here}
 
 -- ---- the space among the values
@@ -67,6 +70,14 @@ pub outcome_over : (parts : VerdictParts) (values : List NodeContent) (s : Space
 outcome_over parts values s observed checks flags (Ok o) over shows are raised made =
     subst (λ (t : SpaceContent). IsVerdict (verdict_parts parts) t (answers_of values) o) over (rw (← shows, ← are, ← raised) made)
 outcome_over parts values s observed checks flags (Err e) over shows are raised made = tt
+
+-- ---- what an item gives, as many values as it has numbers
+
+pub item_over : (r : Role) (role : RoleContent) (history : List SeenName) (values : List NodeContent) (x : Result (Vec NodeContent Global) AllocError) → role_content r ≡ role → IfOk x (λ v. MakesItem (role_content r) values v.items) → IfOk x (λ v. Makes (ForItem role (item_outputs role history)) values v.items)
+item_over r role history values (Ok v) is made =
+    let here : MakesItem role values v.items = subst (λ (q : RoleContent). MakesItem q values v.items) is made in
+    (here, item_many role history (space_of values) (columns_of values) v.items here)
+item_over r role history values (Err e) is made = tt
 
 -- ---- the locations of a test of some parts
 

@@ -29,16 +29,16 @@ asked condition observed flags = record { kind = condition.quantifier; propositi
 abbrev pub faulted : Condition → ModelFault → FaultPartsContent
 faulted condition fault = record { kind = condition.quantifier; proposition = formula_of condition.proposition; fault = fault }
 
--- An item is given as what it does, wherever it stands among the items, and with its history, by which its outputs go.
+-- An item is given as what it does, wherever it stands among the items, and with the numbers by which its outputs go.
 pub data GivenContent : Type 0 where
   ForSpace : (parts : SpacePartsContent) → GivenContent
-  ForItem : (role : RoleContent) (history : List (List ℕ)) → GivenContent
+  ForItem : (role : RoleContent) (numbers : List ℕ) → GivenContent
   ForVerdict : (parts : VerdictPartsContent) → GivenContent
   ForFault : (parts : FaultPartsContent) → GivenContent
 
 -- which checks a verdict is told to be flags
 abbrev pub given_flags : GivenContent → List (Option (List ℕ))
 given_flags (ForSpace parts) = []
-given_flags (ForItem role history) = []
+given_flags (ForItem role numbers) = []
 given_flags (ForVerdict parts) = parts.flags
 given_flags (ForFault parts) = []

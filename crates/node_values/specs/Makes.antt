@@ -1,6 +1,6 @@
 -- What a node gives: from what it is given of the texts, and from the values of the nodes that it uses, of which the first
 -- is the space.
-use Rattle.std.specs.Prelude.{ℕ, ◌≡◌, Bool, List, [], ◌∷◌, map, Option, Some, None}
+use Rattle.std.specs.Prelude.{ℕ, ◌≡◌, Bool, List, [], ◌∷◌, map, length, Option, Some, None}
 use denote.Ref.{Bor}
 use Rattle.text_values.specs.declared.test.Quantifier.{Quantifier}
 use Rattle.text_values.specs.TestValue.{Formula}
@@ -19,7 +19,6 @@ use Rattle.verdict.specs.Evaluated.{IsOutcome}
 use Rattle.verdict.specs.Kept.{Flag}
 use Rattle.node_values.specs.Givens.{VerdictPartsContent, GivenContent, ForSpace, ForItem, ForVerdict, ForFault}
 use Rattle.shared_items.specs.Items.{RoleContent, Group, Check, Silent, role_content}
-use Rattle.shared_items.specs.Naming.{item_outputs}
 use Rattle.node_values.specs.Parts.{SpacePartsContent, IsPartSpace, IsPartRefusal}
 use Rattle.node_values.specs.Spaces.{SpaceContent, space_content}
 use Rattle.node_values.specs.Values.{NodeContent, OfSpace, OfRefusal, OfColumn, OfCheck, OfOutcome, space_of, refusal_of, columns_of, answers_of}
@@ -87,14 +86,14 @@ abbrev pub IsVerdictOver : Option EvalRefusal → VerdictPartsContent → List N
 IsVerdictOver (Some refusal) parts values o = o ≡ refused parts.kind parts.proposition (refusals.Space refusal)
 IsVerdictOver None parts values o = IsVerdict parts (space_of values) (answers_of values) o
 
--- what an item gives, wherever its names stand in its history
+-- what an item gives
 abbrev pub MakesItem : RoleContent → List NodeContent → List NodeContent → Type 0
 MakesItem role values outputs = IsMadeBy role (space_of values) (columns_of values) outputs
 
--- what a node gives
+-- what a node gives: an item as many values as it has numbers
 abbrev pub Makes : GivenContent → List NodeContent → List NodeContent → Type 0
 Makes (ForSpace parts) values outputs = (v : NodeContent) × (outputs ≡ v ∷ []) × IsSpaceValue parts v
-Makes (ForItem role history) values outputs = MakesItem role values outputs
+Makes (ForItem role numbers) values outputs = MakesItem role values outputs × (length outputs ≡ length numbers)
 Makes (ForVerdict parts) values outputs = (o : Outcome) × (outputs ≡ OfOutcome o ∷ []) × IsVerdictOver (refusal_of values) parts values o
 Makes (ForFault parts) values outputs = outputs ≡ OfOutcome (refused parts.kind parts.proposition (refusals.Model parts.fault)) ∷ []
 
@@ -102,6 +101,6 @@ Makes (ForFault parts) values outputs = outputs ≡ OfOutcome (refused parts.kin
 
 abbrev pub output_names : GivenContent → List ℕ
 output_names (ForSpace parts) = 0 ∷ []
-output_names (ForItem role history) = item_outputs role history
+output_names (ForItem role numbers) = numbers
 output_names (ForVerdict parts) = 0 ∷ []
 output_names (ForFault parts) = 0 ∷ []

@@ -1,6 +1,6 @@
 -- What contracts see of what is held and of what is given.
 use Rattle.node_values.specs.Givens.{asked, faulted, VerdictPartsContent, FaultPartsContent, GivenContent, ForSpace, ForItem, ForVerdict, ForFault}
-use Rattle.shared_items.specs.Items.{shared_role, shared_history}
+use Rattle.shared_items.specs.Items.{shared_role, shared_outputs}
 use Rattle.node_values.specs.Parts.{SpacePartsContent, parts_of}
 use Rattle.node_values.specs.Spaces.{space_content}
 use Rattle.node_values.specs.Values.{NodeContent, OfSpace, OfRefusal, OfColumn, OfCheck, OfOutcome}
@@ -30,6 +30,6 @@ fault_parts p = faulted p.condition p.fault
 
 abbrev pub given_content : GivenParts → GivenContent
 given_content (givens.Space parts) = ForSpace (space_parts parts)
-given_content (givens.Item item) = ForItem (shared_role item) (shared_history item)
+given_content (givens.Item item) = ForItem (shared_role item) (shared_outputs item)
 given_content (givens.Verdict parts) = ForVerdict (verdict_parts parts)
 given_content (givens.Fault parts) = ForFault (fault_parts parts)

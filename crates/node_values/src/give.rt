@@ -2,7 +2,7 @@
 
 ghost use Rattle.std.specs.Prelude.{◌≡◌, IfOk};
 ghost use Rattle.node_values.specs.Givens.{ForSpace, ForItem, ForVerdict, ForFault, asked, faulted};
-ghost use Rattle.shared_items.specs.Items.{shared_role, shared_history};
+ghost use Rattle.shared_items.specs.Items.{shared_role, shared_outputs};
 ghost use Rattle.node_values.specs.Parts.{parts_of};
 
 use crate::given::{FaultParts, Given, GivenParts, SpaceParts, VerdictParts};
@@ -33,7 +33,7 @@ impl Given {
 
     /// What a group, a check or a flag is given that is this item. Errors: out of memory.
     pub fn of_item(alloc: Global, item: &SharedItem) -> Result<Given, AllocError>
-        ensures { IfOk result (λ g. g ≡ ForItem (shared_role item.now) (shared_history item.now)) }
+        ensures { IfOk result (λ g. g ≡ ForItem (shared_role item.now) (shared_outputs item.now)) }
     {
         Given::new(alloc, GivenParts::Item(item.again()?))
     }

@@ -3,14 +3,14 @@
 ghost use Rattle.std.specs.Prelude.{◌≡◌, ◌↔◌, IsTrue, IfOk};
 ghost use Rattle.text_values.specs.TestValue.{formula_of};
 ghost use Rattle.node_values.specs.Givens.{ForSpace, ForItem, ForVerdict, ForFault, asked, faulted, given_flags};
-ghost use Rattle.shared_items.specs.Items.{shared_role, shared_history};
+ghost use Rattle.shared_items.specs.Items.{shared_role, shared_outputs};
 ghost use Rattle.node_values.specs.Makes.{output_names};
 ghost use Rattle.node_values.specs.Parts.{parts_of};
 ghost use Rattle.node_values.specs.Views.{given_content};
 
 use crate::same::{same_flags, same_role, same_threads};
 use binding_graph::ModelFault;
-use shared_items::{SharedItem, only_zero};
+use shared_items::{SharedItem, only_zero, same_outputs};
 use std::alloc::{AllocError, Global};
 use std::marker::Model;
 use std::sync::Arc;
@@ -53,7 +53,7 @@ pub struct FaultParts {
 pub enum GivenParts {
     /// What the space of a test is given.
     Space(SpaceParts),
-    /// What a group, a check or a flag is given: an item, of which contracts see what it does and its history.
+    /// What a group, a check or a flag is given: an item, of which contracts see what it does and the numbers of its outputs.
     Item(SharedItem),
     /// What a verdict is given.
     Verdict(VerdictParts),
@@ -94,10 +94,10 @@ fn same_condition(this: &Condition, that: &Condition) -> bool
 }
 
 fn same_item(this: &SharedItem, that: &SharedItem) -> bool
-    ensures { IsTrue result ↔ ((shared_role this.now ≡ shared_role that.now) × (shared_history this.now ≡ shared_history that.now)) }
+    ensures { IsTrue result ↔ ((shared_role this.now ≡ shared_role that.now) × (shared_outputs this.now ≡ shared_outputs that.now)) }
 {
-    same_role(&this.item().role, &that.item().role)
-        && are_same_names(this.history(), that.history())
+    let role = &this.item().role;
+    same_role(role, &that.item().role) && same_outputs(role, this.history(), that.history())
 }
 
 impl GivenParts {
@@ -139,7 +139,7 @@ impl GivenParts {
     }
 
     fn is_item(&self, item: &SharedItem) -> bool
-        ensures { IsTrue result ↔ (ForItem (shared_role item.now) (shared_history item.now) ≡ given_content self.now) }
+        ensures { IsTrue result ↔ (ForItem (shared_role item.now) (shared_outputs item.now) ≡ given_content self.now) }
     {
         match self {
             GivenParts::Space(_) => false,
@@ -219,9 +219,10 @@ impl Given {
         self.parts.output_names(alloc)
     }
 
-    /// Whether it is what a group, a check or a flag is given that does what this item does, with the same history.
+    /// Whether it is what a group, a check or a flag is given that does what this item does, and whose
+    /// outputs go by the same numbers.
     pub fn is_item(&self, item: &SharedItem) -> bool
-        ensures { IsTrue result ↔ (ForItem (shared_role item.now) (shared_history item.now) ≡ self.now) }
+        ensures { IsTrue result ↔ (ForItem (shared_role item.now) (shared_outputs item.now) ≡ self.now) }
     {
         self.parts.is_item(item)
     }

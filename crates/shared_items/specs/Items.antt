@@ -2,7 +2,7 @@
 use Rattle.std.specs.Prelude.{ℕ, List, [], Option, Some, None}
 use Rattle.std.specs.Arc.{arc_value}
 pub use Rattle.binding_graph.specs.Contents.{CodeContent, BodyContent, RoleContent, Group, Check, Silent, code_content, body_content, role_content}
-pub use Rattle.shared_items.specs.Naming.{role_at}
+pub use Rattle.shared_items.specs.Naming.{SeenName, role_at, item_outputs}
 use Rattle.shared_items.specs.declared.items.SharedItem.{SharedItem}
 
 -- what an item of a model does
@@ -10,10 +10,14 @@ abbrev pub shared_role : SharedItem → RoleContent
 shared_role s = role_at (arc_value s.resolved).items.items s.index
 
 -- its history: the names that it has had, in the order in which they came
-abbrev pub shared_history : SharedItem → List (List ℕ)
+abbrev pub shared_history : SharedItem → List SeenName
 shared_history s = (arc_value s.history).items
 
--- that of an item of which it was never known what it does is empty
-abbrev pub held_history : Option SharedItem → List (List ℕ)
+-- the numbers by which its outputs go
+abbrev pub shared_outputs : SharedItem → List ℕ
+shared_outputs s = item_outputs (shared_role s) (shared_history s)
+
+-- the history of an item of which it was never known what it does is empty
+abbrev pub held_history : Option SharedItem → List SeenName
 held_history None = []
 held_history (Some s) = shared_history s

@@ -1,7 +1,11 @@
--- The names of an item, and the numbers by which they go: a name's number is its index in the history of its item, which is
--- the list of the names that the item has had, in the order in which they came.
-use Rattle.std.specs.Prelude.{ℕ, ◌<◌, ◌==◌, zero, suc, List, [], ◌∷◌, ◌++◌, length, map, bytes_eq, if◌then◌else◌}
+-- The names of an item as other items see them, and the numbers by which they go: a name's number is its index in the history
+-- of its item, which is the list of the names that the item has had, in the order in which they came. A name whose value
+-- comes to be of the other kind is another name.
+use Rattle.std.specs.Prelude.{ℕ, ◌≡◌, ◌<◌, ◌==◌, ◌&&◌, Bool, not, zero, suc, List, [], ◌∷◌, ◌++◌, length, map, bytes_eq, if◌then◌else◌}
 use Rattle.std.specs.List.{position_or_len, AllByRecursion as Each}
+use Rattle.binding_kinds.specs.declared.kinds.Kind.{Kind}
+use Rattle.binding_kinds.specs.declared.kinds.Kind.TheVariants.{OfSet, OfRelation, OfAny}
+use Rattle.binding_kinds.specs.Kinds.{is_set, is_relation}
 use Rattle.binding_graph.specs.Contents.{BodyContent, RoleContent, Group, Check, Silent, body_content, role_content}
 use Rattle.binding_graph.specs.declared.resolved.Body.{Body}
 use Rattle.binding_graph.specs.declared.resolved.ResolvedItem.{ResolvedItem}
@@ -14,54 +18,75 @@ role_at (r ∷ rs) (suc i) = role_at rs i
 
 -- ---- names
 
-abbrev pub names_of : List BodyContent → List (List ℕ)
-names_of bodies = map (λ b. b.name) bodies
+-- a name of a group as other items see it: how it is spelt, and of which kind its value is
+pub record SeenName : Type 0 where
+  pub name : List ℕ
+  pub kind : Kind
+
+abbrev pub seen_name : BodyContent → SeenName
+seen_name b = record { name = b.name; kind = b.code.kind }
+
+abbrev pub names_of : List BodyContent → List SeenName
+names_of bodies = map seen_name bodies
 
 -- the names of a group, in order; a check and a flag have none
-abbrev pub names_in : RoleContent → List (List ℕ)
+abbrev pub names_in : RoleContent → List SeenName
 names_in (Group recursive bodies) = names_of bodies
 names_in (Check negated word code flag) = []
 names_in Silent = []
 
-abbrev pub body_names : List Body → List (List ℕ)
+abbrev pub body_names : List Body → List SeenName
 body_names bodies = names_of (map body_content bodies)
 
 -- ---- numbers
 
+abbrev pub is_same_kind : Kind → Kind → Bool
+is_same_kind OfSet k = not (is_relation k)
+is_same_kind OfRelation k = not (is_set k)
+is_same_kind OfAny k = is_set k && is_relation k
+
+-- whether two names are spelt alike, and are of one kind
+abbrev pub is_same_name : SeenName → SeenName → Bool
+is_same_name n m = bytes_eq n.name m.name && is_same_kind n.kind m.kind
+
 -- the index of a name in a history, or how many names that has where it is none of them
-abbrev pub number_of : List (List ℕ) → List ℕ → ℕ
-number_of history name = position_or_len (λ n. bytes_eq n name) history
+abbrev pub number_of : List SeenName → SeenName → ℕ
+number_of history name = position_or_len (λ n. is_same_name n name) history
 
 -- of the names of a group, in order
-abbrev pub numbers_of : List (List ℕ) → RoleContent → List ℕ
+abbrev pub numbers_of : List SeenName → RoleContent → List ℕ
 numbers_of history role = map (number_of history) (names_in role)
 
 -- the name is one of the history
-abbrev pub IsNamed : List (List ℕ) → List ℕ → Type 0
+abbrev pub IsNamed : List SeenName → SeenName → Type 0
 IsNamed history name = number_of history name < length history
 
 -- so is each name of a group
-abbrev pub AreNamed : List (List ℕ) → RoleContent → Type 0
+abbrev pub AreNamed : List SeenName → RoleContent → Type 0
 AreNamed history role = Each (IsNamed history) (names_in role)
+
+-- the name has one number in two histories
+abbrev pub IsNumberedAlike : List SeenName → List SeenName → SeenName → Type 0
+IsNumberedAlike these those name = number_of these name ≡ number_of those name
 
 -- ---- how a history grows
 
 -- a name that is none of a history yet is added as the last
-abbrev pub with_name : List (List ℕ) → List ℕ → List (List ℕ)
+abbrev pub with_name : List SeenName → SeenName → List SeenName
 with_name history name = if number_of history name == length history then history ++ name ∷ [] else history
 
-abbrev pub with_names : List (List ℕ) → List (List ℕ) → List (List ℕ)
+abbrev pub with_names : List SeenName → List SeenName → List SeenName
 with_names history [] = history
 with_names history (n ∷ ns) = with_names (with_name history n) ns
 
 -- the history of an item after it does this: that before, and then the names of a group that it has not had yet
-abbrev pub with_role_names : List (List ℕ) → RoleContent → List (List ℕ)
+abbrev pub with_role_names : List SeenName → RoleContent → List SeenName
 with_role_names history role = with_names history (names_in role)
 
 -- ---- the numbers by which the outputs of an item go, in the order of its values
 
 -- each name of a group by its number in the history, the answers of a check or a flag by 0
-abbrev pub item_outputs : RoleContent → List (List ℕ) → List ℕ
+abbrev pub item_outputs : RoleContent → List SeenName → List ℕ
 item_outputs (Group recursive bodies) history = numbers_of history (Group recursive bodies)
 item_outputs (Check negated word code flag) history = 0 ∷ []
 item_outputs Silent history = []

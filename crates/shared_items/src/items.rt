@@ -4,11 +4,10 @@ ghost use Rattle.std.specs.Prelude.{◌≡◌, ◌<◌, vec_len};
 ghost use Rattle.std.specs.Arc.{arc_value};
 ghost use Rattle.shared_items.specs.Naming.{role_at, with_role_names};
 
-use crate::names::{first_history, grown_history, item_outputs};
+use crate::names::{SeenName, first_history, grown_history, item_outputs};
 use binding_graph::{Resolved, ResolvedItem, Role};
 use std::alloc::{AllocError, Global};
 use std::sync::Arc;
-use text_values::Name;
 
 /// An item of a model without fault, with its history, both of which it shares with others. Contracts see what the item does
 /// and the names that it has had.
@@ -16,7 +15,7 @@ pub struct SharedItem {
     resolved: Arc<Resolved>,
     index: usize,
     /// The names that the item has had, in the order in which they came, with those that it has now.
-    history: Arc<Vec<Name>>,
+    history: Arc<Vec<SeenName>>,
     ghost within: { index < vec_len (arc_value resolved).items },
     ghost named: { with_role_names (arc_value history).items (role_at (arc_value resolved).items.items index) ≡ (arc_value history).items },
 }
@@ -41,7 +40,7 @@ impl SharedItem {
         alloc: Global,
         role: &Role,
         before: Option<&SharedItem>,
-    ) -> Result<Arc<Vec<Name>>, AllocError>
+    ) -> Result<Arc<Vec<SeenName>>, AllocError>
         ensures { let held = held_history (option_map (λ b. b.now) before.entry) in IfOk result (λ h. (arc_value h).items ≡ with_role_names held (role_content role.now)) }
     {
         match before {
@@ -90,7 +89,7 @@ impl SharedItem {
     }
 
     /// The names that the item has had.
-    pub fn history(&self) -> &[Name]
+    pub fn history(&self) -> &[SeenName]
         ensures { result.now ≡ shared_history self.now }
     {
         &self.history

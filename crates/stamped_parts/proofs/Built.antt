@@ -19,7 +19,7 @@ use Rattle.bench_nodes.specs.Nodes.{used, keys_at, is_slot, has_slot, slot_keys,
 use Rattle.bench_nodes.proofs.Laws.{used_test, used_slot}
 use Rattle.node_values.specs.Givens.{GivenContent, ForItem}
 use Rattle.shared_items.specs.Items.{RoleContent}
-use Rattle.shared_items.specs.Naming.{item_outputs}
+use Rattle.shared_items.specs.Naming.{SeenName, item_outputs}
 use Rattle.node_values.specs.Makes.{output_names}
 use Rattle.model_slots.specs.Tables.{ModelReading, Sound, Faulty, IsOrderedModel}
 use Rattle.model_slots.proofs.Ordered.{table_ordered}
@@ -69,7 +69,7 @@ no_inputs (s ∷ ss) kind of e = elim (cases_Bool (is_slot kind of s)) [
 module _ (s : State) where
   -- ---- what items and verdicts are given
 
-  item_given : (test of : ℕ) (keys : List SlotKey) (b : BeginsAsItem s of keys) → given_item (contents s (keys_at test keys)) ≡ Some (ForItem b.2 b.3)
+  item_given : (test of : ℕ) (keys : List SlotKey) (b : BeginsAsItem s of keys) → given_item (contents s (keys_at test keys)) ≡ Some (ForItem b.2 (item_outputs b.2 b.3))
   item_given test of keys b =
       ap (λ (ks : List SlotKey). given_item (contents s (keys_at test ks))) b.1
       ∙ ap (λ (c : Option PartContent). given_item (c ∷ contents s (keys_at test b.0))) b.4
@@ -87,12 +87,12 @@ module _ (s : State) where
     item_outputs_there kind test of name g begins has e = elim (cases_Bool (has_slot ss kind of)) [
       | inl t ↦ (
           let b = begins t in
-          let is : ForItem b.2 b.3 ≡ g = some_given (sym (item_given test of (slot_keys ss kind of) b) ∙ e) in
+          let is : ForItem b.2 (item_outputs b.2 b.3) ≡ g = some_given (sym (item_given test of (slot_keys ss kind of) b) ∙ e) in
           let part : OfRole b.2 b.3 ≡ OfRole has.0 has.1 = some_part (sym b.4 ∙ has.2) in
           let role : b.2 ≡ has.0 = part_role part in
           let history : b.3 ≡ has.1 = part_names part in
           subst (λ (h : GivenContent). Has (output_names h) name) is
-          (subst (λ (r : RoleContent). Has (item_outputs r b.3) name) (sym role) (subst (λ (h : List (List ℕ)). Has (item_outputs has.0 h) name) (sym history) has.3)))
+          (subst (λ (r : RoleContent). Has (item_outputs r b.3) name) (sym role) (subst (λ (h : List SeenName). Has (item_outputs has.0 h) name) (sym history) has.3)))
       | inr t ↦ absurd (let none = ap (λ (ks : List SlotKey). given_item (contents s (keys_at test ks))) (no_inputs ss kind of t) in none-some g (sym none ∙ e))
     ]
       where
@@ -102,10 +102,10 @@ module _ (s : State) where
         some_part : {a b : PartContent} → Some a ≡ Some b → a ≡ b
         some_part e = cc
 
-        part_role : {a b : RoleContent} {g h : List (List ℕ)} → OfRole a g ≡ OfRole b h → a ≡ b
+        part_role : {a b : RoleContent} {g h : List SeenName} → OfRole a g ≡ OfRole b h → a ≡ b
         part_role e = cc
 
-        part_names : {a b : RoleContent} {g h : List (List ℕ)} → OfRole a g ≡ OfRole b h → g ≡ h
+        part_names : {a b : RoleContent} {g h : List SeenName} → OfRole a g ≡ OfRole b h → g ≡ h
         part_names e = cc
 
     output_there : (test : ℕ) (kind : Kind) (of name : ℕ) → IsGoodOutput s kind of name → HasOutput s (Output (record { kind = kind; test = test; of = of }) name)

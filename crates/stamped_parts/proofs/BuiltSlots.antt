@@ -18,10 +18,10 @@ use Rattle.bench_nodes.specs.declared.table.SlotKey.{SlotKey}
 use Rattle.bench_nodes.specs.declared.table.SlotKey.TheVariants as slots
 use Rattle.bench_nodes.specs.Nodes.{is_slot, has_slot, slot_keys}
 use Rattle.shared_items.specs.Items.{RoleContent, held_history, body_content, role_content}
-use Rattle.shared_items.specs.Naming.{item_outputs, names_in, body_names, number_of}
+use Rattle.shared_items.specs.Naming.{SeenName, seen_name, item_outputs, names_in, body_names, number_of}
 use Rattle.shared_items.specs.declared.items.SharedItem.{SharedItem}
 use Rattle.model_slots.proofs.Lists.{each_append, has_map}
-use Rattle.model_slots.specs.Slots.{PlainSlot, plain, number_at, item_history, name_of, input_name, function_key, name_key, space_key, item_keys, slots_of, item_slots, used_slots, flag_key, answer_key, key_by, keys_by, verdict_keys, sound_slots}
+use Rattle.model_slots.specs.Slots.{PlainSlot, plain, number_at, item_history, no_name, name_of, input_name, function_key, name_key, space_key, item_keys, slots_of, item_slots, used_slots, flag_key, answer_key, key_by, keys_by, verdict_keys, sound_slots}
 use Rattle.model_slots.specs.Tables.{ModelReading, Sound, Faulty, name_count, IsNameOf, UsesNames, AreOrderedItems, space_slots, slots_in, all_slots}
 use Rattle.stamped_parts.specs.Contents.{OfRole, OfFault, role_part, part_history, item_content, State, histories, content}
 use Rattle.stamped_parts.specs.Built.{IsHeld, AreHeld, IsModelIn}
@@ -60,11 +60,11 @@ has_at (x ∷ xs) zero d lt = inl refl
 has_at (x ∷ xs) (suc p) d lt = inr (has_at xs p d (omega (arith, lt)))
 
 -- the number of each of its names is that of one of its outputs
-role_has_name : (role : Role) (p : ℕ) (history : List (List ℕ)) → p < name_count role → Has (item_outputs (role_content role) history) (number_of history (get_or (names_in (role_content role)) p []))
+role_has_name : (role : Role) (p : ℕ) (history : List SeenName) → p < name_count role → Has (item_outputs (role_content role) history) (number_of history (get_or (names_in (role_content role)) p no_name))
 role_has_name (roles.Group recursive bodies) p history lt =
     let names = body_names bodies.items in
-    let many : length names ≡ length bodies.items = length-map (map body_content bodies.items) (λ b. b.name) ∙ length-map bodies.items body_content in
-    has_map (number_of history) names (get_or names p []) (has_at names p [] (omega (arith, many, lt)))
+    let many : length names ≡ length bodies.items = length-map (map body_content bodies.items) seen_name ∙ length-map bodies.items body_content in
+    has_map (number_of history) names (get_or names p no_name) (has_at names p no_name (omega (arith, many, lt)))
 role_has_name (roles.Check check) p history lt = absurd (omega (arith, lt))
 role_has_name roles.Silent p history lt = absurd (omega (arith, lt))
 
@@ -84,7 +84,7 @@ history_beside (i ∷ is) (r ∷ rs) n = by_test (i.number == n) (history_beside
     by_test true later = own r
     by_test false later = later
 
-pub held_history_is : (s : State) (number : ℕ) (role : RoleContent) (history : List (List ℕ)) → content s 0 number ≡ Some (OfRole role history) → histories s number ≡ history
+pub held_history_is : (s : State) (number : ℕ) (role : RoleContent) (history : List SeenName) → content s 0 number ≡ Some (OfRole role history) → histories s number ≡ history
 held_history_is s number role history e = history_beside s.parts.table.items.items s.parts.roles.items number ∙ ap part_history e
 
 -- ---- good slots
@@ -92,7 +92,7 @@ held_history_is s number role history e = history_beside s.parts.table.items.ite
 module _ (s : State) where
   -- the item of that number does something that gives an output of that number
   abbrev pub HasRole : ℕ → ℕ → Type 0
-  HasRole of name = (role : RoleContent) × (history : List (List ℕ)) × (content s 0 of ≡ Some (OfRole role history)) × Has (item_outputs role history) name
+  HasRole of name = (role : RoleContent) × (history : List SeenName) × (content s 0 of ≡ Some (OfRole role history)) × Has (item_outputs role history) name
 
   abbrev pub IsGoodOutput : Kind → ℕ → ℕ → Type 0
   IsGoodOutput kinds.Space of name = Has (0 ∷ []) name
@@ -108,7 +108,7 @@ module _ (s : State) where
 
   -- an item's own text comes first, and it is known what it does
   abbrev pub BeginsAsItem : ℕ → List SlotKey → Type 0
-  BeginsAsItem of keys = (rest : List SlotKey) × (keys ≡ slots.Item of ∷ rest) × (role : RoleContent) × (history : List (List ℕ)) × (content s 0 of ≡ Some (OfRole role history))
+  BeginsAsItem of keys = (rest : List SlotKey) × (keys ≡ slots.Item of ∷ rest) × (role : RoleContent) × (history : List SeenName) × (content s 0 of ≡ Some (OfRole role history))
 
   abbrev pub AsksFlags : List SlotKey → Type 0
   AsksFlags keys = (rest : List SlotKey) × (keys ≡ slots.Test 2 ∷ slots.Test 3 ∷ rest)
@@ -143,7 +143,7 @@ module _ (s : State) where
         let name : input_name items n ≡ name_of (Some r) n.position = ap (λ (o : Option ResolvedItem). name_of o n.position) at in
         let known : histories s own ≡ own_held.0 = held_history_is s own (role_content r.role) own_held.0 own_held.1 in
         let number : number_of (histories s own) (input_name items n) ≡ number_of own_held.0 (name_of (Some r) n.position) =
-        ap (λ (h : List (List ℕ)). number_of h (input_name items n)) known ∙ ap (number_of own_held.0) name in
+        ap (λ (h : List SeenName). number_of h (input_name items n)) known ∙ ap (number_of own_held.0) name in
         (role_content r.role, own_held.0, own_held.1, subst (Has (item_outputs (role_content r.role) own_held.0)) (sym number) (role_has_name r.role n.position own_held.0 lt))
 
     names_good : (before : List ℕ) (names : List Input) → Each (λ name. Has before name.item × IsNameOf items name) names → Each IsGoodKey (map (name_key (histories s) numbers items) names)

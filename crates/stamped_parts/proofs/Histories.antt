@@ -6,7 +6,7 @@ use Rattle.std.proofs.lemmas.Option.{none-some}
 use Rattle.memo_core.specs.declared.keys.Kind.{Kind}
 use Rattle.shared_items.specs.declared.items.SharedItem.{SharedItem}
 use Rattle.shared_items.specs.Items.{RoleContent, shared_role, shared_history, held_history}
-use Rattle.shared_items.specs.Naming.{AreNamed, with_role_names}
+use Rattle.shared_items.specs.Naming.{SeenName, AreNamed, with_role_names}
 use Rattle.shared_items.proofs.Naming.{all_named, grown_begins, grown_stays}
 use Rattle.bench_nodes.specs.declared.table.ItemRow.{ItemRow}
 use Rattle.stamped_parts.specs.Contents.{PartContent, OfRole, role_part, item_content, part_history}
@@ -16,20 +16,20 @@ use Rattle.stamped_parts.specs.ItemLaws.{AreItemsAfter, GoesOn}
 
 -- ---- what parts hold
 
-pub same_role : {a b : RoleContent} {h g : List (List ℕ)} → Some (OfRole a h) ≡ Some (OfRole b g) → a ≡ b
+pub same_role : {a b : RoleContent} {h g : List SeenName} → Some (OfRole a h) ≡ Some (OfRole b g) → a ≡ b
 same_role e = cc
 
-pub same_history : {a b : RoleContent} {h g : List (List ℕ)} → Some (OfRole a h) ≡ Some (OfRole b g) → h ≡ g
+pub same_history : {a b : RoleContent} {h g : List SeenName} → Some (OfRole a h) ≡ Some (OfRole b g) → h ≡ g
 same_history e = cc
 
 -- the names of what an item does are in its history
-part_named : (item : Option SharedItem) (role : RoleContent) (history : List (List ℕ)) → role_part item ≡ Some (OfRole role history) → AreNamed history role
+part_named : (item : Option SharedItem) (role : RoleContent) (history : List SeenName) → role_part item ≡ Some (OfRole role history) → AreNamed history role
 part_named None role history e = absurd (none-some (OfRole role history) e)
 part_named (Some s) role history e =
     let named = all_named (shared_history s) (shared_history s) (shared_role s) (sym s.named) in
-    subst (λ (h : List (List ℕ)). AreNamed h role) (same_history e) (subst (λ (r : RoleContent). AreNamed (shared_history s) r) (same_role e) named)
+    subst (λ (h : List SeenName). AreNamed h role) (same_history e) (subst (λ (r : RoleContent). AreNamed (shared_history s) r) (same_role e) named)
 
-pub content_named : (rows : List ItemRow) (items : List (Option SharedItem)) (of : ℕ) (role : RoleContent) (history : List (List ℕ)) → item_content rows items of ≡ Some (OfRole role history) → AreNamed history role
+pub content_named : (rows : List ItemRow) (items : List (Option SharedItem)) (of : ℕ) (role : RoleContent) (history : List SeenName) → item_content rows items of ≡ Some (OfRole role history) → AreNamed history role
 content_named [] items of role history e = absurd (none-some (OfRole role history) e)
 content_named (i ∷ is) [] of role history e = absurd (none-some (OfRole role history) e)
 content_named (i ∷ is) (s ∷ ss) of role history e = elim (eqb_tells i.number of) [
@@ -45,13 +45,13 @@ history_held (Some b) = refl
 pub new_held : (s : SharedItem) (before : Option SharedItem) (role : RoleContent) (read : Option RoleContent) → shared_role s ≡ role → shared_history s ≡ with_role_names (held_history before) role → read ≡ Some role → role_part (Some s) ≡ held_after read (role_part before)
 new_held s before role read does named is =
     ap (λ (r : RoleContent). Some (OfRole r (shared_history s))) does
-    ∙ ap (λ (h : List (List ℕ)). Some (OfRole role h)) (named ∙ ap (λ (h : List (List ℕ)). with_role_names h role) (history_held before))
+    ∙ ap (λ (h : List SeenName). Some (OfRole role h)) (named ∙ ap (λ (h : List SeenName). with_role_names h role) (history_held before))
     ∙ sym (ap (λ (o : Option RoleContent). held_after o (role_part before)) is)
 
 -- ---- what parts hold after an edit
 
 abbrev AllNamed : Option PartContent → Type 0
-AllNamed before = (role : RoleContent) (history : List (List ℕ)) → before ≡ Some (OfRole role history) → AreNamed history role
+AllNamed before = (role : RoleContent) (history : List SeenName) → before ≡ Some (OfRole role history) → AreNamed history role
 
 none_goes_on : (before now : Option PartContent) → now ≡ None → GoesOn before now
 none_goes_on before now e = record {
@@ -70,11 +70,11 @@ read_goes_on read before now named e = record {
   grows = λ role other history names was is.
       (let begins = grown_begins history read in
       let now_is : with_role_names (part_history before) read ≡ names = same_history (sym e ∙ is) in
-      (begins.0, sym now_is ∙ ap (λ (h : List (List ℕ)). with_role_names h read) (ap part_history was) ∙ begins.1));
+      (begins.0, sym now_is ∙ ap (λ (h : List SeenName). with_role_names h read) (ap part_history was) ∙ begins.1));
   same = λ role history names was is.
       (let now_is : with_role_names (part_history before) read ≡ names = same_history (sym e ∙ is) in
       let does : read ≡ role = same_role (sym e ∙ is) in
-      sym now_is ∙ ap (λ (h : List (List ℕ)). with_role_names h read) (ap part_history was) ∙ ap (with_role_names history) does ∙ grown_stays history role (named role history was));
+      sym now_is ∙ ap (λ (h : List SeenName). with_role_names h read) (ap part_history was) ∙ ap (with_role_names history) does ∙ grown_stays history role (named role history was));
 }
 
 goes_on : (read : Option RoleContent) (before now : Option PartContent) → AllNamed before → now ≡ held_after read before → GoesOn before now

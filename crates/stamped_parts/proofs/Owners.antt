@@ -17,6 +17,7 @@ use Rattle.bench_nodes.specs.Nodes.{used}
 use Rattle.bench_nodes.proofs.Laws.{used_test, used_slot}
 use Rattle.shared_items.specs.declared.items.SharedItem.{SharedItem}
 use Rattle.shared_items.specs.Items.{RoleContent, role_content}
+use Rattle.shared_items.specs.Naming.{SeenName}
 use Rattle.model_slots.proofs.Lists.{each_append}
 use Rattle.model_slots.specs.Slots.{PlainSlot, number_at, item_keys, slots_of, item_slots, used_slots, verdict_keys}
 use Rattle.model_slots.specs.Tables.{ModelReading, Sound, Faulty, space_slots, slots_in, all_slots}
@@ -28,22 +29,22 @@ use Rattle.stamped_parts.proofs.BuiltSlots.{slot_inputs}
 
 -- ---- items
 
-kind_of_role : (r : Option SharedItem) (k : Option Kind) (role : RoleContent) (history : List (List ℕ)) (kind : Kind) → IsOfKind r k → role_part r ≡ Some (OfRole role history) → role_kind role ≡ Some kind → is_kind kind k ≡ true
+kind_of_role : (r : Option SharedItem) (k : Option Kind) (role : RoleContent) (history : List SeenName) (kind : Kind) → IsOfKind r k → role_part r ≡ Some (OfRole role history) → role_kind role ≡ Some kind → is_kind kind k ≡ true
 kind_of_role None k role history kind h e f = absurd (let g : None ≡ Some (OfRole role history) = e in cc)
 kind_of_role (Some item) k role history kind h e f =
     let is : k ≡ Some kind = h ∙ ap role_kind (same_role e) ∙ f in
     ap (is_kind kind) is ∙ eq-eqb (kind_number kind) (kind_number kind) refl
   where
-    same_role : {a b : RoleContent} {g h : List (List ℕ)} → Some (OfRole a g) ≡ Some (OfRole b h) → a ≡ b
+    same_role : {a b : RoleContent} {g h : List SeenName} → Some (OfRole a g) ≡ Some (OfRole b h) → a ≡ b
     same_role e = role_is (part_is e)
       where
         part_is : {a b : PartContent} → Some a ≡ Some b → a ≡ b
         part_is e = cc
 
-        role_is : {a b : RoleContent} {g h : List (List ℕ)} → OfRole a g ≡ OfRole b h → a ≡ b
+        role_is : {a b : RoleContent} {g h : List SeenName} → OfRole a g ≡ OfRole b h → a ≡ b
         role_is e = cc
 
-pub kind_there : (is : List ItemRow) (rs : List (Option SharedItem)) (ks : List (Option Kind)) (n : ℕ) (role : RoleContent) (history : List (List ℕ)) (kind : Kind) → AllZip IsOfKind rs ks → item_content is rs n ≡ Some (OfRole role history) → role_kind role ≡ Some kind → has_kind is ks kind n ≡ true
+pub kind_there : (is : List ItemRow) (rs : List (Option SharedItem)) (ks : List (Option Kind)) (n : ℕ) (role : RoleContent) (history : List SeenName) (kind : Kind) → AllZip IsOfKind rs ks → item_content is rs n ≡ Some (OfRole role history) → role_kind role ≡ Some kind → has_kind is ks kind n ≡ true
 kind_there [] rs ks n role history kind h e f = absurd (let g : None ≡ Some (OfRole role history) = e in cc)
 kind_there (i ∷ is) [] ks n role history kind h e f = absurd (let g : None ≡ Some (OfRole role history) = e in cc)
 kind_there (i ∷ is) (r ∷ rs) [] n role history kind h e f = absurd h
@@ -76,7 +77,7 @@ module _ (s : State) (kinds_are : AllZip IsOfKind s.parts.roles.items s.parts.ki
       (kind_there s.parts.table.items.items s.parts.roles.items s.parts.kinds.items own (role_content (roles.Check check)) h.0 kinds.Check kinds_are h.1 refl, tt)
   role_owned roles.Silent own keys h = tt
 
-  module _ (hs : ℕ → List (List ℕ)) where
+  module _ (hs : ℕ → List SeenName) where
     item_owned : (numbers : List ℕ) (items : List ResolvedItem) → AreHeld s numbers items → (i : ℕ) (o : Option ResolvedItem) → slice_get items i ≡ o → AllOwned (item_slots hs numbers items (number_at numbers i) o)
     item_owned numbers items held i None e = tt
     item_owned numbers items held i (Some r) e = role_owned r.role (number_at numbers i) (item_keys hs numbers items (number_at numbers i) r) (held i r e)
@@ -103,7 +104,7 @@ module _ (s : State) (kinds_are : AllZip IsOfKind s.parts.roles.items s.parts.ki
   spaces_owned (Sound id numbers items used ∷ ms) = (refl, tt)
   spaces_owned (Faulty id fault ∷ ms) = spaces_owned ms
 
-  pub all_owned : (hs : ℕ → List (List ℕ)) (ms : List ModelReading) → Each (IsModelIn s) ms → map (λ m. m.id) s.parts.table.models.items ≡ map model_id ms → AllOwned (all_slots hs ms)
+  pub all_owned : (hs : ℕ → List SeenName) (ms : List ModelReading) → Each (IsModelIn s) ms → map (λ m. m.id) s.parts.table.models.items ≡ map model_id ms → AllOwned (all_slots hs ms)
   all_owned hs ms h ids =
       each_append (λ p. IsOwned p.kind p.of p.inputs) (space_slots ms) (flat_map (slots_in hs) ms) (spaces_owned ms)
       (models_owned hs ms h (λ id g. model_there s.parts.table.models.items id (subst (λ (l : List ℕ). Has l id) (sym ids) g)))

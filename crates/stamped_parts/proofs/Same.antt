@@ -12,6 +12,7 @@ use Rattle.memo_core.specs.Graph.{Net}
 use Rattle.memo_core.specs.Step.{Has}
 use Rattle.node_values.specs.Givens.{GivenContent}
 use Rattle.shared_items.specs.declared.items.SharedItem.{SharedItem}
+use Rattle.shared_items.specs.Naming.{SeenName}
 use Rattle.bench_nodes.specs.declared.table.ItemRow.{ItemRow}
 use Rattle.bench_nodes.specs.Nodes.{part_stamp, used, inputs_of, inputs}
 use Rattle.bench_nodes.specs.Order.{AreOrderedAfter}
@@ -124,7 +125,7 @@ module _ (s t : State) (same : IsSameState s t) where
 
   pub built_is : (models : List ModelReading) → IsBuilt s models → IsBuilt t models
   built_is models built = record {
-    slots = ap (map plain) same.slots ∙ built.slots ∙ ap (λ (hs : ℕ → List (List ℕ)). all_slots hs models) (sym histories_are);
+    slots = ap (map plain) same.slots ∙ built.slots ∙ ap (λ (hs : ℕ → List SeenName). all_slots hs models) (sym histories_are);
     models_in = models_are models built.models_in;
     items = subst (λ l. AllZip (IsItemRow l) t.parts.table.items.items t.parts.roles.items) (sym same.last) (subst (λ rows. AllZip (IsItemRow s.parts.last) rows t.parts.roles.items) (sym same.item_rows) (subst (λ roles. AllZip (IsItemRow s.parts.last) s.parts.table.items.items roles) (sym same.roles) built.items));
     faults = subst (λ l. AllZip (IsModelRow l) t.parts.table.models.items t.parts.faults.items) (sym same.last) (subst (λ rows. AllZip (IsModelRow s.parts.last) rows t.parts.faults.items) (sym same.model_rows) (subst (λ faults. AllZip (IsModelRow s.parts.last) s.parts.table.models.items faults) (sym same.faults) built.faults));

@@ -8,6 +8,7 @@ use Rattle.binding_kinds.specs.declared.fault.ModelFault.{ModelFault}
 use Rattle.binding_graph.specs.declared.resolved.ResolvedItem.{ResolvedItem}
 use Rattle.shared_items.specs.declared.items.SharedItem.{SharedItem}
 use Rattle.shared_items.specs.Items.{RoleContent, role_content}
+use Rattle.shared_items.specs.Naming.{SeenName}
 use Rattle.bench_nodes.specs.declared.table.ItemRow.{ItemRow}
 use Rattle.bench_nodes.specs.declared.table.ModelRow.{ModelRow}
 use Rattle.bench_nodes.specs.declared.table.TestRow.{TestRow}
@@ -19,7 +20,7 @@ use Rattle.stamped_parts.specs.Contents.{OfRole, OfFault, State, histories, cont
 
 -- the part of the item of that number holds what the item does, with some history
 abbrev pub IsHeld : State → ℕ → RoleContent → Type 0
-IsHeld s number role = (history : List (List ℕ)) × (content s 0 number ≡ Some (OfRole role history))
+IsHeld s number role = (history : List SeenName) × (content s 0 number ≡ Some (OfRole role history))
 
 -- that of each item does
 abbrev pub AreHeld : State → List ℕ → List ResolvedItem → Type 0

@@ -10,6 +10,7 @@ use Rattle.text_values.specs.TestValue.{Formula, formula_of, steps_of}
 use Rattle.binding_kinds.specs.declared.fault.ModelFault.{ModelFault}
 use Rattle.shared_items.specs.declared.items.SharedItem.{SharedItem}
 use Rattle.shared_items.specs.Items.{RoleContent, shared_role, shared_history}
+use Rattle.shared_items.specs.Naming.{SeenName}
 use Rattle.bench_nodes.specs.declared.table.ItemRow.{ItemRow}
 use Rattle.bench_nodes.specs.declared.table.ModelRow.{ModelRow}
 use Rattle.bench_nodes.specs.declared.table.TestRow.{TestRow}
@@ -18,7 +19,7 @@ use Rattle.stamped_parts.specs.declared.parts.Parts.{Parts}
 
 -- what a part holds: of an item what it does, with its history, of a model its fault, and the parts of a test
 pub data PartContent : Type 0 where
-  OfRole : (role : RoleContent) (history : List (List ℕ)) → PartContent
+  OfRole : (role : RoleContent) (history : List SeenName) → PartContent
   OfFault : (fault : ModelFault) → PartContent
   OfCondition : (quantifier : Quantifier) (condition : Formula) → PartContent
   OfObserved : (observed : List Place) → PartContent
@@ -37,7 +38,7 @@ item_content (i ∷ is) [] number = None
 item_content (i ∷ is) (r ∷ rs) number = if i.number == number then role_part r else item_content is rs number
 
 -- the names that the item of a part has had
-abbrev pub part_history : Option PartContent → List (List ℕ)
+abbrev pub part_history : Option PartContent → List SeenName
 part_history (Some (OfRole role history)) = history
 part_history _ = []
 
@@ -76,7 +77,7 @@ abbrev pub state_of : Parts → List Test → State
 state_of parts tests = record { parts = parts; tests = tests }
 
 -- the histories of items, by their numbers
-abbrev pub histories : State → ℕ → List (List ℕ)
+abbrev pub histories : State → ℕ → List SeenName
 histories s = item_history s.parts.table.items.items s.parts.roles.items
 
 -- items have their part 0, models 1, tests the others

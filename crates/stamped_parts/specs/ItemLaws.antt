@@ -11,6 +11,7 @@ use Rattle.binding_graph.specs.declared.resolved.Role.TheVariants as resolved_ro
 use Rattle.binding_graph.specs.Resolved.{AreResolved}
 use Rattle.shared_items.specs.declared.items.SharedItem.{SharedItem}
 use Rattle.shared_items.specs.Items.{RoleContent, role_content}
+use Rattle.shared_items.specs.Naming.{SeenName}
 use Rattle.bench_nodes.specs.declared.table.ItemRow.{ItemRow}
 use Rattle.bench_nodes.specs.Nodes.{item_stamp}
 use Rattle.stamped_parts.specs.Contents.{PartContent, OfRole, State, item_content}
@@ -47,8 +48,8 @@ EqualItemsKeepStamps =
 
 -- what an item does goes on with its history, at the end of which alone names are added
 pub record GoesOn (before now : Option PartContent) : Type 0 where
-  pub grows : (role other : RoleContent) (history names : List (List ℕ)) → before ≡ Some (OfRole role history) → now ≡ Some (OfRole other names) → (more : List (List ℕ)) × (names ≡ history ++ more)
-  pub same : (role : RoleContent) (history names : List (List ℕ)) → before ≡ Some (OfRole role history) → now ≡ Some (OfRole role names) → names ≡ history
+  pub grows : (role other : RoleContent) (history names : List SeenName) → before ≡ Some (OfRole role history) → now ≡ Some (OfRole other names) → (more : List SeenName) × (names ≡ history ++ more)
+  pub same : (role : RoleContent) (history names : List SeenName) → before ≡ Some (OfRole role history) → now ≡ Some (OfRole role names) → names ≡ history
 
 -- each name keeps its number, and an item that does what it did has no new name
 abbrev pub HistoriesGoOn : Type 0
@@ -63,7 +64,7 @@ AreApart (f ∷ fs) = Each (λ g. f.number ≢ g.number) fs × AreApart fs
 
 -- the part holds that the item does this, with some history
 abbrev pub HoldsRole : Option PartContent → RoleContent → Type 0
-HoldsRole part role = (history : List (List ℕ)) × (part ≡ Some (OfRole role history))
+HoldsRole part role = (history : List SeenName) × (part ≡ Some (OfRole role history))
 
 -- the item does what is read of it
 abbrev pub DoesWhatIsRead : List ItemRow → List (Option SharedItem) → ItemFact → Type 0

@@ -17,6 +17,7 @@ use Rattle.memo_core.specs.Right.{Making}
 use Rattle.memo_core.specs.Step.{Has}
 use Rattle.node_values.specs.Givens.{GivenContent, ForSpace, ForItem, ForVerdict, ForFault}
 use Rattle.shared_items.specs.Items.{Check}
+use Rattle.shared_items.specs.Naming.{item_outputs}
 use Rattle.node_values.specs.Makes.{Makes, output_names}
 use Rattle.node_values.specs.Values.{NodeContent}
 use Rattle.bench_nodes.specs.declared.table.ItemRow.{ItemRow}
@@ -78,13 +79,14 @@ verdict_given kind proposition (Some (OfObserved observed) ∷ cs) flags = Some 
 verdict_given kind proposition (Some (OfFault fault) ∷ cs) flags = Some (ForFault (record { kind = kind; proposition = proposition; fault = fault }))
 verdict_given kind proposition _ flags = None
 
--- a space begins with initial values, an item with what it does, a verdict with a condition
+-- a space begins with initial values, an item with what it does, of which the history numbers the outputs, a verdict with a
+-- condition
 abbrev pub given_space : List (Option PartContent) → Option GivenContent
 given_space (Some (OfInit init) ∷ cs) = space_given init [] cs
 given_space _ = None
 
 abbrev pub given_item : List (Option PartContent) → Option GivenContent
-given_item (Some (OfRole role history) ∷ cs) = Some (ForItem role history)
+given_item (Some (OfRole role history) ∷ cs) = Some (ForItem role (item_outputs role history))
 given_item _ = None
 
 abbrev pub given_verdict : List (Option PartContent) → List (Option (List ℕ)) → Option GivenContent

@@ -10,7 +10,7 @@ use Rattle.bench_nodes.specs.declared.table.SlotKey.TheVariants as slots
 use Rattle.bench_nodes.specs.declared.table.TestRow.{TestRow}
 use Rattle.bench_nodes.specs.Nodes.{keys_at}
 use Rattle.node_values.specs.Givens.{GivenContent, ForSpace, ForItem, ForVerdict, ForFault, asked, faulted}
-use Rattle.shared_items.specs.Items.{shared_role, shared_history}
+use Rattle.shared_items.specs.Items.{shared_role, shared_history, shared_outputs}
 use Rattle.node_values.specs.Parts.{parts_of}
 use Rattle.stamped_parts.specs.declared.nodes.NodeParts.{NodeParts}
 use Rattle.stamped_parts.specs.declared.nodes.NodeParts.TheVariants as parts
@@ -91,6 +91,6 @@ flags_from s test keys (Some f) = option_map (λ n. n.now) f.name ∷ flags_read
 
 abbrev pub given_of : State → ℕ → NodeParts → GivenContent
 given_of s test (parts.Space init threads locations) = ForSpace (parts_of init.now threads.now locations.now)
-given_of s test (parts.Item item) = ForItem (shared_role item.now) (shared_history item.now)
+given_of s test (parts.Item item) = ForItem (shared_role item.now) (shared_outputs item.now)
 given_of s test (parts.Verdict condition observed keys) = ForVerdict (asked condition.now observed.now (flags_read s (keys_at test keys.now) (keys_at test keys.now)))
 given_of s test (parts.Fault condition fault) = ForFault (faulted condition.now fault)

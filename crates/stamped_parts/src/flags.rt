@@ -1,9 +1,10 @@
 //! Which of the checks among some inputs are flags, by their names.
 
-ghost use Rattle.std.specs.Prelude.{◌≡◌, ◌↔◌, ℕ, List, ◌∷◌, [], IsTrue, IfOk, Some, option_map};
+ghost use Rattle.std.specs.Prelude.{◌≡◌, ◌↔◌, List, ◌∷◌, [], IsTrue, IfOk, Some, option_map};
 ghost use Rattle.std.specs.Option.{option_to_list};
 ghost use Rattle.bench_nodes.specs.Nodes.{key_at, keys_at};
 ghost use Rattle.shared_items.specs.Items.{role_content};
+ghost use Rattle.shared_items.specs.Naming.{SeenName};
 ghost use Rattle.stamped_parts.specs.Contents.{OfRole, content, state_of};
 ghost use Rattle.stamped_parts.specs.States.{is_read, flag_name, flag_read, flags_read};
 ghost use Rattle.stamped_parts.specs.Views.{flag_at, flags_from};
@@ -48,7 +49,7 @@ fn is_read(test: u64, keys: &[SlotKey], item: u64) -> bool
 }
 
 fn role_flag(role: &Role) -> Option<&Name>
-    ensures { (history : List (List ℕ)) → option_map (λ n. n.now) result ≡ flag_name (Some (OfRole (role_content role.now) history)) }
+    ensures { (history : List SeenName) → option_map (λ n. n.now) result ≡ flag_name (Some (OfRole (role_content role.now) history)) }
 {
     match role {
         Role::Group { .. } => None,
