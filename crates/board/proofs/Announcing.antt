@@ -1,8 +1,8 @@
 -- The cells that an edit reaches, of some cells and of all.
 use Rattle.std.proofs.Common.{◌≡◌, ℕ, Vec, ◌<◌, ◌≤◌, ◌⊎◌, inl, inr, List, [], ◌∷◌, ◌++◌, length, map, Option, Some, None, Bool, true, false, IsTrue, refl, sym, ap, ◌∙◌, subst, arith}
-use Rattle.std.specs.Prelude.{slice_get, Contains, if◌then◌else◌, ◌==◌, ◌&&◌, nat_lt}
+use Rattle.std.specs.Prelude.{slice_get, Contains, if◌then◌else◌, ◌==◌, ◌&&◌}
 use Rattle.std.specs.List.{range_with_len}
-use Rattle.std.proofs.lemmas.Bool.{eqb-true, ltb-true, ltb-false, cases_lt}
+use Rattle.std.proofs.lemmas.Bool.{eqb-true, cases_lt}
 use Rattle.std.proofs.lemmas.Option.{slice_get_past}
 use Rattle.std.proofs.lemmas.List.Elements.{Contains-append_left, Contains-push, Contains-push_cases}
 use Rattle.std.proofs.lemmas.List.FromFn.{length-map-range_with_len, get_or-map-range_with_len}
@@ -78,10 +78,6 @@ no_slice (Some t) = refl
 not_of : (whole b : Bool) → b ≡ false → IsTrue (whole && b) → ⊥
 not_of true b e t = let f : true ≡ false = sym t ∙ e in cc
 not_of false b e t = let f : false ≡ true = t in cc
-
-either_by : (b : Bool) (m n : ℕ) → nat_lt m n ≡ b → (m < n) ⊎ (n ≤ m)
-either_by true m n e = inl (ltb-true m n e)
-either_by false m n e = inr (ltb-false m n e)
 
 -- ---- a test that is put
 

@@ -1,5 +1,5 @@
 -- Equal items and faults keep their stamps.
-use Rattle.std.proofs.Common.{◌≡◌, ◌≢◌, ℕ, zero, suc, ◌+◌, ◌<◌, ◌≤◌, inl, inr, List, [], ◌∷◌, ◌++◌, length, map, Option, Some, None, nat_lt, if◌then◌else◌, refl, sym, ap, subst, ◌∙◌, eq-eqb, ne_eqb, arith}
+use Rattle.std.proofs.Common.{◌≡◌, ◌≢◌, ℕ, zero, suc, ◌<◌, ◌≤◌, inl, inr, List, [], ◌∷◌, ◌++◌, length, map, Option, Some, None, nat_lt, if◌then◌else◌, refl, sym, ap, subst, ◌∙◌, eq-eqb, ne_eqb, arith}
 use Rattle.std.specs.List.{AllByRecursion as Each, remove}
 use Rattle.std.proofs.lemmas.Bool.Decides.{eqb_tells, leb_tells}
 use Rattle.text_values.specs.declared.test.Test.{Test}
@@ -30,10 +30,11 @@ use Rattle.edited_parts.specs.declared.edited.ModelParts.{ModelParts}
 use Rattle.edited_parts.specs.Edited.{held_models, AreModelsMade, AreModelsSame, AreModelsAfter, PutsModels}
 use Rattle.edited_parts.specs.Laws.{IsEdit}
 use Rattle.edited_parts.specs.Owed.{AreApart, ArePartsOf}
-use Rattle.edited_parts.specs.Readings.{fault_in, all_facts}
+use Rattle.edited_parts.specs.Readings.{fault_in, named_text, written_state, all_facts}
 use Rattle.edited_parts.proofs.PutModels.{held_content, held_stamp, held_ids, held_is, held_ids_are, held_were, content_pushed, were_pushed, were_removed}
 use Rattle.edited_parts.proofs.TestEdits.{fresh_above}
 use Rattle.edited_parts.specs.BenchCells.{EqualPartsKeepStamps, EqualItemsKeepNames}
+use Rattle.edited_parts.proofs.Facts.{all_said, texts_are}
 use Rattle.edited_parts.proofs.ItemKinds.{items_after}
 
 none_is : {A : Type 0} {a : A} → None ≡ Some a → ⊥
@@ -177,51 +178,61 @@ module _ (p q : Parts) (tests : List Test) (models : List NamedModel) (number : 
     | inr past ↦ rw past.0 (λ h. pushed_kept ms rs h)
   ]
 
-  model_faults : (after : List Test) (ms : List NamedModel) (m : ModelParts) → m.faults.items ≡ map fault_of ms → PutsModels p number m q → Keeps held ms m.rows.items → EqualPartsKeepStamps (state_of p tests) (state_of q after) 1
-  model_faults after ms m faults puts keeps of c =
+  model_faults : (next later : ℕ) (after : List Test) (ms : List NamedModel) (m : ModelParts) → m.faults.items ≡ map fault_of ms → PutsModels p number m q → Keeps held ms m.rows.items → EqualPartsKeepStamps (written_state p tests models next) (written_state q after ms later) 1
+  model_faults next later after ms m faults puts keeps of c =
       let was = held_is p.last p.table.models.items p.faults.items owed.built.faults of in
       rw (puts.rows, puts.faults, faults) (subst (λ (k : ℕ). fault_content p.table.models.items p.faults.items of ≡ Some c → fault_content (map (raised_model p.last number) m.rows.items) (map fault_of ms) of ≡ Some c → fault_stamp (map (raised_model p.last number) m.rows.items) of ≡ k) was.1
       (λ w i. keeps of c (was.0 ∙ w) i))
 
-same_faults : (p q : Parts) (tests after : List Test) → AreModelsSame p q → EqualPartsKeepStamps (state_of p tests) (state_of q after) 1
-same_faults p q tests after same of c was is = ap (λ (l : List ModelRow). fault_stamp l of) same.rows
+module _ (p q : Parts) (tests after : List Test) (models ms : List NamedModel) (next later : ℕ) (same : AreModelsSame p q) where
+  same_faults : EqualPartsKeepStamps (written_state p tests models next) (written_state q after ms later) 1
+  same_faults of c was is = ap (λ (l : List ModelRow). fault_stamp l of) same.rows
 
-same_items : (p q : Parts) (tests after : List Test) → AreModelsSame p q → EqualPartsKeepStamps (state_of p tests) (state_of q after) 0
-same_items p q tests after same of c was is = ap (λ (l : List ItemRow). item_stamp l of) same.items
+  same_items : EqualPartsKeepStamps (written_state p tests models next) (written_state q after ms later) 0
+  same_items of c was is = ap (λ (l : List ItemRow). item_stamp l of) same.items
 
-model_items : (p q : Parts) (tests : List Test) (models : List NamedModel) (r : Replacement) (number : ℕ) (m : ModelParts) → IsEdit p tests models r number (edited.Models m) q → AreModelsAfter p models r m → EqualPartsKeepStamps (state_of p tests) (state_of q (tests_with r tests)) 0
-model_items p q tests models r number m edit after of c was is =
-    items_keep_stamps p.last number p.table.items.items q.table.items.items p.roles.items q.roles.items q.kinds.items (all_facts (models_with r models)) (items_after p q tests models r number m edit after) of c was is
+module _ (p q : Parts) (tests : List Test) (models : List NamedModel) (r : Replacement) (number : ℕ) (m : ModelParts) (next later : ℕ) (edit : IsEdit p tests models r number (edited.Models m) q) (after : AreModelsAfter p models r m) (owed : ArePartsOf q (tests_with r tests) (models_with r models)) where
+  model_items : EqualPartsKeepStamps (written_state p tests models next) (written_state q (tests_with r tests) (models_with r models) later) 0
+  model_items of c was is =
+      items_keep_stamps p.last number p.table.items.items q.table.items.items p.roles.items q.roles.items (named_text models) q.kinds.items (all_facts (models_with r models)) (items_after p q tests models r number m edit after) of c
+      (sym (texts_are p.table.models.items models of (edit.owed).each_model) ∙ was)
+      (all_said (models_with r models) of ∙ sym (texts_are q.table.models.items (models_with r models) of owed.each_model) ∙ is)
 
-pub items_left : (p q : Parts) (tests : List Test) (models : List NamedModel) (r : Replacement) (number : ℕ) (e : EditedParts) → IsEdit p tests models r number e q → EqualPartsKeepStamps (state_of p tests) (state_of q (tests_with r tests)) 0
-items_left p q tests models (made.PutTest at test) number (edited.PutTest to row names) edit = same_items p q tests (put_at at test tests) edit.committed.changes.models
-items_left p q tests models (made.PutTest at test) number (edited.DropTest to) edit = absurd edit.is_made
-items_left p q tests models (made.PutTest at test) number (edited.Models m) edit = absurd edit.is_made
-items_left p q tests models (made.DropTest at) number (edited.PutTest to row names) edit = absurd edit.is_made
-items_left p q tests models (made.DropTest at) number (edited.DropTest to) edit = same_items p q tests (remove tests at) edit.committed.changes.models
-items_left p q tests models (made.DropTest at) number (edited.Models m) edit = absurd edit.is_made
-items_left p q tests models (made.PutModel at model next) number (edited.PutTest to row names) edit = absurd edit.is_made
-items_left p q tests models (made.PutModel at model next) number (edited.DropTest to) edit = absurd edit.is_made
-items_left p q tests models (made.PutModel at model next) number (edited.Models m) edit = model_items p q tests models (made.PutModel at model next) number m edit edit.is_made
-items_left p q tests models (made.DropModel at) number (edited.PutTest to row names) edit = absurd edit.is_made
-items_left p q tests models (made.DropModel at) number (edited.DropTest to) edit = absurd edit.is_made
-items_left p q tests models (made.DropModel at) number (edited.Models m) edit = model_items p q tests models (made.DropModel at) number m edit edit.is_made
+-- an item that says what it said, and a model that has the fault that it had, have their stamps of before
+abbrev pub AreStampsLeft : ℕ → Type 0
+AreStampsLeft part =
+    (p q : Parts) (tests : List Test) (models : List NamedModel) (r : Replacement) (number : ℕ) (e : EditedParts) (next later : ℕ) → IsEdit p tests models r number e q → ArePartsOf q (tests_with r tests) (models_with r models)
+    → EqualPartsKeepStamps (written_state p tests models next) (written_state q (tests_with r tests) (models_with r models) later) part
 
-pub faults_left : (p q : Parts) (tests : List Test) (models : List NamedModel) (r : Replacement) (number : ℕ) (e : EditedParts) → IsEdit p tests models r number e q → EqualPartsKeepStamps (state_of p tests) (state_of q (tests_with r tests)) 1
-faults_left p q tests models (made.PutTest at test) number (edited.PutTest to row names) edit = same_faults p q tests (put_at at test tests) edit.committed.changes.models
-faults_left p q tests models (made.PutTest at test) number (edited.DropTest to) edit = absurd edit.is_made
-faults_left p q tests models (made.PutTest at test) number (edited.Models m) edit = absurd edit.is_made
-faults_left p q tests models (made.DropTest at) number (edited.PutTest to row names) edit = absurd edit.is_made
-faults_left p q tests models (made.DropTest at) number (edited.DropTest to) edit = same_faults p q tests (remove tests at) edit.committed.changes.models
-faults_left p q tests models (made.DropTest at) number (edited.Models m) edit = absurd edit.is_made
-faults_left p q tests models (made.PutModel at model next) number (edited.PutTest to row names) edit = absurd edit.is_made
-faults_left p q tests models (made.PutModel at model next) number (edited.DropTest to) edit = absurd edit.is_made
-faults_left p q tests models (made.PutModel at model next) number (edited.Models m) edit =
-    model_faults p q tests models number edit.later edit.owed tests (put_at at model models) m edit.is_made.faults edit.committed.changes (put_kept p q tests models number edit.later edit.owed at (put_at at model models) m.rows.items edit.is_made.rows)
-faults_left p q tests models (made.DropModel at) number (edited.PutTest to row names) edit = absurd edit.is_made
-faults_left p q tests models (made.DropModel at) number (edited.DropTest to) edit = absurd edit.is_made
-faults_left p q tests models (made.DropModel at) number (edited.Models m) edit =
-    model_faults p q tests models number edit.later edit.owed tests (remove models at) m edit.is_made.faults edit.committed.changes (removed_kept p q tests models number edit.later edit.owed at (remove models at) m.rows.items edit.is_made.rows)
+pub items_left : AreStampsLeft 0
+items_left p q tests models (made.PutTest at test) number (edited.PutTest to row names) next later edit owed = same_items p q tests (put_at at test tests) models models next later edit.committed.changes.models
+items_left p q tests models (made.PutTest at test) number (edited.DropTest to) next later edit owed = absurd edit.is_made
+items_left p q tests models (made.PutTest at test) number (edited.Models m) next later edit owed = absurd edit.is_made
+items_left p q tests models (made.DropTest at) number (edited.PutTest to row names) next later edit owed = absurd edit.is_made
+items_left p q tests models (made.DropTest at) number (edited.DropTest to) next later edit owed = same_items p q tests (remove tests at) models models next later edit.committed.changes.models
+items_left p q tests models (made.DropTest at) number (edited.Models m) next later edit owed = absurd edit.is_made
+items_left p q tests models (made.PutModel at model fresh) number (edited.PutTest to row names) next later edit owed = absurd edit.is_made
+items_left p q tests models (made.PutModel at model fresh) number (edited.DropTest to) next later edit owed = absurd edit.is_made
+items_left p q tests models (made.PutModel at model fresh) number (edited.Models m) next later edit owed = model_items p q tests models (made.PutModel at model fresh) number m next later edit edit.is_made owed
+items_left p q tests models (made.DropModel at) number (edited.PutTest to row names) next later edit owed = absurd edit.is_made
+items_left p q tests models (made.DropModel at) number (edited.DropTest to) next later edit owed = absurd edit.is_made
+items_left p q tests models (made.DropModel at) number (edited.Models m) next later edit owed = model_items p q tests models (made.DropModel at) number m next later edit edit.is_made owed
+
+pub faults_left : AreStampsLeft 1
+faults_left p q tests models (made.PutTest at test) number (edited.PutTest to row names) next later edit owed = same_faults p q tests (put_at at test tests) models models next later edit.committed.changes.models
+faults_left p q tests models (made.PutTest at test) number (edited.DropTest to) next later edit owed = absurd edit.is_made
+faults_left p q tests models (made.PutTest at test) number (edited.Models m) next later edit owed = absurd edit.is_made
+faults_left p q tests models (made.DropTest at) number (edited.PutTest to row names) next later edit owed = absurd edit.is_made
+faults_left p q tests models (made.DropTest at) number (edited.DropTest to) next later edit owed = same_faults p q tests (remove tests at) models models next later edit.committed.changes.models
+faults_left p q tests models (made.DropTest at) number (edited.Models m) next later edit owed = absurd edit.is_made
+faults_left p q tests models (made.PutModel at model fresh) number (edited.PutTest to row names) next later edit owed = absurd edit.is_made
+faults_left p q tests models (made.PutModel at model fresh) number (edited.DropTest to) next later edit owed = absurd edit.is_made
+faults_left p q tests models (made.PutModel at model fresh) number (edited.Models m) next later edit owed =
+    model_faults p q tests models number edit.later edit.owed next later tests (put_at at model models) m edit.is_made.faults edit.committed.changes (put_kept p q tests models number edit.later edit.owed at (put_at at model models) m.rows.items edit.is_made.rows)
+faults_left p q tests models (made.DropModel at) number (edited.PutTest to row names) next later edit owed = absurd edit.is_made
+faults_left p q tests models (made.DropModel at) number (edited.DropTest to) next later edit owed = absurd edit.is_made
+faults_left p q tests models (made.DropModel at) number (edited.Models m) next later edit owed =
+    model_faults p q tests models number edit.later edit.owed next later tests (remove models at) m edit.is_made.faults edit.committed.changes (removed_kept p q tests models number edit.later edit.owed at (remove models at) m.rows.items edit.is_made.rows)
 
 -- ---- histories
 
@@ -233,7 +244,7 @@ same_names p q tests after same of role history names was is = held_names (sym i
 
 model_names : (p q : Parts) (tests : List Test) (models : List NamedModel) (r : Replacement) (number : ℕ) (m : ModelParts) → IsEdit p tests models r number (edited.Models m) q → AreModelsAfter p models r m → EqualItemsKeepNames (state_of p tests) (state_of q (tests_with r tests))
 model_names p q tests models r number m edit after of =
-    (histories_go_on p.last number p.table.items.items q.table.items.items p.roles.items q.roles.items q.kinds.items (all_facts (models_with r models)) (items_after p q tests models r number m edit after) of).same
+    (histories_go_on p.last number p.table.items.items q.table.items.items p.roles.items q.roles.items (named_text models) q.kinds.items (all_facts (models_with r models)) (items_after p q tests models r number m edit after) of).same
 
 pub names_left : (p q : Parts) (tests : List Test) (models : List NamedModel) (r : Replacement) (number : ℕ) (e : EditedParts) → IsEdit p tests models r number e q → EqualItemsKeepNames (state_of p tests) (state_of q (tests_with r tests))
 names_left p q tests models (made.PutTest at test) number (edited.PutTest to row names) edit = same_names p q tests (put_at at test tests) edit.committed.changes.models

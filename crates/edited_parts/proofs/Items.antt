@@ -1,7 +1,10 @@
 -- The items of a cell, as its state holds them.
-use Rattle.std.proofs.Common.{ℕ, ◌≡◌, ◌<◌, inl, inr, arith, true, List, [], ◌∷◌, ◌++◌, map, get_or, Option, Some, None, option_map, slice_get, refl, sym, ap, ◌∙◌, subst}
+use Rattle.std.proofs.Common.{ℕ, ◌≡◌, ◌<◌, inl, inr, arith, true, List, [], ◌∷◌, ◌++◌, length, map, get_or, Option, Some, None, option_map, slice_get, refl, sym, ap, ◌∙◌, subst}
 use Rattle.std.specs.List.{AllByRecursion as Each}
+use Rattle.std.proofs.lemmas.Option.{same_Some, slice_get_within}
 use Rattle.std.proofs.lemmas.Simd.{map-map}
+use Rattle.text_values.specs.declared.model.Item.{Item}
+use Rattle.text_values.specs.ModelValue.{Clause}
 use Rattle.memo_core.specs.declared.keys.Kind.{Kind}
 use Rattle.memo_core.specs.declared.keys.Kind.TheVariants as kinds
 use Rattle.memo_core.specs.Step.{Has}
@@ -9,22 +12,26 @@ use Rattle.binding_kinds.specs.declared.scope.Input.{Input}
 use Rattle.binding_graph.specs.declared.resolved.ResolvedItem.{ResolvedItem}
 use Rattle.binding_graph.specs.declared.resolved.Role.{Role}
 use Rattle.binding_graph.specs.declared.resolved.Role.TheVariants as roles
+use Rattle.binding_graph.specs.Reach.{UsesAt, IsReached, AreReached}
+use Rattle.binding_graph.proofs.Reaching.{leads_more}
 use Rattle.shared_items.specs.Items.{RoleContent, Group, Check, Silent, role_content}
 use Rattle.shared_items.specs.Naming.{SeenName, names_in, number_of}
 use Rattle.bench_nodes.specs.declared.table.SlotKey.{SlotKey}
 use Rattle.bench_nodes.specs.declared.table.SlotKey.TheVariants as slots
 use Rattle.bench_nodes.specs.Nodes.{has_slot, slot_keys}
+use Rattle.bench_slices.specs.Slices.{clause_at}
 use Rattle.model_slots.specs.Slots.{no_name, name_of as bound_name, input_name, number_at, space_key, item_keys, name_key, flag_key, answer_key, key_by, keys_by, verdict_keys}
 use Rattle.model_slots.specs.Tables.{ModelReading, Sound, IsNameOf, UsesNames, AreOrderedItems, name_count}
-use Rattle.model_slots.proofs.Lists.{each_map, each_to, each_has, has_map}
+use Rattle.model_slots.proofs.Lists.{each_map, each_to, each_has, has_map, has_contains, contains_has}
 use Rattle.slot_laws.specs.Closed.{AreClosed, IsPassedOn}
 use Rattle.slot_laws.proofs.Items.{resolved_closed}
 use Rattle.stamped_parts.specs.Built.{IsHeld, AreHeld, IsModelIn}
 use Rattle.stamped_parts.specs.Contents.{PartContent, OfRole, State, histories, content}
+use Rattle.stamped_parts.specs.Written.{WrittenModel, WrittenState}
 use Rattle.stamped_parts.proofs.BuiltSlots.{held_history_is}
 use Rattle.edited_parts.specs.Kept.{IsKept, IsRead}
 use Rattle.edited_parts.proofs.Origin.{HasKind, verdict_keys_are, item_keys_are, item_there, verdict_there, space_there}
-use Rattle.edited_parts.specs.BenchCells.{CellItem, name_of, cell_item, item_at, cell_items}
+use Rattle.edited_parts.specs.BenchCells.{CellItem, name_of, cell_item, item_at, cell_items, HoldsText, HoldsModel}
 
 -- ---- keys by the items of a cell
 
@@ -85,8 +92,8 @@ names_are s numbers items (n ∷ ns) held are =
     ap (λ (k : SlotKey). k ∷ map (name_key (histories s) numbers items) ns) (name_is s numbers items n held are.0)
     ∙ ap (λ (l : List SlotKey). used_key (content s 0) (name_of numbers n) ∷ l) (names_are s numbers items ns held are.1)
 
-pub keys_are : (s : State) (numbers : List ℕ) (items : List ResolvedItem) (own : ℕ) (r : ResolvedItem) → AreHeld s numbers items → Each (IsNameOf items) r.inputs.items → item_keys (histories s) numbers items own r ≡ keys_of (content s 0) (cell_item numbers own r)
-keys_are s numbers items own r held are =
+pub keys_are : (s : State) (numbers : List ℕ) (items : List ResolvedItem) (own : ℕ) (said : Option Clause) (r : ResolvedItem) → AreHeld s numbers items → Each (IsNameOf items) r.inputs.items → item_keys (histories s) numbers items own r ≡ keys_of (content s 0) (cell_item numbers own said r)
+keys_are s numbers items own said r held are =
     let f = map-map slots.Item (number_at numbers) r.functions.items in
     ap (λ (l : List SlotKey). slots.Item own ∷ l ++ space_key ∷ map (name_key (histories s) numbers items) r.inputs.items) (sym f)
     ∙ ap (λ (l : List SlotKey). slots.Item own ∷ map slots.Item (map (number_at numbers) r.functions.items) ++ space_key ∷ l) (names_are s numbers items r.inputs.items held are)
@@ -105,51 +112,56 @@ answer_is (roles.Group recursive bodies) own = refl
 answer_is (roles.Check check) own = refl
 answer_is roles.Silent own = refl
 
-one_is : (f : Role → ℕ → List SlotKey) (g : RoleContent → ℕ → List SlotKey) → ((role : Role) (own : ℕ) → f role own ≡ g (role_content role) own) → (numbers : List ℕ) (own : ℕ) (o : Option ResolvedItem) → key_by f own o ≡ by_item g (option_map (cell_item numbers own) o)
-one_is f g same numbers own None = refl
-one_is f g same numbers own (Some r) = same r.role own
+one_is : (f : Role → ℕ → List SlotKey) (g : RoleContent → ℕ → List SlotKey) → ((role : Role) (own : ℕ) → f role own ≡ g (role_content role) own) → (numbers : List ℕ) (own : ℕ) (said : Option Clause) (o : Option ResolvedItem) → key_by f own o ≡ by_item g (option_map (cell_item numbers own said) o)
+one_is f g same numbers own said None = refl
+one_is f g same numbers own said (Some r) = same r.role own
 
-all_are : (f : Role → ℕ → List SlotKey) (g : RoleContent → ℕ → List SlotKey) → ((role : Role) (own : ℕ) → f role own ≡ g (role_content role) own) → (numbers : List ℕ) (items : List ResolvedItem) (used : List ℕ) → keys_by f numbers items used ≡ by_items g (cell_items numbers items used)
-all_are f g same numbers items [] = refl
-all_are f g same numbers items (i ∷ is) =
-    ap (λ (l : List SlotKey). l ++ keys_by f numbers items is) (one_is f g same numbers (number_at numbers i) (slice_get items i))
-    ∙ ap (λ (l : List SlotKey). by_item g (item_at numbers items i) ++ l) (all_are f g same numbers items is)
+module _ (numbers : List ℕ) (texts : List Item) (items : List ResolvedItem) where
+  all_are : (f : Role → ℕ → List SlotKey) (g : RoleContent → ℕ → List SlotKey) → ((role : Role) (own : ℕ) → f role own ≡ g (role_content role) own) → (used : List ℕ) → keys_by f numbers items used ≡ by_items g (cell_items numbers texts items used)
+  all_are f g same [] = refl
+  all_are f g same (i ∷ is) =
+      ap (λ (l : List SlotKey). l ++ keys_by f numbers items is) (one_is f g same numbers (number_at numbers i) (clause_at texts i) (slice_get items i))
+      ∙ ap (λ (l : List SlotKey). by_item g (item_at numbers texts items i) ++ l) (all_are f g same is)
 
-pub verdict_are : (numbers : List ℕ) (items : List ResolvedItem) (used : List ℕ) → verdict_keys numbers items used ≡ cell_keys (cell_items numbers items used)
-verdict_are numbers items used =
-    ap (λ (l : List SlotKey). slots.Test 2 ∷ slots.Test 3 ∷ l ++ space_key ∷ keys_by answer_key numbers items used) (all_are flag_key flag_keys flag_is numbers items used)
-    ∙ ap (λ (l : List SlotKey). slots.Test 2 ∷ slots.Test 3 ∷ by_items flag_keys (cell_items numbers items used) ++ space_key ∷ l) (all_are answer_key answer_keys answer_is numbers items used)
+  pub verdict_are : (used : List ℕ) → verdict_keys numbers items used ≡ cell_keys (cell_items numbers texts items used)
+  verdict_are used =
+      ap (λ (l : List SlotKey). slots.Test 2 ∷ slots.Test 3 ∷ l ++ space_key ∷ keys_by answer_key numbers items used) (all_are flag_key flag_keys flag_is used)
+      ∙ ap (λ (l : List SlotKey). slots.Test 2 ∷ slots.Test 3 ∷ by_items flag_keys (cell_items numbers texts items used) ++ space_key ∷ l) (all_are answer_key answer_keys answer_is used)
 
 -- ---- the item of the model
 
-pub record IsItemOf (numbers : List ℕ) (items : List ResolvedItem) (used : List ℕ) (c : CellItem) : Type 0 where
+pub record IsItemOf (numbers : List ℕ) (texts : List Item) (items : List ResolvedItem) (used : List ℕ) (c : CellItem) : Type 0 where
   pub index : ℕ
   pub item : ResolvedItem
   pub inside : Has used index
   pub found : slice_get items index ≡ Some item
-  pub is : cell_item numbers (number_at numbers index) item ≡ c
+  pub is : cell_item numbers (number_at numbers index) (clause_at texts index) item ≡ c
 
-found_item : (numbers : List ℕ) (items : List ResolvedItem) (used : List ℕ) (i : ℕ) (c : CellItem) (o : Option ResolvedItem) → Has used i → slice_get items i ≡ o → option_map (cell_item numbers (number_at numbers i)) o ≡ Some c → IsItemOf numbers items used c
-found_item numbers items used i c None inside at e = absurd (let f : None ≡ Some c = e in cc)
-found_item numbers items used i c (Some r) inside at e = record { index = i; item = r; inside = inside; found = at; is = some_is (cell_item numbers (number_at numbers i) r) c e }
-  where
-    some_is : (a b : CellItem) → Some a ≡ Some b → a ≡ b
-    some_is a b e = cc
+module _ (numbers : List ℕ) (texts : List Item) (items : List ResolvedItem) (used : List ℕ) where
+  found_item : (i : ℕ) (c : CellItem) (o : Option ResolvedItem) → Has used i → slice_get items i ≡ o → option_map (cell_item numbers (number_at numbers i) (clause_at texts i)) o ≡ Some c → IsItemOf numbers texts items used c
+  found_item i c None inside at e = absurd (let f : None ≡ Some c = e in cc)
+  found_item i c (Some r) inside at e = record { index = i; item = r; inside = inside; found = at; is = same_Some _ _ e }
 
-among : (numbers : List ℕ) (items : List ResolvedItem) (used is : List ℕ) → ((i : ℕ) → Has is i → Has used i) → (c : CellItem) → Has (cell_items numbers items is) (Some c) → IsItemOf numbers items used c
-among numbers items used [] within c h = absurd h
-among numbers items used (i ∷ is) within c (inl e) = found_item numbers items used i c (slice_get items i) (within i (inl refl)) refl e
-among numbers items used (i ∷ is) within c (inr h) = among numbers items used is (λ k g. within k (inr g)) c h
+  among : (is : List ℕ) → ((i : ℕ) → Has is i → Has used i) → (c : CellItem) → Has (cell_items numbers texts items is) (Some c) → IsItemOf numbers texts items used c
+  among [] within c h = absurd h
+  among (i ∷ is) within c (inl e) = found_item i c (slice_get items i) (within i (inl refl)) refl e
+  among (i ∷ is) within c (inr h) = among is (λ k g. within k (inr g)) c h
 
-pub item_of : (numbers : List ℕ) (items : List ResolvedItem) (used : List ℕ) (c : CellItem) → Has (cell_items numbers items used) (Some c) → IsItemOf numbers items used c
-item_of numbers items used c h = among numbers items used used (λ i g. g) c h
+  pub item_of : (c : CellItem) → Has (cell_items numbers texts items used) (Some c) → IsItemOf numbers texts items used c
+  item_of c h = among used (λ i g. g) c h
 
 kind_is : (role : Role) (kind : Kind) → IsOfKind (role_content role) kind → HasKind role kind
 kind_is (roles.Group recursive bodies) kind h = h
 kind_is (roles.Check check) kind h = h
 kind_is roles.Silent kind h = h
 
--- ---- the names that an item uses
+-- ---- the names and the functions that an item uses
+
+-- the number is that of one of the items
+pub record IsAmong (cs : List (Option CellItem)) (of : ℕ) : Type 0 where
+  pub item : CellItem
+  pub there : Has cs (Some item)
+  pub number : item.number ≡ of
 
 -- the number is that of a group among the items
 pub record IsGroupAmong (cs : List (Option CellItem)) (of : ℕ) : Type 0 where
@@ -177,30 +189,59 @@ is_group r position lt = by_role r.role lt
     by_role (roles.Check check) lt = absurd (omega (arith, lt))
     by_role roles.Silent lt = absurd (omega (arith, lt))
 
-group_among : (numbers : List ℕ) (items : List ResolvedItem) (used : List ℕ) (name : Input) → Has used name.item → IsNameOf items name → IsGroupAmong (cell_items numbers items used) (name_of numbers name).0
-group_among numbers items used name inside is =
-    let c = cell_item numbers (number_at numbers name.item) is.0 in record {
-      group = c;
-      there = subst (Has (cell_items numbers items used)) (ap (option_map (cell_item numbers (number_at numbers name.item))) is.1) (has_map (item_at numbers items) used name.item inside);
-      number = refl;
-      kind = is_group is.0 name.position is.2;
-    }
+module _ (numbers : List ℕ) (texts : List Item) (items : List ResolvedItem) (used : List ℕ) where
+  item_there_at : (index : ℕ) (r : ResolvedItem) → Has used index → slice_get items index ≡ Some r → Has (cell_items numbers texts items used) (Some (cell_item numbers (number_at numbers index) (clause_at texts index) r))
+  item_there_at index r inside at =
+      subst (Has (cell_items numbers texts items used)) (ap (option_map (cell_item numbers (number_at numbers index) (clause_at texts index))) at) (has_map (item_at numbers texts items) used index inside)
+
+  group_among : (name : Input) → Has used name.item → IsNameOf items name → IsGroupAmong (cell_items numbers texts items used) (name_of numbers name).0
+  group_among name inside is = record {
+    group = cell_item numbers (number_at numbers name.item) (clause_at texts name.item) is.0;
+    there = item_there_at name.item is.0 inside is.1;
+    number = refl;
+    kind = is_group is.0 name.position is.2;
+  }
+
+  -- a function that one of them applies is among them
+  function_among : AreReached items used → (index : ℕ) (r : ResolvedItem) → Has used index → slice_get items index ≡ Some r → (f : ℕ) (q : ResolvedItem) → Has r.functions.items f → slice_get items f ≡ Some q → IsAmong (cell_items numbers texts items used) (number_at numbers f)
+  function_among reached index r inside at f q applied found =
+      let is = ((reached.exact index).0 (has_contains used index inside)).1 in
+      let uses : UsesAt items index f = (r, at, inr (has_contains r.functions.items f applied)) in
+      let more : IsReached items f = record { from = is.from; is_check = is.is_check; through = is.through ++ f ∷ []; leads = leads_more items is.from is.through index f is.leads uses } in
+      record {
+        item = cell_item numbers (number_at numbers f) (clause_at texts f) q;
+        there = item_there_at f q (contains_has used f ((reached.exact f).1 (slice_get_within items f q found, more))) found;
+        number = refl;
+      }
 
 -- ---- what the state holds of the cell
 
-pub record IsCellIn (s : State) (id : ℕ) (cs : List (Option CellItem)) : Type 0 where
-  pub verdict_keys : slot_keys s.parts.table.slots.items kinds.Verdict id ≡ cell_keys cs
-  pub item_keys : (c : CellItem) (kind : Kind) → Has cs (Some c) → IsOfKind c.role kind → slot_keys s.parts.table.slots.items kind c.number ≡ keys_of (content s 0) c
-  pub held : (c : CellItem) → Has cs (Some c) → IsHeld s c.number c.role
-  pub functions : (c : CellItem) → Has cs (Some c) → Each (λ f. IsHeld s f Silent) c.functions
+pub record IsCellIn (w : WrittenState) (id : ℕ) (cs : List (Option CellItem)) : Type 0 where
+  pub verdict_keys : slot_keys w.state.parts.table.slots.items kinds.Verdict id ≡ cell_keys cs
+  pub item_keys : (c : CellItem) (kind : Kind) → Has cs (Some c) → IsOfKind c.role kind → slot_keys w.state.parts.table.slots.items kind c.number ≡ keys_of (content w.state 0) c
+  pub held : (c : CellItem) → Has cs (Some c) → IsHeld w.state c.number c.role
+  pub said : (c : CellItem) → Has cs (Some c) → HoldsText w c.number c.said
+  pub functions : (c : CellItem) → Has cs (Some c) → Each (IsAmong cs) c.functions
   pub names : (c : CellItem) → Has cs (Some c) → Each (λ n. IsGroupAmong cs n.0) c.names
-  pub has_space : has_slot s.parts.table.slots.items kinds.Space 0 ≡ true
-  pub has_item : (c : CellItem) (kind : Kind) → Has cs (Some c) → IsOfKind c.role kind → has_slot s.parts.table.slots.items kind c.number ≡ true
-  pub has_verdict : has_slot s.parts.table.slots.items kinds.Verdict id ≡ true
+  pub has_space : has_slot w.state.parts.table.slots.items kinds.Space 0 ≡ true
+  pub has_item : (c : CellItem) (kind : Kind) → Has cs (Some c) → IsOfKind c.role kind → has_slot w.state.parts.table.slots.items kind c.number ≡ true
+  pub has_verdict : has_slot w.state.parts.table.slots.items kinds.Verdict id ≡ true
 
-module _ (s : State) (models : List ModelReading) (k : IsKept s models) (id : ℕ) (numbers : List ℕ) (items : List ResolvedItem) (used : List ℕ) (there : Has models (Sound id numbers items used)) where
+module _ (w : WrittenState) (own_numbers : List ℕ) (texts : List Item) (id : ℕ) (numbers : List ℕ) (items : List ResolvedItem) (used : List ℕ) (h : HoldsModel w (record { numbers = own_numbers; items = texts; reading = Sound id numbers items used })) where
+  abbrev s : State
+  s = w.state
+
+  abbrev models : List ModelReading
+  models = map (λ m. m.reading) w.models
+
   abbrev cs : List (Option CellItem)
-  cs = cell_items numbers items used
+  cs = cell_items numbers texts items used
+
+  abbrev k : IsKept s models
+  k = h.kept
+
+  there : Has models (Sound id numbers items used)
+  there = has_map (λ (m : WrittenModel). m.reading) w.models (record { numbers = own_numbers; items = texts; reading = Sound id numbers items used }) h.there
 
   model_in : IsModelIn s (Sound id numbers items used)
   model_in = each_has (IsModelIn s) models k.built.models_in (Sound id numbers items used) there
@@ -211,48 +252,61 @@ module _ (s : State) (models : List ModelReading) (k : IsKept s models) (id : �
   closed : AreClosed items
   closed = resolved_closed read_from.0 items read_from.1.resolved
 
+  the_item : (c : CellItem) → Has cs (Some c) → IsItemOf numbers texts items used c
+  the_item c g = item_of numbers texts items used c g
+
   held : (c : CellItem) → Has cs (Some c) → IsHeld s c.number c.role
-  held c h = let i = item_of numbers items used c h in
+  held c g = let i = the_item c g in
       subst (λ (d : CellItem). IsHeld s d.number d.role) i.is (model_in.1 i.index i.item i.found)
 
-  passed : (r : ResolvedItem) (f : ℕ) → IsPassedOn items r f → IsHeld s (number_at numbers f) Silent
-  passed r f p = let part = model_in.1 f p.0 p.1 in (part.0, part.1 ∙ ap (λ (role : Role). Some (OfRole (role_content role) part.0)) p.2)
+  said : (c : CellItem) → Has cs (Some c) → HoldsText w c.number c.said
+  said c g = let i = the_item c g in
+      let lt : i.index < length numbers = subst (λ (n : ℕ). i.index < n) (sym (read_from.1).numbered) (slice_get_within items i.index i.item i.found) in
+      subst (λ (d : CellItem). HoldsText w d.number d.said) i.is (h.texts i.index lt)
 
-  functions : (c : CellItem) → Has cs (Some c) → Each (λ f. IsHeld s f Silent) c.functions
-  functions c h = let i = item_of numbers items used c h in
-      subst (λ (d : CellItem). Each (λ f. IsHeld s f Silent) d.functions) i.is
-      (each_map (number_at numbers) (λ f. IsHeld s f Silent) i.item.functions.items
-      (each_to (IsPassedOn items i.item) (λ f. IsHeld s (number_at numbers f) Silent) (passed i.item) i.item.functions.items (closed i.index i.item i.found).functions))
+  functions : (c : CellItem) → Has cs (Some c) → Each (IsAmong cs) c.functions
+  functions c g = let i = the_item c g in
+      subst (λ (d : CellItem). Each (IsAmong cs) d.functions) i.is
+      (each_map (number_at numbers) (IsAmong cs) i.item.functions.items (all_among i.index i.item i.inside i.found i.item.functions.items (λ f e. e)))
+    where
+      all_among : (index : ℕ) (r : ResolvedItem) → Has used index → slice_get items index ≡ Some r → (fs : List ℕ) → ((f : ℕ) → Has fs f → Has r.functions.items f) → Each (λ f. IsAmong cs (number_at numbers f)) fs
+      all_among index r inside at [] within = tt
+      all_among index r inside at (f ∷ fs) within = (
+        (let passed = each_has (IsPassedOn items r) r.functions.items (closed index r at).functions f (within f (inl refl)) in
+            function_among numbers texts items used (read_from.1).reached index r inside at f passed.0 (within f (inl refl)) passed.1),
+        all_among index r inside at fs (λ k e. within k (inr e)),
+      )
 
   names : (c : CellItem) → Has cs (Some c) → Each (λ n. IsGroupAmong cs n.0) c.names
-  names c h = let i = item_of numbers items used c h in
+  names c g = let i = the_item c g in
       subst (λ (d : CellItem). Each (λ n. IsGroupAmong cs n.0) d.names) i.is
       (each_map (name_of numbers) (λ n. IsGroupAmong cs n.0) i.item.inputs.items
-      (each_to (λ name. Has used name.item × IsNameOf items name) (λ name. IsGroupAmong cs (name_of numbers name).0) (λ name g. group_among numbers items used name g.0 g.1) i.item.inputs.items
-      (ordered items used [] used (λ j g. absurd g) (λ j g. g) model_in.0 i.index i.item i.inside i.found)))
+      (each_to (λ name. Has used name.item × IsNameOf items name) (λ name. IsGroupAmong cs (name_of numbers name).0) (λ name e. group_among numbers texts items used name e.0 e.1) i.item.inputs.items
+      (ordered items used [] used (λ j e. absurd e) (λ j e. e) model_in.0 i.index i.item i.inside i.found)))
 
   abbrev HasKeys : CellItem → Kind → Type 0
   HasKeys c kind = slot_keys s.parts.table.slots.items kind c.number ≡ keys_of (content s 0) c
 
   keys : (c : CellItem) (kind : Kind) → Has cs (Some c) → IsOfKind c.role kind → HasKeys c kind
-  keys c kind h of = let i = item_of numbers items used c h in
+  keys c kind g of = let i = the_item c g in
       let own : HasKind i.item.role kind = kind_is i.item.role kind (subst (λ (d : CellItem). IsOfKind d.role kind) (sym i.is) of) in
       subst (λ (d : CellItem). HasKeys d kind) i.is
       (item_keys_are models k.models_apart k.read (histories s) s.parts.table.slots.items k.built.slots id numbers items used there i.index i.item kind i.inside i.found own
-      ∙ keys_are s numbers items (number_at numbers i.index) i.item model_in.1
-      (each_to (λ (n : Input). (n.item < i.index) × IsNameOf items n) (IsNameOf items) (λ n g. g.1) i.item.inputs.items (closed i.index i.item i.found).names))
+      ∙ keys_are s numbers items (number_at numbers i.index) (clause_at texts i.index) i.item model_in.1
+      (each_to (λ (n : Input). (n.item < i.index) × IsNameOf items n) (IsNameOf items) (λ n e. e.1) i.item.inputs.items (closed i.index i.item i.found).names))
 
   has_item : (c : CellItem) (kind : Kind) → Has cs (Some c) → IsOfKind c.role kind → has_slot s.parts.table.slots.items kind c.number ≡ true
-  has_item c kind h of = let i = item_of numbers items used c h in
+  has_item c kind g of = let i = the_item c g in
       let own : HasKind i.item.role kind = kind_is i.item.role kind (subst (λ (d : CellItem). IsOfKind d.role kind) (sym i.is) of) in
       subst (λ (d : CellItem). has_slot s.parts.table.slots.items kind d.number ≡ true) i.is
       (item_there models k.models_apart k.read (histories s) s.parts.table.slots.items k.built.slots id numbers items used there i.index i.item kind i.inside i.found own)
 
-  pub cell_in : IsCellIn s id cs
+  pub cell_in : IsCellIn w id cs
   cell_in = record {
-    verdict_keys = verdict_keys_are models k.models_apart k.read (histories s) s.parts.table.slots.items k.built.slots (Sound id numbers items used) there ∙ verdict_are numbers items used;
+    verdict_keys = verdict_keys_are models k.models_apart k.read (histories s) s.parts.table.slots.items k.built.slots (Sound id numbers items used) there ∙ verdict_are numbers texts items used;
     item_keys = keys;
     held = held;
+    said = said;
     functions = functions;
     names = names;
     has_space = space_there models k.models_apart k.read (histories s) s.parts.table.slots.items k.built.slots id numbers items used there;

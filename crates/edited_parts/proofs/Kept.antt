@@ -35,7 +35,7 @@ use Rattle.edited_parts.specs.Readings.{reading_by, reading_of, readings_of, res
 use Rattle.edited_parts.specs.Kept.{IsRead, id_in, numbers_in, AreOther, IsKept}
 use Rattle.edited_parts.proofs.Origin.{HasKind, Origin, IsOfItem, IsOfVerdict, origin, index_within}
 use Rattle.edited_parts.specs.Left.{AreOrderlyParts, AreKept}
-use Rattle.edited_parts.proofs.Lists.{has_map}
+use Rattle.edited_parts.proofs.Lists.{has_map, apart_left, apart_right, apart_cross}
 
 -- ---- lists without equal elements
 
@@ -47,19 +47,6 @@ has_left (x ∷ xs) ys a (inr h) = inr (has_left xs ys a h)
 pub has_right : {A : Type 0} (xs ys : List A) (a : A) → Has ys a → Has (xs ++ ys) a
 has_right [] ys a h = h
 has_right (x ∷ xs) ys a h = inr (has_right xs ys a h)
-
-apart_left : {A : Type 0} (xs ys : List A) → AreApart (xs ++ ys) → AreApart xs
-apart_left [] ys h = tt
-apart_left (x ∷ xs) ys h = ((λ has. h.0 (has_left xs ys x has)), apart_left xs ys h.1)
-
-apart_right : {A : Type 0} (xs ys : List A) → AreApart (xs ++ ys) → AreApart ys
-apart_right [] ys h = h
-apart_right (x ∷ xs) ys h = apart_right xs ys h.1
-
-apart_cross : {A : Type 0} (xs ys : List A) (a : A) → AreApart (xs ++ ys) → Has xs a → Has ys a → ⊥
-apart_cross [] ys a h left right = left
-apart_cross {A} (x ∷ xs) ys a h (inl e) right = h.0 (subst (λ (b : A). Has (xs ++ ys) b) (sym e) (has_right xs ys a right))
-apart_cross (x ∷ xs) ys a h (inr left) right = apart_cross xs ys a h.1 left right
 
 element_there : {A K : Type 0} (f : A → K) (xs : List A) (k : ℕ) (d : A) → k < length xs → Has (map f xs) (f (slice_index_or xs k d))
 element_there f [] k d lt = absurd (omega (arith, lt))

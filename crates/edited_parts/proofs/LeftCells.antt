@@ -17,11 +17,12 @@ use Rattle.stamped_parts.specs.declared.parts.Parts.{Parts}
 use Rattle.stamped_parts.specs.Contents.{PartContent, OfCondition, state_of, test_part}
 use Rattle.edited_parts.specs.declared.edited.EditedParts.{EditedParts}
 use Rattle.edited_parts.specs.Owed.{AreApart}
-use Rattle.edited_parts.specs.Readings.{reading_by, reading_of, readings_of}
-use Rattle.edited_parts.specs.BenchCells.{HaveSameCells, KeepsStamp, IsTestLeft, IsLeftFor}
-use Rattle.edited_parts.specs.Left.{IsOrderlyEdit, CellRows, IsCellOf, IsSameCondition, IsSameFor, IsSameCell, IsLeft, reading_in}
+use Rattle.edited_parts.specs.Readings.{reading_by, reading_of, written_model, written_models, written_state}
+use Rattle.edited_parts.specs.BenchCells.{AreReadAlike, KeepsStamp, IsTestLeft, IsLeftFor}
+use Rattle.edited_parts.specs.Left.{IsOrderlyEdit, CellRows, IsCellOf, IsSameCondition, IsSameFor, IsSameCell, IsLeft}
 use Rattle.edited_parts.proofs.Kept.{parts_kept}
 use Rattle.edited_parts.proofs.Faults.{items_left, faults_left, names_left}
+use Rattle.edited_parts.proofs.HeldModels.{model_held}
 use Rattle.edited_parts.proofs.ModelNumbers.{numbered_at, model_kept}
 use Rattle.edited_parts.proofs.TestEntries.{IsEntry, IsFound, find_entry, found_by_number, entry_names, part_alike}
 use Rattle.edited_parts.proofs.TestsLeft.{IsEntryKept, test_kept, space_alike}
@@ -32,13 +33,13 @@ none_is e = cc
 some_is : {A : Type 0} {a b : A} → Some a ≡ Some b → a ≡ b
 some_is e = cc
 
-reading_there : (rs : List ModelRow) (ms : List NamedModel) (i : ℕ) (r : ModelRow) (m : NamedModel) → slice_get rs i ≡ Some r → slice_get ms i ≡ Some m → Has (readings_of rs ms) (reading_of r m)
-reading_there [] ms i r m e f = none_is e
-reading_there (q ∷ rs) [] i r m e f = none_is f
-reading_there (q ∷ rs) (n ∷ ms) zero r m e f = inl (ap (λ (x : ModelRow). reading_of x n) (some_is e) ∙ ap (λ (x : NamedModel). reading_of r x) (some_is f))
-reading_there (q ∷ rs) (n ∷ ms) (suc i) r m e f = inr (reading_there rs ms i r m e f)
+model_there : (rs : List ModelRow) (ms : List NamedModel) (i : ℕ) (r : ModelRow) (m : NamedModel) → slice_get rs i ≡ Some r → slice_get ms i ≡ Some m → Has (written_models rs ms) (written_model r m)
+model_there [] ms i r m e f = none_is e
+model_there (q ∷ rs) [] i r m e f = none_is f
+model_there (q ∷ rs) (n ∷ ms) zero r m e f = inl (ap (λ (x : ModelRow). written_model x n) (some_is e) ∙ ap (λ (x : NamedModel). written_model r x) (some_is f))
+model_there (q ∷ rs) (n ∷ ms) (suc i) r m e f = inr (model_there rs ms i r m e f)
 
-module _ (p q : Parts) (tests : List Test) (models : List NamedModel) (r : Replacement) (number : ℕ) (e : EditedParts) (a b : CellRows) (o : IsOrderlyEdit p q tests models r number e) (was : IsCellOf p tests models a)
+module _ (p q : Parts) (tests : List Test) (models : List NamedModel) (r : Replacement) (number : ℕ) (e : EditedParts) (next later : ℕ) (a b : CellRows) (o : IsOrderlyEdit p q tests models r number e) (was : IsCellOf p tests models a)
     (is : IsCellOf q (tests_with r tests) (models_with r models) b) (same : IsSameCell a b) where
   abbrev after : List Test
   after = tests_with r tests
@@ -125,19 +126,17 @@ module _ (p q : Parts) (tests : List Test) (models : List NamedModel) (r : Repla
       (numbered_at p.table.models.items models was.of a.model_row a.model was.model_row_is was.model_is)
       (numbered_at q.table.models.items (models_with r models) is.of b.model_row b.model is.model_row_is is.model_is) same.model
 
-  pub cell_left : IsLeft (state_of p tests) (state_of q after) (readings_of p.table.models.items models) (readings_of q.table.models.items (models_with r models)) a b
+  pub cell_left : IsLeft (written_state p tests models next) (written_state q after (models_with r models) later) a b
   cell_left = record {
     test = test_id;
     model = model_id;
     left = record {
-      kept_before = (parts_kept p tests models o.before).kept;
-      kept_after = (parts_kept q after (models_with r models) o.after).kept;
-      was_there = reading_there p.table.models.items models was.of a.model_row a.model was.model_row_is was.model_is;
-      is_there = reading_there q.table.models.items (models_with r models) is.of b.model_row b.model is.model_row_is is.model_is;
-      same = subst (λ (n : ℕ). HaveSameCells (reading_in a) (reading_by n b.model.numbers.items b.model.reading)) (sym model_id) same.reads;
-      items = items_left p q tests models r number e o.edit;
+      before = model_held p tests models next o.before a.model_row a.model (model_there p.table.models.items models was.of a.model_row a.model was.model_row_is was.model_is);
+      after = model_held q after (models_with r models) later o.after b.model_row b.model (model_there q.table.models.items (models_with r models) is.of b.model_row b.model is.model_row_is is.model_is);
+      same = subst (λ (n : ℕ). AreReadAlike a.model.text.items.items (reading_of a.model_row a.model) b.model.text.items.items (reading_by n b.model.numbers.items b.model.reading)) (sym model_id) same.reads;
+      items = items_left p q tests models r number e next later o.edit (o.after).parts_are;
       names = names_left p q tests models r number e o.edit;
-      faults = faults_left p q tests models r number e o.edit;
+      faults = faults_left p q tests models r number e next later o.edit (o.after).parts_are;
       has_test = ap (has_test q.table.tests.items) after_id ∙ found_after.is_there;
       test_left = left_for a.model_row.id a.model.numbers.items a.model.reading same.said;
       may_keep = (parts_kept q after (models_with r models) o.after).may_keep;

@@ -1,3 +1,4 @@
+pub mod Facts
 pub mod Making
 pub mod ModelEdits
 pub mod PutModels
@@ -28,5 +29,8 @@ pub mod Kept
 pub mod Faults
 pub mod ModelNumbers
 pub mod TestsLeft
+pub mod HeldModels
 pub mod LeftCells
 pub mod SliceCells
+pub mod Wholes
+pub mod Stamped

@@ -1,8 +1,9 @@
 -- Lists in which no two elements have one key, and what is put into them or removed.
-use Rattle.std.proofs.Common.{◌≡◌, ◌⊎◌, ℕ, zero, suc, inl, inr, List, [], ◌∷◌, map, Some, None, slice_get, sym, ap, subst, ◌∙◌}
+use Rattle.std.proofs.Common.{◌≡◌, ◌⊎◌, ℕ, zero, suc, inl, inr, List, [], ◌∷◌, ◌++◌, map, Some, None, slice_get, sym, ap, subst, ◌∙◌}
 use Rattle.std.specs.List.{remove}
 use Rattle.memo_core.specs.Step.{Has}
 use Rattle.bench_texts.specs.BenchTexts.{put_at}
+use Rattle.model_slots.proofs.Lists.{has_append, has_behind}
 use Rattle.edited_parts.specs.Owed.{AreApart}
 
 pub has_map : {A K : Type 0} (f : A → K) (xs : List A) (a : A) → Has xs a → Has (map f xs) (f a)
@@ -61,3 +62,18 @@ kept_in_put f at x xs was is a b ha hb e = elim (in_put at x xs b hb) [
     | inr stood ↦ inr (stood, is_put)
   ]
 ]
+
+-- ---- two lists without equal elements
+
+pub apart_left : {A : Type 0} (xs ys : List A) → AreApart (xs ++ ys) → AreApart xs
+apart_left [] ys h = tt
+apart_left (x ∷ xs) ys h = ((λ has. h.0 (has_append xs ys x has)), apart_left xs ys h.1)
+
+pub apart_right : {A : Type 0} (xs ys : List A) → AreApart (xs ++ ys) → AreApart ys
+apart_right [] ys h = h
+apart_right (x ∷ xs) ys h = apart_right xs ys h.1
+
+pub apart_cross : {A : Type 0} (xs ys : List A) (a : A) → AreApart (xs ++ ys) → Has xs a → Has ys a → ⊥
+apart_cross [] ys a h left right = left
+apart_cross {A} (x ∷ xs) ys a h (inl e) right = h.0 (subst (λ (b : A). Has (xs ++ ys) b) (sym e) (has_behind xs ys a right))
+apart_cross (x ∷ xs) ys a h (inr left) right = apart_cross xs ys a h.1 left right

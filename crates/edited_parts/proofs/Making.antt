@@ -1,10 +1,13 @@
 -- Lists that are made one after another.
-use Rattle.std.proofs.Common.{ℕ, zero, suc, ◌+◌, ◌<◌, ◌≤◌, ◌≡◌, min, inl, inr, List, [], ◌∷◌, ◌++◌, length, map, get_or, take, drop, append_assoc, Option, None, Bor, refl, sym, ap, subst, ◌∙◌, arith}
+use Rattle.std.proofs.Common.{ℕ, zero, suc, ◌+◌, ◌<◌, ◌≤◌, ◌≡◌, min, inl, inr, List, [], ◌∷◌, ◌++◌, length, map, get_or, take, drop, append_assoc, add-one, Option, None, Bor, slice_get, refl, sym, ap, subst, ◌∙◌, arith}
+use Rattle.std.specs.Option.{option_or}
 use Rattle.std.specs.List.{flat_map, remove}
 use Rattle.std.proofs.lemmas.Bool.{cases_lt}
+use Rattle.std.proofs.lemmas.Bool.Decides.{eqb_tells}
 use Rattle.std.proofs.lemmas.List.{append-nil, drop_all, map-append, take_more}
+use Rattle.text_values.specs.declared.model.Item.{Item}
 use Rattle.binding_kinds.specs.declared.fault.ModelFault.{ModelFault}
-use Rattle.bench_texts.specs.BenchTexts.{put_at}
+use Rattle.bench_texts.specs.BenchTexts.{put_at, item_index, items_of}
 use Rattle.bench_texts.specs.declared.model.NamedModel.{NamedModel}
 use Rattle.bench_texts.proofs.Lists.{map-put_at, set-put_at, map-remove}
 use Rattle.bench_nodes.specs.declared.table.ModelRow.{ModelRow}
@@ -12,9 +15,10 @@ use Rattle.shared_items.specs.Naming.{SeenName}
 use Rattle.model_slots.specs.Slots.{PlainSlot}
 use Rattle.model_slots.specs.Tables.{ModelReading, slots_in}
 use Rattle.stamped_parts.specs.declared.model_rows.HeldModel.{HeldModel}
-use Rattle.stamped_parts.specs.Items.{ItemFact}
+use Rattle.stamped_parts.specs.Items.{ItemFact, text_part}
+use Rattle.stamped_parts.specs.Written.{text_in}
 use Rattle.edited_parts.specs.Edited.{held_models, model_before, rest_of, IsModelMade, AreModelsMade}
-use Rattle.edited_parts.specs.Readings.{readings_of, facts_in, all_facts}
+use Rattle.edited_parts.specs.Readings.{readings_of, named_text, facts_in, all_facts}
 
 -- ---- lists with an element changed
 
@@ -128,3 +132,30 @@ facts_more ms i m lt is =
     behind : (ms : List (Bor NamedModel)) (m : Bor NamedModel) → all_facts (map now (ms ++ m ∷ [])) ≡ all_facts (map now ms) ++ facts_in m.now
     behind [] m = append-nil (facts_in m.now)
     behind (n ∷ ms) m = ap (λ (l : List ItemFact). facts_in n.now ++ l) (behind ms m) ∙ sym (append_assoc (facts_in n.now) (all_facts (map now ms)) (facts_in m.now))
+
+-- ---- texts
+
+one_more : (n : ℕ) → 1 + n ≡ suc n
+one_more n = omega arith
+
+-- what the item of a number says is what stands at its index
+pub text_found : (m : NamedModel) (number : ℕ) → text_part (slice_get m.text.items.items (item_index number (items_of m.numbers.items m.text.items.items))) ≡ text_in m.numbers.items m.text.items.items number
+text_found m number = found m.numbers.items m.text.items.items (omega (arith, m.paired, m.numbers.ok.0, m.text.items.ok.0))
+  where
+    found : (ns : List ℕ) (xs : List Item) → length ns ≡ length xs → text_part (slice_get xs (item_index number (items_of ns xs))) ≡ text_in ns xs number
+    found [] [] e = refl
+    found [] (x ∷ xs) e = absurd (omega arith)
+    found (n ∷ ns) [] e = absurd (omega arith)
+    found (n ∷ ns) (x ∷ xs) e = let len : length ns ≡ length xs = omega arith in elim (eqb_tells n number) [
+      | inl same ↦ rw same.0 refl
+      | inr other ↦ rw other.0 (rw (one_more (item_index number (items_of ns xs))) (found ns xs len))
+    ]
+
+-- the texts of one model more
+pub texts_left : (ms : List NamedModel) (number i : ℕ) (m : NamedModel) → i < length ms → m ≡ get_or ms i m → named_text (drop i ms) number ≡ option_or (text_in m.numbers.items m.text.items.items number) (named_text (drop (i + 1) ms) number)
+texts_left ms number i m lt is = rw (add-one i) (behind ms i lt is)
+  where
+    behind : (ms : List NamedModel) (i : ℕ) → i < length ms → m ≡ get_or ms i m → named_text (drop i ms) number ≡ option_or (text_in m.numbers.items m.text.items.items number) (named_text (drop (suc i) ms) number)
+    behind [] i lt is = absurd (omega arith)
+    behind (n ∷ ms) zero lt is = ap (λ (w : NamedModel). option_or (text_in w.numbers.items w.text.items.items number) (named_text ms number)) (sym is)
+    behind (n ∷ ms) (suc i) lt is = behind ms i (omega arith) is

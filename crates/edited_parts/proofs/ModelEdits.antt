@@ -1,15 +1,13 @@
 -- The parts of the bench after an edit of a model.
-use Rattle.std.proofs.Common.{ℕ, zero, suc, ◌+◌, ◌<◌, ◌≤◌, ◌≡◌, ◌≢◌, ◌⊎◌, inl, inr, List, [], ◌∷◌, ◌++◌, length, map, get_or, Option, None, if◌then◌else◌, ◌==◌, nat_lt, refl, sym, ap, subst, ◌∙◌, eq-eqb, ne_eqb, arith}
+use Rattle.std.proofs.Common.{ℕ, zero, suc, ◌+◌, ◌<◌, ◌≤◌, ◌≡◌, ◌≢◌, ◌⊎◌, inl, inr, List, [], ◌∷◌, ◌++◌, length, map, Option, None, if◌then◌else◌, ◌==◌, nat_lt, refl, sym, ap, subst, ◌∙◌, eq-eqb, ne_eqb, arith}
 use Rattle.std.specs.Arc.{arc_value}
-use Rattle.std.specs.List.{AllZip, All, AllByRecursion as Each, range_with_len, remove}
+use Rattle.std.specs.List.{AllZip, All, AllByRecursion as Each, remove}
 use Rattle.std.proofs.lemmas.Bool.Decides.{eqb_tells, leb_tells}
 use Rattle.std.proofs.lemmas.List.{length-append, length-map, map-append}
-use Rattle.std.proofs.lemmas.List.FromFn.{fill_by_all}
 use Rattle.text_values.specs.declared.test.Test.{Test}
 use Rattle.text_values.specs.declared.model.Item.{Item}
 use Rattle.binding_kinds.specs.Value.{clause_of}
 use Rattle.binding_kinds.specs.declared.fault.ModelFault.{ModelFault}
-use Rattle.binding_graph.specs.declared.resolved.ResolvedItem.{ResolvedItem}
 use Rattle.memo_core.specs.Step.{Has}
 use Rattle.shared_items.specs.Naming.{SeenName}
 use Rattle.shared_items.specs.declared.items.SharedItem.{SharedItem}
@@ -35,15 +33,14 @@ use Rattle.model_slots.specs.Slots.{plain, item_history}
 use Rattle.model_slots.specs.Tables.{ModelReading, IsOrderedModel, all_slots}
 use Rattle.stamped_parts.specs.declared.parts.Parts.{Parts}
 use Rattle.stamped_parts.specs.Built.{IsItemRow, IsModelRow, AreTestRows, IsModelIn, IsBuilt}
-use Rattle.stamped_parts.specs.Contents.{State, state_of, content, item_content, fault_content, fault_part}
-use Rattle.stamped_parts.specs.States.{IsPartAfter}
+use Rattle.stamped_parts.specs.Contents.{State, state_of, content, fault_content, fault_part}
+use Rattle.stamped_parts.specs.Written.{IsPartAfter, item_text}
 use Rattle.stamped_parts.specs.declared.model_rows.HeldModel.{HeldModel}
 use Rattle.stamped_parts.specs.TableLaws.{WasModelRow}
 use Rattle.stamped_parts.specs.Stamps.{IsLaterNumber, IsPartNow, next_number}
 use Rattle.stamped_parts.specs.Models.{raised_model}
-use Rattle.stamped_parts.specs.Items.{ItemFact, fact_at, item_facts, raised_item}
+use Rattle.stamped_parts.specs.Items.{ItemFact, item_facts, raised_item}
 use Rattle.stamped_parts.specs.ItemLaws.{AreItemsAfter, DoesWhatIsRead}
-use Rattle.stamped_parts.specs.ItemLaws as items
 use Rattle.stamped_parts.proofs.ItemRows.{parts_go_on, items_are_stamped, items_do, items_in_order, items_held}
 use Rattle.edited_parts.specs.declared.edited.EditedParts.{EditedParts}
 use Rattle.edited_parts.specs.declared.edited.EditedParts.TheVariants as edited
@@ -51,39 +48,12 @@ use Rattle.edited_parts.specs.declared.edited.ModelParts.{ModelParts}
 use Rattle.edited_parts.specs.Edited.{held_models, model_id, AreModelPartsMade, PutsModels}
 use Rattle.edited_parts.specs.Laws.{IsEdit}
 use Rattle.edited_parts.specs.Owed.{AreApart, ArePartsOf, item_numbers}
-use Rattle.edited_parts.specs.Readings.{fault_in, resolved_in, reading_by, readings_of, facts_in, all_facts}
+use Rattle.edited_parts.specs.Readings.{fault_in, resolved_in, reading_by, readings_of, written_models, written_state, named_text, facts_in, all_facts}
 use Rattle.edited_parts.proofs.PutModels.{held_is, held_ids_are, held_keys_are, held_were, content_pushed, were_pushed, content_removed, were_removed, faults_now, rows_after, ids_after, length_made, IsWithout, part_over}
 use Rattle.edited_parts.proofs.Making.{push_past}
+use Rattle.edited_parts.proofs.Facts.{all_numbers, all_apart, all_written, all_said, texts_are, unstamped_gone}
 use Rattle.edited_parts.proofs.PutTests.{rows_stay, apart_removed}
 use Rattle.edited_parts.proofs.TestEdits.{fresh_above, fresh_most, tests_keep, tests_go_on}
-
--- ---- the numbers of items
-
-facts_numbers : (numbers : List ℕ) (is : List Item) (read : Option (List ResolvedItem)) → map (λ f. f.number) (item_facts numbers is read) ≡ numbers
-facts_numbers numbers is read = mapped (range_with_len 0 (length numbers)) ∙ sym (fill_by_all (λ (k : ℕ). get_or numbers k 0) numbers (length numbers) 0 refl (λ k lt. refl))
-  where
-    mapped : (ks : List ℕ) → map (λ f. f.number) (map (fact_at numbers is read) ks) ≡ map (λ k. get_or numbers k 0) ks
-    mapped [] = refl
-    mapped (k ∷ ks) = ap (λ (l : List ℕ). get_or numbers k 0 ∷ l) (mapped ks)
-
-all_numbers : (ms : List NamedModel) → map (λ f. f.number) (all_facts ms) ≡ item_numbers ms
-all_numbers [] = refl
-all_numbers (m ∷ ms) =
-    both (facts_in m) (all_facts ms)
-    ∙ ap (λ (l : List ℕ). l ++ map (λ (f : ItemFact). f.number) (all_facts ms)) (facts_numbers m.numbers.items m.text.items.items (resolved_in m.reading))
-    ∙ ap (λ (l : List ℕ). m.numbers.items ++ l) (all_numbers ms)
-  where
-    both : (fs gs : List ItemFact) → map (λ f. f.number) (fs ++ gs) ≡ map (λ f. f.number) fs ++ map (λ f. f.number) gs
-    both [] gs = refl
-    both (f ∷ fs) gs = ap (λ (l : List ℕ). f.number ∷ l) (both fs gs)
-
-none_of : (n : ℕ) (fs : List ItemFact) → (Has (map (λ f. f.number) fs) n → ⊥) → Each (λ g. n ≢ g.number) fs
-none_of n [] gone = tt
-none_of n (f ∷ fs) gone = ((λ e. gone (inl (sym e))), none_of n fs (λ has. gone (inr has)))
-
-facts_apart : (fs : List ItemFact) → AreApart (map (λ f. f.number) fs) → items.AreApart fs
-facts_apart [] h = tt
-facts_apart (f ∷ fs) h = (none_of f.number fs h.0, facts_apart fs h.1)
 
 -- ---- models as they are read
 
@@ -96,7 +66,7 @@ readings_raised last number (r ∷ rs) [] = refl
 readings_raised last number (r ∷ rs) (m ∷ ms) = ap (λ (l : List ModelReading). reading_by r.id m.numbers.items m.reading ∷ l) (readings_raised last number rs ms)
 
 -- a new number of an edit changes no history
-history_raised : (last number : ℕ) (rows : List ItemRow) (items : List (Option SharedItem)) → item_history (map (raised_item last number) rows) items ≡ item_history rows items
+pub history_raised : (last number : ℕ) (rows : List ItemRow) (items : List (Option SharedItem)) → item_history (map (raised_item last number) rows) items ≡ item_history rows items
 history_raised last number rows items = let same = each rows items in λ k of. same of k
   where
     each : (rows : List ItemRow) (items : List (Option SharedItem)) (of : ℕ) → item_history (map (raised_item last number) rows) items of ≡ item_history rows items of
@@ -147,17 +117,24 @@ pub record AreModelsNow (p : Parts) (held hs : List (Option HeldModel)) (ms : Li
   pub numbers : AreApart (item_numbers ms)
 
 module _ (p q : Parts) (tests : List Test) (models ms : List NamedModel) (hs : List (Option HeldModel)) (number : ℕ) (m : ModelParts) (later : IsLaterNumber p.last number) (owed : ArePartsOf p tests models)
-    (is_now : AreModelsNow p (held_models p.table.models.items p.faults.items) hs ms number) (are_made : AreModelPartsMade p hs ms m) (puts : PutsModels p number m q) (last : q.last ≡ number) (ordered : Each IsOrderedModel (readings_of q.table.models.items ms)) where
+    (is_now : AreModelsNow p (held_models p.table.models.items p.faults.items) hs ms number) (are_made : AreModelPartsMade p models hs ms m) (puts : PutsModels p number m q) (last : q.last ≡ number) (ordered : Each IsOrderedModel (readings_of q.table.models.items ms)) where
   le : p.last ≤ number
   le = let lt : p.last < number = later.later in omega arith
 
-  items_after : AreItemsAfter p.last number p.table.items.items p.roles.items (all_facts ms) q.table.items.items m.items.roles.items m.items.kinds.items
-  items_after = record { later = later; was = owed.built.items; before = m.items.rows.items; made = are_made.items; raised = puts.items }
+  items_after : AreItemsAfter p.last number p.table.items.items p.roles.items (named_text models) (all_facts ms) q.table.items.items m.items.roles.items m.items.kinds.items
+  items_after = record {
+    later = later;
+    was = owed.built.items;
+    gone = λ of none. unstamped_gone p tests models of owed none;
+    before = m.items.rows.items;
+    written = all_written ms;
+    made = are_made.items;
+    raised = puts.items;
+  }
 
   does : Each (DoesWhatIsRead q.table.items.items q.roles.items) (all_facts ms)
   does = subst (λ (l : List (Option SharedItem)). Each (DoesWhatIsRead q.table.items.items l) (all_facts ms)) (sym puts.roles)
-      (items_do p.last number p.table.items.items q.table.items.items p.roles.items m.items.roles.items m.items.kinds.items (all_facts ms) items_after
-      (facts_apart (all_facts ms) (subst (λ (l : List ℕ). AreApart l) (sym (all_numbers ms)) is_now.numbers)))
+      (items_do p.last number p.table.items.items q.table.items.items p.roles.items m.items.roles.items (named_text models) m.items.kinds.items (all_facts ms) items_after (all_apart ms is_now.numbers))
 
   abbrev raised_rows : List ModelRow
   raised_rows = map (raised_model p.last number) m.rows.items
@@ -187,7 +164,7 @@ module _ (p q : Parts) (tests : List Test) (models ms : List NamedModel) (hs : L
     models_in = models_in (state_of q tests) q.table.models.items ms (λ of has. ap (λ (l : List (Option ModelFault)). fault_content q.table.models.items l of) faults) apart_ids ordered does is_now.read;
     items = subst (λ (n : ℕ). AllZip (IsItemRow n) q.table.items.items q.roles.items) (sym last)
         (subst (λ (l : List (Option SharedItem)). AllZip (IsItemRow number) q.table.items.items l) (sym puts.roles)
-        (items_are_stamped p.last number p.table.items.items q.table.items.items p.roles.items m.items.roles.items m.items.kinds.items (all_facts ms) items_after));
+        (items_are_stamped p.last number p.table.items.items q.table.items.items p.roles.items m.items.roles.items (named_text models) m.items.kinds.items (all_facts ms) items_after));
     faults = subst (λ (n : ℕ). AllZip (IsModelRow n) q.table.models.items q.faults.items) (sym last)
         (subst (λ (l : List (Option ModelFault)). AllZip (IsModelRow number) q.table.models.items l) (sym faults)
         (subst (λ (l : List ModelRow). AllZip (IsModelRow number) l (map fault_of ms)) (sym puts.rows) (rows_after p.last number later hs ms m.rows.items is_now.were are_made.rows)));
@@ -199,7 +176,7 @@ module _ (p q : Parts) (tests : List Test) (models ms : List NamedModel) (hs : L
   models_keep = record {
     built = models_built;
     each_model = ap (λ (l : List ModelRow). length l) puts.rows ∙ (length-map m.rows.items (raised_model p.last number) ∙ length_made (next_number p.last) hs ms m.rows.items are_made.rows);
-    each_item = (items_in_order p.last number p.table.items.items q.table.items.items p.roles.items m.items.roles.items m.items.kinds.items (all_facts ms) items_after).0 ∙ all_numbers ms;
+    each_item = (items_in_order p.last number p.table.items.items q.table.items.items p.roles.items m.items.roles.items (named_text models) m.items.kinds.items (all_facts ms) items_after).0 ∙ all_numbers ms;
     numbered = record {
       tests_apart = subst (λ (l : List TestRow). AreApart (map (λ r. r.id) l)) (sym puts.tests.rows) owed.numbered.tests_apart;
       models_apart = apart_ids;
@@ -215,10 +192,15 @@ module _ (p q : Parts) (tests : List Test) (models ms : List NamedModel) (hs : L
       let over = part_over (held_models p.table.models.items p.faults.items) hs number of (fault_content raised_rows (map fault_of ms) of) (fault_stamp raised_rows of) (is_now.without of) (faults_now p.last number later hs ms m.rows.items is_now.were are_made.rows of) in
       rw (puts.rows, faults) (rw (was.0, was.1) at over)
 
-  pub models_go_on : (part of : ℕ) → IsPartAfter (state_of p tests) number (state_of q tests) part of
-  models_go_on part of = elim (eqb_tells part 0) [
-    | inl zero_is ↦ rw zero_is.0 (subst (λ (l : List (Option SharedItem)). IsPartNow (item_content p.table.items.items p.roles.items of) (item_stamp p.table.items.items of) number (item_content q.table.items.items l of) (item_stamp q.table.items.items of)) (sym puts.roles)
-        (parts_go_on p.last number p.table.items.items q.table.items.items p.roles.items m.items.roles.items m.items.kinds.items (all_facts ms) items_after of))
+  -- what an item says
+  text_part_now : (of : ℕ) → IsPartNow (item_text (written_models p.table.models.items models) of) (item_stamp p.table.items.items of) number (item_text (written_models q.table.models.items ms) of) (item_stamp q.table.items.items of)
+  text_part_now of =
+      rw (texts_are p.table.models.items models of owed.each_model, texts_are q.table.models.items ms of models_keep.each_model, ← all_said ms of)
+      (parts_go_on p.last number p.table.items.items q.table.items.items p.roles.items m.items.roles.items (named_text models) m.items.kinds.items (all_facts ms) items_after of)
+
+  pub models_go_on : (next next_now part of : ℕ) → IsPartAfter (written_state p tests models next) number (written_state q tests ms next_now) part of
+  models_go_on next next_now part of = elim (eqb_tells part 0) [
+    | inl zero_is ↦ rw zero_is.0 (text_part_now of)
     | inr other ↦ elim (eqb_tells part 1) [
       | inl one_is ↦ rw (other.0, one_is.0) (fault_part_now of)
       | inr more ↦ rw (other.0, more.0, puts.tests.rows, puts.tests.locations) (inl (refl, refl))
@@ -326,7 +308,7 @@ module _ (p : Parts) (tests : List Test) (models : List NamedModel) (number : �
 
 -- ---- all edits
 
-each_read : (ms : List NamedModel) → All IsRead ms → Each IsRead ms
+pub each_read : (ms : List NamedModel) → All IsRead ms → Each IsRead ms
 each_read [] h = tt
 each_read (m ∷ ms) h = (h 0 m (omega arith), each_read ms (λ k d lt. h (suc k) d (omega arith)))
 
@@ -353,7 +335,8 @@ edits_keep p q tests models (made.DropModel at) number (edited.DropTest to) edit
 edits_keep p q tests models (made.DropModel at) number (edited.Models m) edit numbers read =
     models_keep p q tests models (remove models at) _ number m edit.later edit.owed (now_dropped p tests models number edit.later edit.owed at (each_read _ read) numbers) edit.is_made edit.committed.changes edit.committed.last (all_ordered q.table.models.items _ (each_read _ read))
 
-pub edits_go_on : (p q : Parts) (tests : List Test) (models : List NamedModel) (r : Replacement) (number : ℕ) (e : EditedParts) → IsEdit p tests models r number e q → AreApart (item_numbers (models_with r models)) → All IsRead (models_with r models) → (part of : ℕ) → IsPartAfter (state_of p tests) number (state_of q (tests_with r tests)) part of
+pub edits_go_on : (p q : Parts) (tests : List Test) (models : List NamedModel) (r : Replacement) (number : ℕ) (e : EditedParts) → IsEdit p tests models r number e q → AreApart (item_numbers (models_with r models)) → All IsRead (models_with r models)
+    → (next later part of : ℕ) → IsPartAfter (written_state p tests models next) number (written_state q (tests_with r tests) (models_with r models) later) part of
 edits_go_on p q tests models (made.PutTest at test) number e edit numbers read = tests_go_on p q tests models (made.PutTest at test) number e edit tt
 edits_go_on p q tests models (made.DropTest at) number e edit numbers read = tests_go_on p q tests models (made.DropTest at) number e edit tt
 edits_go_on p q tests models (made.PutModel at model next) number (edited.PutTest to row names) edit numbers read = absurd edit.is_made

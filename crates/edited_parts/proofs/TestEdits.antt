@@ -1,5 +1,5 @@
 -- The parts of the bench after an edit of a test.
-use Rattle.std.proofs.Common.{ℕ, ◌<◌, ◌≤◌, ◌≡◌, ◌^◌, ◌-◌, inl, inr, List, [], ◌∷◌, length, map, Option, Some, None, Vec, Global, sym, ap, subst, ◌∙◌, arith}
+use Rattle.std.proofs.Common.{ℕ, ◌<◌, ◌≤◌, ◌≡◌, ◌^◌, inl, inr, List, [], ◌∷◌, length, map, Option, Some, None, Vec, Global, sym, ap, subst, ◌∙◌, arith}
 use Rattle.std.specs.List.{AllZip, AllByRecursion as Each, remove}
 use Rattle.std.proofs.lemmas.Bool.Decides.{eqb_tells}
 use Rattle.text_values.specs.declared.test.Test.{Test}
@@ -22,7 +22,7 @@ use Rattle.model_slots.specs.Tables.{ModelReading, Sound, Faulty, all_slots}
 use Rattle.stamped_parts.specs.declared.parts.Parts.{Parts}
 use Rattle.stamped_parts.specs.Built.{IsItemRow, IsModelRow, IsTestRow, AreTestRows, IsModelIn, IsBuilt}
 use Rattle.stamped_parts.specs.Contents.{State, state_of, content, item_content, fault_content, test_content}
-use Rattle.stamped_parts.specs.States.{IsPartAfter}
+use Rattle.stamped_parts.specs.Written.{IsPartAfter, item_text}
 use Rattle.stamped_parts.specs.TableLaws.{IsTestAfter}
 use Rattle.stamped_parts.specs.Stamps.{IsLaterNumber, IsPartNow, next_number}
 use Rattle.stamped_parts.proofs.TestRows.{test_stamped, parts_now}
@@ -31,7 +31,7 @@ use Rattle.edited_parts.specs.declared.edited.EditedParts.TheVariants as edited
 use Rattle.edited_parts.specs.Edited.{entry_at, test_id, IsTestMade, AreModelsSame, PutsTest, DropsTest}
 use Rattle.edited_parts.specs.Laws.{IsEdit, IsOfTest}
 use Rattle.edited_parts.specs.Owed.{AreApart, ArePartsOf}
-use Rattle.edited_parts.specs.Readings.{readings_of}
+use Rattle.edited_parts.specs.Readings.{readings_of, written_models, written_state}
 use Rattle.edited_parts.proofs.PutTests.{entry_was, rows_put, zip_put, parts_put, apart_put, low_put, id_low, rows_removed, zip_removed, parts_removed, apart_removed, low_removed}
 
 -- ---- the number that stands for that of the edit
@@ -48,11 +48,7 @@ items_stay : (last number : ℕ) (rows : List ItemRow) (roles : List (Option Sha
 items_stay last number [] [] le h = tt
 items_stay last number [] (d ∷ ds) le h = absurd h
 items_stay last number (r ∷ rs) [] le h = absurd h
-items_stay last number (r ∷ rs) (d ∷ ds) le h = (one d h.0, items_stay last number rs ds le h.1)
-  where
-    one : (d : Option SharedItem) → IsItemRow last r d → IsItemRow number r d
-    one None k = k
-    one (Some d) k = (k.0, omega (arith, k.1, le))
+items_stay last number (r ∷ rs) (d ∷ ds) le h = let low : r.stamp ≤ last = h.0.1 in ((h.0.0, omega (arith, low, le)), items_stay last number rs ds le h.1)
 
 faults_stay : (last number : ℕ) (rows : List ModelRow) (faults : List (Option ModelFault)) → last ≤ number → AllZip (IsModelRow last) rows faults → AllZip (IsModelRow number) rows faults
 faults_stay last number [] [] le h = tt
@@ -91,12 +87,15 @@ module _ (p q : Parts) (same : AreModelsSame p q) where
   fault_stamps : (of : ℕ) → fault_stamp q.table.models.items of ≡ fault_stamp p.table.models.items of
   fault_stamps of = ap (λ (l : List ModelRow). fault_stamp l of) same.rows
 
+  texts_same : (models : List NamedModel) (of : ℕ) → item_text (written_models q.table.models.items models) of ≡ item_text (written_models p.table.models.items models) of
+  texts_same models of = ap (λ (l : List ModelRow). item_text (written_models l models) of) same.rows
+
   -- the parts of items and models are as they were
-  parts_after : (tests after : List Test) (number : ℕ)
+  parts_after : (tests after : List Test) (models : List NamedModel) (number : ℕ)
       → ((part of : ℕ) → IsPartNow (test_content p.table.tests.items tests p.locations.items part of) (test_stamp p.table.tests.items part of) number (test_content q.table.tests.items after q.locations.items part of) (test_stamp q.table.tests.items part of))
-      → (part of : ℕ) → IsPartAfter (state_of p tests) number (state_of q after) part of
-  parts_after tests after number now part of = elim (eqb_tells part 0) [
-    | inl zero_is ↦ rw zero_is.0 (inl (item_stamps of, items_same of))
+      → (next later part of : ℕ) → IsPartAfter (written_state p tests models next) number (written_state q after models later) part of
+  parts_after tests after models number now next later part of = elim (eqb_tells part 0) [
+    | inl zero_is ↦ rw zero_is.0 (inl (item_stamps of, texts_same models of))
     | inr other ↦ elim (eqb_tells part 1) [
       | inl one_is ↦ rw (other.0, one_is.0) (inl (fault_stamps of, faults_same of))
       | inr more ↦ rw (other.0, more.0) (now part of)
@@ -183,8 +182,8 @@ module _ (p q : Parts) (tests : List Test) (models : List NamedModel) (number at
           let b = fresh_most p.last number later in
           let e : puts.new.id ≡ test_id (next_number p.last) (entry_at p tests at) = id in omega (arith, a, b, e)
 
-  pub put_goes_on : (part of : ℕ) → IsPartAfter (state_of p tests) number (state_of q (put_at at test tests)) part of
-  put_goes_on = parts_after p q puts.models tests (put_at at test tests) number now
+  pub put_goes_on : (next next_now part of : ℕ) → IsPartAfter (written_state p tests models next) number (written_state q (put_at at test tests) models next_now) part of
+  put_goes_on = parts_after p q puts.models tests (put_at at test tests) models number now
     where
       now : (part of : ℕ) → IsPartNow (test_content p.table.tests.items tests p.locations.items part of) (test_stamp p.table.tests.items part of) number (test_content q.table.tests.items (put_at at test tests) q.locations.items part of) (test_stamp q.table.tests.items part of)
       now part of =
@@ -211,8 +210,8 @@ module _ (p q : Parts) (tests : List Test) (models : List NamedModel) (number at
       (subst (λ (l : List TestRow). Each (λ r. r.id ≤ number) l) (sym drops.rows) (low_removed number p.last at p.table.tests.items le_drop owed.numbered.tests_low))
       (subst (λ (l : List (Vec (List ℕ) Global)). AllZip (λ c n. AreNames (test_names c) n.items) (remove tests at) l) (sym drops.locations) (zip_removed (λ (c : Test) (n : Vec (List ℕ) Global). AreNames (test_names c) n.items) at tests p.locations.items owed.locations))
 
-  pub drop_goes_on : (part of : ℕ) → IsPartAfter (state_of p tests) number (state_of q (remove tests at)) part of
-  drop_goes_on = parts_after p q drops.models tests (remove tests at) number now
+  pub drop_goes_on : (next next_now part of : ℕ) → IsPartAfter (written_state p tests models next) number (written_state q (remove tests at) models next_now) part of
+  drop_goes_on = parts_after p q drops.models tests (remove tests at) models number now
     where
       now : (part of : ℕ) → IsPartNow (test_content p.table.tests.items tests p.locations.items part of) (test_stamp p.table.tests.items part of) number (test_content q.table.tests.items (remove tests at) q.locations.items part of) (test_stamp q.table.tests.items part of)
       now part of =
@@ -235,15 +234,17 @@ tests_keep p q tests models (made.DropTest at) number (edited.Models m) edit kin
 tests_keep p q tests models (made.PutModel at model next) number e edit kind = absurd kind
 tests_keep p q tests models (made.DropModel at) number e edit kind = absurd kind
 
-pub tests_go_on : (p q : Parts) (tests : List Test) (models : List NamedModel) (r : Replacement) (number : ℕ) (e : EditedParts) → IsEdit p tests models r number e q → IsOfTest r → (part of : ℕ) → IsPartAfter (state_of p tests) number (state_of q (tests_with r tests)) part of
-tests_go_on p q tests models (made.PutTest at test) number (edited.PutTest to row names) edit kind part of =
-    subst (λ (i : ℕ). IsPartAfter (state_of p tests) number (state_of q (put_at i test tests)) part of) edit.is_made.0
-    (put_goes_on p q tests models number to test row names edit.later edit.owed (subst (λ (i : ℕ). IsTestMade p tests i test row names.items) (sym edit.is_made.0) edit.is_made.1) edit.committed.changes edit.committed.last part of)
-tests_go_on p q tests models (made.PutTest at test) number (edited.DropTest to) edit kind part of = absurd edit.is_made
-tests_go_on p q tests models (made.PutTest at test) number (edited.Models m) edit kind part of = absurd edit.is_made
-tests_go_on p q tests models (made.DropTest at) number (edited.PutTest to row names) edit kind part of = absurd edit.is_made
-tests_go_on p q tests models (made.DropTest at) number (edited.DropTest to) edit kind part of =
-    subst (λ (i : ℕ). IsPartAfter (state_of p tests) number (state_of q (remove tests i)) part of) edit.is_made (drop_goes_on p q tests models number to edit.later edit.owed edit.committed.changes edit.committed.last part of)
-tests_go_on p q tests models (made.DropTest at) number (edited.Models m) edit kind part of = absurd edit.is_made
-tests_go_on p q tests models (made.PutModel at model next) number e edit kind part of = absurd kind
-tests_go_on p q tests models (made.DropModel at) number e edit kind part of = absurd kind
+pub tests_go_on : (p q : Parts) (tests : List Test) (models : List NamedModel) (r : Replacement) (number : ℕ) (e : EditedParts) → IsEdit p tests models r number e q → IsOfTest r
+    → (next later part of : ℕ) → IsPartAfter (written_state p tests models next) number (written_state q (tests_with r tests) (models_with r models) later) part of
+tests_go_on p q tests models (made.PutTest at test) number (edited.PutTest to row names) edit kind next later part of =
+    subst (λ (i : ℕ). IsPartAfter (written_state p tests models next) number (written_state q (put_at i test tests) models later) part of) edit.is_made.0
+    (put_goes_on p q tests models number to test row names edit.later edit.owed (subst (λ (i : ℕ). IsTestMade p tests i test row names.items) (sym edit.is_made.0) edit.is_made.1) edit.committed.changes edit.committed.last next later part of)
+tests_go_on p q tests models (made.PutTest at test) number (edited.DropTest to) edit kind next later part of = absurd edit.is_made
+tests_go_on p q tests models (made.PutTest at test) number (edited.Models m) edit kind next later part of = absurd edit.is_made
+tests_go_on p q tests models (made.DropTest at) number (edited.PutTest to row names) edit kind next later part of = absurd edit.is_made
+tests_go_on p q tests models (made.DropTest at) number (edited.DropTest to) edit kind next later part of =
+    subst (λ (i : ℕ). IsPartAfter (written_state p tests models next) number (written_state q (remove tests i) models later) part of) edit.is_made
+    (drop_goes_on p q tests models number to edit.later edit.owed edit.committed.changes edit.committed.last next later part of)
+tests_go_on p q tests models (made.DropTest at) number (edited.Models m) edit kind next later part of = absurd edit.is_made
+tests_go_on p q tests models (made.PutModel at model next) number e edit kind first later part of = absurd kind
+tests_go_on p q tests models (made.DropModel at) number e edit kind first later part of = absurd kind

@@ -2,6 +2,9 @@
 use Rattle.std.proofs.Common.{ℕ, ◌≡◌, ◌+◌, ◌<◌, zero, suc, inl, inr, true, List, [], ◌∷◌, ◌++◌, map, Option, Some, None, refl, sym, ap, ◌∙◌, subst, arith}
 use Rattle.std.specs.List.{AllByRecursion as Each}
 use Rattle.std.proofs.lemmas.Bool.Decides.{eqb_tells}
+use Rattle.std.proofs.lemmas.Option.{same_Some}
+use Rattle.text_values.specs.declared.model.Item.{Item}
+use Rattle.text_values.specs.ModelValue.{Clause}
 use Rattle.memo_core.specs.declared.keys.Kind.{Kind}
 use Rattle.memo_core.specs.declared.keys.Kind.TheVariants as kinds
 use Rattle.memo_core.specs.declared.keys.Key.{Key}
@@ -20,17 +23,24 @@ use Rattle.bench_nodes.specs.Nodes.{keys_at, key_at, slot_keys, row_parts, row_o
 use Rattle.bench_nodes.proofs.Laws.{used_by}
 use Rattle.model_slots.specs.Slots.{space_key}
 use Rattle.model_slots.specs.Tables.{ModelReading, Sound, Faulty}
-use Rattle.model_slots.proofs.Lists.{each_append, each_map, each_to, each_has}
+use Rattle.model_slots.proofs.Lists.{each_append, each_map, each_to, each_has, has_map}
 use Rattle.stamped_parts.specs.Built.{IsHeld, IsModelIn}
-use Rattle.stamped_parts.specs.Contents.{PartContent, OfRole, OfFault, State, histories, content}
+use Rattle.stamped_parts.specs.Contents.{PartContent, OfText, OfRole, OfFault, State, histories, content}
 use Rattle.stamped_parts.specs.States.{keeps, net_in}
+use Rattle.stamped_parts.specs.Written.{WrittenModel, WrittenState}
 use Rattle.edited_parts.specs.Kept.{IsKept, id_in, space_node, verdict_node}
 use Rattle.edited_parts.proofs.Origin.{verdict_keys_are, verdict_there}
-use Rattle.edited_parts.specs.BenchCells.{CellItem, cell_items, KeepsStamp, EqualPartsKeepStamps, EqualItemsKeepNames, IsTestLeft, LeavesCell}
+use Rattle.edited_parts.specs.BenchCells.{CellItem, cell_items, KeepsStamp, EqualPartsKeepStamps, EqualItemsKeepNames, IsTestLeft, HoldsText, LeavesCell, IsVerdictUntouched}
 use Rattle.edited_parts.proofs.Stable.{IsCertain, nat_stable, untouched_stable}
-use Rattle.edited_parts.proofs.Items.{IsOfKind, number_in, used_key, keys_of, flag_keys, answer_keys, by_items, cell_keys, IsGroupAmong, IsCellIn, cell_in}
+use Rattle.edited_parts.proofs.Items.{IsOfKind, number_in, used_key, keys_of, flag_keys, answer_keys, by_items, cell_keys, IsAmong, IsGroupAmong, IsCellIn, cell_in}
 
-module _ (s t : State) (test : ℕ) where
+module _ (w v : WrittenState) (test : ℕ) where
+  abbrev s : State
+  s = w.state
+
+  abbrev t : State
+  t = v.state
+
   -- the part that an input names has its stamp of before
   abbrev pub IsKeyLeft : SlotKey → Type 0
   IsKeyLeft (slots.Test part) = KeepsStamp s t part test
@@ -100,20 +110,23 @@ module _ (s t : State) (test : ℕ) where
 
     -- ---- items
 
-    module _ (id : ℕ) (cs : List (Option CellItem)) (was : IsCellIn s id cs) (is : IsCellIn t id cs) (items : EqualPartsKeepStamps s t 0) (names : EqualItemsKeepNames s t) (may : (kind : Kind) (of : ℕ) → has_slot t.parts.table.slots.items kind of ≡ true → keeps t.parts (record { kind = kind; test = test; of = of }) ≡ true) where
+    module _ (id : ℕ) (cs : List (Option CellItem)) (was : IsCellIn w id cs) (is : IsCellIn v id cs) (items : EqualPartsKeepStamps w v 0) (names : EqualItemsKeepNames s t) (may : (kind : Kind) (of : ℕ) → has_slot t.parts.table.slots.items kind of ≡ true → keeps t.parts (record { kind = kind; test = test; of = of }) ≡ true) where
+      -- an item that says the same before and after has its stamp
+      text_left : (of : ℕ) (said : Option Clause) → HoldsText w of said → HoldsText v of said → KeepsStamp s t 0 of
+      text_left of said before after =
+          let same : after.0 ≡ before.0 = same_Some _ _ (sym after.1 ∙ before.1) in
+          items of (OfText before.0) before.2 (after.2 ∙ ap (λ (c : Clause). Some (OfText c)) same)
+
+      own_left : (c : CellItem) → Has cs (Some c) → KeepsStamp s t 0 c.number
+      own_left c h = text_left c.number c.said (was.said c h) (is.said c h)
+
+      functions_left : (fs : List ℕ) → Each (IsAmong cs) fs → Each (λ f. KeepsStamp s t 0 f) fs
+      functions_left [] h = tt
+      functions_left (f ∷ fs) h = (subst (λ (n : ℕ). KeepsStamp s t 0 n) h.0.number (own_left h.0.item h.0.there), functions_left fs h.1)
+
       -- an item that does the same before and after has one history
       held_still : (of : ℕ) (role : RoleContent) (before : IsHeld s of role) → IsHeld t of role → content t 0 of ≡ Some (OfRole role before.0)
       held_still of role before after = after.1 ∙ ap (λ (h : List SeenName). Some (OfRole role h)) (names of role before.0 after.0 before.1 after.1)
-
-      role_left : (of : ℕ) (role : RoleContent) → IsHeld s of role → IsHeld t of role → KeepsStamp s t 0 of
-      role_left of role before after = items of (OfRole role before.0) before.1 (held_still of role before after)
-
-      own_left : (c : CellItem) → Has cs (Some c) → KeepsStamp s t 0 c.number
-      own_left c h = role_left c.number c.role (was.held c h) (is.held c h)
-
-      both : (fs : List ℕ) → Each (λ f. IsHeld s f Silent) fs → Each (λ f. IsHeld t f Silent) fs → Each (λ f. KeepsStamp s t 0 f) fs
-      both [] g h = tt
-      both (f ∷ fs) g h = (role_left f Silent g.0 h.0, both fs g.1 h.1)
 
       -- so names have the numbers that they had
       group_still : (of : ℕ) → IsGroupAmong cs of → content t 0 of ≡ content s 0 of
@@ -135,7 +148,7 @@ module _ (s t : State) (test : ℕ) where
       texts_left c h = (
         own_left c h,
         each_append IsKeyLeft (map slots.Item c.functions) (space_key ∷ map (used_key (content s 0)) c.names)
-            (each_map slots.Item IsKeyLeft c.functions (both c.functions (was.functions c h) (is.functions c h)))
+            (each_map slots.Item IsKeyLeft c.functions (functions_left c.functions (was.functions c h)))
             (tt, each_map (used_key (content s 0)) IsKeyLeft c.names (all_so c.names)),
       )
         where
@@ -216,47 +229,56 @@ module _ (s t : State) (test : ℕ) where
 
   -- ---- a model with a fault
 
-  faulty_untouched : (before after : List ModelReading) (id : ℕ) (fault : ModelFault) → IsKept s before → IsKept t after → Has before (Faulty id fault) → Has after (Faulty id fault) → EqualPartsKeepStamps s t 1 → KeepsStamp s t 2 test
-      → ((kind : Kind) (of : ℕ) → has_slot t.parts.table.slots.items kind of ≡ true → keeps t.parts (record { kind = kind; test = test; of = of }) ≡ true) → (d : ℕ) → Untouched d (verdict_node test id)
-  faulty_untouched before after id fault was is there also faults left may zero = tt
-  faulty_untouched before after id fault was is there also faults left may (suc d) =
-      one_step d (verdict_node test id) (slots.Test 2 ∷ slots.Fault id ∷ [])
-      (ap (keys_at test) (verdict_keys_are before was.models_apart was.read (histories s) s.parts.table.slots.items was.built.slots (Faulty id fault) there))
-      (ap (keys_at test) (verdict_keys_are after is.models_apart is.read (histories t) t.parts.table.slots.items is.built.slots (Faulty id fault) also))
-      (may kinds.Verdict id (verdict_there after is.models_apart is.read (histories t) t.parts.table.slots.items is.built.slots (Faulty id fault) also))
-      (left, (faults id (OfFault fault) (each_has (IsModelIn s) before was.built.models_in (Faulty id fault) there) (each_has (IsModelIn t) after is.built.models_in (Faulty id fault) also), tt))
-      (tt, (tt, tt))
+  module _ (id : ℕ) (fault : ModelFault) (was : IsKept s (map (λ m. m.reading) w.models)) (is : IsKept t (map (λ m. m.reading) v.models)) (there : Has (map (λ m. m.reading) w.models) (Faulty id fault)) (also : Has (map (λ m. m.reading) v.models) (Faulty id fault))
+      (faults : EqualPartsKeepStamps w v 1) (left : KeepsStamp s t 2 test) (may : (kind : Kind) (of : ℕ) → has_slot t.parts.table.slots.items kind of ≡ true → keeps t.parts (record { kind = kind; test = test; of = of }) ≡ true) where
+    abbrev before : List ModelReading
+    before = map (λ m. m.reading) w.models
+
+    abbrev after : List ModelReading
+    after = map (λ m. m.reading) v.models
+
+    pub faulty_untouched : (d : ℕ) → Untouched d (verdict_node test id)
+    faulty_untouched zero = tt
+    faulty_untouched (suc d) =
+        one_step d (verdict_node test id) (slots.Test 2 ∷ slots.Fault id ∷ [])
+        (ap (keys_at test) (verdict_keys_are before was.models_apart was.read (histories s) s.parts.table.slots.items was.built.slots (Faulty id fault) there))
+        (ap (keys_at test) (verdict_keys_are after is.models_apart is.read (histories t) t.parts.table.slots.items is.built.slots (Faulty id fault) also))
+        (may kinds.Verdict id (verdict_there after is.models_apart is.read (histories t) t.parts.table.slots.items is.built.slots (Faulty id fault) also))
+        (left, (faults id (OfFault fault) (each_has (IsModelIn s) before was.built.models_in (Faulty id fault) there) (each_has (IsModelIn t) after is.built.models_in (Faulty id fault) also), tt))
+        (tt, (tt, tt))
 
 -- ---- the whole
 
-module _ (s t : State) (before after : List ModelReading) (test : ℕ) where
-  abbrev IsSame : ModelReading → ModelReading → Type 0
-  IsSame m n = (id_in n ≡ id_in m) × ((d : ℕ) → IsUntouchedBy d (keeps t.parts) (net_in s) (net_in t) (verdict_node test (id_in m)))
+module _ (w v : WrittenState) (test : ℕ) where
+  reading_there : (u : WrittenState) (m : WrittenModel) → Has u.models m → Has (map (λ x. x.reading) u.models) m.reading
+  reading_there u m h = has_map (λ (x : WrittenModel). x.reading) u.models m h
 
-  by_readings : (m n : ModelReading) → LeavesCell s t before after m n test → IsSame m n
-  by_readings (Sound id numbers items used) (Sound jd ns is us) h = (
+  abbrev written : List ℕ → List Item → ModelReading → WrittenModel
+  written ns texts r = record { numbers = ns; items = texts; reading = r }
+
+  by_readings : (ks ls : List ℕ) (texts others : List Item) (r q : ModelReading) → LeavesCell w v (written ks texts r) (written ls others q) test → IsVerdictUntouched w v (written ks texts r) (written ls others q) test
+  by_readings ks ls texts others (Sound id numbers items used) (Sound jd ns is us) h = (
     sym h.same.0,
-    sound_untouched s t test h.test_left id (cell_items numbers items used)
-        (cell_in s before h.kept_before id numbers items used h.was_there)
-        (subst (IsCellIn t id) (sym h.same.1) (subst (λ (k : ℕ). IsCellIn t k (cell_items ns is us)) (sym h.same.0) (cell_in t after h.kept_after jd ns is us h.is_there)))
-        h.items h.names (λ kind of has. h.may_keep (record { kind = kind; test = test; of = of }) (used_by t.parts.table (record { kind = kind; test = test; of = of }) h.has_test has)),
+    sound_untouched w v test h.test_left id (cell_items numbers texts items used)
+        (cell_in w ks texts id numbers items used h.before)
+        (subst (IsCellIn v id) (sym h.same.1) (subst (λ (k : ℕ). IsCellIn v k (cell_items ns others is us)) (sym h.same.0) (cell_in v ls others jd ns is us h.after)))
+        h.items h.names (λ kind of has. h.may_keep (record { kind = kind; test = test; of = of }) (used_by v.state.parts.table (record { kind = kind; test = test; of = of }) h.has_test has)),
   )
-  by_readings (Sound id numbers items used) (Faulty jd fault) h = absurd h.same
-  by_readings (Faulty id fault) (Sound jd ns is us) h = absurd h.same
-  by_readings (Faulty id fault) (Faulty jd other) h = (
+  by_readings ks ls texts others (Sound id numbers items used) (Faulty jd fault) h = absurd h.same
+  by_readings ks ls texts others (Faulty id fault) (Sound jd ns is us) h = absurd h.same
+  by_readings ks ls texts others (Faulty id fault) (Faulty jd other) h = (
     sym h.same.0,
-    faulty_untouched s t test before after id fault h.kept_before h.kept_after h.was_there
-        (subst (λ (f : ModelFault). Has after (Faulty id f)) (sym h.same.1) (subst (λ (k : ℕ). Has after (Faulty k other)) (sym h.same.0) h.is_there))
-        h.faults h.test_left (λ kind of has. h.may_keep (record { kind = kind; test = test; of = of }) (used_by t.parts.table (record { kind = kind; test = test; of = of }) h.has_test has)),
+    faulty_untouched w v test id fault h.before.kept h.after.kept
+        (reading_there w (written ks texts (Faulty id fault)) h.before.there)
+        (subst (λ (f : ModelFault). Has (map (λ m. m.reading) v.models) (Faulty id f)) (sym h.same.1) (subst (λ (k : ℕ). Has (map (λ m. m.reading) v.models) (Faulty k other)) (sym h.same.0) (reading_there v (written ls others (Faulty jd other)) h.after.there)))
+        h.faults h.test_left (λ kind of has. h.may_keep (record { kind = kind; test = test; of = of }) (used_by v.state.parts.table (record { kind = kind; test = test; of = of }) h.has_test has)),
   )
 
-pub left_untouched : (s t : State) (before after : List ModelReading) (m n : ModelReading) (test : ℕ) → LeavesCell s t before after m n test
-    → (id_in n ≡ id_in m) × ((d : ℕ) → IsUntouchedBy d (keeps t.parts) (net_in s) (net_in t) (verdict_node test (id_in m)))
-left_untouched s t before after m n test h = by_readings s t before after test m n h
+pub left_untouched : (w v : WrittenState) (m n : WrittenModel) (test : ℕ) → LeavesCell w v m n test → IsVerdictUntouched w v m n test
+left_untouched w v m n test h = by_readings w v test m.numbers n.numbers m.items n.items m.reading n.reading h
 
-pub unreached_untouched : (s t : State) (before after : List ModelReading) (m n : ModelReading) (test : ℕ) → IsCertain (LeavesCell s t before after m n test)
-    → (id_in n ≡ id_in m) × ((d : ℕ) → IsUntouchedBy d (keeps t.parts) (net_in s) (net_in t) (verdict_node test (id_in m)))
-unreached_untouched s t before after m n test h = (
-  nat_stable (id_in n) (id_in m) (λ no. h (λ l. no (left_untouched s t before after m n test l).0)),
-  λ d. untouched_stable d (keeps t.parts) (net_in s) (net_in t) (verdict_node test (id_in m)) (λ no. h (λ l. no ((left_untouched s t before after m n test l).1 d))),
+pub unreached_untouched : (w v : WrittenState) (m n : WrittenModel) (test : ℕ) → IsCertain (LeavesCell w v m n test) → IsVerdictUntouched w v m n test
+unreached_untouched w v m n test h = (
+  nat_stable (id_in n.reading) (id_in m.reading) (λ no. h (λ l. no (left_untouched w v m n test l).0)),
+  λ d. untouched_stable d (keeps v.state.parts) (net_in w.state) (net_in v.state) (verdict_node test (id_in m.reading)) (λ no. h (λ l. no ((left_untouched w v m n test l).1 d))),
 )

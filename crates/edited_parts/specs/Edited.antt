@@ -22,7 +22,7 @@ use Rattle.stamped_parts.specs.Items.{raised_item, AreListsOf}
 use Rattle.edited_parts.specs.declared.edited.EditedParts.{EditedParts}
 use Rattle.edited_parts.specs.declared.edited.EditedParts.TheVariants as edited
 use Rattle.edited_parts.specs.declared.edited.ModelParts.{ModelParts}
-use Rattle.edited_parts.specs.Readings.{fault_in, readings_of, all_facts}
+use Rattle.edited_parts.specs.Readings.{fault_in, readings_of, all_facts, named_text}
 
 -- ---- tests
 
@@ -82,17 +82,17 @@ AreModelsMade fresh hs [] [] = ⊤
 AreModelsMade fresh hs (m ∷ ms) (r ∷ rs) = IsModelMade fresh (model_before hs 0) m r × AreModelsMade fresh (rest_of hs) ms rs
 AreModelsMade fresh hs _ _ = ⊥
 
--- the parts of these models, over what the models were
-pub record AreModelPartsMade (p : Parts) (before : List (Option HeldModel)) (models : List NamedModel) (m : ModelParts) : Type 0 where
+-- the parts of these models, over what the models were, and what they said
+pub record AreModelPartsMade (p : Parts) (was : List NamedModel) (before : List (Option HeldModel)) (models : List NamedModel) (m : ModelParts) : Type 0 where
   pub rows : AreModelsMade (next_number p.last) before models m.rows.items
   pub faults : m.faults.items ≡ map (λ n. fault_in n.reading) models
-  pub items : AreListsOf (next_number p.last) p (all_facts models) m.items
+  pub items : AreListsOf (next_number p.last) p (named_text was) (all_facts models) m.items
   pub slots : map plain m.slots.items ≡ all_slots (item_history m.items.rows.items m.items.roles.items) (readings_of m.rows.items models)
 
 -- ---- edits
 
 abbrev pub AreModelsAfter : Parts → List NamedModel → Replacement → ModelParts → Type 0
-AreModelsAfter p models r m = AreModelPartsMade p (models_before r (held_models p.table.models.items p.faults.items)) (models_with r models) m
+AreModelsAfter p models r m = AreModelPartsMade p models (models_before r (held_models p.table.models.items p.faults.items)) (models_with r models) m
 
 -- what is made for an edit
 abbrev pub IsMade : Parts → List Test → List NamedModel → Replacement → EditedParts → Type 0

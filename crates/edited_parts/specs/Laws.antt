@@ -1,17 +1,18 @@
 -- LAWS of the parts of the bench after an edit: what `laws` states.
-use Rattle.std.specs.Prelude.{⊤, ℕ, List, All}
+use Rattle.std.specs.Prelude.{◌≡◌, ⊤, ℕ, ◌<◌, ◌≤◌, ◌⊎◌, List, Some, slice_get, All}
 use Rattle.text_values.specs.declared.test.Test.{Test}
+use Rattle.memo_core.specs.Step.{Has}
 use Rattle.bench_texts.specs.Held.{IsRead}
 use Rattle.bench_texts.specs.declared.model.NamedModel.{NamedModel}
 use Rattle.bench_texts.specs.declared.replacement.Replacement.{Replacement}
 use Rattle.bench_texts.specs.declared.replacement.Replacement.TheVariants as made
 use Rattle.bench_texts.specs.Replacements.{tests_with, models_with}
-use Rattle.stamped_parts.specs.Contents.{state_of}
-use Rattle.stamped_parts.specs.States.{IsPartAfter}
+use Rattle.stamped_parts.specs.Written.{IsWhole, IsPartAfter, IsStamped}
 use Rattle.stamped_parts.specs.declared.parts.Parts.{Parts}
 use Rattle.stamped_parts.specs.Stamps.{IsLaterNumber}
 use Rattle.edited_parts.specs.declared.edited.EditedParts.{EditedParts}
 use Rattle.edited_parts.specs.Edited.{IsMade, Commits}
+use Rattle.edited_parts.specs.Readings.{written_state}
 use Rattle.edited_parts.specs.Owed.{AreApart, ArePartsOf, item_numbers}
 
 -- the parts before an edit of that number and after it
@@ -37,7 +38,7 @@ TestEditsKeepParts =
 abbrev pub TestEditsGoOn : Type 0
 TestEditsGoOn =
     (p q : Parts) (tests : List Test) (models : List NamedModel) (r : Replacement) (number : ℕ) (e : EditedParts) → IsEdit p tests models r number e q → IsOfTest r
-    → (part of : ℕ) → IsPartAfter (state_of p tests) number (state_of q (tests_with r tests)) part of
+    → (next later part of : ℕ) → IsPartAfter (written_state p tests models next) number (written_state q (tests_with r tests) (models_with r models) later) part of
 
 -- after any edit the parts are those of the texts after it, where no two items have one number and each model is read
 abbrev pub EditsKeepParts : Type 0
@@ -49,4 +50,32 @@ EditsKeepParts =
 abbrev pub EditsGoOn : Type 0
 EditsGoOn =
     (p q : Parts) (tests : List Test) (models : List NamedModel) (r : Replacement) (number : ℕ) (e : EditedParts) → IsEdit p tests models r number e q → AreApart (item_numbers (models_with r models)) → All IsRead (models_with r models)
-    → (part of : ℕ) → IsPartAfter (state_of p tests) number (state_of q (tests_with r tests)) part of
+    → (next later part of : ℕ) → IsPartAfter (written_state p tests models next) number (written_state q (tests_with r tests) (models_with r models) later) part of
+
+-- ---- the state of parts, tests and models
+
+-- the models are read, and no two of their items have one number, which is below that of the next new item
+pub record AreWritten (models : List NamedModel) (next : ℕ) : Type 0 where
+  pub read : All IsRead models
+  pub apart : AreApart (item_numbers models)
+  pub low : (number : ℕ) → Has (item_numbers models) number → number < next
+
+-- Items of one model that are still there after an edit are so of one model, in one order. A new item has a number that none had
+-- before. `was` and `now` are the numbers that the next new item is given before the edit and after it.
+pub record ItemsFollow (models after : List NamedModel) (was now : ℕ) : Type 0 where
+  pub order : (m : NamedModel) (a b first second : ℕ) → Has models m → slice_get m.numbers.items a ≡ Some first → slice_get m.numbers.items b ≡ Some second → a < b
+      → Has (item_numbers after) first → Has (item_numbers after) second
+      → (n : NamedModel) × (c : ℕ) × (d : ℕ) × Has after n × (slice_get n.numbers.items c ≡ Some first) × (slice_get n.numbers.items d ≡ Some second) × (c < d)
+  pub numbers : (number : ℕ) → Has (item_numbers after) number → Has (item_numbers models) number ⊎ (was ≤ number)
+  pub next : was ≤ now
+
+-- parts of tests and of models as they are written are those of a whole state
+abbrev pub PartsAreWhole : Type 0
+PartsAreWhole =
+    (p : Parts) (tests : List Test) (models : List NamedModel) (next : ℕ) → ArePartsOf p tests models → AreWritten models next → IsWhole (written_state p tests models next)
+
+-- after any edit the state is stamped with the number of the edit
+abbrev pub EditsAreStamped : Type 0
+EditsAreStamped =
+    (p q : Parts) (tests : List Test) (models : List NamedModel) (r : Replacement) (number : ℕ) (e : EditedParts) (next later : ℕ) → IsEdit p tests models r number e q → AreWritten models next
+    → AreWritten (models_with r models) later → ItemsFollow models (models_with r models) next later → IsStamped (written_state p tests models next) number (written_state q (tests_with r tests) (models_with r models) later)

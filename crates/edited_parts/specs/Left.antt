@@ -12,14 +12,14 @@ use Rattle.bench_texts.specs.declared.reading.Reading.TheVariants as readings
 use Rattle.bench_texts.specs.declared.replacement.Replacement.{Replacement}
 use Rattle.bench_nodes.specs.declared.table.ModelRow.{ModelRow}
 use Rattle.bench_nodes.specs.declared.table.TestRow.{TestRow}
-use Rattle.stamped_parts.specs.Contents.{State, state_of}
+use Rattle.stamped_parts.specs.Contents.{state_of}
+use Rattle.stamped_parts.specs.Written.{WrittenModel, WrittenState}
 use Rattle.stamped_parts.specs.declared.parts.Parts.{Parts}
 use Rattle.stamped_parts.specs.ItemLaws.{IsOfItsKind}
 use Rattle.edited_parts.specs.declared.edited.EditedParts.{EditedParts}
 use Rattle.edited_parts.specs.Laws.{IsEdit}
 use Rattle.edited_parts.specs.Owed.{AreApart, ArePartsOf, item_numbers}
-use Rattle.edited_parts.specs.Readings.{reading_of, readings_of, all_facts}
-use Rattle.model_slots.specs.Tables.{ModelReading}
+use Rattle.edited_parts.specs.Readings.{readings_of, written_model, written_state, all_facts}
 use Rattle.edited_parts.specs.Kept.{IsKept}
 use Rattle.edited_parts.specs.BenchCells.{HaveSameCells, LeavesCell, MayNodesKeep}
 
@@ -76,8 +76,8 @@ pub record IsCellOf (p : Parts) (tests : List Test) (models : List NamedModel) (
   pub model_is : slice_get models of ≡ Some c.model
   pub model_row_is : slice_get p.table.models.items of ≡ Some c.model_row
 
-abbrev pub reading_in : CellRows → ModelReading
-reading_in c = reading_of c.model_row c.model
+abbrev pub model_in : CellRows → WrittenModel
+model_in c = written_model c.model_row c.model
 
 -- the tests have the same condition
 pub record IsSameCondition (a b : Test) : Type 0 where
@@ -94,16 +94,16 @@ pub record IsSameCell (a b : CellRows) : Type 0 where
   pub test : b.test.name ≡ a.test.name
   pub model : b.model.name ≡ a.model.name
   pub said : IsSameFor a.model.reading a.test b.test
-  pub reads : HaveSameCells (reading_of a.model_row a.model) (reading_of a.model_row b.model)
+  pub reads : HaveSameCells (written_model a.model_row a.model) (written_model a.model_row b.model)
 
 -- it keeps its numbers, and the edit leaves it
-pub record IsLeft (s t : State) (before after : List ModelReading) (a b : CellRows) : Type 0 where
+pub record IsLeft (w v : WrittenState) (a b : CellRows) : Type 0 where
   pub test : b.test_row.id ≡ a.test_row.id
   pub model : b.model_row.id ≡ a.model_row.id
-  pub left : LeavesCell s t before after (reading_in a) (reading_in b) a.test_row.id
+  pub left : LeavesCell w v (model_in a) (model_in b) a.test_row.id
 
 abbrev pub CellsAreLeft : Type 0
 CellsAreLeft =
-    (p q : Parts) (tests : List Test) (models : List NamedModel) (r : Replacement) (number : ℕ) (e : EditedParts) (a b : CellRows) → IsOrderlyEdit p q tests models r number e
+    (p q : Parts) (tests : List Test) (models : List NamedModel) (r : Replacement) (number : ℕ) (e : EditedParts) (next later : ℕ) (a b : CellRows) → IsOrderlyEdit p q tests models r number e
     → IsCellOf p tests models a → IsCellOf q (tests_with r tests) (models_with r models) b → IsSameCell a b
-    → IsLeft (state_of p tests) (state_of q (tests_with r tests)) (readings_of p.table.models.items models) (readings_of q.table.models.items (models_with r models)) a b
+    → IsLeft (written_state p tests models next) (written_state q (tests_with r tests) (models_with r models) later) a b

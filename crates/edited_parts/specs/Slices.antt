@@ -1,14 +1,15 @@
 -- The law of this crate, the contract of its call.
-use Rattle.std.specs.Prelude.{◌≡◌, ℕ}
+use Rattle.std.specs.Prelude.{◌≡◌}
 use Rattle.text_values.specs.TestValue.{Content}
 use Rattle.bench_texts.specs.declared.model.NamedModel.{NamedModel}
 use Rattle.bench_texts.specs.Held.{IsRead}
+use Rattle.bench_nodes.specs.declared.table.ModelRow.{ModelRow}
 use Rattle.bench_slices.specs.Slices.{slice}
-use Rattle.edited_parts.specs.Readings.{reading_by}
+use Rattle.edited_parts.specs.Readings.{written_model}
 use Rattle.edited_parts.specs.BenchCells.{HaveSameCells}
 
 -- Two models that give a test one slice give its cells the same items, or the same fault, under a model of one number.
 abbrev pub EqualSlicesHaveSameCells : Type 0
 EqualSlicesHaveSameCells =
-    (test other : Content) (model under : NamedModel) (id : ℕ) → IsRead model → IsRead under → slice test model ≡ slice other under
-    → HaveSameCells (reading_by id model.numbers.items model.reading) (reading_by id under.numbers.items under.reading)
+    (test other : Content) (model under : NamedModel) (row : ModelRow) → IsRead model → IsRead under → slice test model ≡ slice other under
+    → HaveSameCells (written_model row model) (written_model row under)

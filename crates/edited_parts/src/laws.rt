@@ -1,6 +1,6 @@
 //! Laws of the parts of the bench after an edit.
 
-ghost use Rattle.edited_parts.specs.Laws.{TestEditsKeepParts, TestEditsGoOn, EditsKeepParts, EditsGoOn};
+ghost use Rattle.edited_parts.specs.Laws.{TestEditsKeepParts, TestEditsGoOn, EditsKeepParts, EditsGoOn, PartsAreWhole, EditsAreStamped};
 
 /// After an edit of a test the parts are those of the texts after it.
 pub fn test_edits_keep_parts()
@@ -20,4 +20,14 @@ pub fn edits_keep_parts()
 /// After any edit each part is as it was, has the number of the edit, or is gone.
 pub fn edits_go_on()
     ensures { EditsGoOn }
+{}
+
+/// Parts of tests, and of models as they are written, are those of a whole state.
+pub fn parts_are_whole()
+    ensures { PartsAreWhole }
+{}
+
+/// After any edit the state is stamped with the number of the edit.
+pub fn edits_are_stamped()
+    ensures { EditsAreStamped }
 {}

@@ -31,19 +31,20 @@ fn make_room(parts: &mut Parts) -> Result<(), AllocError>
     parts.locations.reserve(1)
 }
 
-// The parts of these models, over what they were. Errors: want of memory, or too many nodes.
+// The parts of these models, over what they were and said. Errors: want of memory, or too many nodes.
 fn model_parts(
     alloc: Global,
     parts: &Parts,
+    was: &[NamedModel],
     before: &[Option<HeldModel>],
     models: &[&NamedModel],
 ) -> Result<ModelParts, AllocError>
-    ensures { IfOk result (AreModelPartsMade parts.now before.now (map (λ m. m.now) models.now)) }
+    ensures { IfOk result (AreModelPartsMade parts.now was.now before.now (map (λ m. m.now) models.now)) }
 {
     let fresh = next_number(parts.last);
     let rows = model_rows(alloc, fresh, before, models)?;
     let faults = model_faults(alloc, models)?;
-    let items = model_items(alloc, fresh, parts, models)?;
+    let items = model_items(alloc, fresh, parts, was, models)?;
     let histories = Histories {
         rows: &items.rows,
         roles: &items.roles,
@@ -73,7 +74,7 @@ fn edited_models(
 {
     let before = models_before(alloc, parts, replacement)?;
     let after = models_after(alloc, models, replacement)?;
-    model_parts(alloc, parts, &before, &after)
+    model_parts(alloc, parts, models, &before, &after)
 }
 
 /// Makes what an edit needs that puts this on the tests and models of these parts. The parts stay the same. Errors: want of

@@ -1,8 +1,8 @@
 -- The items of later texts beside those of earlier ones. Read Orderly first.
 use Rattle.std.specs.Prelude.{◌≡◌, ℕ, ◌<◌, ◌≤◌, ◌⊎◌, List, Some, slice_get}
 use Rattle.memo_core.specs.Step.{Has}
-use Rattle.bench_texts.specs.BenchTexts.{BenchTexts}
-use Rattle.orderly_texts.specs.Orderly.{all_numbers}
+use Rattle.bench_texts.specs.BenchTexts.{BenchTexts, PlainModel}
+use Rattle.orderly_texts.specs.Orderly.{numbers_of, all_numbers}
 
 -- a stands before b among the numbers
 abbrev pub IsBefore : List ℕ → ℕ → ℕ → Type 0
@@ -20,3 +20,9 @@ abbrev pub AreInOneOrder : List ℕ → List ℕ → Type 0
 AreInOneOrder before after =
     (a b c d first second : ℕ) → slice_get before a ≡ Some first → slice_get before b ≡ Some second → slice_get after c ≡ Some first → slice_get after d ≡ Some second
     → a < b → c < d
+
+-- Items that stand in one model of the earlier texts, and still stand in the later ones, stand in one model of these.
+abbrev pub AreTogether : BenchTexts → BenchTexts → Type 0
+AreTogether t u =
+    (m : PlainModel) (a b : ℕ) → Has t.models m → Has (numbers_of m) a → Has (numbers_of m) b → Has (all_numbers u.models) a → Has (all_numbers u.models) b
+    → (w : PlainModel) × Has u.models w × Has (numbers_of w) a × Has (numbers_of w) b

@@ -5,7 +5,7 @@ ghost use Rattle.memo_core.specs.Step.{Has};
 ghost use Rattle.bench_texts.specs.BenchTexts.{BenchTexts, PlainModel};
 ghost use Rattle.bench_texts.specs.Edits.{Edit, Applies};
 ghost use Rattle.orderly_texts.specs.Orderly.{numbers_of, IsOrderly};
-ghost use Rattle.orderly_texts.specs.Order.{ItemsGoOn, AreInOneOrder};
+ghost use Rattle.orderly_texts.specs.Order.{ItemsGoOn, AreInOneOrder, AreTogether};
 
 /// After an edit each test and each model still has a name of its own, and each item a number of its own.
 pub fn names_and_numbers_stay_apart()
@@ -27,4 +27,9 @@ pub fn order_lasts_over_edits()
 /// The items that stand in a model of earlier texts and in a model of later texts stand in one order in both.
 pub fn models_stay_in_order()
     ensures { (t u : BenchTexts) (m w : PlainModel) → IsOrderly u → ItemsGoOn t u → Has t.models m → Has u.models w → AreInOneOrder (numbers_of m) (numbers_of w) }
+{}
+
+/// After an edit the items of one model that still stand are items of one model.
+pub fn items_stay_together()
+    ensures { (t u : BenchTexts) (spent : Bool) (e : Edit) → IsOrderly t → Applies t spent e u → AreTogether t u }
 {}

@@ -18,14 +18,16 @@ use Rattle.stamped_parts.specs.Built.{IsBuilt}
 use Rattle.stamped_parts.specs.Contents as contents
 use Rattle.stamped_parts.specs.States.{IsSameState}
 use Rattle.stamped_parts.proofs.Same as states
+use Rattle.stamped_parts.proofs.SameWritten as written
+use Rattle.stamped_parts.specs.Written.{IsSameWritten}
 use Rattle.stamped_parts.specs.ItemLaws.{IsOfItsKind}
 use Rattle.edited_parts.specs.Edited.{AreTestsSame, AreModelsSame}
 use Rattle.edited_parts.specs.Owed.{AreNumbered, ArePartsOf}
-use Rattle.edited_parts.specs.Readings.{readings_of, all_facts}
+use Rattle.edited_parts.specs.Readings.{readings_of, all_facts, written_models}
 use Rattle.edited_parts.specs.Left.{AreKindsOf}
 use Rattle.orderly_texts.specs.Orderly.{IsOrderly}
 use Rattle.running_bench.specs.declared.stamped_texts.StampedTexts.{StampedTexts}
-use Rattle.running_bench.specs.StampedTexts.{state_of, net_of, IsSound, IsSince}
+use Rattle.running_bench.specs.StampedTexts.{state_of, written_of, net_of, IsSound, IsSince}
 use Rattle.running_bench.specs.Edited.{IsSame}
 
 -- ---- the numbers are not spent
@@ -92,10 +94,18 @@ module _ (t u : StampedTexts) (same : IsSame t u) where
   pub net_is : net_of u ≡ net_of t
   net_is = states.net_is (state_of t) (state_of u) same.state
 
+  models_are : (written_of u).models ≡ (written_of t).models
+  models_are =
+      ap (λ (rows : List ModelRow). written_models rows u.texts.models.items) same.state.model_rows
+      ∙ ap (written_models t.parts.table.models.items) same.models
+
+  same_written : IsSameWritten (written_of t) (written_of u)
+  same_written = record { state = same.state; models = models_are; next = ap (λ (b : BenchTexts). b.next) same.texts }
+
   pub since_is : (r : StampedTexts) → IsSince r t → IsSince r u
   since_is r since = record {
     sound = sound_is since.sound;
-    since = states.since_is (state_of t) (state_of u) same.state (state_of r) since.since;
+    since = written.since_is (written_of t) (written_of u) same_written (written_of r) since.since;
     same = λ e. (
         let h = since.same (sym same.state.last ∙ e) in
         record { texts = same.texts ∙ h.texts; tests = same.state.tests ∙ h.tests; models = same.models ∙ h.models });

@@ -1,37 +1,45 @@
 -- To prepare an edit and to put it in place is to make it.
-use Rattle.std.proofs.Common.{◌≡◌, ℕ, ◌<◌, List, [], ◌∷◌, ◌++◌, length, map, false, All, refl, sym, ap, subst, ◌∙◌, arith}
+use Rattle.std.proofs.Common.{◌≡◌, ℕ, ◌<◌, ◌≤◌, ◌⊎◌, inl, inr, List, [], ◌∷◌, ◌++◌, length, map, Some, slice_get, false, All, refl, sym, ap, subst, ◌∙◌, arith}
 use Rattle.std.specs.List.{remove}
+use Rattle.memo_core.specs.Step.{Has}
 use Rattle.text_values.specs.declared.test.Test.{Test}
 use Rattle.text_values.specs.declared.model.Item.{Item}
 use Rattle.bench_texts.specs.declared.edit.Edit.{Edit}
 use Rattle.bench_texts.specs.declared.model.NamedModel.{NamedModel}
-use Rattle.bench_texts.specs.BenchTexts.{BenchTexts, put_at, items_of}
-use Rattle.bench_texts.specs.Edits.{edit_of, Applies}
+use Rattle.bench_texts.specs.BenchTexts.{BenchTexts, PlainModel, put_at, items_of}
+use Rattle.bench_texts.specs.Edits.{Edit as Change, edit_of, Applies}
 use Rattle.bench_texts.specs.Held.{model_of, texts_of, IsRead, AreRead}
 use Rattle.bench_texts.specs.Replacements.{texts_with, tests_with, models_with}
 use Rattle.stamped_parts.specs.declared.parts.Parts.{Parts}
 use Rattle.stamped_parts.specs.Contents as contents
-use Rattle.stamped_parts.specs.States.{IsSameState, IsPartAfter, IsStamped}
+use Rattle.stamped_parts.specs.States.{IsSameState}
+use Rattle.stamped_parts.specs.Written.{IsStamped}
 use Rattle.stamped_parts.specs.Stamps.{IsLaterNumber}
 use Rattle.stamped_parts.specs.Models.{raised_model}
 use Rattle.stamped_parts.specs.Tests.{IsRaisedRow}
 use Rattle.stamped_parts.specs.Items.{raised_item}
 use Rattle.edited_parts.specs.declared.edited.EditedParts.{EditedParts}
 use Rattle.edited_parts.specs.declared.edited.EditedParts.TheVariants as edited
-use Rattle.edited_parts.proofs.ModelEdits.{edits_keep, edits_go_on}
+use Rattle.edited_parts.proofs.ModelEdits.{edits_keep}
+use Rattle.edited_parts.proofs.Stamped.{edits_stamped}
 use Rattle.edited_parts.specs.Edited.{AreTestsSame, AreModelsSame, Changes}
-use Rattle.edited_parts.specs.Laws.{IsEdit, EditsKeepParts, EditsGoOn}
+use Rattle.edited_parts.specs.Laws.{IsEdit, EditsKeepParts, AreWritten, ItemsFollow, EditsAreStamped}
+use Rattle.edited_parts.specs.Readings.{written_state}
 use Rattle.edited_parts.specs.Owed.{ArePartsOf, item_numbers}
 use Rattle.edited_parts.specs.Owed as owed
 use Rattle.edited_parts.specs.Left.{AreKindsOf}
 use Rattle.edited_parts.proofs.ItemKinds.{kinds_after}
+use Rattle.edited_parts.proofs.Lists.{has_map}
 use Rattle.running_bench.specs.declared.stamped_texts.StampedTexts.{StampedTexts}
 use Rattle.running_bench.specs.declared.stamped_texts.PreparedEdit.{PreparedEdit}
-use Rattle.orderly_texts.specs.Orderly.{AreApart, all_numbers, IsOrderly}
-use Rattle.running_bench.specs.StampedTexts.{state_of, IsSound}
+use Rattle.orderly_texts.specs.Orderly.{AreApart, numbers_of, all_numbers, IsOrderly}
+use Rattle.orderly_texts.specs.Order.{ItemsGoOn, AreInOneOrder}
+use Rattle.running_bench.specs.StampedTexts.{written_of, IsSound}
 use Rattle.running_bench.specs.Edited.{IsPrepared, IsCommitted, IsPartsEdit, IsEdited}
-use Rattle.running_bench.specs.StampedLaws.{valid_of}
 use Rattle.orderly_texts.proofs.Orderly.{applied_orderly}
+use Rattle.orderly_texts.proofs.Order.{applied_go_on, models_in_order}
+use Rattle.orderly_texts.proofs.Splices.{has_at, at_has}
+use Rattle.orderly_texts.proofs.Together.{applied_together}
 
 -- ---- parts that were the same
 
@@ -78,18 +86,81 @@ numbers_are [] is e = refl
 numbers_are (n ∷ ns) [] e = absurd (omega (arith, e))
 numbers_are (n ∷ ns) (i ∷ is) e = let f : length ns ≡ length is = omega (arith, e) in ap (λ (ms : List ℕ). n ∷ ms) (numbers_are ns is f)
 
+numbers_in : (m : NamedModel) → numbers_of (model_of m) ≡ m.numbers.items
+numbers_in m = numbers_are m.numbers.items m.text.items.items (sym (m.numbers).ok.0 ∙ m.paired ∙ ((m.text).items).ok.0)
+
 pub all_are : (ms : List NamedModel) → all_numbers (map model_of ms) ≡ item_numbers ms
 all_are [] = refl
-all_are (m ∷ ms) =
-    ap (λ (ns : List ℕ). ns ++ all_numbers (map model_of ms)) (numbers_are m.numbers.items m.text.items.items (sym (m.numbers).ok.0 ∙ m.paired ∙ ((m.text).items).ok.0)) ∙ ap (λ (ns : List ℕ). m.numbers.items ++ ns) (all_are ms)
+all_are (m ∷ ms) = ap (λ (ns : List ℕ). ns ++ all_numbers (map model_of ms)) (numbers_in m) ∙ ap (λ (ns : List ℕ). m.numbers.items ++ ns) (all_are ms)
 
 apart_of : (ns : List ℕ) → AreApart ns → owed.AreApart ns
 apart_of [] h = tt
 apart_of (n ∷ ns) h = (h.0, apart_of ns h.1)
 
+-- ---- models as they are written
+
+pub are_written : (t : StampedTexts) → IsSound t → AreWritten t.texts.models.items t.texts.next
+are_written t s = record {
+  read = s.read;
+  apart = apart_of _ (subst AreApart (all_are t.texts.models.items) (s.orderly).items);
+  low = λ number there. (s.orderly).next number (subst (λ (ns : List ℕ). Has ns number) (sym (all_are t.texts.models.items)) there);
+}
+
+-- what is among the images is that of an element
+of_map : {A B : Type 0} (f : A → B) (xs : List A) (y : B) → Has (map f xs) y → (x : A) × Has xs x × (f x ≡ y)
+of_map f [] y h = absurd h
+of_map f (x ∷ xs) y (inl e) = (x, inl refl, e)
+of_map f (x ∷ xs) y (inr h) = let found = of_map f xs y h in (found.0, inr found.1, found.2)
+
+-- the texts before an edit, and those after it
+module _ (t w : StampedTexts) (e : Change) (orderly : IsOrderly (texts_of t.texts)) (applies : Applies (texts_of t.texts) false e (texts_of w.texts)) where
+  goes_on : ItemsGoOn (texts_of t.texts) (texts_of w.texts)
+  goes_on = applied_go_on (texts_of t.texts) (texts_of w.texts) false e orderly applies
+
+  -- two items of a model that are still there are so of one model
+  abbrev StandTogether : ℕ → ℕ → Type 0
+  StandTogether first second = (n : NamedModel) × Has w.texts.models.items n × Has n.numbers.items first × Has n.numbers.items second
+
+  named_together : (first second : ℕ) (v : PlainModel) → Has (map model_of w.texts.models.items) v → Has (numbers_of v) first → Has (numbers_of v) second → StandTogether first second
+  named_together first second v there one other =
+      let found = of_map model_of w.texts.models.items v there in
+      let same : numbers_of v ≡ found.0.numbers.items = ap numbers_of (sym found.2) ∙ numbers_in found.0 in
+      (found.0, found.1, subst (λ (ns : List ℕ). Has ns first) same one, subst (λ (ns : List ℕ). Has ns second) same other)
+
+  still_there : (number : ℕ) → Has (item_numbers w.texts.models.items) number → Has (all_numbers (map model_of w.texts.models.items)) number
+  still_there number there = subst (λ (ns : List ℕ). Has ns number) (sym (all_are w.texts.models.items)) there
+
+  in_model : (m : NamedModel) (index number : ℕ) → slice_get m.numbers.items index ≡ Some number → Has (numbers_of (model_of m)) number
+  in_model m index number at = subst (λ (ns : List ℕ). Has ns number) (sym (numbers_in m)) (has_at m.numbers.items index number at)
+
+  together : (m : NamedModel) (a b first second : ℕ) → Has t.texts.models.items m → slice_get m.numbers.items a ≡ Some first → slice_get m.numbers.items b ≡ Some second
+      → Has (item_numbers w.texts.models.items) first → Has (item_numbers w.texts.models.items) second → StandTogether first second
+  together m a b first second there at_a at_b la lb =
+      let stays = applied_together (texts_of t.texts) (texts_of w.texts) false e orderly applies (model_of m) first second (has_map model_of t.texts.models.items m there)
+      (in_model m a first at_a) (in_model m b second at_b) (still_there first la) (still_there second lb) in
+      named_together first second stays.0 stays.1 stays.2 stays.3
+
+  in_order : (m n : NamedModel) → Has t.texts.models.items m → Has w.texts.models.items n → AreInOneOrder m.numbers.items n.numbers.items
+  in_order m n there later =
+      subst (λ (ns : List ℕ). AreInOneOrder m.numbers.items ns) (numbers_in n)
+      (subst (λ (ns : List ℕ). AreInOneOrder ns (numbers_of (model_of n))) (numbers_in m)
+      (models_in_order (texts_of t.texts) (texts_of w.texts) (model_of m) (model_of n) (applied_orderly (texts_of t.texts) (texts_of w.texts) false e orderly applies) goes_on
+      (has_map model_of t.texts.models.items m there) (has_map model_of w.texts.models.items n later)))
+
+  pub items_follow : ItemsFollow t.texts.models.items w.texts.models.items t.texts.next w.texts.next
+  items_follow = record {
+    order = λ m a b first second there at_a at_b before la lb.
+        (let found = together m a b first second there at_a at_b la lb in
+        let c = at_has found.0.numbers.items first found.2 in
+        let d = at_has found.0.numbers.items second found.3 in
+        (found.0, c.0, d.0, found.1, c.1, d.1, in_order m found.0 there found.1 a b c.0 d.0 first second at_a at_b c.1 d.1 before));
+    numbers = λ number there. subst (λ (ns : List ℕ). Has ns number ⊎ (t.texts.next ≤ number)) (all_are t.texts.models.items) (goes_on.fresh number (still_there number there));
+    next = goes_on.next;
+  }
+
 -- ---- the edit
 
-module _ (keep : EditsKeepParts) (go : EditsGoOn) (t u w : StampedTexts) (e : Edit) (p : PreparedEdit) (number : ℕ) (h : IsPrepared t e p u) (c : IsCommitted u p number w) where
+module _ (keep : EditsKeepParts) (stamp : EditsAreStamped) (t u w : StampedTexts) (e : Edit) (p : PreparedEdit) (number : ℕ) (h : IsPrepared t e p u) (c : IsCommitted u p number w) where
   tests_are : w.texts.tests.items ≡ tests_with p.texts.replacement t.texts.tests.items
   tests_are = c.tests ∙ ap (tests_with p.texts.replacement) (h.same).state.tests
 
@@ -145,17 +216,20 @@ module _ (keep : EditsKeepParts) (go : EditsGoOn) (t u w : StampedTexts) (e : Ed
   sound : IsSound t → IsSound w
   sound s = record { read = read s; parts_are = parts_are s; orderly = orderly s; kinds = kinds s }
 
-  stamped : IsSound t → IsStamped (state_of t) number (state_of w)
-  stamped s = record {
-    above = later.later;
-    last = (c.parts_are).last;
-    valid = λ _. valid_of w (sound s);
-    parts = λ part of. subst (λ (ts : List Test). IsPartAfter (state_of t) number (contents.state_of w.parts ts) part of) (sym tests_are)
-        (go t.parts w.parts t.texts.tests.items t.texts.models.items p.texts.replacement number p.parts (is_edit s) (apart s) (all_read s) part of);
-  }
+  follow : IsSound t → ItemsFollow t.texts.models.items (models_with p.texts.replacement t.texts.models.items) t.texts.next w.texts.next
+  follow s = subst (λ (ms : List NamedModel). ItemsFollow t.texts.models.items ms t.texts.next w.texts.next) models_are (items_follow t w (edit_of e) s.orderly applies)
+
+  written_after : IsSound t → AreWritten (models_with p.texts.replacement t.texts.models.items) w.texts.next
+  written_after s = subst (λ (ms : List NamedModel). AreWritten ms w.texts.next) models_are (are_written w (sound s))
+
+  stamped : IsSound t → IsStamped (written_of t) number (written_of w)
+  stamped s =
+      subst (λ (ts : List Test). IsStamped (written_of t) number (written_state w.parts ts w.texts.models.items w.texts.next)) (sym tests_are)
+      (subst (λ (ms : List NamedModel). IsStamped (written_of t) number (written_state w.parts (tests_with p.texts.replacement t.texts.tests.items) ms w.texts.next)) (sym models_are)
+      (stamp t.parts w.parts t.texts.tests.items t.texts.models.items p.texts.replacement number p.parts t.texts.next w.texts.next (is_edit s) (are_written t s) (written_after s) (follow s)))
 
   edit_is_made : IsEdited t e number w
   edit_is_made = record { applies = applies; sound = sound; stamped = stamped; made = parts_edit }
 
 pub commits_edit : (t u w : StampedTexts) (e : Edit) (p : PreparedEdit) (number : ℕ) → IsPrepared t e p u → IsCommitted u p number w → IsEdited t e number w
-commits_edit = edit_is_made edits_keep edits_go_on
+commits_edit = edit_is_made edits_keep edits_stamped

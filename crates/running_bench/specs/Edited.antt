@@ -5,7 +5,8 @@ use Rattle.bench_texts.specs.Edits.{edit_of, is_whole, Applies}
 use Rattle.bench_texts.specs.Held.{texts_of, AreRead}
 use Rattle.bench_texts.specs.Replacements.{texts_with, tests_with, models_with, IsReplaceable}
 use Rattle.stamped_parts.specs.declared.parts.Parts.{Parts}
-use Rattle.stamped_parts.specs.States.{IsSameState, IsStamped}
+use Rattle.stamped_parts.specs.States.{IsSameState}
+use Rattle.stamped_parts.specs.Written.{IsStamped}
 use Rattle.edited_parts.specs.declared.edited.EditedParts.{EditedParts}
 use Rattle.edited_parts.specs.declared.edited.EditedParts.TheVariants as edited
 use Rattle.edited_parts.specs.Edited as parts
@@ -13,7 +14,7 @@ use Rattle.edited_parts.specs.Laws.{IsEdit}
 use Rattle.bench_texts.specs.declared.replacement.Replacement.{Replacement}
 use Rattle.running_bench.specs.declared.stamped_texts.StampedTexts.{StampedTexts}
 use Rattle.running_bench.specs.declared.stamped_texts.PreparedEdit.{PreparedEdit}
-use Rattle.running_bench.specs.StampedTexts.{state_of, IsSound}
+use Rattle.running_bench.specs.StampedTexts.{state_of, IsSound, written_of}
 
 -- ---- edits
 
@@ -29,7 +30,7 @@ pub record IsPartsEdit (t : StampedTexts) (number : ℕ) (u : StampedTexts) : Ty
 pub record IsEdited (t : StampedTexts) (e : code.Edit) (number : ℕ) (u : StampedTexts) : Type 0 where
   pub applies : Applies (texts_of t.texts) false (edit_of e) (texts_of u.texts)
   pub sound : IsSound t → IsSound u
-  pub stamped : IsSound t → IsStamped (state_of t) number (state_of u)
+  pub stamped : IsSound t → IsStamped (written_of t) number (written_of u)
   pub made : IsSound t → IsPartsEdit t number u
 
 -- ---- edits that are prepared

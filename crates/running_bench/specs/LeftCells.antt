@@ -19,22 +19,21 @@ use Rattle.bench_texts.specs.Held as held
 use Rattle.bench_texts.specs.Replacements.{tests_with, models_with}
 use Rattle.bench_slices.specs.Reach.{cell_slice}
 use Rattle.bench_slices.specs.Slices.{Slice, OfFault, OfItems, slice, slice_by}
-use Rattle.stamped_parts.specs.Contents.{state_of}
 use Rattle.stamped_parts.specs.States.{keeps}
 use Rattle.stamped_parts.specs.declared.parts.Parts.{Parts}
 use Rattle.edited_parts.specs.declared.edited.EditedParts.{EditedParts}
 use Rattle.edited_parts.specs.Laws.{IsEdit}
-use Rattle.edited_parts.specs.Readings.{reading_of, readings_of}
+use Rattle.edited_parts.specs.Readings.{written_state}
 use Rattle.edited_parts.specs.Kept.{verdict_node}
 use Rattle.cells.specs.Cells.{UnreachedIsUntouched}
 use Rattle.edited_parts.proofs.SliceCells.{same_cells}
 use Rattle.edited_parts.proofs.Stable.{IsCertain, nat_stable, untouched_stable}
 use Rattle.edited_parts.proofs.Untouched.{left_untouched}
-use Rattle.edited_parts.specs.Left.{AreOrderlyParts, CellRows, IsCellOf, IsSameFor, IsSameCell, IsLeft}
+use Rattle.edited_parts.specs.Left.{AreOrderlyParts, CellRows, model_in, IsCellOf, IsSameFor, IsSameCell, IsLeft}
 use Rattle.edited_parts.proofs.Kept.{id_of}
 use Rattle.edited_parts.proofs.LeftCells.{cell_left}
 use Rattle.running_bench.specs.declared.stamped_texts.StampedTexts.{StampedTexts}
-use Rattle.running_bench.specs.StampedTexts.{net_of, verdict_by, verdict_of, IsSound}
+use Rattle.running_bench.specs.StampedTexts.{written_of, net_of, verdict_by, verdict_of, IsSound}
 use Rattle.running_bench.specs.Edited.{IsEdited, IsPartsEdit}
 use Rattle.running_bench.specs.StampedCells.{test_of, model_of, slice_of, Reaches}
 use Rattle.running_bench.specs.CellProofs.{IsCellIn, cell_in, orderly_parts, is_named, read_at, row_there, model_row_there}
@@ -75,9 +74,9 @@ sliced (Some c) (Some m) of e = record { test = c; model = m; test_is = refl; mo
 
 -- ---- after an edit
 
-left_in : (p q : Parts) (tests after : List Test) (models ms : List NamedModel) (r : Replacement) (number : ℕ) (e : EditedParts) (a b : CellRows) → after ≡ tests_with r tests → ms ≡ models_with r models → IsEdit p tests models r number e q
-    → AreOrderlyParts p tests models → AreOrderlyParts q after ms → IsCellOf p tests models a → IsCellOf q after ms b → IsSameCell a b → IsLeft (state_of p tests) (state_of q after) (readings_of p.table.models.items models) (readings_of q.table.models.items ms) a b
-left_in p q tests after models ms r number e a b te me edit before = rw (te, me) (λ now was is same. cell_left p q tests models r number e a b (record { edit = edit; before = before; after = now }) was is same)
+left_in : (p q : Parts) (tests after : List Test) (models ms : List NamedModel) (r : Replacement) (number : ℕ) (e : EditedParts) (next later : ℕ) (a b : CellRows) → after ≡ tests_with r tests → ms ≡ models_with r models → IsEdit p tests models r number e q
+    → AreOrderlyParts p tests models → AreOrderlyParts q after ms → IsCellOf p tests models a → IsCellOf q after ms b → IsSameCell a b → IsLeft (written_state p tests models next) (written_state q after ms later) a b
+left_in p q tests after models ms r number e next later a b te me edit before = rw (te, me) (λ now was is same. cell_left p q tests models r number e next later a b (record { edit = edit; before = before; after = now }) was is same)
 
 module _ (t u : StampedTexts) (e : Code) (number : ℕ) (test model : List ℕ) (s : IsSound t) (h : IsEdited t e number u) (n : Node) (v : verdict_of t test model ≡ Some n) where
   now : IsSound u
@@ -124,15 +123,16 @@ module _ (t u : StampedTexts) (e : Code) (number : ℕ) (test model : List ℕ) 
         is_named (λ (m : PlainModel). m.name) held.model_of model u.texts.models.items there.model there.model_is
         ∙ sym (is_named (λ (m : PlainModel). m.name) held.model_of model t.texts.models.items cell.of_model cell.model_is)
 
-    left : IsLeft (state_of t.parts t.texts.tests.items) (state_of u.parts u.texts.tests.items) (readings_of t.parts.table.models.items t.texts.models.items) (readings_of u.parts.table.models.items u.texts.models.items) before after
-    left = left_in t.parts u.parts t.texts.tests.items u.texts.tests.items t.texts.models.items u.texts.models.items made.replacement number made.parts before after made.tests made.models made.is_edit (orderly_parts t s) (orderly_parts u now) was is (record {
-      test = test_name;
-      model = model_name;
-      said = said_same cell.of_test there.test cell.of_model there.model (cell.of_model).reading (there.model).reading there.slice_is;
-      reads = same_cells (content_of cell.of_test) (content_of there.test) cell.of_model there.model (cell.model_row).id
-          (read_at t.texts.models.items (model_index model (texts_of t.texts).models) cell.of_model s.read cell.model_is)
-          (read_at u.texts.models.items (model_index model (texts_of u.texts).models) there.model now.read there.model_is) (sym there.slice_is);
-    })
+    left : IsLeft (written_of t) (written_of u) before after
+    left = left_in t.parts u.parts t.texts.tests.items u.texts.tests.items t.texts.models.items u.texts.models.items made.replacement number made.parts t.texts.next u.texts.next before after made.tests made.models made.is_edit
+        (orderly_parts t s) (orderly_parts u now) was is (record {
+          test = test_name;
+          model = model_name;
+          said = said_same cell.of_test there.test cell.of_model there.model (cell.of_model).reading (there.model).reading there.slice_is;
+          reads = same_cells (content_of cell.of_test) (content_of there.test) cell.of_model there.model cell.model_row
+              (read_at t.texts.models.items (model_index model (texts_of t.texts).models) cell.of_model s.read cell.model_is)
+              (read_at u.texts.models.items (model_index model (texts_of u.texts).models) there.model now.read there.model_is) (sym there.slice_is);
+        })
 
     verdict_after : verdict_of u test model ≡ Some (verdict_node (row.0).id (model_row.0).id)
     verdict_after =
@@ -145,8 +145,7 @@ module _ (t u : StampedTexts) (e : Code) (number : ℕ) (test model : List ℕ) 
 
     untouched : (d : ℕ) → IsUntouchedBy d (λ m. keeps u.parts m) (net_of t) (net_of u) n
     untouched d =
-        let law = left_untouched (state_of t.parts t.texts.tests.items) (state_of u.parts u.texts.tests.items) (readings_of t.parts.table.models.items t.texts.models.items) (readings_of u.parts.table.models.items u.texts.models.items)
-        (reading_of cell.model_row cell.of_model) (reading_of (model_row.0) there.model) (cell.row).id left.left in
+        let law = left_untouched (written_of t) (written_of u) (model_in before) (model_in after) (cell.row).id left.left in
         subst (λ (m : Node). IsUntouchedBy d (λ k. keeps u.parts k) (net_of t) (net_of u) m)
         (ap (verdict_node (cell.row).id) (id_of (cell.model_row).id (cell.of_model).numbers.items (cell.of_model).reading) ∙ cell.node_is) (law.1 d)
 

@@ -1,7 +1,7 @@
 pub mod StampedTexts
 pub mod Edited
-pub mod StampedLaws
 pub mod Commits
+pub mod StampedLaws
 pub mod StampedCells
 pub mod CellProofs
 pub mod LeftCells

@@ -8,11 +8,15 @@ use Rattle.bench_nodes.specs.Nodes.{used, users, rank}
 use Rattle.bench_nodes.proofs.Laws as nodes
 use Rattle.stamped_parts.specs.States as states
 use Rattle.stamped_parts.specs.States.{given, is_given, makes}
+use Rattle.stamped_parts.specs.Written.{IsWhole}
 use Rattle.stamped_parts.proofs.Built.{built_valid}
 use Rattle.stamped_parts.proofs.Keeping as keeping
+use Rattle.stamped_parts.proofs.Since as later
 use Rattle.running_bench.specs.declared.stamped_texts.StampedTexts.{StampedTexts}
 use Rattle.edited_parts.specs.Readings.{readings_of}
-use Rattle.running_bench.specs.StampedTexts.{state_of, IsSound, IsSince, net_of, IsThere}
+use Rattle.edited_parts.proofs.Wholes.{parts_whole}
+use Rattle.running_bench.specs.StampedTexts.{state_of, written_of, IsSound, IsSince, net_of, IsThere}
+use Rattle.running_bench.specs.Commits.{are_written}
 use Rattle.running_bench.specs.Edited.{IsEdited}
 use Rattle.bench_texts.specs.declared.edit.Edit.{Edit}
 
@@ -22,15 +26,18 @@ valid_of t sound = built_valid (state_of t) (readings_of t.parts.table.models.it
 pub texts_are_sound : (t : StampedTexts) → IsSound t → core.IsSound makes (net_of t) (IsThere t)
 texts_are_sound t sound = keeping.states_are_sound (state_of t) (valid_of t sound)
 
+whole_of : (t : StampedTexts) → IsSound t → IsWhole (written_of t)
+whole_of t sound = parts_whole t.parts t.texts.tests.items t.texts.models.items t.texts.next sound.parts_are (are_written t sound)
+
 pub since_itself : (t : StampedTexts) → IsSound t → IsSince t t
 since_itself t sound = record {
   sound = sound;
-  since = keeping.since_itself (state_of t) (valid_of t sound);
+  since = later.since_itself (written_of t) (whole_of t sound);
   same = λ e. record { texts = refl; tests = refl; models = refl };
 }
 
 pub given_stays : GivenStays IsSound IsSince net_of
-given_stays t u n g sound since same parts gives = keeping.given_is_kept (state_of t) (state_of u) n g since.since same parts gives
+given_stays t u n g sound since same parts gives = later.given_is_kept (written_of t) (written_of u) n g since.since same parts gives
 
 pub used_there : (t : StampedTexts) → IsSound t → Each (IsThere t) (used t.parts.table)
 used_there t sound = keeping.used_are_there (state_of t) (valid_of t sound)
@@ -51,7 +58,7 @@ since_edited t u w e number since after =
     let stamped = after.stamped since.sound in
     record {
       sound = after.sound since.sound;
-      since = keeping.since_stamped (state_of t) (state_of u) (state_of w) number since.since stamped;
+      since = later.since_stamped (written_of t) (written_of u) (written_of w) number since.since stamped;
       same = λ e. absurd (omega (arith, e, stamped.last, stamped.above, since.since.later));
     }
 
@@ -59,4 +66,4 @@ pub valid_edited : (t u : StampedTexts) (e : Edit) (number : ℕ) → IsSound t 
 valid_edited t u e number sound after = after.sound sound
 
 pub goes_on : (t u : StampedTexts) (e : Edit) (number : ℕ) → IsSound t → IsEdited t e number u → PartsGoOn (net_of t) number (net_of u)
-goes_on t u e number sound after = keeping.parts_go_on (state_of t) (state_of u) number (after.stamped sound)
+goes_on t u e number sound after = later.parts_go_on (written_of t) (written_of u) number (after.stamped sound)

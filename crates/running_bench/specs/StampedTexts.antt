@@ -9,8 +9,11 @@ use Rattle.bench_nodes.specs.declared.table.TestRow.{TestRow}
 use Rattle.stamped_parts.specs.Contents as contents
 use Rattle.stamped_parts.specs.Contents.{State}
 use Rattle.stamped_parts.specs.States as states
+use Rattle.stamped_parts.specs.Written as written
+use Rattle.stamped_parts.specs.Written.{WrittenState}
 use Rattle.bench_texts.specs.BenchTexts.{test_index, model_index}
 use Rattle.bench_texts.specs.Held.{texts_of, AreRead}
+use Rattle.edited_parts.specs.Readings.{written_state}
 use Rattle.edited_parts.specs.Owed.{ArePartsOf}
 use Rattle.edited_parts.specs.Left.{AreKindsOf}
 use Rattle.orderly_texts.specs.Orderly.{IsOrderly}
@@ -18,6 +21,10 @@ use Rattle.running_bench.specs.declared.stamped_texts.StampedTexts.{StampedTexts
 
 abbrev pub state_of : StampedTexts → State
 state_of t = contents.state_of t.parts t.texts.tests.items
+
+-- the state with its models as they are written
+abbrev pub written_of : StampedTexts → WrittenState
+written_of t = written_state t.parts t.texts.tests.items t.texts.models.items t.texts.next
 
 -- the models are as they are read, the parts are those of the tests and models, and all have names and numbers of their own
 pub record IsSound (t : StampedTexts) : Type 0 where
@@ -35,7 +42,7 @@ pub record HasTextsOf (t u : StampedTexts) : Type 0 where
 -- the later texts came of the earlier ones; without an edit between them they say the same
 pub record IsSince (t u : StampedTexts) : Type 0 where
   pub sound : IsSound u
-  pub since : states.IsSince (state_of t) (state_of u)
+  pub since : written.IsSince (written_of t) (written_of u)
   pub same : u.parts.last ≡ t.parts.last → HasTextsOf t u
 
 abbrev pub net_of : StampedTexts → Net GivenContent

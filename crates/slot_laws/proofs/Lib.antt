@@ -2,3 +2,4 @@ pub mod Naming
 pub mod Using
 pub mod Items
 pub mod Reached
+pub mod Roles

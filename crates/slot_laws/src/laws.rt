@@ -9,6 +9,7 @@ ghost use Rattle.binding_graph.specs.Resolved.{AreResolved};
 ghost use Rattle.model_slots.specs.Slots.{flag_key, answer_key, keys_by};
 ghost use Rattle.model_slots.specs.Tables.{AreOrderedItems};
 ghost use Rattle.slot_laws.specs.Closed.{predefined_names, AreClosed, IsReachedByNames, all_keys};
+ghost use Rattle.slot_laws.specs.Roles.{RolesStay};
 
 /// Items that are resolved use names of earlier groups alone, and those that the functions use which they apply.
 pub fn resolved_items_are_closed()
@@ -33,4 +34,10 @@ pub fn reached_flags_are_all()
 /// Among them are all checks and flags, in their order.
 pub fn reached_checks_are_all()
     ensures { (numbers : List ℕ) (items : List ResolvedItem) (used : List ℕ) → AreReached items used → keys_by answer_key numbers items used ≡ all_keys answer_key numbers 0 items }
+{}
+
+/// After edits of its model an item whose keys are what they were does what it did, and its outputs go by the numbers by which
+/// they went, where each text among its keys is what it was.
+pub fn roles_stay()
+    ensures { RolesStay }
 {}

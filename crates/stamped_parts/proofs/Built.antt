@@ -23,7 +23,7 @@ use Rattle.shared_items.specs.Naming.{SeenName, item_outputs}
 use Rattle.node_values.specs.Makes.{output_names}
 use Rattle.model_slots.specs.Tables.{ModelReading, Sound, Faulty, IsOrderedModel}
 use Rattle.model_slots.proofs.Ordered.{table_ordered}
-use Rattle.stamped_parts.specs.Contents.{PartContent, OfRole, OfFault, OfCondition, OfObserved, OfLocations, OfInit, OfThread, State, histories, content}
+use Rattle.stamped_parts.specs.Contents.{PartContent, OfText, OfRole, OfFault, OfCondition, OfObserved, OfLocations, OfInit, OfThread, State, histories, content}
 use Rattle.stamped_parts.specs.States.{contents, space_given, given_space, given_item, given_verdict, given_by, given, HasOutput, IsValid}
 use Rattle.stamped_parts.specs.Built.{IsModelIn, IsTestRow, IsBuilt}
 use Rattle.stamped_parts.specs.Views.{FoundTest, view_of}
@@ -41,6 +41,7 @@ space_one init threads (Some (OfLocations locations) ∷ cs) g e = ap output_nam
     some_given e = cc
 space_one init threads [] g e = absurd (none-some g e)
 space_one init threads (None ∷ cs) g e = absurd (none-some g e)
+space_one init threads (Some (OfText clause) ∷ cs) g e = absurd (none-some g e)
 space_one init threads (Some (OfRole role history) ∷ cs) g e = absurd (none-some g e)
 space_one init threads (Some (OfFault fault) ∷ cs) g e = absurd (none-some g e)
 space_one init threads (Some (OfCondition quantifier condition) ∷ cs) g e = absurd (none-some g e)
@@ -51,6 +52,7 @@ given_one : (cs : List (Option PartContent)) (g : GivenContent) → given_space 
 given_one (Some (OfInit init) ∷ cs) g e = space_one init [] cs g e
 given_one [] g e = absurd (none-some g e)
 given_one (None ∷ cs) g e = absurd (none-some g e)
+given_one (Some (OfText clause) ∷ cs) g e = absurd (none-some g e)
 given_one (Some (OfRole role history) ∷ cs) g e = absurd (none-some g e)
 given_one (Some (OfFault fault) ∷ cs) g e = absurd (none-some g e)
 given_one (Some (OfCondition quantifier condition) ∷ cs) g e = absurd (none-some g e)
@@ -59,7 +61,7 @@ given_one (Some (OfLocations locations) ∷ cs) g e = absurd (none-some g e)
 given_one (Some (OfThread steps) ∷ cs) g e = absurd (none-some g e)
 
 -- no slot, no inputs
-no_inputs : (ss : List Slot) (kind : Kind) (of : ℕ) → has_slot ss kind of ≡ false → slot_keys ss kind of ≡ []
+pub no_inputs : (ss : List Slot) (kind : Kind) (of : ℕ) → has_slot ss kind of ≡ false → slot_keys ss kind of ≡ []
 no_inputs [] kind of e = refl
 no_inputs (s ∷ ss) kind of e = elim (cases_Bool (is_slot kind of s)) [
   | inl t ↦ absurd (let f : true ≡ false = rw t at e in cc)

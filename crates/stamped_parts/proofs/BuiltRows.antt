@@ -21,12 +21,10 @@ use Rattle.stamped_parts.specs.Views.{FoundTest, view_of}
 
 module _ (last : ℕ) where
   role_low : (row : ItemRow) (o : Option SharedItem) → IsItemRow last row o → row.stamp ≤ last
-  role_low row None h = omega (arith, h)
-  role_low row (Some role) h = h.1
+  role_low row o h = h.1
 
   role_empty : (row : ItemRow) (o : Option SharedItem) → IsItemRow last row o → row.stamp ≡ 0 → role_part o ≡ None
-  role_empty row None h e = refl
-  role_empty row (Some role) h e = absurd (let low = h.0 in omega (arith, low, e))
+  role_empty row o h e = absurd (let low = h.0 in omega (arith, low, e))
 
   item_low : (is : List ItemRow) (rs : List (Option SharedItem)) (n : ℕ) → AllZip (IsItemRow last) is rs → item_stamp is n ≤ last
   item_low [] rs n h = omega arith

@@ -70,7 +70,7 @@ role_has_name roles.Silent p history lt = absurd (omega (arith, lt))
 
 -- ---- histories
 
--- the history of an item is that in its part
+-- the history of an item stands beside what it does
 pub history_beside : (is : List ItemRow) (rs : List (Option SharedItem)) (n : ℕ) → item_history is rs n ≡ part_history (item_content is rs n)
 history_beside [] rs n = refl
 history_beside (i ∷ is) [] n = refl

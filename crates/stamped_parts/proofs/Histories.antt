@@ -14,7 +14,7 @@ use Rattle.stamped_parts.specs.Stamps.{next_number}
 use Rattle.stamped_parts.specs.Items.{ItemFact, held_after, AreItemsOf, raised_item}
 use Rattle.stamped_parts.specs.ItemLaws.{AreItemsAfter, GoesOn}
 
--- ---- what parts hold
+-- ---- what items do
 
 pub same_role : {a b : RoleContent} {h g : List SeenName} → Some (OfRole a h) ≡ Some (OfRole b g) → a ≡ b
 same_role e = cc
@@ -48,7 +48,7 @@ new_held s before role read does named is =
     ∙ ap (λ (h : List SeenName). Some (OfRole role h)) (named ∙ ap (λ (h : List SeenName). with_role_names h role) (history_held before))
     ∙ sym (ap (λ (o : Option RoleContent). held_after o (role_part before)) is)
 
--- ---- what parts hold after an edit
+-- ---- what they do after an edit
 
 abbrev AllNamed : Option PartContent → Type 0
 AllNamed before = (role : RoleContent) (history : List SeenName) → before ≡ Some (OfRole role history) → AreNamed history role
@@ -83,22 +83,22 @@ goes_on (Some read) before now named e = read_goes_on read before now named e
 
 -- ---- the rows after an edit
 
-items_go_on : (last number fresh : ℕ) (rows : List ItemRow) (items : List (Option SharedItem)) (facts : List ItemFact) (before : List ItemRow) (does : List (Option SharedItem)) (kinds : List (Option Kind)) → AreItemsOf fresh rows items facts before does kinds
+items_go_on : (last number fresh : ℕ) (rows : List ItemRow) (items : List (Option SharedItem)) (texts : ℕ → Option PartContent) (facts : List ItemFact) (before : List ItemRow) (does : List (Option SharedItem)) (kinds : List (Option Kind)) → AreItemsOf fresh rows items texts facts before does kinds
     → (of : ℕ) → GoesOn (item_content rows items of) (item_content (map (raised_item last number) before) does of)
-items_go_on last number fresh rows items [] [] [] [] h of = none_goes_on (item_content rows items of) None refl
-items_go_on last number fresh rows items [] [] [] (k ∷ ks) h of = absurd h
-items_go_on last number fresh rows items [] [] (r ∷ rs) ks h of = absurd h
-items_go_on last number fresh rows items [] (i ∷ is) rs ks h of = absurd h
-items_go_on last number fresh rows items (f ∷ fs) [] rs ks h of = absurd h
-items_go_on last number fresh rows items (f ∷ fs) (i ∷ is) [] ks h of = absurd h
-items_go_on last number fresh rows items (f ∷ fs) (i ∷ is) (r ∷ rs) [] h of = absurd h
-items_go_on last number fresh rows items (f ∷ fs) (i ∷ is) (r ∷ rs) (k ∷ ks) h of = elim (eqb_tells i.number of) [
+items_go_on last number fresh rows items texts [] [] [] [] h of = none_goes_on (item_content rows items of) None refl
+items_go_on last number fresh rows items texts [] [] [] (k ∷ ks) h of = absurd h
+items_go_on last number fresh rows items texts [] [] (r ∷ rs) ks h of = absurd h
+items_go_on last number fresh rows items texts [] (i ∷ is) rs ks h of = absurd h
+items_go_on last number fresh rows items texts (f ∷ fs) [] rs ks h of = absurd h
+items_go_on last number fresh rows items texts (f ∷ fs) (i ∷ is) [] ks h of = absurd h
+items_go_on last number fresh rows items texts (f ∷ fs) (i ∷ is) (r ∷ rs) [] h of = absurd h
+items_go_on last number fresh rows items texts (f ∷ fs) (i ∷ is) (r ∷ rs) (k ∷ ks) h of = elim (eqb_tells i.number of) [
   | inl same ↦ rw same.0 (subst (λ (n : ℕ). GoesOn (item_content rows items n) (role_part r)) (sym h.0.number_is ∙ same.1)
       (goes_on f.role (item_content rows items f.number) (role_part r) (content_named rows items f.number) h.0.role_is))
-  | inr other ↦ rw other.0 (items_go_on last number fresh rows items fs is rs ks h.2 of)
+  | inr other ↦ rw other.0 (items_go_on last number fresh rows items texts fs is rs ks h.2 of)
 ]
 
-pub histories_go_on : (last number : ℕ) (rows new : List ItemRow) (items does : List (Option SharedItem)) (kinds : List (Option Kind)) (facts : List ItemFact) → AreItemsAfter last number rows items facts new does kinds
+pub histories_go_on : (last number : ℕ) (rows new : List ItemRow) (items does : List (Option SharedItem)) (texts : ℕ → Option PartContent) (kinds : List (Option Kind)) (facts : List ItemFact) → AreItemsAfter last number rows items texts facts new does kinds
     → (of : ℕ) → GoesOn (item_content rows items of) (item_content new does of)
-histories_go_on last number rows new items does kinds facts a of =
-    subst (λ (n : List ItemRow). GoesOn (item_content rows items of) (item_content n does of)) (sym a.raised) (items_go_on last number (next_number last) rows items facts a.before does kinds a.made of)
+histories_go_on last number rows new items does texts kinds facts a of =
+    subst (λ (n : List ItemRow). GoesOn (item_content rows items of) (item_content n does of)) (sym a.raised) (items_go_on last number (next_number last) rows items texts facts a.before does kinds a.made of)

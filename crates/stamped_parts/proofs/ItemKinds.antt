@@ -20,6 +20,7 @@ use Rattle.binding_graph.specs.Usages.{Usage, usages_after}
 use Rattle.binding_graph.specs.Resolved.{IsGroupRole, IsCheckRole, IsResolvedIn, AreResolved}
 use Rattle.shared_items.specs.declared.items.SharedItem.{SharedItem}
 use Rattle.bench_nodes.specs.declared.table.ItemRow.{ItemRow}
+use Rattle.stamped_parts.specs.Contents.{PartContent}
 use Rattle.stamped_parts.specs.States.{is_kind}
 use Rattle.stamped_parts.specs.Stamps.{next_number}
 use Rattle.model_slots.specs.Kinds.{node_kind}
@@ -37,21 +38,21 @@ behind row own rows ks (f ∷ fs) apart h =
 apart_by : (m n : ℕ) (fs : List ItemFact) → m ≡ n → Each (λ g. m ≢ g.number) fs → Each (λ g. n ≢ g.number) fs
 apart_by m n fs e h = subst (λ (k : ℕ). Each (λ (g : ItemFact). k ≢ g.number) fs) e h
 
-all_kinds : (last number fresh : ℕ) (rows : List ItemRow) (does_before : List (Option SharedItem)) (facts : List ItemFact) (before : List ItemRow) (does : List (Option SharedItem)) (ks : List (Option Kind)) → AreItemsOf fresh rows does_before facts before does ks
+all_kinds : (last number fresh : ℕ) (rows : List ItemRow) (does_before : List (Option SharedItem)) (texts : ℕ → Option PartContent) (facts : List ItemFact) (before : List ItemRow) (does : List (Option SharedItem)) (ks : List (Option Kind)) → AreItemsOf fresh rows does_before texts facts before does ks
     → AreApart facts → Each (IsOfItsKind (map (raised_item last number) before) ks) facts
-all_kinds last number fresh rows does_before [] before does ks h apart = tt
-all_kinds last number fresh rows does_before (f ∷ fs) [] rs ks h apart = absurd h
-all_kinds last number fresh rows does_before (f ∷ fs) (i ∷ is) [] ks h apart = absurd h
-all_kinds last number fresh rows does_before (f ∷ fs) (i ∷ is) (r ∷ rs) [] h apart = absurd h
-all_kinds last number fresh rows does_before (f ∷ fs) (i ∷ is) (r ∷ rs) (k ∷ ks) h apart = (
+all_kinds last number fresh rows does_before texts [] before does ks h apart = tt
+all_kinds last number fresh rows does_before texts (f ∷ fs) [] rs ks h apart = absurd h
+all_kinds last number fresh rows does_before texts (f ∷ fs) (i ∷ is) [] ks h apart = absurd h
+all_kinds last number fresh rows does_before texts (f ∷ fs) (i ∷ is) (r ∷ rs) [] h apart = absurd h
+all_kinds last number fresh rows does_before texts (f ∷ fs) (i ∷ is) (r ∷ rs) (k ∷ ks) h apart = (
   (λ kind e. rw (eq-eqb i.number f.number h.0.number_is) (ap (is_kind kind) (h.1 ∙ e) ∙ eq-eqb (kind_number kind) (kind_number kind) refl)),
-  behind (raised_item last number i) k (map (raised_item last number) is) ks fs (apart_by f.number i.number fs (sym h.0.number_is) apart.0) (all_kinds last number fresh rows does_before fs is rs ks h.2 apart.1),
+  behind (raised_item last number i) k (map (raised_item last number) is) ks fs (apart_by f.number i.number fs (sym h.0.number_is) apart.0) (all_kinds last number fresh rows does_before texts fs is rs ks h.2 apart.1),
 )
 
-pub have_kinds : (last number : ℕ) (rows new : List ItemRow) (does_before does : List (Option SharedItem)) (ks : List (Option Kind)) (facts : List ItemFact) → AreItemsAfter last number rows does_before facts new does ks
+pub have_kinds : (last number : ℕ) (rows new : List ItemRow) (does_before does : List (Option SharedItem)) (texts : ℕ → Option PartContent) (ks : List (Option Kind)) (facts : List ItemFact) → AreItemsAfter last number rows does_before texts facts new does ks
     → AreApart facts → Each (IsOfItsKind new ks) facts
-have_kinds last number rows new does_before does ks facts a apart =
-    subst (λ (n : List ItemRow). Each (IsOfItsKind n ks) facts) (sym a.raised) (all_kinds last number (next_number last) rows does_before facts a.before does ks a.made apart)
+have_kinds last number rows new does_before does texts ks facts a apart =
+    subst (λ (n : List ItemRow). Each (IsOfItsKind n ks) facts) (sym a.raised) (all_kinds last number (next_number last) rows does_before texts facts a.before does ks a.made apart)
 
 -- ---- by what they do
 

@@ -75,16 +75,16 @@ role_past (r ∷ rs) (suc i) past = role_past rs i (omega arith)
 
 -- ---- one item more
 
-pub items_more : (fresh : ℕ) (rows : List ItemRow) (roles : List (Option SharedItem)) (fs : List ItemFact) (is : List ItemRow) (rs : List (Option SharedItem)) (ks : List (Option Kind)) (f : ItemFact) (i : ItemRow) (r : Option SharedItem) (k : Option Kind) → AreItemsOf fresh rows roles fs is rs ks → IsItemOf fresh rows roles f i r → k ≡ f.kind → AreItemsOf fresh rows roles (fs ++ f ∷ []) (is ++ i ∷ []) (rs ++ r ∷ []) (ks ++ k ∷ [])
-items_more fresh rows roles [] [] [] [] f i r k before item kind = (item, kind, tt)
-items_more fresh rows roles [] [] [] (l ∷ ks) f i r k before item kind = absurd before
-items_more fresh rows roles [] [] (s ∷ rs) ks f i r k before item kind = absurd before
-items_more fresh rows roles [] (x ∷ is) rs ks f i r k before item kind = absurd before
-items_more fresh rows roles (g ∷ fs) [] rs ks f i r k before item kind = absurd before
-items_more fresh rows roles (g ∷ fs) (x ∷ is) [] ks f i r k before item kind = absurd before
-items_more fresh rows roles (g ∷ fs) (x ∷ is) (s ∷ rs) [] f i r k before item kind = absurd before
-items_more fresh rows roles (g ∷ fs) (x ∷ is) (s ∷ rs) (l ∷ ks) f i r k before item kind =
-    (before.0, before.1, items_more fresh rows roles fs is rs ks f i r k before.2 item kind)
+pub items_more : (fresh : ℕ) (rows : List ItemRow) (roles : List (Option SharedItem)) (texts : ℕ → Option PartContent) (fs : List ItemFact) (is : List ItemRow) (rs : List (Option SharedItem)) (ks : List (Option Kind)) (f : ItemFact) (i : ItemRow) (r : Option SharedItem) (k : Option Kind) → AreItemsOf fresh rows roles texts fs is rs ks → IsItemOf fresh rows roles texts f i r → k ≡ f.kind → AreItemsOf fresh rows roles texts (fs ++ f ∷ []) (is ++ i ∷ []) (rs ++ r ∷ []) (ks ++ k ∷ [])
+items_more fresh rows roles texts [] [] [] [] f i r k before item kind = (item, kind, tt)
+items_more fresh rows roles texts [] [] [] (l ∷ ks) f i r k before item kind = absurd before
+items_more fresh rows roles texts [] [] (s ∷ rs) ks f i r k before item kind = absurd before
+items_more fresh rows roles texts [] (x ∷ is) rs ks f i r k before item kind = absurd before
+items_more fresh rows roles texts (g ∷ fs) [] rs ks f i r k before item kind = absurd before
+items_more fresh rows roles texts (g ∷ fs) (x ∷ is) [] ks f i r k before item kind = absurd before
+items_more fresh rows roles texts (g ∷ fs) (x ∷ is) (s ∷ rs) [] f i r k before item kind = absurd before
+items_more fresh rows roles texts (g ∷ fs) (x ∷ is) (s ∷ rs) (l ∷ ks) f i r k before item kind =
+    (before.0, before.1, items_more fresh rows roles texts fs is rs ks f i r k before.2 item kind)
 
 -- ---- one row more is changed
 

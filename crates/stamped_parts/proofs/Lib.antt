@@ -16,3 +16,8 @@ pub mod ItemStamps
 pub mod Histories
 pub mod ItemRows
 pub mod ItemKinds
+pub mod Saying
+pub mod ItemSlots
+pub mod VerdictSlots
+pub mod Since
+pub mod SameWritten

@@ -1,5 +1,5 @@
 -- States that are the same, wherever they lie in memory.
-use Rattle.std.proofs.Common.{ℕ, ◌≤◌, ◌≡◌, Bool, is_some, if◌then◌else◌, List, [], ◌∷◌, map, Option, None, refl, ap, sym, subst, ◌∙◌}
+use Rattle.std.proofs.Common.{ℕ, ◌≡◌, Bool, if◌then◌else◌, List, [], ◌∷◌, map, Option, None, refl, ap, sym, subst, ◌∙◌}
 use Rattle.std.proofs.Math.Path.{fun_ext}
 use Rattle.std.specs.List.{AllZip, AllByRecursion as Each}
 use Rattle.binding_graph.specs.declared.resolved.ResolvedItem.{ResolvedItem}
@@ -9,24 +9,22 @@ use Rattle.memo_core.specs.declared.keys.Key.{Key}
 use Rattle.memo_core.specs.declared.keys.Key.TheVariants.{Part, Output}
 use Rattle.memo_core.specs.declared.keys.Node.{Node}
 use Rattle.memo_core.specs.Graph.{Net}
-use Rattle.memo_core.specs.Step.{Has}
 use Rattle.node_values.specs.Givens.{GivenContent}
 use Rattle.shared_items.specs.declared.items.SharedItem.{SharedItem}
 use Rattle.shared_items.specs.Naming.{SeenName}
 use Rattle.bench_nodes.specs.declared.table.ItemRow.{ItemRow}
 use Rattle.bench_nodes.specs.Nodes.{part_stamp, used, inputs_of, inputs}
-use Rattle.bench_nodes.specs.Order.{AreOrderedAfter}
 use Rattle.model_slots.specs.Slots.{plain, number_at, item_history}
 use Rattle.model_slots.specs.Tables.{ModelReading, Sound, Faulty, all_slots}
 use Rattle.stamped_parts.specs.Built.{AreHeld, IsModelIn, IsItemRow, IsModelRow, AreTestRows, IsBuilt}
 use Rattle.stamped_parts.specs.Contents.{PartContent, State, histories, content}
-use Rattle.stamped_parts.specs.States.{contents, is_read, flag_name, flag_read, is_answer, flags_read, given_space, given_item, given_verdict, given_by, given, is_given, net_in, HasOutput, IsValid, IsSameState, IsSince}
+use Rattle.stamped_parts.specs.States.{contents, is_read, flag_name, flag_read, is_answer, flags_read, given_space, given_item, given_verdict, given_by, given, is_given, net_in, IsSameState}
 
 module _ (s t : State) (same : IsSameState s t) where
   pub content_is : (part of : ℕ) → content t part of ≡ content s part of
   content_is part of = cc
 
-  stamp_is : (part of : ℕ) → part_stamp t.parts.table part of ≡ part_stamp s.parts.table part of
+  pub stamp_is : (part of : ℕ) → part_stamp t.parts.table part of ≡ part_stamp s.parts.table part of
   stamp_is part of = cc
 
   used_is : used t.parts.table ≡ used s.parts.table
@@ -79,34 +77,6 @@ module _ (s t : State) (same : IsSameState s t) where
 
   -- ---- the same holds of both
 
-  output_is : (k : Key) → HasOutput s k → HasOutput t k
-  output_is (Part part of) h = tt
-  output_is (Output n x) h = λ g e. h g (sym (given_is n) ∙ e)
-
-  outputs_are : (ks : List Key) → Each (HasOutput s) ks → Each (HasOutput t) ks
-  outputs_are [] h = tt
-  outputs_are (k ∷ ks) h = (output_is k h.0, outputs_are ks h.1)
-
-  is_used : (n : Node) → Has (used t.parts.table) n → Has (used s.parts.table) n
-  is_used n h = subst (λ (ns : List Node). Has ns n) used_is h
-
-  pub valid_is : IsValid s → IsValid t
-  valid_is valid = record {
-    ordered = subst (λ ss. AreOrderedAfter [] ss) (sym same.slots) valid.ordered;
-    outputs = λ n h. subst (λ (ks : List Key). Each (HasOutput t) ks) (sym (inputs_are n)) (outputs_are (inputs s.parts.table n) (valid.outputs n (is_used n h)));
-    gives = λ n h. ap is_some (given_is n) ∙ valid.gives n (is_used n h);
-    empty = λ part of e. content_is part of ∙ valid.empty part of (sym (stamp_is part of) ∙ e);
-    low = λ part of. subst (λ l. part_stamp t.parts.table part of ≤ l) (sym same.last) (subst (λ n. n ≤ s.parts.last) (sym (stamp_is part of)) (valid.low part of));
-  }
-
-  pub since_is : (r : State) → IsSince r s → IsSince r t
-  since_is r since = record {
-    valid = since.valid;
-    still_valid = valid_is since.still_valid;
-    later = subst (λ l. r.parts.last ≤ l) (sym same.last) since.later;
-    same = λ part of e. content_is part of ∙ since.same part of (sym (stamp_is part of) ∙ e);
-  }
-
   held_is : (numbers : List ℕ) (items : List ResolvedItem) → AreHeld s numbers items → AreHeld t numbers items
   held_is numbers items h = λ index r e. ((h index r e).0, content_is 0 (number_at numbers index) ∙ (h index r e).1)
 
@@ -118,7 +88,7 @@ module _ (s t : State) (same : IsSameState s t) where
   models_are [] h = tt
   models_are (m ∷ ms) h = (model_is m h.0, models_are ms h.1)
 
-  histories_are : histories t ≡ histories s
+  pub histories_are : histories t ≡ histories s
   histories_are =
       ap (λ (rows : List ItemRow). item_history rows t.parts.roles.items) same.item_rows
       ∙ ap (λ (roles : List (Option SharedItem)). item_history s.parts.table.items.items roles) same.roles

@@ -18,11 +18,11 @@ use Rattle.stamped_parts.specs.Contents.{OfRole, OfFault, State, histories, cont
 
 -- ---- models
 
--- the part of the item of that number holds what the item does, with some history
+-- it is known what the item of that number does, with some history
 abbrev pub IsHeld : State → ℕ → RoleContent → Type 0
 IsHeld s number role = (history : List SeenName) × (content s 0 number ≡ Some (OfRole role history))
 
--- that of each item does
+-- and so of each item
 abbrev pub AreHeld : State → List ℕ → List ResolvedItem → Type 0
 AreHeld s numbers items = (index : ℕ) (r : ResolvedItem) → slice_get items index ≡ Some r → IsHeld s (number_at numbers index) (role_content r.role)
 
@@ -37,10 +37,9 @@ IsModelIn s (Faulty id fault) = content s 1 id ≡ Some (OfFault fault)
 abbrev pub IsStamp : ℕ → ℕ → Type 0
 IsStamp last stamp = (0 < stamp) × (stamp ≤ last)
 
--- an item has the stamp of an edit where it is known what it does, and else 0
+-- an item has the stamp of an edit, that which changed its text last
 abbrev pub IsItemRow : ℕ → ItemRow → Option SharedItem → Type 0
-IsItemRow last row None = row.stamp ≡ 0
-IsItemRow last row (Some role) = IsStamp last row.stamp
+IsItemRow last row role = IsStamp last row.stamp
 
 -- a model has one where it has a fault
 abbrev pub IsModelRow : ℕ → ModelRow → Option ModelFault → Type 0

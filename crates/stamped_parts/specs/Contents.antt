@@ -6,6 +6,7 @@ use Rattle.text_values.specs.declared.test.Place.{Place}
 use Rattle.text_values.specs.declared.test.Quantifier.{Quantifier}
 use Rattle.text_values.specs.declared.test.Step.{Step}
 use Rattle.text_values.specs.declared.test.Test.{Test}
+use Rattle.text_values.specs.ModelValue.{Clause}
 use Rattle.text_values.specs.TestValue.{Formula, formula_of, steps_of}
 use Rattle.binding_kinds.specs.declared.fault.ModelFault.{ModelFault}
 use Rattle.shared_items.specs.declared.items.SharedItem.{SharedItem}
@@ -17,8 +18,10 @@ use Rattle.bench_nodes.specs.declared.table.TestRow.{TestRow}
 use Rattle.model_slots.specs.Slots.{item_history}
 use Rattle.stamped_parts.specs.declared.parts.Parts.{Parts}
 
--- what a part holds: of an item what it does, with its history, of a model its fault, and the parts of a test
+-- what a part holds: of an item its text, by which its stamp goes, and what it does, with its history, which its jobs are given;
+-- of a model its fault; and the parts of a test
 pub data PartContent : Type 0 where
+  OfText : (clause : Clause) → PartContent
   OfRole : (role : RoleContent) (history : List SeenName) → PartContent
   OfFault : (fault : ModelFault) → PartContent
   OfCondition : (quantifier : Quantifier) (condition : Formula) → PartContent
@@ -80,7 +83,7 @@ state_of parts tests = record { parts = parts; tests = tests }
 abbrev pub histories : State → ℕ → List SeenName
 histories s = item_history s.parts.table.items.items s.parts.roles.items
 
--- items have their part 0, models 1, tests the others
+-- what jobs are given of a part: items have their part 0, models 1, tests the others
 abbrev pub content : State → ℕ → ℕ → Option PartContent
 content s part of =
     if part == 0 then item_content s.parts.table.items.items s.parts.roles.items of

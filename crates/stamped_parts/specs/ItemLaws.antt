@@ -14,37 +14,51 @@ use Rattle.shared_items.specs.Items.{RoleContent, role_content}
 use Rattle.shared_items.specs.Naming.{SeenName}
 use Rattle.bench_nodes.specs.declared.table.ItemRow.{ItemRow}
 use Rattle.bench_nodes.specs.Nodes.{item_stamp}
-use Rattle.stamped_parts.specs.Contents.{PartContent, OfRole, State, item_content}
+use Rattle.stamped_parts.specs.Contents.{PartContent, OfRole, item_content}
 use Rattle.stamped_parts.specs.Built.{IsItemRow}
-use Rattle.stamped_parts.specs.States.{IsPartAfter, has_kind}
+use Rattle.stamped_parts.specs.States.{has_kind}
+use Rattle.stamped_parts.specs.Written.{WrittenState, IsPartAfter, item_text}
 use Rattle.stamped_parts.specs.Stamps.{IsLaterNumber, IsPartNow, next_number}
-use Rattle.stamped_parts.specs.Items.{ItemFact, kind_at, item_facts, AreItemsOf, raised_item}
+use Rattle.stamped_parts.specs.Items.{ItemFact, kind_at, item_facts, fact_text, AreItemsOf, raised_item}
 
--- the rows and roles before the edit, and those that are made of the facts under its number
-pub record AreItemsAfter (last number : ℕ) (rows : List ItemRow) (roles : List (Option SharedItem)) (facts : List ItemFact) (new : List ItemRow) (does : List (Option SharedItem)) (kinds : List (Option Kind)) : Type 0 where
+-- the item says something
+abbrev pub HasText : ItemFact → Type 0
+HasText fact = (held : PartContent) × (fact.text ≡ Some held)
+
+-- the rows, roles and texts before the edit, and those that are made of the facts under its number
+pub record AreItemsAfter (last number : ℕ) (rows : List ItemRow) (roles : List (Option SharedItem)) (texts : ℕ → Option PartContent) (facts : List ItemFact) (new : List ItemRow) (does : List (Option SharedItem)) (kinds : List (Option Kind)) : Type 0 where
   pub later : IsLaterNumber last number
   pub was : AllZip (IsItemRow last) rows roles
+  pub gone : (of : ℕ) → item_stamp rows of ≡ 0 → texts of ≡ None
   pub before : List ItemRow
-  pub made : AreItemsOf (next_number last) rows roles facts before does kinds
+  pub written : Each HasText facts
+  pub made : AreItemsOf (next_number last) rows roles texts facts before does kinds
   pub raised : new ≡ map (raised_item last number) before
 
--- what an item does is as it was, under the stamp that it had, or has the number of the edit, or is not known
+-- what an item says is as it was, under the stamp that it had, or has the number of the edit, or the item is gone
 abbrev pub ItemPartsGoOn : Type 0
 ItemPartsGoOn =
-    (last number : ℕ) (rows new : List ItemRow) (roles does : List (Option SharedItem)) (kinds : List (Option Kind)) (facts : List ItemFact) → AreItemsAfter last number rows roles facts new does kinds
-    → (of : ℕ) → IsPartNow (item_content rows roles of) (item_stamp rows of) number (item_content new does of) (item_stamp new of)
+    (last number : ℕ) (rows new : List ItemRow) (roles does : List (Option SharedItem)) (texts : ℕ → Option PartContent) (kinds : List (Option Kind)) (facts : List ItemFact) → AreItemsAfter last number rows roles texts facts new does kinds
+    → (of : ℕ) → IsPartNow (texts of) (item_stamp rows of) number (fact_text facts of) (item_stamp new of)
 
 -- so each item is a part of the later state as an edit of that number leaves it
 abbrev pub ItemsArePartsAfter : Type 0
 ItemsArePartsAfter =
-    (s t : State) (number : ℕ) (facts : List ItemFact) → AreItemsAfter s.parts.last number s.parts.table.items.items s.parts.roles.items facts t.parts.table.items.items t.parts.roles.items t.parts.kinds.items
-    → (of : ℕ) → IsPartAfter s number t 0 of
+    (w v : WrittenState) (number : ℕ) (facts : List ItemFact)
+    → AreItemsAfter w.state.parts.last number w.state.parts.table.items.items w.state.parts.roles.items (item_text w.models) facts v.state.parts.table.items.items v.state.parts.roles.items v.state.parts.kinds.items
+    → ((of : ℕ) → item_text v.models of ≡ fact_text facts of) → (of : ℕ) → IsPartAfter w number v 0 of
 
--- an item that does what it did keeps its stamp
+-- an item that has no stamp is not there
+abbrev pub ItemsWithoutStampAreGone : Type 0
+ItemsWithoutStampAreGone =
+    (last number : ℕ) (rows new : List ItemRow) (roles does : List (Option SharedItem)) (texts : ℕ → Option PartContent) (kinds : List (Option Kind)) (facts : List ItemFact) → AreItemsAfter last number rows roles texts facts new does kinds
+    → (of : ℕ) → item_stamp new of ≡ 0 → fact_text facts of ≡ None
+
+-- an item that says what it said keeps its stamp
 abbrev pub EqualItemsKeepStamps : Type 0
 EqualItemsKeepStamps =
-    (last number : ℕ) (rows new : List ItemRow) (roles does : List (Option SharedItem)) (kinds : List (Option Kind)) (facts : List ItemFact) → AreItemsAfter last number rows roles facts new does kinds
-    → (of : ℕ) (held : PartContent) → item_content rows roles of ≡ Some held → item_content new does of ≡ Some held → item_stamp new of ≡ item_stamp rows of
+    (last number : ℕ) (rows new : List ItemRow) (roles does : List (Option SharedItem)) (texts : ℕ → Option PartContent) (kinds : List (Option Kind)) (facts : List ItemFact) → AreItemsAfter last number rows roles texts facts new does kinds
+    → (of : ℕ) (held : PartContent) → texts of ≡ Some held → fact_text facts of ≡ Some held → item_stamp new of ≡ item_stamp rows of
 
 -- what an item does goes on with its history, at the end of which alone names are added
 pub record GoesOn (before now : Option PartContent) : Type 0 where
@@ -54,7 +68,7 @@ pub record GoesOn (before now : Option PartContent) : Type 0 where
 -- each name keeps its number, and an item that does what it did has no new name
 abbrev pub HistoriesGoOn : Type 0
 HistoriesGoOn =
-    (last number : ℕ) (rows new : List ItemRow) (roles does : List (Option SharedItem)) (kinds : List (Option Kind)) (facts : List ItemFact) → AreItemsAfter last number rows roles facts new does kinds
+    (last number : ℕ) (rows new : List ItemRow) (roles does : List (Option SharedItem)) (texts : ℕ → Option PartContent) (kinds : List (Option Kind)) (facts : List ItemFact) → AreItemsAfter last number rows roles texts facts new does kinds
     → (of : ℕ) → GoesOn (item_content rows roles of) (item_content new does of)
 
 -- no two of the items have one number
@@ -62,7 +76,7 @@ abbrev pub AreApart : List ItemFact → Type 0
 AreApart [] = ⊤
 AreApart (f ∷ fs) = Each (λ g. f.number ≢ g.number) fs × AreApart fs
 
--- the part holds that the item does this, with some history
+-- it is known that the item does this, with some history
 abbrev pub HoldsRole : Option PartContent → RoleContent → Type 0
 HoldsRole part role = (history : List SeenName) × (part ≡ Some (OfRole role history))
 
@@ -72,18 +86,18 @@ DoesWhatIsRead rows roles fact = (role : RoleContent) → fact.role ≡ Some rol
 
 abbrev pub ItemsDoWhatIsRead : Type 0
 ItemsDoWhatIsRead =
-    (last number : ℕ) (rows new : List ItemRow) (roles does : List (Option SharedItem)) (kinds : List (Option Kind)) (facts : List ItemFact) → AreItemsAfter last number rows roles facts new does kinds
+    (last number : ℕ) (rows new : List ItemRow) (roles does : List (Option SharedItem)) (texts : ℕ → Option PartContent) (kinds : List (Option Kind)) (facts : List ItemFact) → AreItemsAfter last number rows roles texts facts new does kinds
     → AreApart facts → Each (DoesWhatIsRead new does) facts
 
 abbrev pub ItemRowsAreStamped : Type 0
 ItemRowsAreStamped =
-    (last number : ℕ) (rows new : List ItemRow) (roles does : List (Option SharedItem)) (kinds : List (Option Kind)) (facts : List ItemFact) → AreItemsAfter last number rows roles facts new does kinds
+    (last number : ℕ) (rows new : List ItemRow) (roles does : List (Option SharedItem)) (texts : ℕ → Option PartContent) (kinds : List (Option Kind)) (facts : List ItemFact) → AreItemsAfter last number rows roles texts facts new does kinds
     → AllZip (IsItemRow number) new does
 
 -- the rows are those of the items in their order, each with its number, and beside each its kind
 abbrev pub ItemsStayInOrder : Type 0
 ItemsStayInOrder =
-    (last number : ℕ) (rows new : List ItemRow) (roles does : List (Option SharedItem)) (kinds : List (Option Kind)) (facts : List ItemFact) → AreItemsAfter last number rows roles facts new does kinds
+    (last number : ℕ) (rows new : List ItemRow) (roles does : List (Option SharedItem)) (texts : ℕ → Option PartContent) (kinds : List (Option Kind)) (facts : List ItemFact) → AreItemsAfter last number rows roles texts facts new does kinds
     → (map (λ r. r.number) new ≡ map (λ f. f.number) facts) × (kinds ≡ map (λ f. f.kind) facts)
 
 -- each item does what it is resolved to
@@ -103,7 +117,7 @@ IsOfItsKind rows kinds fact = (kind : Kind) → fact.kind ≡ Some kind → has_
 
 abbrev pub ItemsHaveTheirKinds : Type 0
 ItemsHaveTheirKinds =
-    (last number : ℕ) (rows new : List ItemRow) (roles does : List (Option SharedItem)) (kinds : List (Option Kind)) (facts : List ItemFact) → AreItemsAfter last number rows roles facts new does kinds
+    (last number : ℕ) (rows new : List ItemRow) (roles does : List (Option SharedItem)) (texts : ℕ → Option PartContent) (kinds : List (Option Kind)) (facts : List ItemFact) → AreItemsAfter last number rows roles texts facts new does kinds
     → AreApart facts → Each (IsOfItsKind new kinds) facts
 
 -- the kind of node that an item is by what it does

@@ -11,3 +11,4 @@ pub mod Tests
 pub mod Items
 pub mod Held
 pub mod ItemLaws
+pub mod Written

@@ -1,5 +1,5 @@
--- What nodes are given and make, what a state owes, and what an edit does to stamps.
-use Rattle.std.specs.Prelude.{◌≡◌, ⊤, ℕ, ◌<◌, ◌≤◌, ◌⊎◌, ◌==◌, ◌&&◌, ◌||◌, Bool, true, false, is_some, List, [], ◌∷◌, ◌++◌, Option, Some, None, if◌then◌else◌}
+-- What nodes are given and make, and what a state owes.
+use Rattle.std.specs.Prelude.{◌≡◌, ⊤, ℕ, ◌≤◌, ◌==◌, ◌&&◌, ◌||◌, Bool, true, false, is_some, List, [], ◌∷◌, ◌++◌, Option, Some, None, if◌then◌else◌}
 use Rattle.std.specs.List.{zip, AllByRecursion as Each}
 use Rattle.text_values.specs.declared.test.InitEntry.{InitEntry}
 use Rattle.text_values.specs.declared.test.Place.{Place}
@@ -28,9 +28,9 @@ use Rattle.stamped_parts.specs.declared.parts.Parts.{Parts}
 use Rattle.stamped_parts.specs.Contents.{PartContent, OfRole, OfFault, OfCondition, OfObserved, OfLocations, OfInit, OfThread, State, content}
 use Rattle.stamped_parts.specs.Equal.{same_given}
 
--- ---- what a job is given: what the parts among its node's inputs hold
+-- ---- what a job is given of the parts among its node's inputs
 
--- what the parts among some inputs hold, in order
+-- what jobs are given of the parts among some inputs, in order
 abbrev pub contents : State → List Key → List (Option PartContent)
 contents s [] = []
 contents s (Part part of ∷ ks) = content s part of ∷ contents s ks
@@ -176,25 +176,3 @@ pub record IsSameState (s t : State) : Type 0 where
   pub kinds : t.parts.kinds.items ≡ s.parts.kinds.items
   pub slots : t.parts.table.slots.items ≡ s.parts.table.slots.items
   pub last : t.parts.last ≡ s.parts.last
-
--- ---- what edits do
-
--- the later state came of the earlier one: a part that has one stamp in both holds the same
-pub record IsSince (s t : State) : Type 0 where
-  pub valid : IsValid s
-  pub still_valid : IsValid t
-  pub later : s.parts.last ≤ t.parts.last
-  pub same : (part of : ℕ) → part_stamp t.parts.table part of ≡ part_stamp s.parts.table part of → content t part of ≡ content s part of
-
--- a part is as it was, has the edit's number, or is gone
-abbrev pub IsPartAfter : State → ℕ → State → ℕ → ℕ → Type 0
-IsPartAfter s number t part of =
-    ((part_stamp t.parts.table part of ≡ part_stamp s.parts.table part of) × (content t part of ≡ content s part of))
-    ⊎ (part_stamp t.parts.table part of ≡ number) ⊎ (part_stamp t.parts.table part of ≡ 0)
-
--- the state after an edit, as to stamps
-pub record IsStamped (s : State) (number : ℕ) (t : State) : Type 0 where
-  pub above : s.parts.last < number
-  pub last : t.parts.last ≡ number
-  pub valid : IsValid s → IsValid t
-  pub parts : (part of : ℕ) → IsPartAfter s number t part of

@@ -1,4 +1,4 @@
-//! What a part holds, where it lies.
+//! What jobs are given of a part, where it lies.
 
 ghost use Rattle.std.specs.Prelude.{◌≡◌, map, option_map, slice_get};
 ghost use Rattle.text_values.specs.TestValue.{steps_of};
@@ -12,7 +12,7 @@ use binding_graph::ModelFault;
 use shared_items::SharedItem;
 use text_values::{Condition, InitEntry, Name, Place, Test, Thread};
 
-/// What a part holds.
+/// What jobs are given of a part: of an item what it does.
 #[derive(Clone, Copy)]
 pub(crate) enum Content<'p> {
     Role(&'p SharedItem),
@@ -97,7 +97,7 @@ fn test_content<'p>(parts: &'p Parts, tests: &'p [Test], part: u64, id: u64) -> 
     }
 }
 
-/// What a part holds.
+/// What jobs are given of a part.
 pub(crate) fn content_at<'p>(
     parts: &'p Parts,
     tests: &'p [Test],

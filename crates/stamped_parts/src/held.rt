@@ -14,7 +14,7 @@ use std::alloc::AllocError;
 pub struct HeldItem<'p> {
     /// What it did.
     pub role: Option<&'p SharedItem>,
-    /// The number of the last edit that changed it, or 0.
+    /// The number of the last edit that changed its text, or 0.
     pub stamp: u64,
 }
 

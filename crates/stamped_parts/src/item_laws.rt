@@ -1,8 +1,8 @@
 //! Laws of the rows of items after an edit.
 
-ghost use Rattle.stamped_parts.specs.ItemLaws.{ItemPartsGoOn, ItemsArePartsAfter, EqualItemsKeepStamps, HistoriesGoOn, ItemsDoWhatIsRead, ItemRowsAreStamped, ItemsStayInOrder, ReadItemsAreHeld, ItemsHaveTheirKinds, KindsFollowRoles};
+ghost use Rattle.stamped_parts.specs.ItemLaws.{ItemPartsGoOn, ItemsArePartsAfter, ItemsWithoutStampAreGone, EqualItemsKeepStamps, HistoriesGoOn, ItemsDoWhatIsRead, ItemRowsAreStamped, ItemsStayInOrder, ReadItemsAreHeld, ItemsHaveTheirKinds, KindsFollowRoles};
 
-/// What an item does is as it was, under the stamp that it had, or has the number of the edit, or is not known.
+/// What an item says is as it was, under the stamp that it had, or has the number of the edit, or the item is gone.
 pub fn item_parts_go_on()
     ensures { ItemPartsGoOn }
 {}
@@ -12,7 +12,12 @@ pub fn items_are_parts_after()
     ensures { ItemsArePartsAfter }
 {}
 
-/// An item that does what it did keeps its stamp.
+/// An item that has no stamp is not there.
+pub fn items_without_stamp_are_gone()
+    ensures { ItemsWithoutStampAreGone }
+{}
+
+/// An item that says what it said keeps its stamp.
 pub fn equal_items_keep_stamps()
     ensures { EqualItemsKeepStamps }
 {}
@@ -27,7 +32,7 @@ pub fn items_do_what_is_read()
     ensures { ItemsDoWhatIsRead }
 {}
 
-/// An item of which it is known what it does has a stamp, up to the number of the edit.
+/// An item has a stamp, up to the number of the edit.
 pub fn item_rows_are_stamped()
     ensures { ItemRowsAreStamped }
 {}

@@ -6,7 +6,7 @@ ghost use Rattle.shared_items.specs.Items.{RoleContent};
 ghost use Rattle.stamped_parts.specs.Contents.{role_part};
 ghost use Rattle.stamped_parts.specs.Stamps.{IsStampOf};
 ghost use Rattle.stamped_parts.specs.Held.{held_part};
-ghost use Rattle.stamped_parts.specs.Items.{read_role, held_after};
+ghost use Rattle.stamped_parts.specs.Items.{text_part, read_role, held_after};
 
 use crate::held::{HeldItem, held_item};
 use crate::parts::Parts;
@@ -14,7 +14,6 @@ use bench_nodes::ItemRow;
 use binding_graph::Resolved;
 use memo_core::keys::Kind;
 use model_slots::node_kind;
-use node_values::same_role;
 use shared_items::SharedItem;
 use std::alloc::{AllocError, Global};
 use std::sync::Arc;
@@ -42,21 +41,15 @@ pub struct ItemLists {
     pub kinds: Vec<Option<Kind>>,
 }
 
-// The stamp of an item that does this now, as it is read: an equal role keeps its stamp, since its history has no new name.
-fn stamp_of(fresh: u64, held: &HeldItem, role: Option<&SharedItem>) -> u64
-    ensures { (read : Option RoleContent) → role_part (option_map (λ r. r.now) role.entry) ≡ held_after read (held_part held.now) → IsStampOf fresh (held_part held.now) held.now.stamp (role_part (option_map (λ r. r.now) role.entry)) result }
+// The stamp of an item that says this now: one that says what it said keeps its stamp.
+fn stamp_of(fresh: u64, stamp: u64, was: Option<&Item>, now: Option<&Item>) -> u64
+    ensures { IsStampOf fresh (text_part (option_map (λ x. x.now) was.entry)) stamp (text_part (option_map (λ x. x.now) now.entry)) result }
 {
-    let Some(role) = role else {
+    let Some(now) = now else {
         return 0;
     };
-    match held.role {
-        Some(before) => {
-            if same_role(&before.item().role, &role.item().role) {
-                held.stamp
-            } else {
-                fresh
-            }
-        }
+    match was {
+        Some(before) => { if before.is_same(now) { stamp } else { fresh } }
         None => fresh,
     }
 }
@@ -79,7 +72,26 @@ fn shared_item(
 }
 
 impl ModelItems<'_> {
+    ghost use Rattle.std.specs.Prelude.{get_or, slice_get};
     ghost use Rattle.stamped_parts.specs.Items.{kind_at, resolved_items};
+
+    // The number of the item at an index, 0 where there is none.
+    fn number_at(&self, index: usize) -> u64
+        ensures { result ≡ get_or self.now.numbers.now index 0 }
+    {
+        if index < self.numbers.len() {
+            self.numbers[index]
+        } else {
+            0
+        }
+    }
+
+    // What the item at an index says.
+    fn text(&self, index: usize) -> Option<&Item>
+        ensures { text_part (option_map (λ x. x.now) result) ≡ text_part (slice_get self.now.items.now index) }
+    {
+        self.items.get(index)
+    }
 
     // The kind of node that the item at an index is.
     fn kind(&self, index: usize) -> Option<Kind>
@@ -109,8 +121,9 @@ impl ModelItems<'_> {
 }
 
 impl ItemLists {
-    ghost use Rattle.std.specs.Prelude.{◌<◌, length};
-    ghost use Rattle.stamped_parts.specs.Items.{ItemFact, fact_at, facts_of, resolved_items, AreListsOf};
+    ghost use Rattle.std.specs.Prelude.{ℕ, get_or};
+    ghost use Rattle.stamped_parts.specs.Contents.{PartContent};
+    ghost use Rattle.stamped_parts.specs.Items.{ItemFact, fact_at, resolved_items, AreListsOf};
 
     /// No items.
     pub fn new(alloc: Global) -> ItemLists
@@ -125,42 +138,27 @@ impl ItemLists {
         }
     }
 
-    // The item at an index of a model, behind these. Errors: want of memory.
-    fn add_item(
+    /// Adds the item at an index of a model, over the parts before the edit and what the item of its number said before it, where
+    /// `fresh` stands for the stamp of what changed. Errors: want of memory.
+    pub fn add_item(
         &mut self,
         alloc: Global,
         fresh: u64,
         before: &Parts,
+        was: Option<&Item>,
         model: &ModelItems,
         index: usize,
     ) -> Result<(), AllocError>
-        requires { index < length model.now.numbers.now }
-        ensures { (facts : List ItemFact) → AreListsOf fresh before.now facts self.old → OnOk result (AreListsOf fresh before.now (facts ++ fact_at model.now.numbers.now model.now.items.now (resolved_items model.now) index ∷ []) self.new) }
+        ensures { (texts : ℕ → Option PartContent) (facts : List ItemFact) → texts (get_or model.now.numbers.now index 0) ≡ text_part (option_map (λ x. x.now) was.entry) → AreListsOf fresh before.now texts facts self.old → OnOk result (AreListsOf fresh before.now texts (facts ++ fact_at model.now.numbers.now model.now.items.now (resolved_items model.now) index ∷ []) self.new) }
     {
-        let number = model.numbers[index];
+        let number = model.number_at(index);
         let held = held_item(before, number);
         let role = model.role_after(alloc, index, &held)?;
-        let stamp = stamp_of(fresh, &held, role.as_ref());
+        let now = model.text(index);
+        let stamp = stamp_of(fresh, held.stamp, was, now);
         self.rows.push(ItemRow { number, stamp })?;
         self.roles.push(role)?;
         self.kinds.push(model.kind(index))?;
-        Ok(())
-    }
-
-    /// Adds the items of a model, over the parts before the edit, where `fresh` stands for the stamp of what changed.
-    /// Errors: want of memory.
-    pub fn add_model(
-        &mut self,
-        alloc: Global,
-        fresh: u64,
-        before: &Parts,
-        model: &ModelItems,
-    ) -> Result<(), AllocError>
-        ensures { (facts : List ItemFact) → AreListsOf fresh before.now facts self.old → OnOk result (AreListsOf fresh before.now (facts ++ facts_of model.now) self.new) }
-    {
-        for index in 0..model.numbers.len() {
-            self.add_item(alloc, fresh, before, model, index)?;
-        }
         Ok(())
     }
 }

@@ -13,7 +13,8 @@ ghost use Rattle.stamped_parts.specs.Built.{IsBuilt};
 ghost use Rattle.stamped_parts.specs.Contents.{State};
 ghost use Rattle.stamped_parts.specs.Equal.{same_value};
 ghost use Rattle.stamped_parts.specs.Kept.{HasOwners};
-ghost use Rattle.stamped_parts.specs.States.{net_in, keeps, makes, IsValid, IsThere, IsSameState, IsSince, IsStamped};
+ghost use Rattle.stamped_parts.specs.States.{net_in, keeps, makes, IsValid, IsThere, IsSameState};
+ghost use Rattle.stamped_parts.specs.Written.{WrittenState, IsWhole, IsSince, IsStamped, IsSameWritten};
 
 /// Two values of nodes are equal where their codes are.
 pub fn equal_values_are_same()
@@ -47,22 +48,22 @@ pub fn ranks_fall()
 
 /// A state is since itself.
 pub fn since_is_reflexive()
-    ensures { (s : State) → IsValid s → IsSince s s }
+    ensures { (w : WrittenState) → IsWhole w → IsSince w w }
 {}
 
 /// A state after an edit is since all that the state before the edit is since.
 pub fn since_goes_on()
-    ensures { (s t u : State) (number : ℕ) → IsSince s t → IsStamped t number u → IsSince s u }
+    ensures { (w v u : WrittenState) (number : ℕ) → IsSince w v → IsStamped v number u → IsSince w u }
 {}
 
 /// A node whose inputs and parts are what they were in an earlier state is given what it was.
 pub fn given_stays()
-    ensures { GivenStays IsValid IsSince net_in }
+    ensures { GivenStays IsWhole IsSince (λ w. net_in w.state) }
 {}
 
 /// An edit leaves each part its stamp, gives it the edit's number, or drops it.
 pub fn parts_go_on()
-    ensures { (s t : State) (number : ℕ) → IsStamped s number t → PartsGoOn (net_in s) number (net_in t) }
+    ensures { (w v : WrittenState) (number : ℕ) → IsStamped w number v → PartsGoOn (net_in w.state) number (net_in v.state) }
 {}
 
 /// States that are the same, wherever they lie in memory, say the same of nodes.
@@ -72,7 +73,7 @@ pub fn same_states_say_the_same()
 
 /// They are since the same states.
 pub fn same_states_are_since()
-    ensures { (r s t : State) → IsSameState s t → IsSince r s → IsSince r t }
+    ensures { (r w v : WrittenState) → IsSameWritten w v → IsSince r w → IsSince r v }
 {}
 
 /// They are built of the same models.

@@ -1,4 +1,4 @@
-//! What the parts of the texts hold, beside the tests.
+//! The stamps of the parts of the texts, and what jobs are given of these parts beside the tests.
 
 use crate::find::{item_index, model_index};
 use bench_nodes::NodeTable;
@@ -8,9 +8,9 @@ use shared_items::SharedItem;
 use std::alloc::Global;
 use text_values::Name;
 
-/// The stamps of the parts, with what the parts hold that the tests do not.
+/// The stamps of the parts, with what jobs are given of these parts that the tests do not hold.
 pub struct Parts {
-    /// The stamps, and the nodes of each test.
+    /// The stamps, of an item that of its text, and the nodes of each test.
     pub table: NodeTable,
     /// The set of the locations of each test.
     pub locations: Vec<Vec<Name>>,

@@ -1,7 +1,7 @@
 use Rattle.std.proofs.Common.{List, map, take, subst, arith}
 use Rattle.bench_texts.specs.declared.model.NamedModel.{NamedModel}
 use Rattle.stamped_parts.specs.Items.{AreListsOf}
-use Rattle.edited_parts.specs.Readings.{all_facts}
+use Rattle.edited_parts.specs.Readings.{named_text, all_facts}
 use Rattle.edited_parts.proofs.Making.{facts_more, taken_all}
 use Rattle.edited_parts.proofs.models.model_items.Goals as goal
 
@@ -11,8 +11,8 @@ loop-model-init c = rw (c.new-lists.ensures.rows, c.new-lists.ensures.roles, c.n
 pub loop-model-preserved : goal.loop-model-preserved
 loop-model-preserved c =
     rw (facts_more c.args.models.now c.loop-model.model-index c.model-item.result (omega arith) c.model-item.is)
-    (rw c.items_in.ensures at (c.in_ok-add_model.ensures (all_facts (map (λ m. m.now) (take c.loop-model.model-index c.args.models.now))) c.loop-model.invariant))
+    (c.in_ok-add_items.ensures (all_facts (map (λ m. m.now) (take c.loop-model.model-index c.args.models.now))) c.loop-model.invariant)
 
 pub returns : goal.returns
 returns c =
-    subst (λ (l : List NamedModel). AreListsOf c.args.fresh c.args.parts.now (all_facts l) c.loop-model.lists) (taken_all c.args.models.now c.loop-model.model-index (omega arith)) c.loop-model.invariant
+    subst (λ (l : List NamedModel). AreListsOf c.args.fresh c.args.parts.now (named_text c.args.before.now) (all_facts l) c.loop-model.lists) (taken_all c.args.models.now c.loop-model.model-index (omega arith)) c.loop-model.invariant

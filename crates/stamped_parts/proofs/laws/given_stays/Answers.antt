@@ -1,4 +1,4 @@
-use Rattle.stamped_parts.proofs.Keeping.{given_is_kept}
+use Rattle.stamped_parts.proofs.Since.{given_is_kept}
 use Rattle.stamped_parts.proofs.laws.given_stays.Goals as goal
 
 pub returns : goal.returns

@@ -1,4 +1,4 @@
-use Rattle.stamped_parts.proofs.Keeping.{parts_go_on}
+use Rattle.stamped_parts.proofs.Since.{parts_go_on}
 use Rattle.stamped_parts.proofs.laws.parts_go_on.Goals as goal
 
 pub returns : goal.returns

@@ -1,4 +1,4 @@
-use Rattle.stamped_parts.proofs.Keeping.{since_stamped}
+use Rattle.stamped_parts.proofs.Since.{since_stamped}
 use Rattle.stamped_parts.proofs.laws.since_goes_on.Goals as goal
 
 pub returns : goal.returns

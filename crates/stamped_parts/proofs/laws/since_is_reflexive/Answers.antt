@@ -1,4 +1,4 @@
-use Rattle.stamped_parts.proofs.Keeping.{since_itself}
+use Rattle.stamped_parts.proofs.Since.{since_itself}
 use Rattle.stamped_parts.proofs.laws.since_is_reflexive.Goals as goal
 
 pub returns : goal.returns
