@@ -100,12 +100,12 @@ IsAdded ss names at (Check w e) slot n = ⊥
 IsAdded ss names at Mute slot n = ⊥
 IsAdded ss names at (Defined x ps b) slot n = (slot ≡ length names) × (n ≡ record { name = x; kind = OfAny; binder = binders.Applicable (length ss) })
 
-pub added : (ss : List Sense) (names : List Naming) (at : ℕ) (c : Clause) (slot : ℕ) (n : Naming) → told (extended ss names at c) slot ≡ Some n → length names ≤ slot → IsAdded ss names at c slot n
-added ss names at (Group recursive bs) slot n h le =
+pub new_name_is_added : (ss : List Sense) (names : List Naming) (at : ℕ) (c : Clause) (slot : ℕ) (n : Naming) → told (extended ss names at c) slot ≡ Some n → length names ≤ slot → IsAdded ss names at c slot n
+new_name_is_added ss names at (Group recursive bs) slot n h le =
     kinds_new (kind_seen ss names recursive) at bs names 0 slot n (ap (λ (ns : List Naming). told ns slot) (group_names ss names at recursive bs) ∙ h) le
-added ss names at (Check w e) slot n h le = absurd (let lt = told_below names slot n h in omega (arith, lt, le))
-added ss names at Mute slot n h le = absurd (let lt = told_below names slot n h in omega (arith, lt, le))
-added ss names at (Defined x ps b) slot n h le =
+new_name_is_added ss names at (Check w e) slot n h le = absurd (let lt = told_below names slot n h in omega (arith, lt, le))
+new_name_is_added ss names at Mute slot n h le = absurd (let lt = told_below names slot n h in omega (arith, lt, le))
+new_name_is_added ss names at (Defined x ps b) slot n h le =
     let m : Naming = record { name = x; kind = OfAny; binder = binders.Applicable (length ss) } in
     let lt : slot < suc (length names) = told_below (m ∷ names) slot n h in
     let here : slot ≡ length names = omega (arith, lt, le) in

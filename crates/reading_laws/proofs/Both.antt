@@ -15,7 +15,7 @@ use Rattle.binding_kinds.specs.Kinds.{found}
 use Rattle.binding_kinds.specs.Fits.{IsValue}
 use Rattle.reading_laws.specs.ItemLaws.{Pairing, IsSameBinder, IsSameFound, first_scope, functions_before}
 use Rattle.reading_laws.specs.Reread.{ReadModel, HasNumber, outermost, IsSound, AreInOneOrder, SeenName, seen_input, seen_function}
-use Rattle.reading_laws.proofs.Lists.{paired, HasPartner}
+use Rattle.reading_laws.proofs.Lists.{pairs_of, HasPartner}
 use Rattle.reading_laws.proofs.Told.{told, told_found, found_last, naming_found}
 use Rattle.reading_laws.proofs.Placed.{sees, start, slot_of, under_at, IsInput, IsNameOfGroup, input_told, told_input, input_kind, IsInputAt, input_order, IsFunction, function_told, IsFunctionSeen, told_function, function_order, told_outer}
 use Rattle.reading_laws.proofs.Whole.{bound_high, function_high}
@@ -174,7 +174,7 @@ module _ (ps : List Predefined) (m w : ReadModel) (well : IsSound (outermost ps)
 
     -- what the name is in both
     pub record IsBothInput (f g : Found) (i j : Input) : Type 0 where
-      pub both : Contains (paired rs qs) (i, j)
+      pub both : Contains (pairs_of rs qs) (i, j)
       pub left_slot : f.slot ≡ slot_of (outermost ps) m.items i
       pub right_slot : g.slot ≡ slot_of (outermost ps) w.items j
       pub kinds : f.kind ≡ g.kind
@@ -192,7 +192,7 @@ module _ (ps : List Predefined) (m w : ReadModel) (well : IsSound (outermost ps)
         let item = one_place ps m w well other order i.item j.item p.other.item q.other.item one.number two.number one.left one.right two.left two.right up down in
         let same : p.other ≡ j = input_apart ps w other p.other j x f.kind g.kind one.input b.input item in
         record {
-          both = subst (λ (d : Input). Contains (paired rs qs) (i, d)) same p.both;
+          both = subst (λ (d : Input). Contains (pairs_of rs qs) (i, d)) same p.both;
           left_slot = a.place;
           right_slot = b.place;
           kinds = input_kind names w.items j x f.kind g.kind (subst (λ (d : Input). IsInput names w.items d x f.kind) same one.input) b.input;
@@ -229,7 +229,7 @@ module _ (ps : List Predefined) (m w : ReadModel) (well : IsSound (outermost ps)
 
     -- the function that the name is in both
     pub function_both : (x : List ℕ) (f g : Found) (a b i j : ℕ) → found left_names x ≡ Some f → found right_names x ≡ Some g → f.binder ≡ binders.Applicable a → g.binder ≡ binders.Applicable b
-        → slice_get (functions_before 0 m.items k) a ≡ Some i → slice_get (functions_before 0 w.items l) b ≡ Some j → IsLeftFunction i → IsRightFunction j → Contains (paired fs gs) (i, j)
+        → slice_get (functions_before 0 m.items k) a ≡ Some i → slice_get (functions_before 0 w.items l) b ≡ Some j → IsLeftFunction i → IsRightFunction j → Contains (pairs_of fs gs) (i, j)
     function_both x f g a b i j h e fa gb ai bj p q =
         let s = left_function x f a h fa in
         let o = right_function x g b e gb in
@@ -246,14 +246,14 @@ module _ (ps : List Predefined) (m w : ReadModel) (well : IsSound (outermost ps)
         let up = function_order names w.items p.other j x (subst (λ (n : ℕ). IsFunction names w.items n x) is_j o.function) (subst (λ (n : ℕ). start names w.items p.other ≤ n) place_g high) in
         let down = function_order names m.items q.other i x (subst (λ (n : ℕ). IsFunction names m.items n x) is_i s.function) (subst (λ (n : ℕ). start names m.items q.other ≤ n) place_f low) in
         let same = one_place ps m w well other order i j p.other q.other one.number two.number one.left one.right two.left two.right up down in
-        subst (λ (d : ℕ). Contains (paired fs gs) (i, d)) same p.both
+        subst (λ (d : ℕ). Contains (pairs_of fs gs) (i, d)) same p.both
 
 -- ---- values stand for the same
 
 module _ (ps : List Predefined) (m w : ReadModel) (well : IsSound (outermost ps) m) (other : IsSound (outermost ps) w) (order : AreInOneOrder m w) (back : AreInOneOrder w m)
     (k l number : ℕ) (at_left : HasNumber m k number) (at_right : HasNumber w l number) (K L : ℕ) (rs qs : List Input) (p : Pairing)
     (outer_in : (a : ℕ) → a < length (outermost ps) → Contains p.slots (a, a))
-    (both_in : (i j : Input) → Contains (paired rs qs) (i, j) → Contains p.slots (slot_of (outermost ps) m.items i, slot_of (outermost ps) w.items j) × Contains p.inputs (i, j)) where
+    (both_in : (i j : Input) → Contains (pairs_of rs qs) (i, j) → Contains p.slots (slot_of (outermost ps) m.items i, slot_of (outermost ps) w.items j) × Contains p.inputs (i, j)) where
   pub value_same : (x : List ℕ) (f g : Found) → found (sees (outermost ps) m.items k).names x ≡ Some f → found (sees (outermost ps) w.items l).names x ≡ Some g → IsValue f.binder → IsValue g.binder
       → ((i : Input) → f.binder ≡ binders.Bound i → HasSameInput ps m w L rs qs i) → ((j : Input) → g.binder ≡ binders.Bound j → HasSameInput ps w m K qs rs j) → IsSameFound p f g
   value_same x f g h e vf vg kept more = by_both f.binder g.binder refl refl vf vg

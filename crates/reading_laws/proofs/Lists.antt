@@ -92,16 +92,16 @@ contains_mapped f (z ∷ xs) y h = at_one (λ g. contains_mapped f xs y g) (cont
 abbrev pub IsSamePair : {X : Type 0} → X × X → X × X → Type 0
 IsSamePair x y = x ≡ y
 
-abbrev pub paired : {X : Type 0} → List X → List X → List (X × X)
-paired [] ys = []
-paired (x ∷ xs) [] = []
-paired (x ∷ xs) (y ∷ ys) = (x, y) ∷ paired xs ys
+abbrev pub pairs_of : {X : Type 0} → List X → List X → List (X × X)
+pairs_of [] ys = []
+pairs_of (x ∷ xs) [] = []
+pairs_of (x ∷ xs) (y ∷ ys) = (x, y) ∷ pairs_of xs ys
 
 module _ {X Z : Type 0} (f g : X → Z) where
   -- the element of the other list at the position of this one
   pub record HasPartner (xs ys : List X) (P : X → Type 0) (x : X) : Type 0 where
     pub other : X
-    pub both : Contains (paired xs ys) (x, other)
+    pub both : Contains (pairs_of xs ys) (x, other)
     pub same : f x ≡ g other
     pub holds : P other
 
@@ -109,8 +109,8 @@ module _ {X Z : Type 0} (f g : X → Z) where
   partners P [] ys e h = tt
   partners P (x ∷ xs) [] e h = absurd (nil≢cons (sym e))
   partners P (x ∷ xs) (y ∷ ys) e h = (
-    record { other = y; both = contains_here (x, y) (paired xs ys); same = head-eq_of_cons-eq e; holds = h.0 },
-    each_to (HasPartner xs ys P) (HasPartner (x ∷ xs) (y ∷ ys) P) (λ z p. record { other = p.other; both = contains_later (x, y) (paired xs ys) (z, p.other) p.both; same = p.same; holds = p.holds }) xs (partners P xs ys (tail-eq_of_cons-eq e) h.1),
+    record { other = y; both = contains_here (x, y) (pairs_of xs ys); same = head-eq_of_cons-eq e; holds = h.0 },
+    each_to (HasPartner xs ys P) (HasPartner (x ∷ xs) (y ∷ ys) P) (λ z p. record { other = p.other; both = contains_later (x, y) (pairs_of xs ys) (z, p.other) p.both; same = p.same; holds = p.holds }) xs (partners P xs ys (tail-eq_of_cons-eq e) h.1),
   )
 
   -- two elements at one position
@@ -119,11 +119,11 @@ module _ {X Z : Type 0} (f g : X → Z) where
     pub left : P x
     pub right : Q y
 
-  pub partners_are : (P Q : X → Type 0) (xs ys : List X) → map f xs ≡ map g ys → Each P xs → Each Q ys → (x y : X) → Contains (paired xs ys) (x, y) → ArePartners P Q x y
+  pub partners_are : (P Q : X → Type 0) (xs ys : List X) → map f xs ≡ map g ys → Each P xs → Each Q ys → (x y : X) → Contains (pairs_of xs ys) (x, y) → ArePartners P Q x y
   partners_are P Q [] ys e h k x y c = absurd (contains_none (x, y) c)
   partners_are P Q (z ∷ xs) [] e h k x y c = absurd (contains_none (x, y) c)
-  partners_are P Q (z ∷ xs) (w ∷ ys) e h k x y c = at_one (λ d. partners_are P Q xs ys (tail-eq_of_cons-eq e) h.1 k.1 x y d) (contains_one_of (z, w) (paired xs ys) (x, y) c)
+  partners_are P Q (z ∷ xs) (w ∷ ys) e h k x y c = at_one (λ d. partners_are P Q xs ys (tail-eq_of_cons-eq e) h.1 k.1 x y d) (contains_one_of (z, w) (pairs_of xs ys) (x, y) c)
     where
-      at_one : (Contains (paired xs ys) (x, y) → ArePartners P Q x y) → IsSamePair (z, w) (x, y) ⊎ Contains (paired xs ys) (x, y) → ArePartners P Q x y
+      at_one : (Contains (pairs_of xs ys) (x, y) → ArePartners P Q x y) → IsSamePair (z, w) (x, y) ⊎ Contains (pairs_of xs ys) (x, y) → ArePartners P Q x y
       at_one rest (inl s) = subst (λ p. ArePartners P Q p.0 p.1) s (record { same = head-eq_of_cons-eq e; left = h.0; right = k.0 })
       at_one rest (inr d) = rest d

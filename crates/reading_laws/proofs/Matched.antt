@@ -9,7 +9,7 @@ use Rattle.binding_kinds.specs.declared.scope.Input.{Input}
 use Rattle.binding_kinds.specs.Value.{Naming}
 use Rattle.reading_laws.specs.ItemLaws.{IsPairing, Matching, first_scope}
 use Rattle.reading_laws.specs.Reread.{ReadModel, outermost, IsSound, seen_input}
-use Rattle.reading_laws.proofs.Lists.{contains_here, contains_later, contains_one_of, contains_none, contains_left, contains_right, contains_either, contains_map, contains_mapped, IsSamePair, paired, ArePartners, partners_are}
+use Rattle.reading_laws.proofs.Lists.{contains_here, contains_later, contains_one_of, contains_none, contains_left, contains_right, contains_either, contains_map, contains_mapped, IsSamePair, pairs_of, ArePartners, partners_are}
 use Rattle.reading_laws.proofs.Told.{told_below}
 use Rattle.reading_laws.proofs.Placed.{sees, start, slot_of, under_at, IsNameOfGroup, input_told, one_input}
 use Rattle.reading_laws.proofs.Seen.{input_apart}
@@ -100,28 +100,28 @@ module _ (ps : List Predefined) (m w : ReadModel) (k l : ℕ) (rs qs : List Inpu
   own_part = own_slots (start names m.items k) (start names w.items l) count
 
   abbrev used_part : List (ℕ × ℕ)
-  used_part = map slots_both (paired rs qs)
+  used_part = map slots_both (pairs_of rs qs)
 
   abbrev pub matching : Matching
   matching = record {
-    pairing = record { slots = outer_slots (length names) ++ (used_part ++ own_part); inputs = paired rs qs ++ own_inputs k l count };
-    functions = paired fs gs;
+    pairing = record { slots = outer_slots (length names) ++ (used_part ++ own_part); inputs = pairs_of rs qs ++ own_inputs k l count };
+    functions = pairs_of fs gs;
   }
 
   pub matches_outer : (a : ℕ) → a < length names → Contains matching.pairing.slots (a, a)
   matches_outer a lt = contains_left (outer_slots (length names)) (used_part ++ own_part) (a, a) (outer_has (length names) a lt)
 
-  pub matches_used : (i j : Input) → Contains (paired rs qs) (i, j) → Contains matching.pairing.slots (slot_of names m.items i, slot_of names w.items j) × Contains matching.pairing.inputs (i, j)
+  pub matches_used : (i j : Input) → Contains (pairs_of rs qs) (i, j) → Contains matching.pairing.slots (slot_of names m.items i, slot_of names w.items j) × Contains matching.pairing.inputs (i, j)
   matches_used i j h = (
-    contains_right (outer_slots (length names)) (used_part ++ own_part) (slots_both (i, j)) (contains_left used_part own_part (slots_both (i, j)) (contains_map slots_both (paired rs qs) (i, j) h)),
-    contains_left (paired rs qs) (own_inputs k l count) (i, j) h,
+    contains_right (outer_slots (length names)) (used_part ++ own_part) (slots_both (i, j)) (contains_left used_part own_part (slots_both (i, j)) (contains_map slots_both (pairs_of rs qs) (i, j) h)),
+    contains_left (pairs_of rs qs) (own_inputs k l count) (i, j) h,
   )
 
   pub matches_own : (d : ℕ) → d < count → Contains matching.pairing.slots (start names m.items k + d, start names w.items l + d) × Contains matching.pairing.inputs (record { item = k; position = d }, record { item = l; position = d })
   matches_own d lt =
       let pair : ℕ × ℕ = (start names m.items k + d, start names w.items l + d) in (
         contains_right (outer_slots (length names)) (used_part ++ own_part) pair (contains_right used_part own_part pair (own_slots_has (start names m.items k) (start names w.items l) count d lt)),
-        contains_right (paired rs qs) (own_inputs k l count) (record { item = k; position = d }, record { item = l; position = d }) (own_inputs_has k l count d lt),
+        contains_right (pairs_of rs qs) (own_inputs k l count) (record { item = k; position = d }, record { item = l; position = d }) (own_inputs_has k l count d lt),
       )
 
   module _ (well : IsSound (outermost ps) m) (other : IsSound (outermost ps) w) (same : map (seen_input m) rs ≡ map (seen_input w) qs)
@@ -135,7 +135,7 @@ module _ (ps : List Predefined) (m w : ReadModel) (k l : ℕ) (rs qs : List Inpu
 
     used_is : (a b : ℕ) → Contains used_part (a, b) → IsUsedPair a b
     used_is a b h =
-        let is = contains_mapped slots_both (paired rs qs) (a, b) h in
+        let is = contains_mapped slots_both (pairs_of rs qs) (a, b) h in
         record {
           i = is.0.0;
           j = is.0.1;

@@ -17,7 +17,7 @@ use Rattle.binding_kinds.specs.Functions.{sense_of_function}
 use Rattle.reading_laws.specs.ItemLaws.{Scope, scope_after, scope_at, own_at, first_scope, with_function, functions_before}
 use Rattle.reading_laws.proofs.Before.{one_longer}
 use Rattle.reading_laws.proofs.Told.{told, told_here, told_below, IsUnder, under_self, under_both, under_told}
-use Rattle.reading_laws.proofs.Added.{kind_seen, extended_under, IsAdded, added, told_added}
+use Rattle.reading_laws.proofs.Added.{kind_seen, extended_under, IsAdded, new_name_is_added, told_added}
 
 -- ---- what an item sees, later items see too
 
@@ -100,7 +100,7 @@ bound_at s at (x ∷ xs) (suc k) slot n h le = elim (cases_Bool (nat_le (length 
           item = x;
           there = refl;
           low = le;
-          is_added = subst (λ (m : ℕ). IsAdded s.senses s.names m (clause_of x) slot n) none (added s.senses s.names at (clause_of x) slot n now le);
+          is_added = subst (λ (m : ℕ). IsAdded s.senses s.names m (clause_of x) slot n) none (new_name_is_added s.senses s.names at (clause_of x) slot n now le);
         }
 
 -- ---- binders

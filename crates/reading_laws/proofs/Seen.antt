@@ -104,9 +104,6 @@ sound_item s at (Defined n ps b) counts none = sound_body s counts ps b (λ i k 
 -- ---- models
 
 module _ (ps : List Predefined) (m : ReadModel) (well : IsSound (outermost ps) m) where
-  abbrev pub names_of : List Naming
-  names_of = outermost ps
-
   abbrev pub seen_by : ℕ → Scope
   seen_by k = sees (outermost ps) m.items k
 
