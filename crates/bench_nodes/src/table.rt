@@ -7,7 +7,7 @@ use crate::places::SlotPlaces;
 use memo_core::keys::Kind;
 use std::alloc::Global;
 
-/// The part of an item: what it says, and what it does.
+/// The part of an item: its text, with the label of a check.
 pub const ITEM: u64 = 0;
 
 /// The part of a model: its first fault.
@@ -59,7 +59,7 @@ pub struct ModelRow {
 pub struct ItemRow {
     /// The number of the item.
     pub number: u64,
-    /// The stamp of what it says and does.
+    /// The stamp of its text.
     pub stamp: u64,
 }
 
