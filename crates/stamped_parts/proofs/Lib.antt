@@ -5,7 +5,6 @@ pub mod BuiltSlots
 pub mod Equality
 pub mod Keeping
 pub mod Numbering
-pub mod Owners
 pub mod Rows
 pub mod Same
 pub mod SpaceParts

@@ -37,7 +37,7 @@ IsModelIn s (Faulty id fault) = content s 1 id ≡ Some (OfFault fault)
 abbrev pub IsStamp : ℕ → ℕ → Type 0
 IsStamp last stamp = (0 < stamp) × (stamp ≤ last)
 
--- an item has the stamp of an edit, that which changed its text last
+-- an item has the stamp of an edit, that which changed its text last, whatever the item does
 abbrev pub IsItemRow : ℕ → ItemRow → Option SharedItem → Type 0
 IsItemRow last row role = IsStamp last row.stamp
 

@@ -1,4 +1,4 @@
--- LAWS of the rows of items after an edit: what `laws` states.
+-- LAWS of the rows of items after an edit: what `item_laws` states.
 use Rattle.std.specs.Prelude.{◌≡◌, true, ◌≢◌, ⊤, ℕ, ◌≤◌, List, [], ◌∷◌, ◌++◌, length, map, get_or, slice_get, Option, Some, None}
 use Rattle.std.specs.List.{AllZip, AllByRecursion as Each}
 use Rattle.memo_core.specs.declared.keys.Kind.{Kind}

@@ -1,4 +1,4 @@
--- The rows of items after an edit. Read this first, after the stamps of `stamped_parts`.
+-- The rows of items after an edit. Read it after Contents and Stamps.
 use Rattle.std.specs.Prelude.{◌≡◌, ⊤, ℕ, ◌==◌, if◌then◌else◌, List, [], ◌∷◌, length, map, get_or, slice_get, option_map, option_and_then, Option, Some, None}
 use denote.Ref.{Bor}
 use Rattle.std.specs.Arc.{arc_value}

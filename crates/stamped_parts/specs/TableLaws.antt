@@ -1,4 +1,4 @@
--- LAWS of rows after an edit: what `laws` states.
+-- LAWS of the rows of tests and models after an edit: what `table_laws` states.
 use Rattle.std.specs.Prelude.{⊤, ℕ, List, Option, Some, None}
 use Rattle.text_values.specs.declared.test.Test.{Test}
 use Rattle.binding_kinds.specs.declared.fault.ModelFault.{ModelFault}

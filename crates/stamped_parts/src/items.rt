@@ -35,7 +35,8 @@ pub struct ModelItems<'m> {
 pub struct ItemLists {
     /// Their numbers and stamps.
     pub rows: Vec<ItemRow>,
-    /// What each of them does, where its model was without fault since the item has its text, with the names that it has had.
+    /// What each of them does, or under a fault of its model what it did when the model was last without one, if it was there then;
+    /// with the names that it has had.
     pub roles: Vec<Option<SharedItem>>,
     /// The kind of node that each of them is by its text, if it is one.
     pub kinds: Vec<Option<Kind>>,

@@ -2,18 +2,15 @@
 
 ghost use Rattle.std.specs.Prelude.{◌≡◌, ◌↔◌, ℕ, List, true};
 ghost use Rattle.std.specs.List.{AllByRecursion as Each};
-ghost use Rattle.memo_core.specs.declared.keys.Node.{Node};
 ghost use Rattle.memo_core.specs.Laws.{GivenStays, IsUsedClosed, AreUsers, Falls};
 ghost use Rattle.memo_core.specs.Right.{IsSound, PartsGoOn};
-ghost use Rattle.memo_core.specs.Step.{Has};
 ghost use Rattle.node_values.specs.Values.{NodeContent};
 ghost use Rattle.bench_nodes.specs.Nodes.{used, users, rank};
 ghost use Rattle.model_slots.specs.Tables.{ModelReading};
 ghost use Rattle.stamped_parts.specs.Built.{IsBuilt};
 ghost use Rattle.stamped_parts.specs.Contents.{State};
 ghost use Rattle.stamped_parts.specs.Equal.{same_value};
-ghost use Rattle.stamped_parts.specs.Kept.{HasOwners};
-ghost use Rattle.stamped_parts.specs.States.{net_in, keeps, makes, IsValid, IsThere, IsSameState};
+ghost use Rattle.stamped_parts.specs.States.{net_in, makes, IsValid, IsThere, IsSameState};
 ghost use Rattle.stamped_parts.specs.Written.{WrittenState, IsWhole, IsSince, IsStamped, IsSameWritten};
 
 /// Two values of nodes are equal where their codes are.
@@ -84,9 +81,4 @@ pub fn same_states_are_built()
 /// A state that is built of its tests, and of models as they are read, is valid.
 pub fn built_states_are_valid()
     ensures { (s : State) (models : List ModelReading) → IsBuilt s models → IsValid s }
-{}
-
-/// Each used node of a state that is built may keep what it holds.
-pub fn used_nodes_are_kept()
-    ensures { (s : State) (models : List ModelReading) → IsBuilt s models → HasOwners s models → (n : Node) → Has (used s.parts.table) n → keeps s.parts n ≡ true }
 {}

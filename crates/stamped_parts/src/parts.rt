@@ -16,7 +16,7 @@ pub struct Parts {
     pub locations: Vec<Vec<Name>>,
     /// The fault of each model, if it has one.
     pub faults: Vec<Option<ModelFault>>,
-    /// What each item does, where its model was without fault since the item has its text.
+    /// What each item does, or under a fault of its model what it did when the model was last without one, if it was there then.
     pub roles: Vec<Option<SharedItem>>,
     /// The kind of node that each item is by its text, if it is one: a group of bindings, or a check or a flag.
     pub kinds: Vec<Option<Kind>>,

@@ -11,7 +11,7 @@ ghost use Rattle.stamped_parts.specs.TableLaws.{IsTestAfter, TestPartsGoOn, IsMo
 ghost use Rattle.stamped_parts.specs.Models.{raised_model};
 ghost use Rattle.stamped_parts.specs.Tests.{TestEntry};
 
-/// Each part of a test keeps its stamp where it is equal, and else has the number of the edit.
+/// Each part of a test is as it was, under the stamp that it had, or has the number of the edit, or is gone.
 pub fn test_parts_go_on()
     ensures { TestPartsGoOn }
 {}
@@ -21,7 +21,7 @@ pub fn test_rows_are_stamped()
     ensures { (last number id : ℕ) (before : Option TestEntry) (test : TestRecord) (locations : List (List ℕ)) (new : TestRow) → IsTestAfter last number before id test locations new → IsTestRow number new test }
 {}
 
-/// The fault of a model keeps its stamp where it is equal, and else has the number of the edit.
+/// The fault of a model is as it was, under the stamp that it had, or has the number of the edit, or is gone.
 pub fn faults_go_on()
     ensures { FaultsGoOn }
 {}
