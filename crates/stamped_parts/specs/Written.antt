@@ -118,6 +118,14 @@ IsPartAfter w number v part of =
     ((part_stamp v.state.parts.table part of ≡ part_stamp w.state.parts.table part of) × (part_content v part of ≡ part_content w part of))
     ⊎ (part_stamp v.state.parts.table part of ≡ number) ⊎ (part_stamp v.state.parts.table part of ≡ 0)
 
+-- a part has its stamp of before
+abbrev pub KeepsStamp : State → State → ℕ → ℕ → Type 0
+KeepsStamp s t part of = part_stamp t.parts.table part of ≡ part_stamp s.parts.table part of
+
+-- a part that holds what it held has its stamp of before
+abbrev pub EqualPartsKeepStamps : WrittenState → WrittenState → ℕ → Type 0
+EqualPartsKeepStamps w v part = (of : ℕ) (c : PartContent) → part_content w part of ≡ Some c → part_content v part of ≡ Some c → KeepsStamp w.state v.state part of
+
 -- the state after an edit, as to stamps
 pub record IsStamped (w : WrittenState) (number : ℕ) (v : WrittenState) : Type 0 where
   pub above : w.state.parts.last < number
