@@ -59,8 +59,8 @@ all_apart ms h = facts_apart (all_facts ms) (subst (λ (l : List ℕ). AreApart 
 
 -- ---- what items say
 
-pub paired : (m : NamedModel) → length m.numbers.items ≡ length m.text.items.items
-paired m = omega (arith, m.paired, m.numbers.ok.0, m.text.items.ok.0)
+pub each_item_has_number : (m : NamedModel) → length m.numbers.items ≡ length m.text.items.items
+each_item_has_number m = omega (arith, m.paired, m.numbers.ok.0, m.text.items.ok.0)
 
 -- an item stands at each index
 stands : (xs : List Item) (k : ℕ) → k < length xs → (x : Item) × (slice_get xs k ≡ Some x) × (drop k xs ≡ x ∷ drop (suc k) xs)
@@ -105,14 +105,14 @@ module _ (ns : List ℕ) (xs : List Item) (read : Option (List ResolvedItem)) (l
 -- each item says something
 pub all_written : (ms : List NamedModel) → Each HasText (all_facts ms)
 all_written [] = tt
-all_written (m ∷ ms) = both_texts (facts_in m) (all_facts ms) (facts_written m.numbers.items m.text.items.items (resolved_in m.reading) (paired m)) (all_written ms)
+all_written (m ∷ ms) = both_texts (facts_in m) (all_facts ms) (facts_written m.numbers.items m.text.items.items (resolved_in m.reading) (each_item_has_number m)) (all_written ms)
 
 -- and says what is known of it
 pub all_said : (ms : List NamedModel) (of : ℕ) → fact_text (all_facts ms) of ≡ named_text ms of
 all_said [] of = refl
 all_said (m ∷ ms) of =
-    both_said (facts_in m) (all_facts ms) (facts_written m.numbers.items m.text.items.items (resolved_in m.reading) (paired m))
-    ∙ ap (λ (o : Option PartContent). option_or o (fact_text (all_facts ms) of)) (facts_said m.numbers.items m.text.items.items (resolved_in m.reading) (paired m) of)
+    both_said (facts_in m) (all_facts ms) (facts_written m.numbers.items m.text.items.items (resolved_in m.reading) (each_item_has_number m))
+    ∙ ap (λ (o : Option PartContent). option_or o (fact_text (all_facts ms) of)) (facts_said m.numbers.items m.text.items.items (resolved_in m.reading) (each_item_has_number m) of)
     ∙ ap (λ (o : Option PartContent). option_or (text_in m.numbers.items m.text.items.items of) o) (all_said ms of)
   where
     both_said : (fs gs : List ItemFact) → Each HasText fs → fact_text (fs ++ gs) of ≡ option_or (fact_text fs of) (fact_text gs of)

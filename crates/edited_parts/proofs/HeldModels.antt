@@ -20,7 +20,7 @@ use Rattle.edited_parts.specs.Kept.{numbers_in, IsKept}
 use Rattle.edited_parts.specs.Left.{AreOrderlyParts}
 use Rattle.edited_parts.specs.Owed.{item_numbers}
 use Rattle.edited_parts.specs.Readings.{reading_by, written_model, written_models, written_state}
-use Rattle.edited_parts.proofs.Facts.{paired}
+use Rattle.edited_parts.proofs.Facts.{each_item_has_number}
 use Rattle.edited_parts.proofs.Kept.{parts_kept}
 use Rattle.edited_parts.proofs.Wholes.{readings_are, parts_whole}
 
@@ -53,7 +53,7 @@ module _ (p : Parts) (tests : List Test) (models : List NamedModel) (next : ℕ)
   module _ (row : ModelRow) (m : NamedModel) (there : Has (written_models p.table.models.items models) (written_model row m)) where
     text_at : (index : ℕ) → index < length m.numbers.items → HoldsText (here next) (number_at m.numbers.items index) (clause_at m.text.items.items index)
     text_at index lt =
-        let x = item_there m.text.items.items index (omega (arith, lt, paired m)) in
+        let x = item_there m.text.items.items index (omega (arith, lt, each_item_has_number m)) in
         let at = slice_get-get_or m.numbers.items index 0 lt in
         (clause_of x.0, ap (option_map clause_of) x.1, text_known (here low) whole (written_model row m) index (number_at m.numbers.items index) x.0 there at x.1)
 

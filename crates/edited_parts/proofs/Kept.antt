@@ -33,6 +33,7 @@ use Rattle.stamped_parts.proofs.ItemKinds.{kinds_of_roles}
 use Rattle.edited_parts.specs.Owed.{AreApart, ArePartsOf, item_numbers}
 use Rattle.edited_parts.specs.Readings.{reading_by, reading_of, readings_of, resolved_in, facts_in, all_facts}
 use Rattle.edited_parts.specs.Kept.{IsRead, id_in, numbers_in, AreOther, IsKept}
+use Rattle.edited_parts.proofs.Facts.{each_item_has_number}
 use Rattle.edited_parts.proofs.Origin.{HasKind, Origin, IsOfItem, IsOfVerdict, origin, index_within}
 use Rattle.edited_parts.specs.Left.{AreOrderlyParts, AreKept}
 use Rattle.edited_parts.proofs.Lists.{has_map, apart_left, apart_right, apart_cross}
@@ -84,14 +85,11 @@ one_read id ns items (readings.Sound resolved used) h paired apart = (
 )
 one_read id ns items (readings.Faulty fault) h paired apart = tt
 
-pub items_paired : (m : NamedModel) → length m.numbers.items ≡ length m.text.items.items
-items_paired m = sym (m.numbers).ok.0 ∙ m.paired ∙ ((m.text).items).ok.0
-
 each_read : (rs : List ModelRow) (ms : List NamedModel) → All held.IsRead ms → AreApart (item_numbers ms) → Each IsRead (readings_of rs ms)
 each_read [] ms h apart = tt
 each_read (r ∷ rs) [] h apart = tt
 each_read (r ∷ rs) (m ∷ ms) h apart = (
-  one_read r.id m.numbers.items m.text.items.items m.reading (h 0 m (omega arith)) (items_paired m) (apart_left m.numbers.items (item_numbers ms) apart),
+  one_read r.id m.numbers.items m.text.items.items m.reading (h 0 m (omega arith)) (each_item_has_number m) (apart_left m.numbers.items (item_numbers ms) apart),
   each_read rs ms (λ k d lt. h (suc k) d (omega arith)) (apart_right m.numbers.items (item_numbers ms) apart),
 )
 

@@ -13,8 +13,8 @@ Each P [] = Unit {0}
 Each P (r ∷ rs) = P (length rs) r × Each P rs
 
 -- what an item adds to the answers
-abbrev pub added : Table → ℕ → ResolvedItem → List NodeContent
-added table index r = if is_check r.role then table.outputs index else []
+abbrev pub added_answers : Table → ℕ → ResolvedItem → List NodeContent
+added_answers table index r = if is_check r.role then table.outputs index else []
 
 -- what it adds to the names of flags
 abbrev pub added_name : ResolvedItem → List (Option (List ℕ))
@@ -23,7 +23,7 @@ added_name r = if is_check r.role then flag_name r.role ∷ [] else []
 -- the answers of the checks and flags, and the names of the flags, in the order of the text
 abbrev pub late_answers : Table → List ResolvedItem → List NodeContent
 late_answers table [] = []
-late_answers table (r ∷ rs) = late_answers table rs ++ added table (length rs) r
+late_answers table (r ∷ rs) = late_answers table rs ++ added_answers table (length rs) r
 
 abbrev pub late_names : List ResolvedItem → List (Option (List ℕ))
 late_names [] = []
@@ -52,7 +52,7 @@ answers_before table [] rs = sym (append-nil (late_answers table rs))
 answers_before table (r ∷ items) rs =
     ap (λ (xs : List ResolvedItem). late_answers table xs) (reverse_more r items rs)
     ∙ answers_before table items (r ∷ rs)
-    ∙ append_assoc (late_answers table rs) (added table (length rs) r) (answers_in table (length (r ∷ rs)) items)
+    ∙ append_assoc (late_answers table rs) (added_answers table (length rs) r) (answers_in table (length (r ∷ rs)) items)
 
 pub answers_reversed : (table : Table) (items : List ResolvedItem) → late_answers table (reverse items) ≡ answers_in table 0 items
 answers_reversed table items = ap (λ (xs : List ResolvedItem). late_answers table xs) (sym (append-nil (reverse items))) ∙ answers_before table items []

@@ -32,40 +32,40 @@ some_is : {A : Type 0} {a b : A} → Some a ≡ Some b → a ≡ b
 some_is e = cc
 
 -- the models with their numbers
-abbrev pub numbered : List ℕ → List NamedModel → List (ℕ × NamedModel)
-numbered [] ms = []
-numbered (n ∷ ns) [] = []
-numbered (n ∷ ns) (m ∷ ms) = (n, m) ∷ numbered ns ms
+abbrev pub numbered_models : List ℕ → List NamedModel → List (ℕ × NamedModel)
+numbered_models [] ms = []
+numbered_models (n ∷ ns) [] = []
+numbered_models (n ∷ ns) (m ∷ ms) = (n, m) ∷ numbered_models ns ms
 
 abbrev pub key : ℕ × NamedModel → List ℕ
 key x = x.1.name
 
-keys_are : (ns : List ℕ) (ms : List NamedModel) → length ns ≡ length ms → map key (numbered ns ms) ≡ map (λ m. m.name) ms
+keys_are : (ns : List ℕ) (ms : List NamedModel) → length ns ≡ length ms → map key (numbered_models ns ms) ≡ map (λ m. m.name) ms
 keys_are [] [] e = refl
 keys_are [] (m ∷ ms) e = absurd (omega arith)
 keys_are (n ∷ ns) [] e = absurd (omega arith)
 keys_are (n ∷ ns) (m ∷ ms) e = let l : length ns ≡ length ms = omega arith in ap (λ (ks : List (List ℕ)). m.name ∷ ks) (keys_are ns ms l)
 
-put_within : (ns : List ℕ) (ms : List NamedModel) (at : ℕ) (m : NamedModel) → length ns ≡ length ms → at < length ms → numbered ns (put_at at m ms) ≡ put_at at (get_or ns at 0, m) (numbered ns ms)
+put_within : (ns : List ℕ) (ms : List NamedModel) (at : ℕ) (m : NamedModel) → length ns ≡ length ms → at < length ms → numbered_models ns (put_at at m ms) ≡ put_at at (get_or ns at 0, m) (numbered_models ns ms)
 put_within [] [] at m e lt = absurd (omega arith)
 put_within [] (x ∷ ms) at m e lt = absurd (omega arith)
 put_within (n ∷ ns) [] at m e lt = absurd (omega arith)
 put_within (n ∷ ns) (x ∷ ms) zero m e lt = refl
 put_within (n ∷ ns) (x ∷ ms) (suc at) m e lt = let l : length ns ≡ length ms = omega arith in ap (λ (xs : List (ℕ × NamedModel)). (n, x) ∷ xs) (put_within ns ms at m l (omega (arith, lt)))
 
-put_behind : (ns : List ℕ) (ms : List NamedModel) (n : ℕ) (m : NamedModel) → length ns ≡ length ms → numbered (ns ++ n ∷ []) (ms ++ m ∷ []) ≡ numbered ns ms ++ (n, m) ∷ []
+put_behind : (ns : List ℕ) (ms : List NamedModel) (n : ℕ) (m : NamedModel) → length ns ≡ length ms → numbered_models (ns ++ n ∷ []) (ms ++ m ∷ []) ≡ numbered_models ns ms ++ (n, m) ∷ []
 put_behind [] [] n m e = refl
 put_behind [] (x ∷ ms) n m e = absurd (omega arith)
 put_behind (k ∷ ns) [] n m e = absurd (omega arith)
 put_behind (k ∷ ns) (x ∷ ms) n m e = let l : length ns ≡ length ms = omega arith in ap (λ (xs : List (ℕ × NamedModel)). (k, x) ∷ xs) (put_behind ns ms n m l)
 
-length_numbered : (ns : List ℕ) (ms : List NamedModel) → length ns ≡ length ms → length (numbered ns ms) ≡ length ms
+length_numbered : (ns : List ℕ) (ms : List NamedModel) → length ns ≡ length ms → length (numbered_models ns ms) ≡ length ms
 length_numbered [] [] e = refl
 length_numbered [] (x ∷ ms) e = absurd (omega arith)
 length_numbered (k ∷ ns) [] e = absurd (omega arith)
 length_numbered (k ∷ ns) (x ∷ ms) e = let l : length ns ≡ length ms = omega arith in ap suc (length_numbered ns ms l)
 
-numbered_removed : (ns : List ℕ) (ms : List NamedModel) (at : ℕ) → length ns ≡ length ms → numbered (remove ns at) (remove ms at) ≡ remove (numbered ns ms) at
+numbered_removed : (ns : List ℕ) (ms : List NamedModel) (at : ℕ) → length ns ≡ length ms → numbered_models (remove ns at) (remove ms at) ≡ remove (numbered_models ns ms) at
 numbered_removed [] [] zero e = refl
 numbered_removed [] [] (suc at) e = refl
 numbered_removed [] (x ∷ ms) at e = absurd (omega arith)
@@ -73,14 +73,14 @@ numbered_removed (k ∷ ns) [] at e = absurd (omega arith)
 numbered_removed (k ∷ ns) (x ∷ ms) zero e = refl
 numbered_removed (k ∷ ns) (x ∷ ms) (suc at) e = let l : length ns ≡ length ms = omega arith in ap (λ (xs : List (ℕ × NamedModel)). (k, x) ∷ xs) (numbered_removed ns ms at l)
 
-pub numbered_at : (rs : List ModelRow) (ms : List NamedModel) (i : ℕ) (r : ModelRow) (m : NamedModel) → slice_get rs i ≡ Some r → slice_get ms i ≡ Some m → Has (numbered (map (λ q. q.id) rs) ms) (r.id, m)
+pub numbered_at : (rs : List ModelRow) (ms : List NamedModel) (i : ℕ) (r : ModelRow) (m : NamedModel) → slice_get rs i ≡ Some r → slice_get ms i ≡ Some m → Has (numbered_models (map (λ q. q.id) rs) ms) (r.id, m)
 numbered_at [] ms i r m e f = absurd (none_is e)
 numbered_at (q ∷ rs) [] i r m e f = absurd (none_is f)
 numbered_at (q ∷ rs) (n ∷ ms) zero r m e f =
     inl (ap (λ (x : ModelRow). (x.id, n)) (some_is e) ∙ ap (λ (x : NamedModel). (r.id, x)) (some_is f))
 numbered_at (q ∷ rs) (n ∷ ms) (suc i) r m e f = inr (numbered_at rs ms i r m e f)
 
-number_at_index : (ns : List ℕ) (ms : List NamedModel) (at k : ℕ) (m : NamedModel) → slice_get (numbered ns ms) at ≡ Some (k, m) → get_or ns at 0 ≡ k
+number_at_index : (ns : List ℕ) (ms : List NamedModel) (at k : ℕ) (m : NamedModel) → slice_get (numbered_models ns ms) at ≡ Some (k, m) → get_or ns at 0 ≡ k
 number_at_index [] ms at k m e = absurd (none_is e)
 number_at_index (n ∷ ns) [] at k m e = absurd (none_is e)
 number_at_index (n ∷ ns) (x ∷ ms) zero k m e = ap (λ (p : ℕ × NamedModel). p.0) (some_is e)
@@ -94,20 +94,20 @@ not_past (x ∷ xs) (suc at) a le e = not_past xs at a (omega (arith, le)) e
 -- ---- a model of one name before and after
 
 module _ (ns : List ℕ) (ms : List NamedModel) (each : length ns ≡ length ms) (was : AreApart (map (λ m. m.name) ms)) where
-  apart : AreApart (map key (numbered ns ms))
+  apart : AreApart (map key (numbered_models ns ms))
   apart = subst (λ (l : List (List ℕ)). AreApart l) (sym (keys_are ns ms each)) was
 
   abbrev IsKept : List ℕ → List NamedModel → Type 0
-  IsKept ls after = AreApart (map (λ m. m.name) after) → (k l : ℕ) (m n : NamedModel) → Has (numbered ns ms) (k, m) → Has (numbered ls after) (l, n) → n.name ≡ m.name → l ≡ k
+  IsKept ls after = AreApart (map (λ m. m.name) after) → (k l : ℕ) (m n : NamedModel) → Has (numbered_models ns ms) (k, m) → Has (numbered_models ls after) (l, n) → n.name ≡ m.name → l ≡ k
 
   same_kept : IsKept ns ms
-  same_kept now k l m n a b e = sym (ap (λ (x : ℕ × NamedModel). x.0) (one_of_key key (numbered ns ms) apart (k, m) (l, n) a b (sym e)))
+  same_kept now k l m n a b e = sym (ap (λ (x : ℕ × NamedModel). x.0) (one_of_key key (numbered_models ns ms) apart (k, m) (l, n) a b (sym e)))
 
   kept_within : (at : ℕ) (x : NamedModel) → at < length ms → length (put_at at x ms) ≡ length ms → IsKept ns (put_at at x ms)
   kept_within at x lt len now k l m n a b e =
       let is = put_within ns ms at x each lt in
       let keys = subst (λ (l : List (List ℕ)). AreApart l) (ap (map key) is) (subst (λ (l : List (List ℕ)). AreApart l) (sym (keys_are ns (put_at at x ms) (each ∙ sym len))) now) in
-      elim (kept_in_put key at (get_or ns at 0, x) (numbered ns ms) apart keys (k, m) (l, n) a (subst (λ (xs : List (ℕ × NamedModel)). Has xs (l, n)) is b) (sym e)) [
+      elim (kept_in_put key at (get_or ns at 0, x) (numbered_models ns ms) apart keys (k, m) (l, n) a (subst (λ (xs : List (ℕ × NamedModel)). Has xs (l, n)) is b) (sym e)) [
         | inl same ↦ sym (ap (λ (p : ℕ × NamedModel). p.0) same)
         | inr put ↦ sym (ap (λ (p : ℕ × NamedModel). p.0) put.1) ∙ number_at_index ns ms at k m put.0
       ]
@@ -115,20 +115,20 @@ module _ (ns : List ℕ) (ms : List NamedModel) (each : length ns ≡ length ms)
   kept_behind : (at new : ℕ) (x : NamedModel) → length ms ≤ at → IsKept (ns ++ new ∷ []) (put_at at x ms)
   kept_behind at new x le now k l m n a b e =
       let len : length ns ≡ length ms = each in
-      let past : length (numbered ns ms) ≤ at = subst (λ (c : ℕ). c ≤ at) (sym (length_numbered ns ms each)) le in
-      let is : numbered (ns ++ new ∷ []) (put_at at x ms) ≡ put_at at (new, x) (numbered ns ms) =
-      ap (numbered (ns ++ new ∷ [])) (sym (push_past ms at x le)) ∙ put_behind ns ms new x each ∙ push_past (numbered ns ms) at (new, x) past in
+      let past : length (numbered_models ns ms) ≤ at = subst (λ (c : ℕ). c ≤ at) (sym (length_numbered ns ms each)) le in
+      let is : numbered_models (ns ++ new ∷ []) (put_at at x ms) ≡ put_at at (new, x) (numbered_models ns ms) =
+      ap (numbered_models (ns ++ new ∷ [])) (sym (push_past ms at x le)) ∙ put_behind ns ms new x each ∙ push_past (numbered_models ns ms) at (new, x) past in
       let longer : length (ns ++ new ∷ []) ≡ length (put_at at x ms) = length-append ns (new ∷ []) ∙ (ap (λ (c : ℕ). c + 1) each ∙ (sym (length-append ms (x ∷ [])) ∙ ap (λ (xs : List NamedModel). length xs) (push_past ms at x le))) in
       let keys = subst (λ (l : List (List ℕ)). AreApart l) (ap (map key) is) (subst (λ (l : List (List ℕ)). AreApart l) (sym (keys_are (ns ++ new ∷ []) (put_at at x ms) longer)) now) in
-      elim (kept_in_put key at (new, x) (numbered ns ms) apart keys (k, m) (l, n) a (subst (λ (xs : List (ℕ × NamedModel)). Has xs (l, n)) is b) (sym e)) [
+      elim (kept_in_put key at (new, x) (numbered_models ns ms) apart keys (k, m) (l, n) a (subst (λ (xs : List (ℕ × NamedModel)). Has xs (l, n)) is b) (sym e)) [
         | inl same ↦ sym (ap (λ (p : ℕ × NamedModel). p.0) same)
-        | inr put ↦ absurd (not_past (numbered ns ms) at (k, m) past put.0)
+        | inr put ↦ absurd (not_past (numbered_models ns ms) at (k, m) past put.0)
       ]
 
   kept_removed : (at : ℕ) → IsKept (remove ns at) (remove ms at)
   kept_removed at now k l m n a b e =
-      let there = in_removed (numbered ns ms) at (l, n) (subst (λ (xs : List (ℕ × NamedModel)). Has xs (l, n)) (numbered_removed ns ms at each) b) in
-      sym (ap (λ (x : ℕ × NamedModel). x.0) (one_of_key key (numbered ns ms) apart (k, m) (l, n) a there (sym e)))
+      let there = in_removed (numbered_models ns ms) at (l, n) (subst (λ (xs : List (ℕ × NamedModel)). Has xs (l, n)) (numbered_removed ns ms at each) b) in
+      sym (ap (λ (x : ℕ × NamedModel). x.0) (one_of_key key (numbered_models ns ms) apart (k, m) (l, n) a there (sym e)))
 
 -- ---- after an edit
 
@@ -190,7 +190,7 @@ module _ (p q : Parts) (tests : List Test) (models : List NamedModel) (number : 
 
 -- a model keeps its number
 pub model_kept : (p q : Parts) (tests : List Test) (models : List NamedModel) (r : Replacement) (number : ℕ) (e : EditedParts) → IsEdit p tests models r number e q → AreApart (map (λ m. m.name) models) → AreApart (map (λ m. m.name) (models_with r models))
-    → (k l : ℕ) (m n : NamedModel) → Has (numbered (ids p) models) (k, m) → Has (numbered (ids q) (models_with r models)) (l, n) → n.name ≡ m.name → l ≡ k
+    → (k l : ℕ) (m n : NamedModel) → Has (numbered_models (ids p) models) (k, m) → Has (numbered_models (ids q) (models_with r models)) (l, n) → n.name ≡ m.name → l ≡ k
 model_kept p q tests models (made.PutTest at test) number (edited.PutTest to row names) edit was = kept_same p q tests models number edit.later edit.owed was edit.committed.changes.models
 model_kept p q tests models (made.PutTest at test) number (edited.DropTest to) edit was = absurd edit.is_made
 model_kept p q tests models (made.PutTest at test) number (edited.Models m) edit was = absurd edit.is_made

@@ -30,7 +30,7 @@ use Rattle.edited_parts.specs.Owed.{ArePartsOf, item_numbers}
 use Rattle.edited_parts.specs.Readings.{written_model, written_models, written_state, named_text, all_facts}
 use Rattle.edited_parts.proofs.Facts.{all_numbers}
 use Rattle.edited_parts.proofs.ModelEdits.{history_raised, edits_keep, edits_go_on}
-use Rattle.edited_parts.proofs.Wholes.{numbered, parts_whole}
+use Rattle.edited_parts.proofs.Wholes.{number_is_listed, parts_whole}
 
 -- ---- histories
 
@@ -133,7 +133,7 @@ number_of (m ∷ ms) n h = elim (split_has m.numbers.items (item_numbers ms) n h
 module _ (p : Parts) (tests : List Test) (ms : List NamedModel) (next : ℕ) where
   -- what is there as it is written is there
   here_has : (n : ℕ) → IsHere (written_state p tests ms next) n → Has (item_numbers ms) n
-  here_has n here = numbered p.table.models.items ms here.model here.index n here.there here.stands
+  here_has n here = number_is_listed p.table.models.items ms here.model here.index n here.there here.stands
 
   has_here : (n : ℕ) → ArePartsOf p tests ms → Has (item_numbers ms) n → IsHere (written_state p tests ms next) n
   has_here n owed has =

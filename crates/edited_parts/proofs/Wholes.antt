@@ -22,7 +22,7 @@ use Rattle.stamped_parts.proofs.Built.{built_valid}
 use Rattle.edited_parts.specs.Laws.{AreWritten}
 use Rattle.edited_parts.specs.Owed.{AreApart, ArePartsOf, item_numbers}
 use Rattle.edited_parts.specs.Readings.{reading_by, reading_of, readings_of, written_model, written_models, written_state}
-use Rattle.edited_parts.proofs.Facts.{paired, texts_are, unstamped_gone}
+use Rattle.edited_parts.proofs.Facts.{each_item_has_number, texts_are, unstamped_gone}
 use Rattle.edited_parts.proofs.ModelEdits.{each_read}
 use Rattle.edited_parts.proofs.Lists.{has_at, apart_left, apart_right, apart_cross}
 
@@ -67,13 +67,13 @@ all_read (r ∷ rs) (m ∷ ms) read apart = (one_read r m read.0 (apart_left m.n
 all_paired : (rows : List ModelRow) (ms : List NamedModel) → Each IsPaired (written_models rows ms)
 all_paired [] ms = tt
 all_paired (r ∷ rs) [] = tt
-all_paired (r ∷ rs) (m ∷ ms) = (sym (paired m), all_paired rs ms)
+all_paired (r ∷ rs) (m ∷ ms) = (sym (each_item_has_number m), all_paired rs ms)
 
-pub numbered : (rows : List ModelRow) (ms : List NamedModel) (m : WrittenModel) (a n : ℕ) → Has (written_models rows ms) m → StandsAt m a n → Has (item_numbers ms) n
-numbered [] ms m a n h e = absurd h
-numbered (r ∷ rs) [] m a n h e = absurd h
-numbered (r ∷ rs) (k ∷ ms) m a n (inl same) e = has_append k.numbers.items (item_numbers ms) n (has_at k.numbers.items a n (ap (λ (w : WrittenModel). slice_get w.numbers a) same ∙ e))
-numbered (r ∷ rs) (k ∷ ms) m a n (inr later) e = has_behind k.numbers.items (item_numbers ms) n (numbered rs ms m a n later e)
+pub number_is_listed : (rows : List ModelRow) (ms : List NamedModel) (m : WrittenModel) (a n : ℕ) → Has (written_models rows ms) m → StandsAt m a n → Has (item_numbers ms) n
+number_is_listed [] ms m a n h e = absurd h
+number_is_listed (r ∷ rs) [] m a n h e = absurd h
+number_is_listed (r ∷ rs) (k ∷ ms) m a n (inl same) e = has_append k.numbers.items (item_numbers ms) n (has_at k.numbers.items a n (ap (λ (w : WrittenModel). slice_get w.numbers a) same ∙ e))
+number_is_listed (r ∷ rs) (k ∷ ms) m a n (inr later) e = has_behind k.numbers.items (item_numbers ms) n (number_is_listed rs ms m a n later e)
 
 all_apart : (rows : List ModelRow) (ms : List NamedModel) → AreApart (item_numbers ms) → (m w : WrittenModel) (a b n : ℕ) → Has (written_models rows ms) m → Has (written_models rows ms) w → StandsAt m a n → StandsAt w b n → (m ≡ w) × (a ≡ b)
 all_apart [] ms apart m w a b n h g e f = absurd h
@@ -83,9 +83,9 @@ all_apart (r ∷ rs) (k ∷ ms) apart m w a b n (inl h) (inl g) e f = (
   stands_once k.numbers.items a b n (apart_left k.numbers.items (item_numbers ms) apart) (ap (λ (x : WrittenModel). slice_get x.numbers a) h ∙ e) (ap (λ (x : WrittenModel). slice_get x.numbers b) g ∙ f),
 )
 all_apart (r ∷ rs) (k ∷ ms) apart m w a b n (inl h) (inr g) e f =
-    absurd (apart_cross k.numbers.items (item_numbers ms) n apart (has_at k.numbers.items a n (ap (λ (x : WrittenModel). slice_get x.numbers a) h ∙ e)) (numbered rs ms w b n g f))
+    absurd (apart_cross k.numbers.items (item_numbers ms) n apart (has_at k.numbers.items a n (ap (λ (x : WrittenModel). slice_get x.numbers a) h ∙ e)) (number_is_listed rs ms w b n g f))
 all_apart (r ∷ rs) (k ∷ ms) apart m w a b n (inr h) (inl g) e f =
-    absurd (apart_cross k.numbers.items (item_numbers ms) n apart (has_at k.numbers.items b n (ap (λ (x : WrittenModel). slice_get x.numbers b) g ∙ f)) (numbered rs ms m a n h e))
+    absurd (apart_cross k.numbers.items (item_numbers ms) n apart (has_at k.numbers.items b n (ap (λ (x : WrittenModel). slice_get x.numbers b) g ∙ f)) (number_is_listed rs ms m a n h e))
 all_apart (r ∷ rs) (k ∷ ms) apart m w a b n (inr h) (inr g) e f = all_apart rs ms (apart_right k.numbers.items (item_numbers ms) apart) m w a b n h g e f
 
 -- what has no stamp is not there
@@ -101,6 +101,6 @@ parts_whole p tests ms next owed written = record {
   read = all_read p.table.models.items ms (each_read ms written.read) written.apart;
   paired = all_paired p.table.models.items ms;
   apart = all_apart p.table.models.items ms written.apart;
-  low = λ n here. written.low n (numbered p.table.models.items ms here.model here.index n here.there here.stands);
+  low = λ n here. written.low n (number_is_listed p.table.models.items ms here.model here.index n here.there here.stands);
   gone = gone p tests ms next owed;
 }

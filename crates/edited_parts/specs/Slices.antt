@@ -1,4 +1,4 @@
--- The law of this crate, the contract of its call.
+-- What `bench_laws::equal_slices_have_same_cells` states. Read it after BenchCells.
 use Rattle.std.specs.Prelude.{◌≡◌}
 use Rattle.text_values.specs.TestValue.{Content}
 use Rattle.bench_texts.specs.declared.model.NamedModel.{NamedModel}
