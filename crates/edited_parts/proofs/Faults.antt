@@ -20,6 +20,7 @@ use Rattle.stamped_parts.specs.declared.model_rows.HeldModel.{HeldModel}
 use Rattle.stamped_parts.specs.TableLaws.{WasModelRow}
 use Rattle.stamped_parts.specs.Stamps.{IsLaterNumber, next_number, raised, IsStampOf}
 use Rattle.stamped_parts.specs.Models.{raised_model}
+use Rattle.stamped_parts.specs.Written.{EqualPartsKeepStamps}
 use Rattle.stamped_parts.proofs.Stamping.{raised_low}
 use Rattle.stamped_parts.proofs.ModelRows.{fault_low}
 use Rattle.stamped_parts.proofs.Histories.{histories_go_on}
@@ -33,7 +34,7 @@ use Rattle.edited_parts.specs.Owed.{AreApart, ArePartsOf}
 use Rattle.edited_parts.specs.Readings.{fault_in, named_text, written_state, all_facts}
 use Rattle.edited_parts.proofs.PutModels.{held_content, held_stamp, held_ids, held_is, held_ids_are, held_were, content_pushed, were_pushed, were_removed}
 use Rattle.edited_parts.proofs.TestEdits.{fresh_above}
-use Rattle.edited_parts.specs.BenchCells.{EqualPartsKeepStamps, EqualItemsKeepNames}
+use Rattle.edited_parts.specs.BenchCells.{EqualItemsKeepNames}
 use Rattle.edited_parts.proofs.Facts.{all_said, texts_are}
 use Rattle.edited_parts.proofs.ItemKinds.{items_after}
 

@@ -15,10 +15,11 @@ use Rattle.bench_nodes.specs.declared.table.TestRow.{TestRow}
 use Rattle.bench_nodes.specs.Nodes.{test_stamp, space_parts, space_keys, has_test}
 use Rattle.stamped_parts.specs.declared.parts.Parts.{Parts}
 use Rattle.stamped_parts.specs.Contents.{PartContent, OfCondition, state_of, test_part}
+use Rattle.stamped_parts.specs.Written.{KeepsStamp}
 use Rattle.edited_parts.specs.declared.edited.EditedParts.{EditedParts}
 use Rattle.edited_parts.specs.Owed.{AreApart}
 use Rattle.edited_parts.specs.Readings.{reading_by, reading_of, written_model, written_models, written_state}
-use Rattle.edited_parts.specs.BenchCells.{AreReadAlike, KeepsStamp, IsTestLeft, IsLeftFor}
+use Rattle.edited_parts.specs.BenchCells.{AreReadAlike, IsTestLeft, IsLeftFor}
 use Rattle.edited_parts.specs.Left.{IsOrderlyEdit, CellRows, IsCellOf, IsSameCondition, IsSameFor, IsSameCell, IsLeft}
 use Rattle.edited_parts.proofs.Kept.{parts_kept}
 use Rattle.edited_parts.proofs.Faults.{items_left, faults_left, names_left}

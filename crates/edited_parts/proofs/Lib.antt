@@ -29,6 +29,7 @@ pub mod Kept
 pub mod Faults
 pub mod ModelNumbers
 pub mod TestsLeft
+pub mod EqualParts
 pub mod HeldModels
 pub mod LeftCells
 pub mod SliceCells

@@ -115,7 +115,7 @@ same_entry : (a b : TestEntry) → a ≡ b → IsEntryKept a b
 same_entry a b e = subst (IsEntryKept a) e (record { id = refl; stamps = λ part same. refl })
 
 -- the test was put in the place of the one that was there
-put_entry : (last number : ℕ) (a : TestEntry) (test : Test) (locations : List (List ℕ)) (row new : TestRow) → IsTestRow last a.row a.test → IsRowOf (next_number last) (Some a) a.row.id test locations row → IsRaisedRow last number row new → IsEntryKept a (record { row = new; test = test; locations = locations })
+pub put_entry : (last number : ℕ) (a : TestEntry) (test : Test) (locations : List (List ℕ)) (row new : TestRow) → IsTestRow last a.row a.test → IsRowOf (next_number last) (Some a) a.row.id test locations row → IsRaisedRow last number row new → IsEntryKept a (record { row = new; test = test; locations = locations })
 put_entry last number a test locations row new was made up = record {
   id = up.id_is ∙ made.id_is;
   stamps = λ part same. raised_stamp last number row new up part ∙ by_content (test_part test locations part) part refl same;

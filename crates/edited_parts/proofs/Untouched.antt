@@ -27,10 +27,10 @@ use Rattle.model_slots.proofs.Lists.{each_append, each_map, each_to, each_has, h
 use Rattle.stamped_parts.specs.Built.{IsHeld, IsModelIn}
 use Rattle.stamped_parts.specs.Contents.{PartContent, OfText, OfRole, OfFault, State, histories, content}
 use Rattle.stamped_parts.specs.States.{keeps, net_in}
-use Rattle.stamped_parts.specs.Written.{WrittenModel, WrittenState}
+use Rattle.stamped_parts.specs.Written.{WrittenModel, WrittenState, KeepsStamp, EqualPartsKeepStamps}
 use Rattle.edited_parts.specs.Kept.{IsKept, id_in, space_node, verdict_node}
 use Rattle.edited_parts.proofs.Origin.{verdict_keys_are, verdict_there}
-use Rattle.edited_parts.specs.BenchCells.{CellItem, cell_items, KeepsStamp, EqualPartsKeepStamps, EqualItemsKeepNames, IsTestLeft, HoldsText, LeavesCell, IsVerdictUntouched}
+use Rattle.edited_parts.specs.BenchCells.{CellItem, cell_items, EqualItemsKeepNames, IsTestLeft, HoldsText, LeavesCell, IsVerdictUntouched}
 use Rattle.edited_parts.proofs.Stable.{IsCertain, nat_stable, untouched_stable}
 use Rattle.edited_parts.proofs.Items.{IsOfKind, number_in, used_key, keys_of, flag_keys, answer_keys, by_items, cell_keys, IsAmong, IsGroupAmong, IsCellIn, cell_in}
 

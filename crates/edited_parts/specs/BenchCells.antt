@@ -10,13 +10,13 @@ use Rattle.binding_kinds.specs.declared.scope.Input.{Input}
 use Rattle.binding_graph.specs.declared.resolved.ResolvedItem.{ResolvedItem}
 use Rattle.shared_items.specs.Naming.{SeenName}
 use Rattle.shared_items.specs.Items.{RoleContent, role_content}
-use Rattle.bench_nodes.specs.Nodes.{part_stamp, used, has_test, space_keys}
+use Rattle.bench_nodes.specs.Nodes.{used, has_test, space_keys}
 use Rattle.model_slots.specs.Slots.{number_at}
 use Rattle.model_slots.specs.Tables.{ModelReading, Sound, Faulty}
 use Rattle.bench_slices.specs.Slices.{clause_at}
-use Rattle.stamped_parts.specs.Contents.{PartContent, OfText, OfRole, State, content}
+use Rattle.stamped_parts.specs.Contents.{OfText, OfRole, State, content}
 use Rattle.stamped_parts.specs.States.{keeps, net_in}
-use Rattle.stamped_parts.specs.Written.{WrittenModel, WrittenState, part_content}
+use Rattle.stamped_parts.specs.Written.{WrittenModel, WrittenState, part_content, KeepsStamp, EqualPartsKeepStamps}
 use Rattle.edited_parts.specs.Kept.{IsKept, id_in, numbers_in, verdict_node}
 
 -- ---- what a cell has of its model
@@ -62,14 +62,6 @@ abbrev pub HaveSameCells : WrittenModel → WrittenModel → Type 0
 HaveSameCells m n = AreReadAlike m.items m.reading n.items n.reading
 
 -- ---- what an edit leaves
-
--- a part has its stamp of before
-abbrev pub KeepsStamp : State → State → ℕ → ℕ → Type 0
-KeepsStamp s t part of = part_stamp t.parts.table part of ≡ part_stamp s.parts.table part of
-
--- a part that holds what it held has its stamp of before
-abbrev pub EqualPartsKeepStamps : WrittenState → WrittenState → ℕ → Type 0
-EqualPartsKeepStamps w v part = (of : ℕ) (c : PartContent) → part_content w part of ≡ Some c → part_content v part of ≡ Some c → KeepsStamp w.state v.state part of
 
 -- an item that does what it did has the history that it had
 abbrev pub EqualItemsKeepNames : State → State → Type 0

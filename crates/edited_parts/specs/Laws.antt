@@ -7,7 +7,7 @@ use Rattle.bench_texts.specs.declared.model.NamedModel.{NamedModel}
 use Rattle.bench_texts.specs.declared.replacement.Replacement.{Replacement}
 use Rattle.bench_texts.specs.declared.replacement.Replacement.TheVariants as made
 use Rattle.bench_texts.specs.Replacements.{tests_with, models_with}
-use Rattle.stamped_parts.specs.Written.{IsWhole, IsPartAfter, IsStamped}
+use Rattle.stamped_parts.specs.Written.{IsWhole, IsPartAfter, EqualPartsKeepStamps, IsStamped}
 use Rattle.stamped_parts.specs.declared.parts.Parts.{Parts}
 use Rattle.stamped_parts.specs.Stamps.{IsLaterNumber}
 use Rattle.edited_parts.specs.declared.edited.EditedParts.{EditedParts}
@@ -51,6 +51,12 @@ abbrev pub EditsGoOn : Type 0
 EditsGoOn =
     (p q : Parts) (tests : List Test) (models : List NamedModel) (r : Replacement) (number : ℕ) (e : EditedParts) → IsEdit p tests models r number e q → AreApart (item_numbers (models_with r models)) → All IsRead (models_with r models)
     → (next later part of : ℕ) → IsPartAfter (written_state p tests models next) number (written_state q (tests_with r tests) (models_with r models) later) part of
+
+-- and a part that holds what it held has its stamp of before
+abbrev pub EditsKeepStamps : Type 0
+EditsKeepStamps =
+    (p q : Parts) (tests : List Test) (models : List NamedModel) (r : Replacement) (number : ℕ) (e : EditedParts) → IsEdit p tests models r number e q → AreApart (item_numbers (models_with r models)) → All IsRead (models_with r models)
+    → (next later part : ℕ) → EqualPartsKeepStamps (written_state p tests models next) (written_state q (tests_with r tests) (models_with r models) later) part
 
 -- ---- the state of parts, tests and models
 

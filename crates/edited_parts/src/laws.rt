@@ -1,6 +1,6 @@
 //! Laws of the parts of the bench after an edit.
 
-ghost use Rattle.edited_parts.specs.Laws.{TestEditsKeepParts, TestEditsGoOn, EditsKeepParts, EditsGoOn, PartsAreWhole, EditsAreStamped};
+ghost use Rattle.edited_parts.specs.Laws.{TestEditsKeepParts, TestEditsGoOn, EditsKeepParts, EditsGoOn, EditsKeepStamps, PartsAreWhole, EditsAreStamped};
 
 /// After an edit of a test the parts are those of the texts after it.
 pub fn test_edits_keep_parts()
@@ -20,6 +20,11 @@ pub fn edits_keep_parts()
 /// After any edit each part is as it was, has the number of the edit, or is gone.
 pub fn edits_go_on()
     ensures { EditsGoOn }
+{}
+
+/// After any edit a part that holds what it held has its stamp of before.
+pub fn equal_parts_keep_stamps()
+    ensures { EditsKeepStamps }
 {}
 
 /// Parts of tests, and of models as they are written, are those of a whole state.
