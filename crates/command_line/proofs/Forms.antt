@@ -4,9 +4,8 @@ use Rattle.std.proofs.lemmas.List.{take_all, take-map, drop-map, length-map}
 use Rattle.std.proofs.lemmas.List.Sums.{position_or_len_is}
 use Rattle.std.specs.List.{list_all}
 use denote.Ref.{Bor}
-use Rattle.command_line.specs.Forms.{Asked, Table, texts_of, is_word, is_path, are_paths, dashes, word_at, asked_if, table_of, paths_of, options_of, has_option, why_with, why_of, watch_with, watch_of, is_workers, draw_by, draw_of, by_command, asked_in}
+use Rattle.command_line.specs.Forms.{Asked, Table, texts_of, is_word, is_path, are_paths, dashes, word_at, asked_if, table_of, paths_of, options_of, has_option, why_with, why_of, watch_with, watch_of, is_workers, number_in, draw_by, draw_of, by_command, asked_in}
 use Rattle.std.specs.Prelude.{if◌then◌else◌}
-use Rattle.session_script.specs.Words.{number_of}
 use Rattle.std.proofs.lemmas.Bool.{and_from, lt-ltb, le-ltb}
 
 count : (words : List (Bor (List ℕ))) → length (texts_of words) ≡ length words
@@ -120,10 +119,10 @@ is_draw words paths options r enough split_paths split_options given =
 
 -- ---- watching
 
-pub is_watch : (words : List (Bor (List ℕ))) (r : Option Asked) (n : Option ℕ) → 2 ≤ length words → is_workers (word_at (texts_of words) 0) ≡ true → n ≡ number_of (word_at (texts_of words) 1)
+pub is_watch : (words : List (Bor (List ℕ))) (r : Option Asked) (n : Option ℕ) → 2 ≤ length words → is_workers (word_at (texts_of words) 0) ≡ true → n ≡ number_in (word_at (texts_of words) 1)
     → r ≡ watch_with (texts_of (take (length words - 2) (drop 2 words))) n → r ≡ watch_of (texts_of words)
 is_watch words r n enough workers given made =
-    let many : (if ltb (length (texts_of words)) 2 then None else watch_with (drop 2 (texts_of words)) (number_of (word_at (texts_of words) 1))) ≡ watch_with (drop 2 (texts_of words)) (number_of (word_at (texts_of words) 1)) =
-    sym (second (ltb (length (texts_of words)) 2) None (watch_with (drop 2 (texts_of words)) (number_of (word_at (texts_of words) 1))) (long words enough)) in
+    let many : (if ltb (length (texts_of words)) 2 then None else watch_with (drop 2 (texts_of words)) (number_in (word_at (texts_of words) 1))) ≡ watch_with (drop 2 (texts_of words)) (number_in (word_at (texts_of words) 1)) =
+    sym (second (ltb (length (texts_of words)) 2) None (watch_with (drop 2 (texts_of words)) (number_in (word_at (texts_of words) 1))) (long words enough)) in
     made ∙ ap (λ (l : List (List ℕ)). watch_with l n) (behind words 2) ∙ ap (λ (m : Option ℕ). watch_with (drop 2 (texts_of words)) m) given ∙ sym many
-    ∙ first (is_workers (word_at (texts_of words) 0)) (if ltb (length (texts_of words)) 2 then None else watch_with (drop 2 (texts_of words)) (number_of (word_at (texts_of words) 1))) (watch_with (texts_of words) (Some 0)) workers
+    ∙ first (is_workers (word_at (texts_of words) 0)) (if ltb (length (texts_of words)) 2 then None else watch_with (drop 2 (texts_of words)) (number_in (word_at (texts_of words) 1))) (watch_with (texts_of words) (Some 0)) workers

@@ -73,6 +73,10 @@ table_of words split =
 abbrev pub diff_of : List (List ℕ) → Option Asked
 diff_of words = asked_if (nat_lt 2 (length words) && are_paths words) (Diff (take 2 words) (drop 2 words))
 
+-- the number below 2^64 that the digits of a word make; the empty word makes none
+abbrev pub number_in : List ℕ → Option ℕ
+number_in word = if length word == 0 then None else number_of word
+
 -- a number of workers is a decimal number up to 32
 abbrev pub session_with : Option (List ℕ) → Option ℕ → Option Asked
 session_with script None = None
@@ -88,15 +92,15 @@ is_workers word = is_word word (codes "--workers")
 -- --workers N, before a script or behind it
 abbrev pub session_of_three : List (List ℕ) → Option Asked
 session_of_three words =
-    if is_workers (word_at words 0) then session_in (word_at words 2) (number_of (word_at words 1))
-    else (if is_workers (word_at words 1) then session_in (word_at words 0) (number_of (word_at words 2)) else None)
+    if is_workers (word_at words 0) then session_in (word_at words 2) (number_in (word_at words 1))
+    else (if is_workers (word_at words 1) then session_in (word_at words 0) (number_in (word_at words 2)) else None)
 
 -- nothing, SCRIPT, --workers N, or both
 abbrev pub session_of : List (List ℕ) → Option Asked
 session_of words =
     if length words == 0 then Some (Session None 0)
     else (if length words == 1 then session_in (word_at words 0) (Some 0)
-    else (if length words == 2 then (if is_workers (word_at words 0) then session_with None (number_of (word_at words 1)) else None)
+    else (if length words == 2 then (if is_workers (word_at words 0) then session_with None (number_in (word_at words 1)) else None)
     else (if length words == 3 then session_of_three words else None)))
 
 -- two paths: the first two words, or the last two where the first word is an option
@@ -133,7 +137,7 @@ watch_with words (Some n) = asked_if (nat_lt 1 (length words) && are_paths words
 -- MODEL TEST .., or --workers N before them
 abbrev pub watch_of : List (List ℕ) → Option Asked
 watch_of words =
-    if is_workers (word_at words 0) then (if nat_lt (length words) 2 then None else watch_with (drop 2 words) (number_of (word_at words 1)))
+    if is_workers (word_at words 0) then (if nat_lt (length words) 2 then None else watch_with (drop 2 words) (number_in (word_at words 1)))
     else watch_with words (Some 0)
 
 -- --shown, --forbidden or --all
@@ -152,12 +156,12 @@ abbrev pub is_most : List ℕ → Bool
 is_most word = is_word word (codes "--most")
 
 abbrev pub draw_of_two : List (List ℕ) → List (List ℕ) → Option Asked
-draw_of_two paths options = if is_most (word_at options 0) then draw_with paths (Some drawns.Shown) (number_of (word_at options 1)) else None
+draw_of_two paths options = if is_most (word_at options 0) then draw_with paths (Some drawns.Shown) (number_in (word_at options 1)) else None
 
 abbrev pub draw_of_three : List (List ℕ) → List (List ℕ) → Option Asked
 draw_of_three paths options =
-    if is_most (word_at options 0) then draw_with paths (drawn_of (word_at options 2)) (number_of (word_at options 1))
-    else (if is_most (word_at options 1) then draw_with paths (drawn_of (word_at options 0)) (number_of (word_at options 2)) else None)
+    if is_most (word_at options 0) then draw_with paths (drawn_of (word_at options 2)) (number_in (word_at options 1))
+    else (if is_most (word_at options 1) then draw_with paths (drawn_of (word_at options 0)) (number_in (word_at options 2)) else None)
 
 -- nothing, one of the three, --most N, or both
 abbrev pub draw_by : List (List ℕ) → List (List ℕ) → Option Asked

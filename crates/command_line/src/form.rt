@@ -1,7 +1,7 @@
 //! What the words of a command line ask for.
 
 ghost use Rattle.std.specs.Prelude.{◌≡◌, ◌≤◌, ◌+◌, Some, None, IfOk, OnErr, length, option_map};
-ghost use Rattle.command_line.specs.Forms.{texts_of, asked_by, is_path, are_paths, dashes, word_at, eval_of, table_of, diff_of, why_of, session_with, session_in, session_of_three, session_of, paths_of, options_of, has_option, count_of, why_with, watch_with, watch_of, drawn_of, draw_with, draw_of_two, draw_of_three, draw_by, draw_of, text_of, by_command, asked_in};
+ghost use Rattle.command_line.specs.Forms.{texts_of, asked_by, is_path, are_paths, dashes, word_at, eval_of, table_of, diff_of, why_of, number_in, session_with, session_in, session_of_three, session_of, paths_of, options_of, has_option, count_of, why_with, watch_with, watch_of, drawn_of, draw_with, draw_of_two, draw_of_three, draw_by, draw_of, text_of, by_command, asked_in};
 
 use clap::Error;
 use command_usage::usage;
@@ -157,6 +157,16 @@ fn diff_form<'a>(words: &'a [&'a str]) -> Option<Form<'a>>
     None
 }
 
+// The number that the digits of a word make. The empty word makes none.
+fn number_in(word: &str) -> Option<u64>
+    ensures { result ≡ number_in word.now }
+{
+    if word.len() == 0 {
+        return None;
+    }
+    number_of(word.as_bytes())
+}
+
 fn session_with<'a>(script: Option<&'a str>, workers: Option<u64>) -> Option<Form<'a>>
     ensures { option_map asked_by result ≡ session_with (text_of script.entry) workers }
 {
@@ -182,9 +192,9 @@ fn session_of_three<'a>(words: &'a [&'a str]) -> Option<Form<'a>>
     let second = word_at(words, 1);
     let third = word_at(words, 2);
     if first == "--workers" {
-        session_in(third, number_of(second.as_bytes()))
+        session_in(third, number_in(second))
     } else if second == "--workers" {
-        session_in(first, number_of(third.as_bytes()))
+        session_in(first, number_in(third))
     } else {
         None
     }
@@ -203,7 +213,7 @@ fn session_form<'a>(words: &'a [&'a str]) -> Option<Form<'a>>
     }
     if words.len() == 2 {
         if first == "--workers" {
-            return session_with(None, number_of(word_at(words, 1).as_bytes()));
+            return session_with(None, number_in(word_at(words, 1)));
         }
         return None;
     }
@@ -313,7 +323,7 @@ fn watch_form<'a>(words: &'a [&'a str]) -> Option<Form<'a>>
     if words.len() < 2 {
         return None;
     }
-    watch_with(&words[2..], number_of(word_at(words, 1).as_bytes()))
+    watch_with(&words[2..], number_in(word_at(words, 1)))
 }
 
 fn drawn_of(word: &str) -> Option<Drawn>
@@ -355,7 +365,7 @@ fn draw_of_two<'a>(paths: &[&'a str], options: &[&str]) -> Option<Form<'a>>
     ensures { option_map asked_by result ≡ draw_of_two (texts_of paths.now) (texts_of options.now) }
 {
     if word_at(options, 0) == "--most" {
-        let most = number_of(word_at(options, 1).as_bytes());
+        let most = number_in(word_at(options, 1));
         return draw_with(paths, Some(Drawn::Shown), most);
     }
     None
@@ -368,9 +378,9 @@ fn draw_of_three<'a>(paths: &[&'a str], options: &[&str]) -> Option<Form<'a>>
     let second = word_at(options, 1);
     let third = word_at(options, 2);
     if first == "--most" {
-        draw_with(paths, drawn_of(third), number_of(second.as_bytes()))
+        draw_with(paths, drawn_of(third), number_in(second))
     } else if second == "--most" {
-        draw_with(paths, drawn_of(first), number_of(third.as_bytes()))
+        draw_with(paths, drawn_of(first), number_in(third))
     } else {
         None
     }

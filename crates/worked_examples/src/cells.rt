@@ -73,10 +73,10 @@ fn put_differences(
     Ok(())
 }
 
-/// The words of a text.
+/// The words of a text, which single blanks part: between two of them is the empty word.
 fn words_of(alloc: Global, text: &str) -> Result<Vec<&str>, AllocError> {
     let mut words = Vec::new(alloc);
-    for word in text.split_whitespace() {
+    for word in text.split(' ') {
         words.push(word)?;
     }
     Ok(words)
