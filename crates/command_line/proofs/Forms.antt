@@ -4,7 +4,7 @@ use Rattle.std.proofs.lemmas.List.{take_all, take-map, drop-map, length-map}
 use Rattle.std.proofs.lemmas.List.Sums.{position_or_len_is}
 use Rattle.std.specs.List.{list_all}
 use denote.Ref.{Bor}
-use Rattle.command_line.specs.Forms.{Asked, Table, texts_of, is_word, is_path, are_paths, dashes, word_at, asked_if, table_of, paths_of, options_of, has_option, why_with, why_of, watch_with, watch_of, is_workers, number_in, draw_by, draw_of, by_command, asked_in}
+use Rattle.command_line.specs.Forms.{Asked, Table, texts_of, is_word, is_path, are_paths, dashes, word_at, asked_if, table_of, paths_of, options_of, has_option, why_with, why_of, watch_with, watch_of, is_workers, sets_workers, number_in, workers_in, draw_by, draw_of, by_command, asked_in}
 use Rattle.std.specs.Prelude.{if◌then◌else◌}
 use Rattle.std.proofs.lemmas.Bool.{and_from, lt-ltb, le-ltb}
 
@@ -119,10 +119,23 @@ is_draw words paths options r enough split_paths split_options given =
 
 -- ---- watching
 
+-- what is asked for with --workers N, and with --workers=N or without a number
+abbrev watch_numbered : List (List ℕ) → Option Asked
+watch_numbered words = if ltb (length words) 2 then None else watch_with (drop 2 words) (number_in (word_at words 1))
+
+abbrev watch_set : List (List ℕ) → Option Asked
+watch_set words = if sets_workers (word_at words 0) then watch_with (drop 1 words) (workers_in (word_at words 0)) else watch_with words (Some 0)
+
 pub is_watch : (words : List (Bor (List ℕ))) (r : Option Asked) (n : Option ℕ) → 2 ≤ length words → is_workers (word_at (texts_of words) 0) ≡ true → n ≡ number_in (word_at (texts_of words) 1)
     → r ≡ watch_with (texts_of (take (length words - 2) (drop 2 words))) n → r ≡ watch_of (texts_of words)
 is_watch words r n enough workers given made =
-    let many : (if ltb (length (texts_of words)) 2 then None else watch_with (drop 2 (texts_of words)) (number_in (word_at (texts_of words) 1))) ≡ watch_with (drop 2 (texts_of words)) (number_in (word_at (texts_of words) 1)) =
-    sym (second (ltb (length (texts_of words)) 2) None (watch_with (drop 2 (texts_of words)) (number_in (word_at (texts_of words) 1))) (long words enough)) in
-    made ∙ ap (λ (l : List (List ℕ)). watch_with l n) (behind words 2) ∙ ap (λ (m : Option ℕ). watch_with (drop 2 (texts_of words)) m) given ∙ sym many
-    ∙ first (is_workers (word_at (texts_of words) 0)) (if ltb (length (texts_of words)) 2 then None else watch_with (drop 2 (texts_of words)) (number_in (word_at (texts_of words) 1))) (watch_with (texts_of words) (Some 0)) workers
+    made ∙ ap (λ (l : List (List ℕ)). watch_with l n) (behind words 2) ∙ ap (λ (m : Option ℕ). watch_with (drop 2 (texts_of words)) m) given
+    ∙ second (ltb (length (texts_of words)) 2) None (watch_with (drop 2 (texts_of words)) (number_in (word_at (texts_of words) 1))) (long words enough)
+    ∙ first (is_workers (word_at (texts_of words) 0)) (watch_numbered (texts_of words)) (watch_set (texts_of words)) workers
+
+pub is_watch_set : (words : List (Bor (List ℕ))) (r : Option Asked) (n : Option ℕ) → is_workers (word_at (texts_of words) 0) ≡ false → sets_workers (word_at (texts_of words) 0) ≡ true
+    → n ≡ workers_in (word_at (texts_of words) 0) → r ≡ watch_with (texts_of (take (length words - 1) (drop 1 words))) n → r ≡ watch_of (texts_of words)
+is_watch_set words r n other sets given made =
+    made ∙ ap (λ (l : List (List ℕ)). watch_with l n) (behind words 1) ∙ ap (λ (m : Option ℕ). watch_with (drop 1 (texts_of words)) m) given
+    ∙ first (sets_workers (word_at (texts_of words) 0)) (watch_with (drop 1 (texts_of words)) (workers_in (word_at (texts_of words) 0))) (watch_with (texts_of words) (Some 0)) sets
+    ∙ second (is_workers (word_at (texts_of words) 0)) (watch_numbered (texts_of words)) (watch_set (texts_of words)) other

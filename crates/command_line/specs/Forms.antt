@@ -77,6 +77,14 @@ diff_of words = asked_if (nat_lt 2 (length words) && are_paths words) (Diff (tak
 abbrev pub number_in : List ℕ → Option ℕ
 number_in word = if length word == 0 then None else number_of word
 
+-- whether a word begins so
+abbrev pub begins : List ℕ → List ℕ → Bool
+begins word front = pointwise nat_eq (take (length front) word) front
+
+-- the number that stands behind this front of a word, as that behind `--workers=`
+abbrev pub number_behind : List ℕ → List ℕ → Option ℕ
+number_behind word front = if begins word front then number_in (drop (length front) word) else None
+
 -- a number of workers is a decimal number up to 32
 abbrev pub session_with : Option (List ℕ) → Option ℕ → Option Asked
 session_with script None = None
@@ -89,18 +97,35 @@ session_in script workers = if is_path script then session_with (Some script) wo
 abbrev pub is_workers : List ℕ → Bool
 is_workers word = is_word word (codes "--workers")
 
+-- a word --workers=N
+abbrev pub sets_workers : List ℕ → Bool
+sets_workers word = begins word (codes "--workers=")
+
+abbrev pub workers_in : List ℕ → Option ℕ
+workers_in word = number_behind word (codes "--workers=")
+
+-- --workers=N, or SCRIPT
+abbrev pub session_of_one : List ℕ → Option Asked
+session_of_one word = if sets_workers word then session_with None (workers_in word) else session_in word (Some 0)
+
+-- --workers N, or --workers=N before a script or behind it
+abbrev pub session_of_two : List ℕ → List ℕ → Option Asked
+session_of_two first second =
+    if is_workers first then session_with None (number_in second)
+    else (if sets_workers first then session_in second (workers_in first) else (if sets_workers second then session_in first (workers_in second) else None))
+
 -- --workers N, before a script or behind it
 abbrev pub session_of_three : List (List ℕ) → Option Asked
 session_of_three words =
     if is_workers (word_at words 0) then session_in (word_at words 2) (number_in (word_at words 1))
     else (if is_workers (word_at words 1) then session_in (word_at words 0) (number_in (word_at words 2)) else None)
 
--- nothing, SCRIPT, --workers N, or both
+-- nothing, SCRIPT, a number of workers, or both
 abbrev pub session_of : List (List ℕ) → Option Asked
 session_of words =
     if length words == 0 then Some (Session None 0)
-    else (if length words == 1 then session_in (word_at words 0) (Some 0)
-    else (if length words == 2 then (if is_workers (word_at words 0) then session_with None (number_in (word_at words 1)) else None)
+    else (if length words == 1 then session_of_one (word_at words 0)
+    else (if length words == 2 then session_of_two (word_at words 0) (word_at words 1)
     else (if length words == 3 then session_of_three words else None)))
 
 -- two paths: the first two words, or the last two where the first word is an option
@@ -134,11 +159,11 @@ abbrev pub watch_with : List (List ℕ) → Option ℕ → Option Asked
 watch_with words None = None
 watch_with words (Some n) = asked_if (nat_lt 1 (length words) && are_paths words && nat_le n 32) (Watch (word_at words 0) (drop 1 words) n)
 
--- MODEL TEST .., or --workers N before them
+-- MODEL TEST .., or --workers N or --workers=N before them
 abbrev pub watch_of : List (List ℕ) → Option Asked
 watch_of words =
     if is_workers (word_at words 0) then (if nat_lt (length words) 2 then None else watch_with (drop 2 words) (number_in (word_at words 1)))
-    else watch_with words (Some 0)
+    else (if sets_workers (word_at words 0) then watch_with (drop 1 words) (workers_in (word_at words 0)) else watch_with words (Some 0))
 
 -- --shown, --forbidden or --all
 abbrev pub drawn_of : List ℕ → Option Drawn
@@ -155,20 +180,36 @@ draw_with paths None most = None
 abbrev pub is_most : List ℕ → Bool
 is_most word = is_word word (codes "--most")
 
-abbrev pub draw_of_two : List (List ℕ) → List (List ℕ) → Option Asked
-draw_of_two paths options = if is_most (word_at options 0) then draw_with paths (Some drawns.Shown) (number_in (word_at options 1)) else None
+-- a word --most=N
+abbrev pub sets_most : List ℕ → Bool
+sets_most word = begins word (codes "--most=")
 
+abbrev pub most_in : List ℕ → Option ℕ
+most_in word = number_behind word (codes "--most=")
+
+-- --most=N, or one of the three
+abbrev pub draw_of_one : List (List ℕ) → List ℕ → Option Asked
+draw_of_one paths option = if sets_most option then draw_with paths (Some drawns.Shown) (most_in option) else draw_with paths (drawn_of option) (Some 16)
+
+-- --most N, or --most=N before one of the three or behind it
+abbrev pub draw_of_two : List (List ℕ) → List ℕ → List ℕ → Option Asked
+draw_of_two paths first second =
+    if is_most first then draw_with paths (Some drawns.Shown) (number_in second)
+    else (if sets_most first then draw_with paths (drawn_of second) (most_in first)
+    else (if sets_most second then draw_with paths (drawn_of first) (most_in second) else None))
+
+-- --most N, before one of the three or behind it
 abbrev pub draw_of_three : List (List ℕ) → List (List ℕ) → Option Asked
 draw_of_three paths options =
     if is_most (word_at options 0) then draw_with paths (drawn_of (word_at options 2)) (number_in (word_at options 1))
     else (if is_most (word_at options 1) then draw_with paths (drawn_of (word_at options 0)) (number_in (word_at options 2)) else None)
 
--- nothing, one of the three, --most N, or both
+-- nothing, one of the three, a number of pictures, or both
 abbrev pub draw_by : List (List ℕ) → List (List ℕ) → Option Asked
 draw_by paths options =
     if length options == 0 then draw_with paths (Some drawns.Shown) (Some 16)
-    else (if length options == 1 then draw_with paths (drawn_of (word_at options 0)) (Some 16)
-    else (if length options == 2 then draw_of_two paths options
+    else (if length options == 1 then draw_of_one paths (word_at options 0)
+    else (if length options == 2 then draw_of_two paths (word_at options 0) (word_at options 1)
     else (if length options == 3 then draw_of_three paths options else None)))
 
 -- MODEL TEST, with options before or behind them

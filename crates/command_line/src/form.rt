@@ -1,7 +1,7 @@
 //! What the words of a command line ask for.
 
 ghost use Rattle.std.specs.Prelude.{◌≡◌, ◌≤◌, ◌+◌, Some, None, IfOk, OnErr, length, option_map};
-ghost use Rattle.command_line.specs.Forms.{texts_of, asked_by, is_path, are_paths, dashes, word_at, eval_of, table_of, diff_of, why_of, number_in, session_with, session_in, session_of_three, session_of, paths_of, options_of, has_option, count_of, why_with, watch_with, watch_of, drawn_of, draw_with, draw_of_two, draw_of_three, draw_by, draw_of, text_of, by_command, asked_in};
+ghost use Rattle.command_line.specs.Forms.{texts_of, asked_by, is_path, are_paths, dashes, word_at, eval_of, table_of, diff_of, why_of, number_in, begins, number_behind, session_with, session_in, session_of_one, session_of_two, session_of_three, session_of, paths_of, options_of, has_option, count_of, why_with, watch_with, watch_of, drawn_of, draw_with, draw_of_one, draw_of_two, draw_of_three, draw_by, draw_of, text_of, by_command, asked_in};
 
 use clap::Error;
 use command_usage::usage;
@@ -10,6 +10,11 @@ use std::alloc::Global;
 
 /// The most workers.
 const MOST_WORKERS: u64 = 32;
+
+/// What stands before a number of workers, or of pictures, in a word with it.
+const WORKERS_FRONT: &str = "--workers=";
+
+const MOST_FRONT: &str = "--most=";
 
 /// The most pictures, and how many there are at most where no number is asked for.
 const MOST_PICTURES: u64 = 64;
@@ -158,13 +163,29 @@ fn diff_form<'a>(words: &'a [&'a str]) -> Option<Form<'a>>
 }
 
 // The number that the digits of a word make. The empty word makes none.
-fn number_in(word: &str) -> Option<u64>
+fn number_in(word: &[u8]) -> Option<u64>
     ensures { result ≡ number_in word.now }
 {
     if word.len() == 0 {
         return None;
     }
-    number_of(word.as_bytes())
+    number_of(word)
+}
+
+fn begins(word: &str, front: &str) -> bool
+    ensures { result ≡ begins word.now front.now }
+{
+    word.as_bytes().strip_prefix(front.as_bytes()).is_some()
+}
+
+// The number that stands behind this front of a word.
+fn number_behind(word: &str, front: &str) -> Option<u64>
+    ensures { result ≡ number_behind word.now front.now }
+{
+    match word.as_bytes().strip_prefix(front.as_bytes()) {
+        Some(digits) => number_in(digits),
+        None => None,
+    }
 }
 
 fn session_with<'a>(script: Option<&'a str>, workers: Option<u64>) -> Option<Form<'a>>
@@ -185,6 +206,30 @@ fn session_in<'a>(script: &'a str, workers: Option<u64>) -> Option<Form<'a>>
     None
 }
 
+fn session_of_one<'a>(word: &'a str) -> Option<Form<'a>>
+    ensures { option_map asked_by result ≡ session_of_one word.now }
+{
+    if begins(word, WORKERS_FRONT) {
+        session_with(None, number_behind(word, WORKERS_FRONT))
+    } else {
+        session_in(word, Some(0))
+    }
+}
+
+fn session_of_two<'a>(first: &'a str, second: &'a str) -> Option<Form<'a>>
+    ensures { option_map asked_by result ≡ session_of_two first.now second.now }
+{
+    if first == "--workers" {
+        session_with(None, number_in(second.as_bytes()))
+    } else if begins(first, WORKERS_FRONT) {
+        session_in(second, number_behind(first, WORKERS_FRONT))
+    } else if begins(second, WORKERS_FRONT) {
+        session_in(first, number_behind(second, WORKERS_FRONT))
+    } else {
+        None
+    }
+}
+
 fn session_of_three<'a>(words: &'a [&'a str]) -> Option<Form<'a>>
     ensures { option_map asked_by result ≡ session_of_three (texts_of words.now) }
 {
@@ -192,9 +237,9 @@ fn session_of_three<'a>(words: &'a [&'a str]) -> Option<Form<'a>>
     let second = word_at(words, 1);
     let third = word_at(words, 2);
     if first == "--workers" {
-        session_in(third, number_in(second))
+        session_in(third, number_in(second.as_bytes()))
     } else if second == "--workers" {
-        session_in(first, number_in(third))
+        session_in(first, number_in(third.as_bytes()))
     } else {
         None
     }
@@ -209,13 +254,10 @@ fn session_form<'a>(words: &'a [&'a str]) -> Option<Form<'a>>
     }
     let first = word_at(words, 0);
     if words.len() == 1 {
-        return session_in(first, Some(0));
+        return session_of_one(first);
     }
     if words.len() == 2 {
-        if first == "--workers" {
-            return session_with(None, number_in(word_at(words, 1)));
-        }
-        return None;
+        return session_of_two(first, word_at(words, 1));
     }
     if words.len() == 3 {
         return session_of_three(words);
@@ -317,13 +359,17 @@ fn watch_with<'a>(words: &'a [&'a str], workers: Option<u64>) -> Option<Form<'a>
 fn watch_form<'a>(words: &'a [&'a str]) -> Option<Form<'a>>
     ensures { option_map asked_by result ≡ watch_of (texts_of words.now) }
 {
-    if word_at(words, 0) != "--workers" {
-        return watch_with(words, Some(0));
+    let first = word_at(words, 0);
+    if first == "--workers" {
+        if words.len() < 2 {
+            return None;
+        }
+        return watch_with(&words[2..], number_in(word_at(words, 1).as_bytes()));
     }
-    if words.len() < 2 {
-        return None;
+    if begins(first, WORKERS_FRONT) {
+        return watch_with(&words[1..], number_behind(first, WORKERS_FRONT));
     }
-    watch_with(&words[2..], number_in(word_at(words, 1)))
+    watch_with(words, Some(0))
 }
 
 fn drawn_of(word: &str) -> Option<Drawn>
@@ -361,14 +407,28 @@ fn draw_with<'a>(paths: &[&'a str], drawn: Option<Drawn>, most: Option<u64>) -> 
     }
 }
 
-fn draw_of_two<'a>(paths: &[&'a str], options: &[&str]) -> Option<Form<'a>>
-    ensures { option_map asked_by result ≡ draw_of_two (texts_of paths.now) (texts_of options.now) }
+fn draw_of_one<'a>(paths: &[&'a str], option: &str) -> Option<Form<'a>>
+    ensures { option_map asked_by result ≡ draw_of_one (texts_of paths.now) option.now }
 {
-    if word_at(options, 0) == "--most" {
-        let most = number_in(word_at(options, 1));
-        return draw_with(paths, Some(Drawn::Shown), most);
+    if begins(option, MOST_FRONT) {
+        draw_with(paths, Some(Drawn::Shown), number_behind(option, MOST_FRONT))
+    } else {
+        draw_with(paths, drawn_of(option), Some(USUAL_PICTURES))
     }
-    None
+}
+
+fn draw_of_two<'a>(paths: &[&'a str], first: &str, second: &str) -> Option<Form<'a>>
+    ensures { option_map asked_by result ≡ draw_of_two (texts_of paths.now) first.now second.now }
+{
+    if first == "--most" {
+        draw_with(paths, Some(Drawn::Shown), number_in(second.as_bytes()))
+    } else if begins(first, MOST_FRONT) {
+        draw_with(paths, drawn_of(second), number_behind(first, MOST_FRONT))
+    } else if begins(second, MOST_FRONT) {
+        draw_with(paths, drawn_of(first), number_behind(second, MOST_FRONT))
+    } else {
+        None
+    }
 }
 
 fn draw_of_three<'a>(paths: &[&'a str], options: &[&str]) -> Option<Form<'a>>
@@ -378,9 +438,9 @@ fn draw_of_three<'a>(paths: &[&'a str], options: &[&str]) -> Option<Form<'a>>
     let second = word_at(options, 1);
     let third = word_at(options, 2);
     if first == "--most" {
-        draw_with(paths, drawn_of(third), number_in(second))
+        draw_with(paths, drawn_of(third), number_in(second.as_bytes()))
     } else if second == "--most" {
-        draw_with(paths, drawn_of(first), number_in(third))
+        draw_with(paths, drawn_of(first), number_in(third.as_bytes()))
     } else {
         None
     }
@@ -392,9 +452,9 @@ fn draw_by<'a>(paths: &[&'a str], options: &[&str]) -> Option<Form<'a>>
     if options.len() == 0 {
         draw_with(paths, Some(Drawn::Shown), Some(USUAL_PICTURES))
     } else if options.len() == 1 {
-        draw_with(paths, drawn_of(word_at(options, 0)), Some(USUAL_PICTURES))
+        draw_of_one(paths, word_at(options, 0))
     } else if options.len() == 2 {
-        draw_of_two(paths, options)
+        draw_of_two(paths, word_at(options, 0), word_at(options, 1))
     } else if options.len() == 3 {
         draw_of_three(paths, options)
     } else {
