@@ -67,6 +67,14 @@ fn with_number<'a>(
     command.arg(number)
 }
 
+// Two dashes and this word.
+fn flag<'a>(alloc: Global, long: &'static str, help: &'static str) -> Arg<'a> {
+    Arg::new(alloc, long)
+        .long(long)
+        .help(help)
+        .action(ArgAction::SetTrue)
+}
+
 fn named<'a>(alloc: Global, name: &'static str, about: &'static str) -> Command<'a> {
     Command::new(alloc, name).about(about)
 }
@@ -145,18 +153,40 @@ fn why_command<'a>(alloc: Global) -> Result<Command<'a>, AllocError> {
     let command = named(
         alloc,
         "why",
-        "Why a model forbids what a test asks for, or an execution that it keeps; with --forbidden both, with --deep each name with the name inside it",
+        "Why a model forbids what a test asks for, or an execution that it keeps",
     );
-    with_cell(alloc, command)
+    let command = with_cell(alloc, command)?;
+    let forbidden = flag(
+        alloc,
+        "forbidden",
+        "The reasons also where an execution is kept",
+    );
+    let deep = flag(alloc, "deep", "Each name of a step with the name inside it");
+    command.arg(forbidden)?.arg(deep)
+}
+
+// The command, which takes one of three flags too.
+fn with_drawn<'a>(alloc: Global, command: Command<'a>) -> Result<Command<'a>, AllocError> {
+    let shown = flag(
+        alloc,
+        "shown",
+        "Those that are kept and have what the test asks for: the default",
+    );
+    let forbidden = flag(
+        alloc,
+        "forbidden",
+        "Those that are forbidden and have what the test asks for",
+    );
+    let all = flag(alloc, "all", "All, kept or forbidden");
+    let shown = shown.conflicts_with("forbidden")?.conflicts_with("all")?;
+    let forbidden = forbidden.conflicts_with("all")?;
+    command.arg(shown)?.arg(forbidden)?.arg(all)
 }
 
 fn draw_command<'a>(alloc: Global) -> Result<Command<'a>, AllocError> {
-    let command = named(
-        alloc,
-        "draw",
-        "Drawings of executions for dot: those kept that have what the test asks for (--shown), those forbidden (--forbidden), or all (--all)",
-    );
+    let command = named(alloc, "draw", "Drawings of executions, for dot");
     let command = with_cell(alloc, command)?;
+    let command = with_drawn(alloc, command)?;
     with_number(
         alloc,
         command,
@@ -228,11 +258,30 @@ fn program<'a>(alloc: Global) -> Result<Command<'a>, AllocError> {
     Ok(program)
 }
 
+// What is told of words of this subcommand that clap takes and that have no form.
+fn no_form(subcommand: Option<&str>) -> &'static str {
+    match subcommand {
+        Some("session") => "no form has these words; `--workers` takes a number from 0 to 32",
+        Some("watch") => {
+            "no form has these words; `--workers` takes a number from 0 to 32, before MODEL"
+        }
+        Some("why") => "no form has these words; the options stand before MODEL or behind TEST",
+        Some("draw") => {
+            "no form has these words; the options stand before MODEL or behind TEST, and \
+            `--most` takes a number from 1 to 64"
+        }
+        _ => "no form has these words",
+    }
+}
+
 // What clap says of words that have no form. It takes a few such words, as `eval -- A B`.
 fn refusal<'a>(alloc: Global, words: &'a [&'a str]) -> Result<Error, AllocError> {
     let mut program = program(alloc)?;
     match program.try_get_matches_from_mut(words) {
-        Ok(_) => program.error(ErrorKind::UnknownArgument, "no form has these words"),
+        Ok(matches) => {
+            let told = no_form(matches.subcommand_name());
+            program.error(ErrorKind::UnknownArgument, told)
+        }
         Err(error) => Ok(error),
     }
 }
