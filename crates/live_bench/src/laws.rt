@@ -7,6 +7,7 @@ ghost use Rattle.running_bench.specs.StampedCells.{from_scratch};
 ghost use Rattle.memo_core.specs.Work.{ReturnsLowerInRuns, WorkIsBounded, WorkUnsettlesNone};
 ghost use Rattle.cells.specs.CellLaws.{SettledCellIsFromScratch, UnreachedCellStays, OnlyNeededIsGiven, NoneIsOutTwice, EditBoundsWork, QuietCellsAreSettled, ListsAreRuns, ListBoundsWork};
 ghost use Rattle.live_bench.specs.Live.{live_meaning, live_cells, live_refusing, live_last};
+ghost use Rattle.live_bench.specs.There.{HoldsAfterEvents, HasJustItsCells, ShowsRight};
 
 use running_bench::StampedTexts;
 
@@ -53,4 +54,11 @@ pub fn lists_are_runs()
 /// What evaluating a test under a model from nothing gives is one outcome: any two that satisfy its definition are equal.
 pub fn outcomes_are_one()
     ensures { (t : StampedRecord) (test model : List ℕ) (o p : Outcome) → from_scratch t test model o → from_scratch t test model p → o ≡ p }
+{}
+
+/// After any list of events no cell is shown of a test and a model just where the texts of the bench lack one of the two. So an
+/// open cell has both, and an outcome is what evaluating the one under the other from nothing gives.
+pub fn cells_are_there()
+    ensures there { HoldsAfterEvents HasJustItsCells }
+    ensures right { HoldsAfterEvents ShowsRight }
 {}
