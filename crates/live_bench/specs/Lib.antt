@@ -1,2 +1,3 @@
 pub mod Live
 pub mod There
+pub mod Stamps

@@ -7,6 +7,7 @@ ghost use Rattle.running_bench.specs.StampedCells.{from_scratch};
 ghost use Rattle.memo_core.specs.Work.{ReturnsLowerInRuns, WorkIsBounded, WorkUnsettlesNone};
 ghost use Rattle.cells.specs.CellLaws.{SettledCellIsFromScratch, UnreachedCellStays, OnlyNeededIsGiven, NoneIsOutTwice, EditBoundsWork, QuietCellsAreSettled, ListsAreRuns, ListBoundsWork};
 ghost use Rattle.live_bench.specs.Live.{live_meaning, live_cells, live_refusing, live_last};
+ghost use Rattle.live_bench.specs.Stamps.{HasLowStamps, ChangedOutputIsNewer};
 ghost use Rattle.live_bench.specs.There.{HoldsAfterEvents, HasJustItsCells, ShowsRight};
 
 use running_bench::StampedTexts;
@@ -61,4 +62,12 @@ pub fn outcomes_are_one()
 pub fn cells_are_there()
     ensures there { HoldsAfterEvents HasJustItsCells }
     ensures right { HoldsAfterEvents ShowsRight }
+{}
+
+/// After any list of events no stamp that is stored is above the last number that was taken: of a part, of a memo's inputs and
+/// outputs, or of the inputs of a claim that is out. An output that is stored after an event was stored before it with this stamp
+/// and value, or its stamp is above all numbers taken before: so an output that changes gets a stamp above every one stored.
+pub fn stamps_are_low()
+    ensures low { HoldsAfterEvents HasLowStamps }
+    ensures newer { ChangedOutputIsNewer }
 {}

@@ -1,6 +1,6 @@
 //! The bench of tests and models as a user of the library takes it: `LiveBench` with its edits, claims, returns and cells, and
 //! the laws of any list of events on it. Read `specs/Live` first, after `Cells` and `CellLaws` of `cells/specs` and `StampedCells`
-//! of `running_bench/specs`, and then `There` (which cells there are).
+//! of `running_bench/specs`, and then `There` (which cells there are) and `Stamps`.
 #![tactic(auto)]
 
 pub mod laws;
