@@ -1,6 +1,7 @@
 //! What a session answers to a fault of its desk.
 
-ghost use Rattle.live_session.specs.Faults.{IsOwnFault};
+ghost use Rattle.std.specs.Prelude.{◌≡◌};
+ghost use Rattle.live_session.specs.Faults.{fault_for, IsOwnFault};
 
 use bench_texts::EditFault;
 use desk::DeskFault;
@@ -8,7 +9,8 @@ use litmusbench::SessionFault;
 
 /// A desk that refuses what the session's own texts accept, or that has no number left, is shared with someone else.
 pub(crate) fn fault_of(fault: &DeskFault<EditFault>) -> SessionFault
-    ensures { IsOwnFault result }
+    ensures is { result ≡ fault_for fault.now }
+    ensures own { IsOwnFault result }
 {
     match fault {
         DeskFault::Edit(_) => SessionFault::Shared,
