@@ -1,5 +1,9 @@
 //! The edit of the bench that puts a part of a test.
 
+ghost use Rattle.std.specs.Prelude.{IfOk};
+ghost use Rattle.bench_texts.specs.Edits.{edit_of};
+ghost use Rattle.version_edits.specs.Edits.{IsPartEdit};
+
 use crate::part_texts::{init_text, locations_text, thread_text};
 use crate::parts::TestPart;
 use bench_texts::Edit;
@@ -8,7 +12,9 @@ use std::alloc::{AllocError, Global};
 use text_values::Test;
 
 // The edit that puts a thread. The text of a thread that is not there is empty.
-fn thread_edit(alloc: Global, name: Vec<u8>, new: &Test, index: usize) -> Result<Edit, AllocError> {
+fn thread_edit(alloc: Global, name: Vec<u8>, new: &Test, index: usize) -> Result<Edit, AllocError>
+    ensures { IfOk result (λ e. IsPartEdit name.items (edit_of e)) }
+{
     let text = if index < new.threads.len() {
         thread_text(alloc, &new.threads[index..index + 1])?
     } else {
@@ -22,7 +28,9 @@ fn thread_edit(alloc: Global, name: Vec<u8>, new: &Test, index: usize) -> Result
 }
 
 /// The edit that puts a part of the new version of a test. Errors: out of memory.
-pub fn part_edit(alloc: Global, new: &Test, part: TestPart) -> Result<Edit, AllocError> {
+pub fn part_edit(alloc: Global, new: &Test, part: TestPart) -> Result<Edit, AllocError>
+    ensures { IfOk result (λ e. IsPartEdit new.now.name (edit_of e)) }
+{
     let test = Vec::from_slice(alloc, new.name.as_bytes())?;
     match part {
         TestPart::Init => Ok(Edit::SetInit {
