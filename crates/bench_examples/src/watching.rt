@@ -3,6 +3,8 @@
 //! the program. What is written is compared with what it is with 1, 2, 4 and 32 workers; then a read and a write fail. At last
 //! what people are told of the versions of the table `told.txt`.
 
+ghost use Rattle.std.specs.Prelude.{None};
+
 use litmusbench::{MemorySink, MemorySource};
 use live_watch::{Version, VersionTeller, Versions, watch};
 use std::alloc::{AllocError, Global};
@@ -48,6 +50,8 @@ fn version_of(text: Option<Vec<u8>>) -> Version {
 }
 
 impl Versions for Table {
+    ghost readings = { λ t. None };
+
     fn version(&mut self, _alloc: Global, path: &str) -> Version {
         match self.take(path) {
             Some(row) => {
@@ -104,10 +108,10 @@ where
     R: AllocGlobal + Files + Threads + Wait + Copy + Drop + Send + Sync,
 {
     let alloc = rt.alloc();
-    let mut versions = read_table(rt)?;
+    let versions = read_table(rt)?;
     let source = MemorySource::failing_at(lines, None);
     let sink = MemorySink::failing_at(Vec::new(alloc), None);
-    let ended = watch(rt, MODEL, &TESTS, workers, &mut versions, source, sink)?;
+    let ended = watch(rt, MODEL, &TESTS, workers, versions, source, sink)?;
     let mut said = Vec::from_slice(alloc, ended.sink.as_bytes())?;
     match ended.answer {
         Ok(is_refused) => write!(said, "some text was refused: {is_refused}\n")?,
@@ -121,10 +125,10 @@ fn tell_failing<R>(rt: &R, reads: Option<u64>, writes: Option<u64>) -> io::Resul
 where
     R: AllocGlobal + Files + Print + Threads + Wait + Copy + Drop + Send + Sync,
 {
-    let mut versions = read_table(rt)?;
+    let versions = read_table(rt)?;
     let source = MemorySource::failing_at(b"power.cat\n", reads);
     let sink = MemorySink::failing_at(Vec::new(rt.alloc()), writes);
-    let ended = watch(rt, MODEL, &TESTS, 2, &mut versions, source, sink)?;
+    let ended = watch(rt, MODEL, &TESTS, 2, versions, source, sink)?;
     let length = ended.sink.as_bytes().len();
     match ended.answer {
         Ok(_refused) => println!(rt; "no fault, {length} bytes"),

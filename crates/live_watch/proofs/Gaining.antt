@@ -1,52 +1,209 @@
--- Answers that a sink gained, one after another.
-use Rattle.std.proofs.Common.{◌≡◌, ℕ, List, [], ◌∷◌, ◌++◌, Option, refl, sym, ap, subst, append_assoc}
+-- Answers that a sink gained, one after another, and what was read for them.
+use Rattle.std.proofs.Common.{◌≡◌, ℕ, zero, suc, ◌+◌, ◌<◌, ◌≤◌, List, [], ◌∷◌, ◌++◌, length, map, take, get_or, true, false, Option, Some, None, Result, Ok, refl, sym, ap, subst, ◌∙◌, append_assoc, arith}
+use Rattle.std.specs.Prelude.{Vec, codes, Err, IfOk}
+use Rattle.std.specs.Borrow.{Bor}
+use Rattle.std.specs.declared.alloc.Global.{Global}
 use Rattle.std.proofs.KnownBytes.{Appends-nil, Appends-trans}
 use Rattle.std.specs.Io.KnownBytes.{Appends}
-use Rattle.board.specs.declared.operation.BoardOp.{BoardOp}
-use Rattle.live_watch.specs.Lines.{IsAnswer}
-use Rattle.live_watch.specs.Runs.{AreAnswers, NoAnswer, OneMore, HasAnswers, IsBegun, IsRun}
+use Rattle.command_line.specs.declared.fault.SessionFault.{SessionFault}
+use Rattle.live_watch.specs.declared.versions.Version.{Version}
+use Rattle.live_watch.specs.declared.versions.Version.TheVariants.{Text, Unread}
+use Rattle.live_watch.specs.Readings.{Reading, AreRead}
+use Rattle.live_watch.specs.Holding.{Holding, File, TestFile, ModelFile, FilePath, file_at, test_files, all_files}
+use Rattle.live_watch.specs.Runs.{refusal_of, AreAnswers, NoAnswer, OneMore, AreBegun, NoFile, Begun, NotBegun, IsRun, HasAnswers, IsAnswered, HasBegun, BeginsFile, HasBegunRun, NotedTaken, NotedRefused, IsTextAnswer, TextAccepted, TextRefused, IsAnswer, Unwatched, NotRead, Refused, Accepted}
 
-append_none : (xs : List ℕ) → xs ++ [] ≡ xs
+append_none : {A : Type 0} (xs : List A) → xs ++ [] ≡ xs
 append_none [] = refl
-append_none (x ∷ xs) = ap (λ (ys : List ℕ). x ∷ ys) (append_none xs)
+append_none (x ∷ xs) = ap (λ ys. x ∷ ys) (append_none xs)
+
+-- ---- readings
+
+pub read_none : (a : Option (List Reading)) → AreRead a a []
+read_none None = refl
+read_none (Some xs) = ap (λ (l : List Reading). Some l) (sym (append_none xs))
+
+pub read_more : (a b c : Option (List Reading)) (xs ys : List Reading) → AreRead a b xs → AreRead b c ys → AreRead a c (xs ++ ys)
+read_more None b c xs ys first more = subst (λ (o : Option (List Reading)). AreRead o c ys) first more
+read_more (Some rs) b c xs ys first more =
+    let then : AreRead (Some (rs ++ xs)) c ys = subst (λ (o : Option (List Reading)). AreRead o c ys) first more in
+    then ∙ ap (λ (l : List Reading). Some l) (append_assoc rs xs ys)
+
+-- ---- answers
 
 -- nothing was answered
-pub gains_none : (lasts : List (List ℕ)) (a : Option (List ℕ)) → HasAnswers lasts lasts a a
-gains_none lasts a = record { text = []; answers = NoAnswer lasts; gains = Appends-nil a }
+pub gains_none : (model : List ℕ) (tests : List (List ℕ)) (held : Holding) (lines : List (List ℕ)) (r : Option (List Reading)) (a : Option (List ℕ))
+    → HasAnswers model tests held held lines lines r r a a
+gains_none model tests held lines r a = record { read = []; text = []; answers = NoAnswer held lines; reads = read_none r; gains = Appends-nil a }
 
 -- one line was
-pub gains_one : (path : List ℕ) (ops : List BoardOp) (names : List (Option (List ℕ))) (lasts nows : List (List ℕ)) (said : List ℕ) (a b : Option (List ℕ))
-    → IsAnswer path ops names lasts nows said → Appends a b said → HasAnswers lasts nows a b
-gains_one path ops names lasts nows said a b answer gained = record {
+pub gains_one : (model : List ℕ) (tests : List (List ℕ)) (path : List ℕ) (old new : Holding) (lasts nows : List (List ℕ)) (r s : Option (List Reading)) (said : List ℕ) (a b : Option (List ℕ))
+    → IsAnswered path (file_at model tests path) old new lasts nows r s said → Appends a b said → HasAnswers model tests old new lasts nows r s a b
+gains_one model tests path old new lasts nows r s said a b answered gained = record {
+  read = [] ++ answered.read;
   text = [] ++ said;
-  answers = OneMore lasts lasts nows [] said path ops names (NoAnswer lasts) answer;
+  answers = OneMore path old old new lasts lasts nows [] answered.read [] said (NoAnswer old lasts) answered.answer;
+  reads = answered.reads;
   gains = gained;
 }
 
-joined : (lasts middle nows : List (List ℕ)) (x y : List ℕ) → AreAnswers lasts middle x → AreAnswers middle nows y → AreAnswers lasts nows (x ++ y)
-joined lasts middle nows x y first (NoAnswer same) = subst (λ (text : List ℕ). AreAnswers lasts middle text) (sym (append_none x)) first
-joined lasts middle nows x y first (OneMore from through to text said path ops names before answer) =
-    subst (λ (all : List ℕ). AreAnswers lasts nows all) (append_assoc x text said)
-    (OneMore lasts through nows (x ++ text) said path ops names (joined lasts middle through x text first before) answer)
+joined : (model : List ℕ) (tests : List (List ℕ)) (old middle new : Holding) (lasts mids nows : List (List ℕ)) (read more : List Reading) (x y : List ℕ)
+    → AreAnswers model tests old middle lasts mids read x → AreAnswers model tests middle new mids nows more y → AreAnswers model tests old new lasts nows (read ++ more) (x ++ y)
+joined model tests old middle new lasts mids nows read more x y first (NoAnswer held lines) =
+    subst (λ (r : List Reading). AreAnswers model tests old held lasts lines r (x ++ [])) (sym (append_none read))
+    (subst (λ (text : List ℕ). AreAnswers model tests old held lasts lines read text) (sym (append_none x)) first)
+joined model tests old middle new lasts mids nows read more x y first (OneMore path from through to those these last readings others text said before answer) =
+    subst (λ (r : List Reading). AreAnswers model tests old new lasts nows r (x ++ (text ++ said))) (append_assoc read readings others)
+    (subst (λ (all : List ℕ). AreAnswers model tests old new lasts nows ((read ++ readings) ++ others) all) (append_assoc x text said)
+    (OneMore path old through new lasts these nows (read ++ readings) others (x ++ text) said
+    (joined model tests old middle through lasts mids these read readings x text first before) answer))
 
-pub gains_joined : (lasts middle nows : List (List ℕ)) (a b c : Option (List ℕ)) → HasAnswers lasts middle a b → HasAnswers middle nows b c → HasAnswers lasts nows a c
-gains_joined lasts middle nows a b c x y = record {
+pub gains_joined : (model : List ℕ) (tests : List (List ℕ)) (old middle new : Holding) (lasts mids nows : List (List ℕ)) (r s t : Option (List Reading)) (a b c : Option (List ℕ))
+    → HasAnswers model tests old middle lasts mids r s a b → HasAnswers model tests middle new mids nows s t b c → HasAnswers model tests old new lasts nows r t a c
+gains_joined model tests old middle new lasts mids nows r s t a b c x y = record {
+  read = x.read ++ y.read;
   text = x.text ++ y.text;
-  answers = joined lasts middle nows x.text y.text x.answers y.answers;
+  answers = joined model tests old middle new lasts mids nows x.read y.read x.text y.text x.answers y.answers;
+  reads = read_more r s t x.read y.read x.reads y.reads;
   gains = Appends-trans a b c x.text y.text x.gains y.gains;
 }
 
--- the beginning of a run, and the answers after it
-pub run_of : (lasts firsts nows : List (List ℕ)) (ops : List BoardOp) (names : List (Option (List ℕ))) (first : List ℕ) (a b c : Option (List ℕ))
-    → IsBegun lasts firsts ops names first → Appends a b first → HasAnswers firsts nows b c → IsRun lasts a c
-run_of lasts firsts nows ops names first a b c begun gained more = record {
+-- ---- the beginning
+
+pub begun_none : (held : Holding) (r : Option (List Reading)) → HasBegun [] held held r r []
+begun_none held r = record { read = []; begun = NoFile held; reads = read_none r }
+
+-- with one file more
+pub begun_more : (files : List FilePath) (file : FilePath) (old middle new : Holding) (r s t : Option (List Reading)) (before after : List ℕ)
+    → HasBegun files old middle r s before → BeginsFile file middle new s t before after → HasBegun (files ++ file ∷ []) old new r t after
+begun_more files file old middle new r s t before after h (text, reads, true, NotedTaken taken is) = record {
+  read = h.read ++ record { path = file.path; version = Text text } ∷ [];
+  begun = subst (λ (told : List ℕ). AreBegun (files ++ file ∷ []) old new (h.read ++ record { path = file.path; version = Text text } ∷ []) told) (sym is)
+      (Begun files file text old middle new h.read before h.begun taken);
+  reads = read_more r s t h.read (record { path = file.path; version = Text text } ∷ []) h.reads reads;
+}
+begun_more files file old middle new r s t before after h (text, reads, false, NotedRefused fault refused same is) = record {
+  read = h.read ++ record { path = file.path; version = Text text } ∷ [];
+  begun = subst (λ (told : List ℕ). AreBegun (files ++ file ∷ []) old new (h.read ++ record { path = file.path; version = Text text } ∷ []) told) (sym is)
+      (subst (λ (held : Holding). AreBegun (files ++ file ∷ []) old held (h.read ++ record { path = file.path; version = Text text } ∷ []) (before ++ refusal_of file.path fault)) (sym same)
+      (NotBegun files file text old middle h.read before fault h.begun refused));
+  reads = read_more r s t h.read (record { path = file.path; version = Text text } ∷ []) h.reads reads;
+}
+
+-- the files of tests up to one more
+pub one_file : (n i : ℕ) (tests : List (Bor (List ℕ))) (d : Bor (List ℕ)) → i < length tests
+    → take (suc i) (test_files n (map (λ t. t.now) tests)) ≡ take i (test_files n (map (λ t. t.now) tests)) ++ record { file = TestFile (n + i); path = (get_or tests i d).now } ∷ []
+one_file n i [] d lt = absurd (omega (arith, lt))
+one_file n zero (x ∷ xs) d lt =
+    let same : n ≡ n + 0 = omega arith in
+    ap (λ (k : ℕ). record { file = TestFile k; path = x.now } ∷ []) same
+one_file n (suc i) (x ∷ xs) d lt =
+    let same : (n + 1) + i ≡ n + suc i = omega arith in
+    ap (λ (l : List FilePath). record { file = TestFile n; path = x.now } ∷ l)
+    (one_file (n + 1) i xs d (omega (arith, lt))
+    ∙ ap (λ (k : ℕ). take i (test_files (n + 1) (map (λ t. t.now) xs)) ++ record { file = TestFile k; path = (get_or xs i d).now } ∷ []) same)
+
+-- the file of the model is begun
+pub begun_first : (model : List ℕ) (tests : List (Bor (List ℕ))) (old new : Holding) (r s : Option (List Reading)) (after : List ℕ)
+    → BeginsFile (record { file = ModelFile; path = model }) old new r s [] after
+    → HasBegun (record { file = ModelFile; path = model } ∷ take 0 (test_files 0 (map (λ t. t.now) tests))) old new r s after
+begun_first model tests old new r s after begins = begun_more [] (record { file = ModelFile; path = model }) old old new r r s [] after (begun_none old r) begins
+
+-- and the file of one test more
+pub begun_next : (model : List ℕ) (tests : List (Bor (List ℕ))) (i : ℕ) (d : Bor (List ℕ)) (old middle new : Holding) (r s t : Option (List Reading)) (before after : List ℕ)
+    → i < length tests
+    → HasBegun (record { file = ModelFile; path = model } ∷ take i (test_files 0 (map (λ t. t.now) tests))) old middle r s before
+    → BeginsFile (record { file = TestFile i; path = (get_or tests i d).now }) middle new s t before after
+    → HasBegun (record { file = ModelFile; path = model } ∷ take (i + 1) (test_files 0 (map (λ t. t.now) tests))) old new r t after
+begun_next model tests i d old middle new r s t before after lt begun begins =
+    let first : FilePath = record { file = ModelFile; path = model } in
+    let files = test_files 0 (map (λ t. t.now) tests) in
+    let path = (get_or tests i d).now in
+    let one : suc i ≡ i + 1 = omega arith in
+    let none : 0 + i ≡ i = omega arith in
+    let more : take (suc i) files ≡ take i files ++ record { file = TestFile i; path = path } ∷ [] =
+    one_file 0 i tests d lt ∙ ap (λ (k : ℕ). take i files ++ record { file = TestFile k; path = path } ∷ []) none in
+    let all : (first ∷ take i files) ++ record { file = TestFile i; path = path } ∷ [] ≡ first ∷ take (i + 1) files =
+    ap (λ (l : List FilePath). first ∷ l) (sym more ∙ ap (λ (n : ℕ). take n files) one) in
+    subst (λ (l : List FilePath). HasBegun l old new r t after) all
+    (begun_more (first ∷ take i files) (record { file = TestFile i; path = path }) old middle new r s t before after begun begins)
+
+files_long : (n : ℕ) (tests : List (Bor (List ℕ))) → length (test_files n (map (λ t. t.now) tests)) ≡ length tests
+files_long n [] = refl
+files_long n (x ∷ xs) = ap suc (files_long (n + 1) xs)
+
+taken_all : (i : ℕ) (files : List FilePath) → length files ≤ i → take i files ≡ files
+taken_all zero [] le = refl
+taken_all (suc i) [] le = refl
+taken_all zero (x ∷ xs) le = absurd (omega (arith, le))
+taken_all (suc i) (x ∷ xs) le = ap (λ l. x ∷ l) (taken_all i xs (omega (arith, le)))
+
+-- all files were begun
+pub begun_all : (model : List ℕ) (tests : List (Bor (List ℕ))) (i : ℕ) (old new : Holding) (r s : Option (List Reading)) (told : List ℕ) → length tests ≤ i
+    → HasBegun (record { file = ModelFile; path = model } ∷ take i (test_files 0 (map (λ t. t.now) tests))) old new r s told
+    → HasBegun (all_files model (map (λ t. t.now) tests)) old new r s told
+begun_all model tests i old new r s told end begun =
+    let files = test_files 0 (map (λ t. t.now) tests) in
+    subst (λ (l : List FilePath). HasBegun (record { file = ModelFile; path = model } ∷ l) old new r s told) (taken_all i files (omega (arith, end, files_long 0 tests))) begun
+
+-- ---- one answer
+
+answered_text : (path : List ℕ) (old new : Holding) (lasts nows : List (List ℕ)) (file : File) (text : Vec ℕ Global) (said : List ℕ)
+    → IsTextAnswer file path text.items old new lasts nows said → IsAnswer path old new lasts nows (Some file) (record { path = path; version = Text text } ∷ []) said
+answered_text path old new lasts nows file text said (TextAccepted accepted) = Accepted file text said accepted
+answered_text path old new lasts nows file text said (TextRefused kept refused) = Refused file text said kept refused
+
+-- of a text that was read
+pub text_answered : (path : List ℕ) (old new : Holding) (lasts nows : List (List ℕ)) (file : File) (version : Version) (text : Vec ℕ Global) → version ≡ Text text
+    → (r : Result (Vec ℕ Global) SessionFault) → IfOk r (λ t. IsTextAnswer file path text.items old new lasts nows t.items)
+    → IfOk r (λ t. IsAnswer path old new lasts nows (Some file) (record { path = path; version = version } ∷ []) t.items)
+text_answered path old new lasts nows file version text is (Ok t) answer =
+    subst (λ (v : Version). IsAnswer path old new lasts nows (Some file) (record { path = path; version = v } ∷ []) t.items) (sym is)
+    (answered_text path old new lasts nows file text t.items answer)
+text_answered path old new lasts nows file version text is (Err fault) answer = tt
+
+-- of a file that cannot be read
+pub unread_answered : (path : List ℕ) (held : Holding) (lines : List (List ℕ)) (file : File) (said : List ℕ) (version : Version) → version ≡ Unread
+    → said ≡ path ++ (codes ": not read" ++ 10 ∷ []) → IsAnswer path held held lines lines (Some file) (record { path = path; version = version } ∷ []) said
+unread_answered path held lines file said version is told =
+    subst (λ (v : Version). IsAnswer path held held lines lines (Some file) (record { path = path; version = v } ∷ []) said) (sym is)
+    (NotRead file said (record { held = refl; lines = refl }) told)
+
+-- of a path that is no file's
+pub unwatched_answered : (path : List ℕ) (file : Option File) (held : Holding) (lines : List (List ℕ)) (r : Option (List Reading)) (said : List ℕ) → None ≡ file
+    → said ≡ path ++ (codes ": not watched" ++ 10 ∷ []) → IsAnswered path file held held lines lines r r said
+unwatched_answered path file held lines r said is told = record {
+  read = [];
+  answer = subst (λ (f : Option File). IsAnswer path held held lines lines f [] said) is (Unwatched said (record { held = refl; lines = refl }) told);
+  reads = read_none r;
+}
+
+-- of a path that is a file's
+pub watched_answered : (line path : List ℕ) (file : File) (f : Option File) (old new : Holding) (lasts nows : List (List ℕ)) (r s : Option (List Reading)) (version : Version)
+    (res : Result (Vec ℕ Global) SessionFault) → path ≡ line → Some file ≡ f → AreRead r s (record { path = path; version = version } ∷ [])
+    → IfOk res (λ t. IsAnswer line old new lasts nows (Some file) (record { path = line; version = version } ∷ []) t.items)
+    → IfOk res (λ t. IsAnswered line f old new lasts nows r s t.items)
+watched_answered line path file f old new lasts nows r s version (Ok t) same is reads answer = record {
+  read = record { path = line; version = version } ∷ [];
+  answer = subst (λ (x : Option File). IsAnswer line old new lasts nows x (record { path = line; version = version } ∷ []) t.items) is answer;
+  reads = subst (λ (p : List ℕ). AreRead r s (record { path = p; version = version } ∷ [])) same reads;
+}
+watched_answered line path file f old new lasts nows r s version (Err fault) same is reads answer = tt
+
+-- ---- a whole run
+
+pub run_of : (model : List ℕ) (tests lasts : List (List ℕ)) (held last : Holding) (firsts nows : List (List ℕ)) (r s t : Option (List Reading)) (first : List ℕ) (a b c : Option (List ℕ))
+    → HasBegunRun model tests lasts held firsts r s first → Appends a b first → HasAnswers model tests held last firsts nows s t b c → IsRun model tests lasts r t a c
+run_of model tests lasts held last firsts nows r s t first a b c begun gained more = record {
+  held = held;
+  last = last;
   firsts = firsts;
   nows = nows;
-  ops = ops;
-  names = names;
+  first_read = begun.read;
+  read = more.read;
   first = first;
-  begun = begun;
   text = more.text;
+  begun = begun.begun;
   answers = more.answers;
+  reads = read_more r s t begun.read more.read begun.reads more.reads;
   gains = Appends-trans a b c first more.text gained more.gains;
 }

@@ -1,2 +1,6 @@
+pub mod Lists
+pub mod Cells
+pub mod Taking
 pub mod Gaining
 pub mod Steps
+pub mod Paths

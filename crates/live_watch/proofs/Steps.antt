@@ -1,15 +1,9 @@
 -- Steps of the lists of lines.
 use Rattle.std.proofs.Common.{◌≡◌, ℕ, suc, zero, ◌+◌, List, [], ◌∷◌, ◌++◌, take, get_or, length, ◌<◌, refl, sym, ap, subst, ◌∙◌, append_assoc, arith}
-use Rattle.std.specs.Prelude.{Vec, codes, Bool, true, false, Option, Some, None, Result, Ok, Err, IfOk, IfSome}
-use Rattle.std.specs.List.{AllByRecursion as Each}
-use Rattle.std.specs.declared.alloc.AllocError.{AllocError}
+use Rattle.std.specs.Prelude.{Vec}
 use Rattle.std.specs.declared.alloc.Global.{Global}
-use Rattle.bench_texts.specs.declared.fault.EditFault.{EditFault}
-use Rattle.session_edits.specs.Faults.{fault_line}
-use Rattle.board.specs.declared.operation.BoardOp.{BoardOp}
-use Rattle.board.specs.Legal.{IsLegal}
-use Rattle.board.specs.Results.{ShowsRightCells}
-use Rattle.live_watch.specs.Lines.{lists_of, lines_now, IsClosedBy, AreShown, changed_line, changed_lines, SaysRefused, AreTold, OneTold, IsTold, IsRefused}
+use Rattle.live_watch.specs.Lines.{changed_line, changed_lines}
+use Rattle.live_watch.specs.Boards.{lists_of}
 
 append_none : (xs : List ℕ) → xs ++ [] ≡ xs
 append_none [] = refl
@@ -60,22 +54,3 @@ line_gained lasts nows i v before last now middle after lt v_is last_is now_is m
     let gained : after ≡ (before ++ changed_lines olds (take i news)) ++ changed_line (get_or olds i []) (get_or news i []) = (cc) in
     gained ∙ (append_assoc before (changed_lines olds (take i news)) (changed_line (get_or olds i []) (get_or news i []))
     ∙ ap (λ (text : List ℕ). before ++ text) (sym more))
-
--- what is said of a file whose text is refused
-pub refused_told : (path text before : List ℕ) → before ≡ [] → (fault : EditFault) → text ≡ before ++ path ++ codes ": " ++ fault_line fault → IsTold path text
-refused_told path text before none fault is = IsRefused fault (rw none at is)
-
--- what is told of the files so far, and of one that was taken or refused
-pub told_more : (path before after : List ℕ) (made : Result Bool AllocError) (accepted : Bool) → made ≡ Ok accepted
-    → (made ≡ Ok true → after ≡ before) → (made ≡ Ok false → SaysRefused path before after) → AreTold before → AreTold after
-told_more path before after made true is taken refused told = subst (λ (text : List ℕ). AreTold text) (sym (taken is)) told
-told_more path before after made false is taken refused told = OneTold path before after told (refused is)
-
--- lines that are those of a view
-pub shown_lines : (ops view : List BoardOp) (names : List (Option (List ℕ))) (r : Result (Option (Vec (Vec ℕ Global) Global)) AllocError) → ops ≡ view → ShowsRightCells view → IsLegal view
-    → IfOk r (λ o. IfSome o (λ v. lists_of v.items ≡ lines_now view names)) → IfOk r (λ o. IfSome o (λ v. Each (IsClosedBy view) names))
-    → IfOk r (λ o. IfSome o (λ v. AreShown ops names (lists_of v.items)))
-shown_lines ops view names (Ok (Some v)) same right legal lines closed =
-    subst (λ (l : List BoardOp). AreShown l names (lists_of v.items)) (sym same) (record { are = lines; closed = closed; right = right; legal = legal })
-shown_lines ops view names (Ok None) same right legal lines closed = tt
-shown_lines ops view names (Err fault) same right legal lines closed = tt

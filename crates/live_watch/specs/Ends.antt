@@ -2,6 +2,7 @@
 use Rattle.std.specs.Prelude.{◌≡◌, ◌≢◌, ◌+◌, ℕ, List, [], Option, Bool, Result, Err, OnOk}
 use Rattle.command_line.specs.declared.fault.SessionFault.{SessionFault}
 use Rattle.live_watch.specs.declared.start.Ended.{Ended}
+use Rattle.live_watch.specs.Readings.{Reading}
 use Rattle.live_watch.specs.Runs.{IsRun}
 
 -- One write failed just where the fault is `Write`. No read failed, if the fault is not `Read`. So none failed where it answers.
@@ -10,8 +11,9 @@ pub record AreCallsOf (answer : Result Bool SessionFault) (reads reads_then writ
   pub unfailed : answer ≢ Err SessionFault.Write → writes_then ≡ writes
   pub unread : answer ≢ Err SessionFault.Read → reads_then ≡ reads
 
--- So it is for a source and a sink whose failed calls are counted so; and where it answers, a whole run was written.
-pub record IsEnded {S K : Type 0} (reads : S → ℕ) (writes : K → ℕ) (contents : K → Option (List ℕ))
-    (source : S) (sink : K) (ended : Ended S K) : Type 0 where
+-- So it is for a source and a sink whose failed calls are counted so; and where it answers, a whole run over the files of these
+-- paths was written, from the versions that were read.
+pub record IsEnded {V S K : Type 0} (reads : S → ℕ) (writes : K → ℕ) (readings : V → Option (List Reading)) (contents : K → Option (List ℕ))
+    (model : List ℕ) (tests : List (List ℕ)) (versions : V) (source : S) (sink : K) (ended : Ended V S K) : Type 0 where
   pub calls : AreCallsOf ended.answer (reads source) (reads ended.source) (writes sink) (writes ended.sink)
-  pub run : OnOk ended.answer (IsRun [] (contents sink) (contents ended.sink))
+  pub run : OnOk ended.answer (IsRun model tests [] (readings versions) (readings ended.versions) (contents sink) (contents ended.sink))

@@ -1,16 +1,19 @@
 //! The loop: lines that name files, and what is answered to them.
 
-ghost use Rattle.std.specs.Prelude.{◌≡◌, ◌≢◌, ◌+◌, ◌-◌, ◌<◌, ◌^◌, ◌++◌, codes, true, false};
-ghost use Rattle.std.specs.Prelude.{IfOk, OnOk, OnErr, Ok, Err};
-ghost use Rattle.session_edits.specs.Faults.{fault_line};
+ghost use Rattle.std.specs.Prelude.{◌≡◌, ◌≢◌, ◌+◌, ◌-◌, ◌<◌, ◌^◌, ◌++◌, [], ◌∷◌, length, map, option_map, codes, true, false};
+ghost use Rattle.std.specs.Prelude.{Some, IfOk, IfSome, OnOk, OnErr, Ok, Err};
 ghost use Rattle.std.specs.Io.KnownBytes.{Appends};
-ghost use Rattle.live_watch.specs.Lines.{lists_of, names_of, AreShown, AreGained, SaysRefused, AreTold, IsReply};
-ghost use Rattle.live_watch.specs.Runs.{Gains, Begins, IsRun};
+ghost use Rattle.bench_texts.specs.Held.{texts_of};
+ghost use Rattle.live_watch.specs.Holding.{file_at, all_files, nothing_held};
+ghost use Rattle.live_watch.specs.Lines.{AreLinesOf, AreWritten};
+ghost use Rattle.live_watch.specs.Edits.{file_of, held_of, IsVersionTaken};
+ghost use Rattle.live_watch.specs.Boards.{lists_of, KnowsTexts};
+ghost use Rattle.live_watch.specs.Runs.{refusal_of, IsNoted, IsTextAnswer, IsAnswer, IsAnswered, HasAnswers, BeginsFile, HasBegun, HasBegunRun, IsRun};
 
 use crate::lines::put_answer;
 use crate::settling::Hands;
 use crate::versions::{Version, Versions};
-use crate::watched::{Watched, WatchedTest};
+use crate::watched::{Paths, Watched, WatchedFile};
 use bench_texts::EditFault;
 use desk_rule::Naming;
 use litmusbench::{ByteSink, ByteSource, SessionFault, write_whole};
@@ -20,14 +23,6 @@ use std::alloc::{AllocError, Global};
 use std::sync::Wait;
 use text_values::put_bytes;
 use value_store::StoreName;
-
-// What a name on a line stands for.
-#[derive(Clone, Copy)]
-enum Watching {
-    Model,
-    Test(usize),
-    Nothing,
-}
 
 // Want of memory is the fault `Memory`.
 fn memory<T>(made: Result<T, AllocError>) -> Result<T, SessionFault>
@@ -66,7 +61,7 @@ fn put_refused(
     path: &[u8],
     fault: EditFault,
 ) -> Result<(), AllocError>
-    ensures { OnOk result (text.new.items ≡ text.old.items ++ path.now ++ codes ": " ++ fault_line fault) }
+    ensures { OnOk result (text.new.items ≡ text.old.items ++ refusal_of path.now fault) }
 {
     let answer = refused_edit(alloc, fault)?;
     put_bytes(text, path)?;
@@ -82,38 +77,30 @@ fn put_said(text: &mut Vec<u8>, name: &[u8], said: &[u8]) -> Result<(), AllocErr
     put_bytes(text, said)
 }
 
-// What a line names, where the model is in the file of this path and the tests are in these files.
-fn named(model: &str, tests: &[WatchedTest<'_>], line: &[u8]) -> Watching {
-    if model.as_bytes() == line {
-        return Watching::Model;
+// The file that a line names, and its path.
+fn watched_path<'a>(paths: Paths<'a>, line: &[u8]) -> Option<(WatchedFile, &'a str)>
+    ensures file { option_map (λ f. file_of f.0) result ≡ file_at paths.entry.model.now (map (λ t. t.now) paths.entry.tests.now) line.now }
+    ensures path { IfSome result (λ f. f.1.now ≡ line.now) }
+{
+    if paths.model.as_bytes() == line {
+        return Some((WatchedFile::Model, paths.model));
     }
-    for index in 0..tests.len() {
-        if tests[index].path.as_bytes() == line {
-            return Watching::Test(index);
+    for index in 0..paths.tests.len() {
+        let path = paths.tests[index];
+        if path.as_bytes() == line {
+            return Some((WatchedFile::Test(index), path));
         }
     }
-    Watching::Nothing
-}
-
-// The path of what a name stands for, if it is watched.
-fn path_of<'a>(model: &'a str, tests: &[WatchedTest<'a>], file: Watching) -> Option<&'a str> {
-    match file {
-        Watching::Model => Some(model),
-        Watching::Test(index) => match tests.get(index) {
-            Some(test) => Some(test.path),
-            None => None,
-        },
-        Watching::Nothing => None,
-    }
+    None
 }
 
 /// A run of the program.
 #[derive(Drop)]
 pub struct Run<'a, 'd, J: Naming + StoreName, R: Wait + Drop> {
     /// The desk with its files.
-    pub watched: Watched<'a, 'd, J, R>,
-    /// The path of the model.
-    pub model: &'a str,
+    pub watched: Watched<'d, J, R>,
+    /// The paths of the files.
+    pub paths: Paths<'a>,
     /// Who runs the jobs.
     pub hands: Hands<'d, J, R>,
     /// The lines that were last written of the files of tests, in their order.
@@ -127,15 +114,18 @@ impl<'a, 'd, J: Naming + StoreName, R: Wait + Drop> Run<'a, 'd, J, R> {
         &mut self,
         rt: &W,
         alloc: Global,
-        file: Watching,
+        file: WatchedFile,
         version: Vec<u8>,
     ) -> Result<Option<EditFault>, AllocError>
-        ensures { self.new.lines ≡ self.old.lines }
+        requires ready { KnowsTexts self.old.watched.viewer self.old.watched.made (texts_of self.old.watched.texts) }
+        ensures ready { OnOk result (KnowsTexts self.new.watched.viewer self.new.watched.made (texts_of self.new.watched.texts)) }
+        ensures paths { self.new.paths ≡ self.old.paths }
+        ensures taken { IfOk result (λ o. IsVersionTaken (file_of file) version.items (held_of self.old.watched.texts self.old.watched.names) o (held_of self.new.watched.texts self.new.watched.names)) }
+        ensures lines { self.new.lines ≡ self.old.lines }
     {
         match file {
-            Watching::Model => self.watched.take_model(rt, alloc, version),
-            Watching::Test(index) => self.watched.take_test(rt, alloc, index, version),
-            Watching::Nothing => Ok(None),
+            WatchedFile::Model => self.watched.take_model(rt, alloc, version),
+            WatchedFile::Test(index) => self.watched.take_test(rt, alloc, index, version),
         }
     }
 
@@ -144,13 +134,15 @@ impl<'a, 'd, J: Naming + StoreName, R: Wait + Drop> Run<'a, 'd, J, R> {
         &mut self,
         rt: &W,
         alloc: Global,
-        file: Watching,
+        file: WatchedFile,
         path: &[u8],
         version: Vec<u8>,
         text: &mut Vec<u8>,
     ) -> Result<bool, AllocError>
-        ensures accepted { result ≡ Ok true → text.new.items ≡ text.old.items }
-        ensures refused { result ≡ Ok false → SaysRefused path.now text.old.items text.new.items }
+        requires ready { KnowsTexts self.old.watched.viewer self.old.watched.made (texts_of self.old.watched.texts) }
+        ensures ready { OnOk result (KnowsTexts self.new.watched.viewer self.new.watched.made (texts_of self.new.watched.texts)) }
+        ensures paths { self.new.paths ≡ self.old.paths }
+        ensures noted { IfOk result (IsNoted (file_of file) path.now version.items (held_of self.old.watched.texts self.old.watched.names) (held_of self.new.watched.texts self.new.watched.names) text.old.items text.new.items) }
         ensures lines { self.new.lines ≡ self.old.lines }
     {
         match self.take(rt, alloc, file, version)? {
@@ -170,9 +162,13 @@ impl<'a, 'd, J: Naming + StoreName, R: Wait + Drop> Run<'a, 'd, J, R> {
         alloc: Global,
         text: &mut Vec<u8>,
     ) -> Result<(), SessionFault>
+        requires ready { KnowsTexts self.old.watched.viewer self.old.watched.made (texts_of self.old.watched.texts) }
+        ensures ready { OnOk result (KnowsTexts self.new.watched.viewer self.new.watched.made (texts_of self.new.watched.texts)) }
+        ensures paths { self.new.paths ≡ self.old.paths }
         ensures fault { OnErr result (result ≡ Err SessionFault.Memory) }
-        ensures shown { OnOk result (AreShown self.new.watched.viewer (names_of self.new.watched.tests.items) (lists_of self.new.lines.items)) }
-        ensures written { OnOk result (AreGained self.old.lines self.new.lines text.old.items text.new.items) }
+        ensures held { (held_of self.new.watched.texts self.new.watched.names) ≡ (held_of self.old.watched.texts self.old.watched.names) }
+        ensures right { OnOk result (AreLinesOf (texts_of self.new.watched.texts) self.new.watched.names.items (lists_of self.new.lines.items)) }
+        ensures written { OnOk result (AreWritten (lists_of self.old.lines.items) (lists_of self.new.lines.items) text.old.items text.new.items) }
     {
         let (jobs, lines) = self.watched.settled_lines(rt, alloc, &self.hands)?;
         memory(put_answer(text, &self.lines, &lines, jobs))?;
@@ -186,13 +182,16 @@ impl<'a, 'd, J: Naming + StoreName, R: Wait + Drop> Run<'a, 'd, J, R> {
         rt: &W,
         alloc: Global,
         versions: &mut V,
-        file: Watching,
+        file: WatchedFile,
         path: &str,
         text: &mut Vec<u8>,
     ) -> Result<(), SessionFault>
+        requires ready { KnowsTexts self.old.watched.viewer self.old.watched.made (texts_of self.old.watched.texts) }
+        ensures ready { OnOk result (KnowsTexts self.new.watched.viewer self.new.watched.made (texts_of self.new.watched.texts)) }
+        ensures paths { self.new.paths ≡ self.old.paths }
         ensures fault { result ≢ Err SessionFault.Write }
         ensures lines { self.new.lines ≡ self.old.lines }
-        ensures told { OnOk result (AreTold text.old.items → AreTold text.new.items) }
+        ensures begun { OnOk result (BeginsFile (record { file = file_of file; path = path.now }) (held_of self.old.watched.texts self.old.watched.names) (held_of self.new.watched.texts self.new.watched.names) (V.readings versions.old) (V.readings versions.new) text.old.items text.new.items) }
     {
         match versions.version(alloc, path) {
             Version::Text(version) => {
@@ -204,29 +203,54 @@ impl<'a, 'd, J: Naming + StoreName, R: Wait + Drop> Run<'a, 'd, J, R> {
         }
     }
 
+    // Takes the first versions of all files, and tells those that are refused.
+    fn begin_files<W: Wait, V: Versions>(
+        &mut self,
+        rt: &W,
+        alloc: Global,
+        versions: &mut V,
+        paths: Paths<'a>,
+    ) -> Result<Vec<u8>, SessionFault>
+        requires ready { KnowsTexts self.old.watched.viewer self.old.watched.made (texts_of self.old.watched.texts) }
+        ensures ready { OnOk result (KnowsTexts self.new.watched.viewer self.new.watched.made (texts_of self.new.watched.texts)) }
+        ensures paths { self.new.paths ≡ self.old.paths }
+        ensures fault { result ≢ Err SessionFault.Write }
+        ensures lines { self.new.lines ≡ self.old.lines }
+        ensures begun { IfOk result (λ t. HasBegun (all_files paths.entry.model.now (map (λ t. t.now) paths.entry.tests.now)) (held_of self.old.watched.texts self.old.watched.names) (held_of self.new.watched.texts self.new.watched.names) (V.readings versions.old) (V.readings versions.new) t.items) }
+    {
+        let mut text = Vec::new(alloc);
+        self.begin_file(
+            rt,
+            alloc,
+            versions,
+            WatchedFile::Model,
+            paths.model,
+            &mut text,
+        )?;
+        for index in 0..paths.tests.len() {
+            let path = paths.tests[index];
+            let file = WatchedFile::Test(index);
+            self.begin_file(rt, alloc, versions, file, path, &mut text)?;
+        }
+        Ok(text)
+    }
+
     // What is written at the start.
     fn begin<W: Wait, V: Versions>(
         &mut self,
         rt: &W,
         alloc: Global,
         versions: &mut V,
-        tests: &[&str],
     ) -> Result<Vec<u8>, SessionFault>
+        requires ready { KnowsTexts self.old.watched.viewer self.old.watched.made (texts_of self.old.watched.texts) }
+        requires nothing { (held_of self.old.watched.texts self.old.watched.names) ≡ nothing_held (length self.old.paths.tests.now) }
+        ensures ready { OnOk result (KnowsTexts self.new.watched.viewer self.new.watched.made (texts_of self.new.watched.texts)) }
+        ensures paths { self.new.paths ≡ self.old.paths }
         ensures fault { result ≢ Err SessionFault.Write }
-        ensures begun { IfOk result (λ t. Begins self.old.lines self.new.lines self.new.watched.viewer self.new.watched.tests t.items) }
+        ensures begun { IfOk result (λ t. HasBegunRun self.old.paths.model.now (map (λ t. t.now) self.old.paths.tests.now) (lists_of self.old.lines.items) (held_of self.new.watched.texts self.new.watched.names) (lists_of self.new.lines.items) (V.readings versions.old) (V.readings versions.new) t.items) }
     {
-        let mut text = Vec::new(alloc);
-        self.begin_file(rt, alloc, versions, Watching::Model, self.model, &mut text)?;
-        for index in 0..tests.len() {
-            self.begin_file(
-                rt,
-                alloc,
-                versions,
-                Watching::Test(index),
-                tests[index],
-                &mut text,
-            )?;
-        }
+        let paths = self.paths;
+        let mut text = self.begin_files(rt, alloc, versions, paths)?;
         self.put_settled(rt, alloc, &mut text)?;
         Ok(text)
     }
@@ -236,12 +260,15 @@ impl<'a, 'd, J: Naming + StoreName, R: Wait + Drop> Run<'a, 'd, J, R> {
         &mut self,
         rt: &W,
         alloc: Global,
-        file: Watching,
+        file: WatchedFile,
         path: &[u8],
         version: Vec<u8>,
     ) -> Result<Vec<u8>, SessionFault>
+        requires ready { KnowsTexts self.old.watched.viewer self.old.watched.made (texts_of self.old.watched.texts) }
+        ensures ready { OnOk result (KnowsTexts self.new.watched.viewer self.new.watched.made (texts_of self.new.watched.texts)) }
+        ensures paths { self.new.paths ≡ self.old.paths }
         ensures fault { OnErr result (result ≡ Err SessionFault.Memory) }
-        ensures answer { let w = self.new.watched in IfOk result (λ t. IsReply path.now self.old.lines self.new.lines w.viewer w.tests t.items) }
+        ensures answer { IfOk result (λ t. IsTextAnswer (file_of file) path.now version.items (held_of self.old.watched.texts self.old.watched.names) (held_of self.new.watched.texts self.new.watched.names) (lists_of self.old.lines.items) (lists_of self.new.lines.items) t.items) }
     {
         let mut text = Vec::new(alloc);
         let is_accepted = memory(self.accept(rt, alloc, file, path, version, &mut text))?;
@@ -257,12 +284,15 @@ impl<'a, 'd, J: Naming + StoreName, R: Wait + Drop> Run<'a, 'd, J, R> {
         &mut self,
         rt: &W,
         alloc: Global,
-        file: Watching,
+        file: WatchedFile,
         path: &[u8],
         version: Version,
     ) -> Result<Vec<u8>, SessionFault>
+        requires ready { KnowsTexts self.old.watched.viewer self.old.watched.made (texts_of self.old.watched.texts) }
+        ensures ready { OnOk result (KnowsTexts self.new.watched.viewer self.new.watched.made (texts_of self.new.watched.texts)) }
+        ensures paths { self.new.paths ≡ self.old.paths }
         ensures fault { OnErr result (result ≡ Err SessionFault.Memory) }
-        ensures answer { let w = self.new.watched in IfOk result (λ t. IsReply path.now self.old.lines self.new.lines w.viewer w.tests t.items) }
+        ensures answer { IfOk result (λ t. IsAnswer path.now (held_of self.old.watched.texts self.old.watched.names) (held_of self.new.watched.texts self.new.watched.names) (lists_of self.old.lines.items) (lists_of self.new.lines.items) (Some (file_of file)) (record { path = path.now; version = version } ∷ []) t.items) }
     {
         match version {
             Version::Text(version) => self.answer_text(rt, alloc, file, path, version),
@@ -283,12 +313,15 @@ impl<'a, 'd, J: Naming + StoreName, R: Wait + Drop> Run<'a, 'd, J, R> {
         versions: &mut V,
         line: &[u8],
     ) -> Result<Vec<u8>, SessionFault>
+        requires ready { KnowsTexts self.old.watched.viewer self.old.watched.made (texts_of self.old.watched.texts) }
+        ensures ready { OnOk result (KnowsTexts self.new.watched.viewer self.new.watched.made (texts_of self.new.watched.texts)) }
+        ensures paths { self.new.paths ≡ self.old.paths }
         ensures fault { OnErr result (result ≡ Err SessionFault.Memory) }
-        ensures answer { let w = self.new.watched in IfOk result (λ t. IsReply line.now self.old.lines self.new.lines w.viewer w.tests t.items) }
+        ensures answer { IfOk result (λ t. IsAnswered line.now (file_at self.old.paths.model.now (map (λ t. t.now) self.old.paths.tests.now) line.now) (held_of self.old.watched.texts self.old.watched.names) (held_of self.new.watched.texts self.new.watched.names) (lists_of self.old.lines.items) (lists_of self.new.lines.items) (V.readings versions.old) (V.readings versions.new) t.items) }
     {
-        let file = named(self.model, &self.watched.tests, line);
-        match path_of(self.model, &self.watched.tests, file) {
-            Some(path) => {
+        let paths = self.paths;
+        match watched_path(paths, line) {
+            Some((file, path)) => {
                 let version = versions.version(alloc, path);
                 self.answer_version(rt, alloc, file, line, version)
             }
@@ -309,13 +342,16 @@ impl<'a, 'd, J: Naming + StoreName, R: Wait + Drop> Run<'a, 'd, J, R> {
         line: &[u8],
         sink: &mut K,
     ) -> Result<(), SessionFault>
-        requires { K.failed_calls sink.old < 2 ^ 64 - 1 }
+        requires ready { KnowsTexts self.old.watched.viewer self.old.watched.made (texts_of self.old.watched.texts) }
+        requires sink { K.failed_calls sink.old < 2 ^ 64 - 1 }
+        ensures ready { OnOk result (KnowsTexts self.new.watched.viewer self.new.watched.made (texts_of self.new.watched.texts)) }
+        ensures paths { self.new.paths ≡ self.old.paths }
         ensures writes { OnOk result (K.failed_calls sink.new ≡ K.failed_calls sink.old) }
         ensures wrote { result ≡ Err SessionFault.Write → K.failed_calls sink.new ≡ K.failed_calls sink.old + 1 }
         ensures unfailed { result ≢ Err SessionFault.Write → K.failed_calls sink.new ≡ K.failed_calls sink.old }
         ensures unread { result ≢ Err SessionFault.Read }
         // nothing for an empty line, and else one write, of what is answered to it
-        ensures answers { OnOk result (Gains self.old.lines self.new.lines (K.contents sink.old) (K.contents sink.new)) }
+        ensures answers { OnOk result (HasAnswers self.old.paths.model.now (map (λ t. t.now) self.old.paths.tests.now) (held_of self.old.watched.texts self.old.watched.names) (held_of self.new.watched.texts self.new.watched.names) (lists_of self.old.lines.items) (lists_of self.new.lines.items) (V.readings versions.old) (V.readings versions.new) (K.contents sink.old) (K.contents sink.new)) }
     {
         if line.is_empty() {
             return Ok(());
@@ -335,10 +371,13 @@ impl<'a, 'd, J: Naming + StoreName, R: Wait + Drop> Run<'a, 'd, J, R> {
         byte: u8,
         sink: &mut K,
     ) -> Result<(), SessionFault>
-        requires { K.failed_calls sink.old < 2 ^ 64 - 1 }
+        requires ready { KnowsTexts self.old.watched.viewer self.old.watched.made (texts_of self.old.watched.texts) }
+        requires sink { K.failed_calls sink.old < 2 ^ 64 - 1 }
+        ensures ready { OnOk result (KnowsTexts self.new.watched.viewer self.new.watched.made (texts_of self.new.watched.texts)) }
+        ensures paths { self.new.paths ≡ self.old.paths }
         ensures writes { OnOk result (K.failed_calls sink.new ≡ K.failed_calls sink.old) }
         ensures wrote { result ≡ Err SessionFault.Write → K.failed_calls sink.new ≡ K.failed_calls sink.old + 1 }
-        ensures answers { OnOk result (Gains self.old.lines self.new.lines (K.contents sink.old) (K.contents sink.new)) }
+        ensures answers { OnOk result (HasAnswers self.old.paths.model.now (map (λ t. t.now) self.old.paths.tests.now) (held_of self.old.watched.texts self.old.watched.names) (held_of self.new.watched.texts self.new.watched.names) (lists_of self.old.lines.items) (lists_of self.new.lines.items) (V.readings versions.old) (V.readings versions.new) (K.contents sink.old) (K.contents sink.new)) }
         ensures unfailed { result ≢ Err SessionFault.Write → K.failed_calls sink.new ≡ K.failed_calls sink.old }
         ensures unread { result ≢ Err SessionFault.Read }
     {
@@ -361,10 +400,13 @@ impl<'a, 'd, J: Naming + StoreName, R: Wait + Drop> Run<'a, 'd, J, R> {
         bytes: &[u8],
         sink: &mut K,
     ) -> Result<(), SessionFault>
-        requires { K.failed_calls sink.old < 2 ^ 64 - 1 }
+        requires ready { KnowsTexts self.old.watched.viewer self.old.watched.made (texts_of self.old.watched.texts) }
+        requires sink { K.failed_calls sink.old < 2 ^ 64 - 1 }
+        ensures ready { OnOk result (KnowsTexts self.new.watched.viewer self.new.watched.made (texts_of self.new.watched.texts)) }
+        ensures paths { self.new.paths ≡ self.old.paths }
         ensures writes { OnOk result (K.failed_calls sink.new ≡ K.failed_calls sink.old) }
         ensures wrote { result ≡ Err SessionFault.Write → K.failed_calls sink.new ≡ K.failed_calls sink.old + 1 }
-        ensures answers { OnOk result (Gains self.old.lines self.new.lines (K.contents sink.old) (K.contents sink.new)) }
+        ensures answers { OnOk result (HasAnswers self.old.paths.model.now (map (λ t. t.now) self.old.paths.tests.now) (held_of self.old.watched.texts self.old.watched.names) (held_of self.new.watched.texts self.new.watched.names) (lists_of self.old.lines.items) (lists_of self.new.lines.items) (V.readings versions.old) (V.readings versions.new) (K.contents sink.old) (K.contents sink.new)) }
         ensures unfailed { result ≢ Err SessionFault.Write → K.failed_calls sink.new ≡ K.failed_calls sink.old }
         ensures unread { result ≢ Err SessionFault.Read }
     {
@@ -384,12 +426,15 @@ impl<'a, 'd, J: Naming + StoreName, R: Wait + Drop> Run<'a, 'd, J, R> {
         source: &mut S,
         sink: &mut K,
     ) -> Result<bool, SessionFault>
+        requires ready { KnowsTexts self.old.watched.viewer self.old.watched.made (texts_of self.old.watched.texts) }
         requires source { S.failed_calls source.old < 2 ^ 64 - 1 }
         requires sink { K.failed_calls sink.old < 2 ^ 64 - 1 }
+        ensures ready { OnOk result (KnowsTexts self.new.watched.viewer self.new.watched.made (texts_of self.new.watched.texts)) }
+        ensures paths { self.new.paths ≡ self.old.paths }
         ensures reads { OnOk result (S.failed_calls source.new ≡ S.failed_calls source.old) }
         ensures writes { OnOk result (K.failed_calls sink.new ≡ K.failed_calls sink.old) }
         ensures wrote { result ≡ Err SessionFault.Write → K.failed_calls sink.new ≡ K.failed_calls sink.old + 1 }
-        ensures answers { OnOk result (Gains self.old.lines self.new.lines (K.contents sink.old) (K.contents sink.new)) }
+        ensures answers { OnOk result (HasAnswers self.old.paths.model.now (map (λ t. t.now) self.old.paths.tests.now) (held_of self.old.watched.texts self.old.watched.names) (held_of self.new.watched.texts self.new.watched.names) (lists_of self.old.lines.items) (lists_of self.new.lines.items) (V.readings versions.old) (V.readings versions.new) (K.contents sink.old) (K.contents sink.new)) }
         ensures unfailed { result ≢ Err SessionFault.Write → K.failed_calls sink.new ≡ K.failed_calls sink.old }
         ensures unread { result ≢ Err SessionFault.Read → S.failed_calls source.new ≡ S.failed_calls source.old }
     {
@@ -416,12 +461,15 @@ impl<'a, 'd, J: Naming + StoreName, R: Wait + Drop> Run<'a, 'd, J, R> {
         source: &mut S,
         sink: &mut K,
     ) -> Result<(), SessionFault>
+        requires ready { KnowsTexts self.old.watched.viewer self.old.watched.made (texts_of self.old.watched.texts) }
         requires source { S.failed_calls source.old < 2 ^ 64 - 1 }
         requires sink { K.failed_calls sink.old < 2 ^ 64 - 1 }
+        ensures ready { OnOk result (KnowsTexts self.new.watched.viewer self.new.watched.made (texts_of self.new.watched.texts)) }
+        ensures paths { self.new.paths ≡ self.old.paths }
         ensures reads { OnOk result (S.failed_calls source.new ≡ S.failed_calls source.old) }
         ensures writes { OnOk result (K.failed_calls sink.new ≡ K.failed_calls sink.old) }
         ensures wrote { result ≡ Err SessionFault.Write → K.failed_calls sink.new ≡ K.failed_calls sink.old + 1 }
-        ensures answers { OnOk result (Gains self.old.lines self.new.lines (K.contents sink.old) (K.contents sink.new)) }
+        ensures answers { OnOk result (HasAnswers self.old.paths.model.now (map (λ t. t.now) self.old.paths.tests.now) (held_of self.old.watched.texts self.old.watched.names) (held_of self.new.watched.texts self.new.watched.names) (lists_of self.old.lines.items) (lists_of self.new.lines.items) (V.readings versions.old) (V.readings versions.new) (K.contents sink.old) (K.contents sink.new)) }
         ensures unfailed { result ≢ Err SessionFault.Write → K.failed_calls sink.new ≡ K.failed_calls sink.old }
         ensures unread { result ≢ Err SessionFault.Read → S.failed_calls source.new ≡ S.failed_calls source.old }
     {
@@ -442,20 +490,21 @@ impl<'a, 'd, J: Naming + StoreName, R: Wait + Drop> Run<'a, 'd, J, R> {
         rt: &W,
         alloc: Global,
         versions: &mut V,
-        tests: &[&str],
         source: &mut S,
         sink: &mut K,
     ) -> Result<bool, SessionFault>
+        requires ready { KnowsTexts self.old.watched.viewer self.old.watched.made (texts_of self.old.watched.texts) }
+        requires nothing { (held_of self.old.watched.texts self.old.watched.names) ≡ nothing_held (length self.old.paths.tests.now) }
         requires source { S.failed_calls source.old < 2 ^ 64 - 1 }
         requires sink { K.failed_calls sink.old < 2 ^ 64 - 1 }
         ensures reads { OnOk result (S.failed_calls source.new ≡ S.failed_calls source.old) }
         ensures writes { OnOk result (K.failed_calls sink.new ≡ K.failed_calls sink.old) }
         ensures wrote { result ≡ Err SessionFault.Write → K.failed_calls sink.new ≡ K.failed_calls sink.old + 1 }
-        ensures run { OnOk result (IsRun (lists_of self.old.lines.items) (K.contents sink.old) (K.contents sink.new)) }
+        ensures run { OnOk result (IsRun self.old.paths.model.now (map (λ t. t.now) self.old.paths.tests.now) (lists_of self.old.lines.items) (V.readings versions.old) (V.readings versions.new) (K.contents sink.old) (K.contents sink.new)) }
         ensures unfailed { result ≢ Err SessionFault.Write → K.failed_calls sink.new ≡ K.failed_calls sink.old }
         ensures unread { result ≢ Err SessionFault.Read → S.failed_calls source.new ≡ S.failed_calls source.old }
     {
-        let text = self.begin(rt, alloc, versions, tests)?;
+        let text = self.begin(rt, alloc, versions)?;
         write_text(sink, &text)?;
         self.answer_lines(rt, alloc, versions, source, sink)?;
         Ok(self.is_refused)

@@ -1,105 +1,218 @@
 //! A later version of a file: the edits that make it of what the bench holds.
 
+ghost use Rattle.std.specs.Prelude.{◌≡◌, Some, false, option_map, IfOk, OnOk, IfSome, IsSome, IsTrue};
+ghost use Rattle.std.specs.List.{list_any};
+ghost use Rattle.text_values.specs.ModelValues.{clauses_of};
+ghost use Rattle.text_values.specs.TestValue.{Content, content_of};
+ghost use Rattle.litmus_grammar.specs.Texts.{ReadsTest};
+ghost use Rattle.bench_texts.specs.BenchTexts.{test_index, put_at, changed_at};
+ghost use Rattle.bench_texts.specs.Edits.{edit_of, Refuses};
+ghost use Rattle.bench_texts.specs.Held.{model_of, texts_of};
+ghost use Rattle.session_answers.specs.Cells.{test_named, model_named};
+ghost use Rattle.session_edits.specs.Faults.{IsAnswer};
+ghost use Rattle.session_views.specs.Knowing.{HasOwnEdit};
+ghost use Rattle.live_watch.specs.Holding.{model_name, is_name, without_unheld, name_at, HoldsItems, IsTestTaken, ModelFile, TestFile};
+ghost use Rattle.live_watch.specs.Edits.{held_of, IsMade, IsVersionTaken, IsOfModel, AreChanges, AreParts, AreSameBut};
+ghost use Rattle.live_watch.specs.Boards.{KnowsTexts};
+
 use crate::lines::model_name;
-use crate::watched::{Watched, WatchedTest};
-use bench_texts::{Edit, EditFault, Texts};
-use cat_syntax::{CatFault, ModelText, read_model};
-use desk::{Accepted, DeskFault};
-use desk_rule::Naming;
-use litmus_ppc::{LitmusFault, Name, Test, read_test};
+use crate::watched::Watched;
+use bench_texts::{Edit, EditFault, NamedModel, Texts};
+use cat_syntax::{ModelText, read_model};
+use desk::Accepted;
+use desk_rule::{Naming, Viewer};
+use litmus_ppc::{Name, Test, read_test};
+use running_bench::{RunningDesk, RunningTexts};
+use session_views::laws::own_edits_are_known;
 use std::alloc::{AllocError, Global};
 use std::mem::replace;
 use std::sync::Wait;
 use value_store::StoreName;
 use version_edits::{ItemChange, TestPart, changed_parts, item_changes, item_edit, part_edit};
 
-// The number of an edit that was accepted.
-fn number_of(accepted: Accepted) -> u64 {
-    match accepted {
-        Accepted::Now(number) => number,
-        Accepted::Later(number) => number,
-    }
-}
+// The numbers of edits that a board counts, below the greatest.
+const MOST_EDITS: u64 = u64::MAX - 1;
 
-// Why an edit is refused. Errors: out of memory, where that is why.
-fn refused_edit(fault: EditFault) -> Result<Option<EditFault>, AllocError> {
+// A fault that is told. Errors: out of memory, where that is the fault.
+fn told_fault(fault: EditFault) -> Result<EditFault, AllocError>
+    ensures same { IfOk result (λ f. f ≡ fault) }
+    ensures answer { IfOk result IsAnswer }
+{
     match fault {
         EditFault::OutOfMemory(error) => Err(error),
-        fault => Ok(Some(fault)),
+        fault => Ok(fault),
     }
 }
 
-// Why the desk refuses an edit. Errors: out of memory, also where a worker gave up.
-fn refused_by_desk(fault: DeskFault<EditFault>) -> Result<Option<EditFault>, AllocError> {
+// Why a text is refused that cannot be read. Errors: out of memory, where that is why.
+fn unread(refusal: Option<EditFault>) -> Result<Option<EditFault>, AllocError>
+    ensures same { IfOk result (λ o. o ≡ refusal) }
+    ensures some { IfOk result IsSome }
+{
+    match refusal {
+        Some(fault) => Ok(Some(fault)),
+        None => Err(AllocError),
+    }
+}
+
+// Whether the bench is full.
+fn is_full(fault: &EditFault) -> bool {
     match fault {
-        DeskFault::Edit(fault) => Ok(Some(fault)),
+        EditFault::Full => true,
+        _ => false,
+    }
+}
+
+// Gives an edit to the desk, which tells the viewer, and says its number. Errors: out of memory, also where a worker gave up.
+fn give_edit<J: Naming + StoreName, R: Wait + Drop, W: Wait>(
+    rt: &W,
+    desk: &RunningDesk<J, R>,
+    viewer: &mut Viewer<J, RunningTexts>,
+    edit: Edit,
+) -> Result<u64, AllocError>
+    ensures { IfOk result (λ number. HasOwnEdit edit number viewer.old viewer.new) }
+{
+    match desk.edit(rt, viewer, edit) {
+        Ok(Accepted::Now(number)) => Ok(number),
         _ => Err(AllocError),
     }
 }
 
-// Why the text of a model is refused. Errors: out of memory, where that is why.
-fn refused_model(fault: CatFault) -> Result<Option<EditFault>, AllocError> {
-    match fault {
-        CatFault::OutOfMemory(error) => Err(error),
-        fault => Ok(Some(EditFault::Model(fault))),
-    }
+// The model, if it is there.
+fn held_model<'t>(texts: &'t Texts) -> Option<&'t NamedModel>
+    ensures { option_map (λ m. model_of m.now) result ≡ model_named (texts_of texts.now) model_name }
+{
+    let index = texts.model_index(model_name());
+    texts.models().get(index)
 }
 
-// Why the text of a test is refused. Errors: out of memory, where that is why.
-fn refused_test(fault: LitmusFault) -> Result<Option<EditFault>, AllocError> {
-    match fault {
-        LitmusFault::OutOfMemory(error) => Err(error),
-        fault => Ok(Some(EditFault::Test(fault))),
-    }
+// The test of this name, if it is there.
+fn held_test<'t>(texts: &'t Texts, name: &[u8]) -> Option<&'t Test>
+    ensures { option_map (λ t. content_of t.now) result ≡ test_named (texts_of texts.now) name.now }
+{
+    texts.tests().get(texts.test_index(name))
 }
 
 // The changes that make this of the model, or none where there is no model.
+#[tactic(auto, using(crate::proofs::Taking::changes_of))]
 fn changes_to(
     alloc: Global,
     texts: &Texts,
     new: &ModelText,
-) -> Result<Option<Vec<ItemChange>>, AllocError> {
-    match texts.models().first() {
+) -> Result<Option<Vec<ItemChange>>, AllocError>
+    ensures { IfOk result (λ o. IfSome o (λ cs. AreChanges (texts_of texts.now) (clauses_of new.now.items.items) cs.items)) }
+{
+    match held_model(texts) {
         Some(model) => Ok(Some(item_changes(alloc, &model.text().items, &new.items)?)),
         None => Ok(None),
     }
 }
 
+// Whether the model has just the items of this one.
+fn holds_items(alloc: Global, texts: &Texts, new: &ModelText) -> Result<bool, AllocError>
+    ensures { IfOk result (λ is. IsTrue is → HoldsItems (clauses_of new.now.items.items) (texts_of texts.now)) }
+{
+    match changes_to(alloc, texts, new)? {
+        Some(changes) => Ok(changes.is_empty()),
+        None => Ok(false),
+    }
+}
+
 // The edit that makes a change of the model, where there is a model.
+#[tactic(auto, using(crate::proofs::Taking::change_of_model))]
 fn edit_to(
     alloc: Global,
     texts: &Texts,
     new: &ModelText,
     change: ItemChange,
-) -> Result<Option<Edit>, AllocError> {
-    match texts.models().first() {
+) -> Result<Option<Edit>, AllocError>
+    ensures { IfOk result (λ o. IfSome o (λ e. IsOfModel (edit_of e))) }
+{
+    match held_model(texts) {
         Some(model) => Ok(Some(item_edit(alloc, model, &new.items, change)?)),
         None => Ok(None),
     }
 }
 
-// The parts that differ from the test of this name, or none where that has another shape.
-fn parts_to(alloc: Global, texts: &Texts, new: &Test) -> Result<Option<Vec<TestPart>>, AllocError> {
-    let index = texts.test_index(new.name.as_bytes());
-    match texts.tests().get(index) {
-        Some(old) => changed_parts(alloc, old, new),
+// The parts that differ from the test of this name, or none where there is no such test or it has another shape.
+#[tactic(auto, using(crate::proofs::Taking::parts_of))]
+fn parts_to(alloc: Global, texts: &Texts, new: &Test) -> Result<Option<Vec<TestPart>>, AllocError>
+    ensures { IfOk result (λ o. IfSome o (λ ps. AreParts (texts_of texts.now) (content_of new.now) ps.items)) }
+{
+    let old = match held_test(texts, new.name.as_bytes()) {
+        Some(old) => old,
+        None => return Ok(None),
+    };
+    match changed_parts(alloc, old, new)? {
+        Some(parts) => Ok(Some(parts)),
         None => Ok(None),
     }
 }
 
+// Whether the first test of this name is this one.
+fn holds_test(alloc: Global, texts: &Texts, new: &Test) -> Result<bool, AllocError>
+    ensures { IfOk result (λ is. IsTrue is → test_named (texts_of texts.now) new.now.name ≡ Some (content_of new.now)) }
+{
+    match parts_to(alloc, texts, new)? {
+        Some(parts) => Ok(parts.is_empty()),
+        None => Ok(false),
+    }
+}
+
+// Whether this is the name of the test that a file holds.
+fn is_of(held: &Option<Name>, name: &Name) -> bool
+    ensures { result ≡ is_name name.now held.now }
+{
+    match held {
+        Some(held) => held.as_bytes() == name.as_bytes(),
+        None => false,
+    }
+}
+
 // Whether some file holds the test of this name.
-fn is_held(tests: &[WatchedTest<'_>], name: &Name) -> bool {
-    for test in tests {
-        if let Some(held) = &test.name {
-            if held.is_same(name) {
-                return true;
-            }
+fn is_held(names: &[Option<Name>], name: &Name) -> bool
+    ensures { result ≡ list_any (is_name name.now) names.now }
+{
+    for held in names {
+        if is_of(held, name) {
+            return true;
         }
     }
     false
 }
 
-impl<'a, 'd, J: Naming + StoreName, R: Wait + Drop> Watched<'a, 'd, J, R> {
+// Whether no file but that of this index holds the test of this name.
+fn is_alone(names: &[Option<Name>], index: usize, name: &Name) -> bool {
+    for other in 0..names.len() {
+        if other != index && is_of(&names[other], name) {
+            return false;
+        }
+    }
+    true
+}
+
+// Whether the test that the file of that index holds goes where it holds the one of this name from now on.
+fn is_leaving(names: &[Option<Name>], index: usize, new: &Name) -> bool {
+    match names.get(index) {
+        Some(Some(old)) => !old.is_same(new) && is_alone(names, index, old),
+        _ => false,
+    }
+}
+
+// The file of that index holds the test of this name from now on. What it held before.
+#[tactic(auto, using(crate::proofs::Lists::changed_set, crate::proofs::Lists::got_set, crate::proofs::Lists::got_past))]
+fn put_name(names: &mut Vec<Option<Name>>, index: usize, name: Name) -> Option<Name>
+    ensures names { names.new.items ≡ changed_at index (λ old. Some name) names.old.items }
+    ensures old { result ≡ name_at index names.old.items }
+{
+    if index < names.len() {
+        replace(&mut names[index], Some(name))
+    } else {
+        None
+    }
+}
+
+impl<'d, J: Naming + StoreName, R: Wait + Drop> Watched<'d, J, R> {
     // Makes an edit of the texts, and at the desk. Why it is refused, if it is. Errors: out of memory, also where a worker gave
     // up.
     fn make<W: Wait>(
@@ -107,29 +220,54 @@ impl<'a, 'd, J: Naming + StoreName, R: Wait + Drop> Watched<'a, 'd, J, R> {
         rt: &W,
         alloc: Global,
         edit: Edit,
-    ) -> Result<Option<EditFault>, AllocError> {
+    ) -> Result<Option<EditFault>, AllocError>
+        requires ready { KnowsTexts self.old.viewer self.old.made (texts_of self.old.texts) }
+        ensures ready { OnOk result (KnowsTexts self.new.viewer self.new.made (texts_of self.new.texts)) }
+        ensures made { IfOk result (λ o. IsMade (texts_of self.old.texts) (edit_of edit) o (texts_of self.new.texts)) }
+        ensures names { self.new.names ≡ self.old.names }
+    {
+        own_edits_are_known(&self.texts);
         let prepared = match self.texts.prepare(alloc, &edit, false) {
             Ok(prepared) => prepared,
-            Err(fault) => return refused_edit(fault),
+            Err(fault) => return Ok(Some(told_fault(fault)?)),
         };
-        match self.desk.edit(rt, &mut self.viewer, edit) {
-            Ok(accepted) => {
-                self.texts.commit(prepared);
-                self.last = number_of(accepted);
-                Ok(None)
-            }
-            Err(fault) => refused_by_desk(fault),
+        if self.made >= MOST_EDITS {
+            return Err(AllocError);
+        }
+        self.last = give_edit(rt, self.desk, &mut self.viewer, edit)?;
+        self.texts.commit(prepared);
+        self.made += 1;
+        Ok(None)
+    }
+
+    // Why an edit would be refused, if it would. Nothing is changed.
+    fn refusal(&mut self, alloc: Global, edit: &Edit) -> Result<Option<EditFault>, AllocError>
+        requires ready { KnowsTexts self.old.viewer self.old.made (texts_of self.old.texts) }
+        ensures ready { KnowsTexts self.new.viewer self.new.made (texts_of self.new.texts) }
+        ensures fault { IfOk result (λ o. IfSome o (λ fault. IsAnswer fault × Refuses (texts_of self.old.texts) false (edit_of edit.now) fault)) }
+        ensures texts { texts_of self.new.texts ≡ texts_of self.old.texts }
+        ensures names { self.new.names ≡ self.old.names }
+    {
+        match self.texts.prepare(alloc, edit, false) {
+            Ok(_prepared) => Ok(None),
+            Err(fault) => Ok(Some(told_fault(fault)?)),
         }
     }
 
     // Makes a change of the model. Whether it is accepted.
+    #[tactic(auto, using(crate::proofs::Taking::model_keeps_tests))]
     fn change_item<W: Wait>(
         &mut self,
         rt: &W,
         alloc: Global,
         new: &ModelText,
         change: ItemChange,
-    ) -> Result<bool, AllocError> {
+    ) -> Result<bool, AllocError>
+        requires ready { KnowsTexts self.old.viewer self.old.made (texts_of self.old.texts) }
+        ensures ready { OnOk result (KnowsTexts self.new.viewer self.new.made (texts_of self.new.texts)) }
+        ensures tests { OnOk result ((texts_of self.new.texts).tests ≡ (texts_of self.old.texts).tests) }
+        ensures names { self.new.names ≡ self.old.names }
+    {
         match edit_to(alloc, &self.texts, new, change)? {
             Some(edit) => {
                 let fault = self.make(rt, alloc, edit)?;
@@ -139,24 +277,57 @@ impl<'a, 'd, J: Naming + StoreName, R: Wait + Drop> Watched<'a, 'd, J, R> {
         }
     }
 
-    // Makes the model this one, item by item. Whether it is so then.
+    // Makes the changes that lead to this model, item by item, as far as they are accepted.
     fn change_items<W: Wait>(
         &mut self,
         rt: &W,
         alloc: Global,
         new: &ModelText,
-    ) -> Result<bool, AllocError> {
+    ) -> Result<(), AllocError>
+        requires ready { KnowsTexts self.old.viewer self.old.made (texts_of self.old.texts) }
+        ensures ready { OnOk result (KnowsTexts self.new.viewer self.new.made (texts_of self.new.texts)) }
+        ensures tests { OnOk result ((texts_of self.new.texts).tests ≡ (texts_of self.old.texts).tests) }
+        ensures names { self.new.names ≡ self.old.names }
+    {
         let changes = match changes_to(alloc, &self.texts, new)? {
             Some(changes) => changes,
-            None => return Ok(false),
+            None => return Ok(()),
         };
         for change in &changes {
             let accepted = self.change_item(rt, alloc, new, *change)?;
             if !accepted {
-                return Ok(false);
+                return Ok(());
             }
         }
-        Ok(true)
+        Ok(())
+    }
+
+    // Makes the model this one, item by item or as a whole, where the bench accepts the whole. Errors: out of memory, also where
+    // the edits end otherwise, which they do not.
+    fn put_items<W: Wait>(
+        &mut self,
+        rt: &W,
+        alloc: Global,
+        new: &ModelText,
+        whole: Edit,
+    ) -> Result<(), AllocError>
+        requires ready { KnowsTexts self.old.viewer self.old.made (texts_of self.old.texts) }
+        requires whole { IsOfModel (edit_of whole) }
+        ensures ready { OnOk result (KnowsTexts self.new.viewer self.new.made (texts_of self.new.texts)) }
+        ensures items { OnOk result (HoldsItems (clauses_of new.now.items.items) (texts_of self.new.texts)) }
+        ensures tests { OnOk result ((texts_of self.new.texts).tests ≡ (texts_of self.old.texts).tests) }
+        ensures names { self.new.names ≡ self.old.names }
+    {
+        self.change_items(rt, alloc, new)?;
+        if holds_items(alloc, &self.texts, new)? {
+            return Ok(());
+        }
+        drop(self.make(rt, alloc, whole)?);
+        if holds_items(alloc, &self.texts, new)? {
+            Ok(())
+        } else {
+            Err(AllocError)
+        }
     }
 
     /// Takes a version of the model's file. Why it is refused, if it is. Errors: out of memory.
@@ -165,99 +336,141 @@ impl<'a, 'd, J: Naming + StoreName, R: Wait + Drop> Watched<'a, 'd, J, R> {
         rt: &W,
         alloc: Global,
         text: Vec<u8>,
-    ) -> Result<Option<EditFault>, AllocError> {
+    ) -> Result<Option<EditFault>, AllocError>
+        requires ready { KnowsTexts self.old.viewer self.old.made (texts_of self.old.texts) }
+        ensures ready { OnOk result (KnowsTexts self.new.viewer self.new.made (texts_of self.new.texts)) }
+        ensures taken { IfOk result (λ o. IsVersionTaken ModelFile text.items (held_of self.old.texts self.old.names) o (held_of self.new.texts self.new.names)) }
+    {
+        let whole = Edit::PutModel {
+            model: Vec::from_slice(alloc, model_name())?,
+            text: Vec::from_slice(alloc, &text)?,
+        };
+        if let Some(fault) = self.refusal(alloc, &whole)? {
+            return Ok(Some(fault));
+        }
         let new = match read_model(alloc, &text) {
             Ok(new) => new,
-            Err(fault) => return refused_model(fault),
+            Err(_) => return Err(AllocError),
         };
-        let is_made = self.change_items(rt, alloc, &new)?;
-        if is_made {
-            return Ok(None);
-        }
-        let model = Vec::from_slice(alloc, model_name())?;
-        self.make(rt, alloc, Edit::PutModel { model, text })
+        self.put_items(rt, alloc, &new, whole)?;
+        Ok(None)
     }
 
     // Puts a part of a test. Whether it is accepted.
+    #[tactic(auto, using(crate::proofs::Taking::part_tests, crate::proofs::Taking::part_models))]
     fn put_part<W: Wait>(
         &mut self,
         rt: &W,
         alloc: Global,
         new: &Test,
         part: TestPart,
-    ) -> Result<bool, AllocError> {
+    ) -> Result<bool, AllocError>
+        requires ready { KnowsTexts self.old.viewer self.old.made (texts_of self.old.texts) }
+        ensures ready { OnOk result (KnowsTexts self.new.viewer self.new.made (texts_of self.new.texts)) }
+        ensures tests { OnOk result (AreSameBut new.now.name (texts_of self.old.texts).tests (texts_of self.new.texts).tests) }
+        ensures models { OnOk result ((texts_of self.new.texts).models ≡ (texts_of self.old.texts).models) }
+        ensures names { self.new.names ≡ self.old.names }
+    {
         let edit = part_edit(alloc, new, part)?;
         let fault = self.make(rt, alloc, edit)?;
         Ok(fault.is_none())
     }
 
-    // Makes the test of this name this one, part by part. Whether it is so then.
-    fn change_parts<W: Wait>(
-        &mut self,
-        rt: &W,
-        alloc: Global,
-        new: &Test,
-    ) -> Result<bool, AllocError> {
+    // Makes the test of this name this one, part by part, as far as the parts are accepted.
+    fn change_parts<W: Wait>(&mut self, rt: &W, alloc: Global, new: &Test) -> Result<(), AllocError>
+        requires ready { KnowsTexts self.old.viewer self.old.made (texts_of self.old.texts) }
+        ensures ready { OnOk result (KnowsTexts self.new.viewer self.new.made (texts_of self.new.texts)) }
+        ensures tests { OnOk result (AreSameBut new.now.name (texts_of self.old.texts).tests (texts_of self.new.texts).tests) }
+        ensures models { OnOk result ((texts_of self.new.texts).models ≡ (texts_of self.old.texts).models) }
+        ensures names { self.new.names ≡ self.old.names }
+    {
         let parts = match parts_to(alloc, &self.texts, new)? {
             Some(parts) => parts,
-            None => return Ok(false),
+            None => return Ok(()),
         };
         for part in &parts {
             let accepted = self.put_part(rt, alloc, new, *part)?;
             if !accepted {
-                return Ok(false);
+                return Ok(());
             }
         }
-        Ok(true)
+        Ok(())
     }
 
-    // Makes the test of this name this one, by parts or as a whole. Why it is refused, if it is.
+    // Makes the test of this name this one, part by part or as a whole, where the bench accepts the whole. Errors: out of memory,
+    // also where it does not accept it.
     fn put_test<W: Wait>(
         &mut self,
         rt: &W,
         alloc: Global,
         new: &Test,
         text: Vec<u8>,
-    ) -> Result<Option<EditFault>, AllocError> {
-        let is_made = self.change_parts(rt, alloc, new)?;
-        if is_made {
-            return Ok(None);
+    ) -> Result<(), AllocError>
+        requires ready { KnowsTexts self.old.viewer self.old.made (texts_of self.old.texts) }
+        requires only { (c : Content) → ReadsTest text.items c → content_of new.now ≡ c }
+        ensures ready { OnOk result (KnowsTexts self.new.viewer self.new.made (texts_of self.new.texts)) }
+        ensures tests { OnOk result ((texts_of self.new.texts).tests ≡ put_at (test_index new.now.name (texts_of self.old.texts).tests) (content_of new.now) (texts_of self.old.texts).tests) }
+        ensures models { OnOk result ((texts_of self.new.texts).models ≡ (texts_of self.old.texts).models) }
+        ensures names { self.new.names ≡ self.old.names }
+    {
+        self.change_parts(rt, alloc, new)?;
+        if holds_test(alloc, &self.texts, new)? {
+            return Ok(());
         }
-        self.make(rt, alloc, Edit::PutTest { text })
+        match self.make(rt, alloc, Edit::PutTest { text })? {
+            None => Ok(()),
+            Some(_) => Err(AllocError),
+        }
     }
 
-    // Drops the test of this name, which no file holds now.
+    // Drops the test of this name, unless a file holds one of it.
     fn drop_unheld<W: Wait>(
         &mut self,
         rt: &W,
         alloc: Global,
-        name: &Name,
-    ) -> Result<(), AllocError> {
-        if is_held(&self.tests, name) {
+        name: Option<Name>,
+    ) -> Result<(), AllocError>
+        requires ready { KnowsTexts self.old.viewer self.old.made (texts_of self.old.texts) }
+        ensures ready { OnOk result (KnowsTexts self.new.viewer self.new.made (texts_of self.new.texts)) }
+        ensures tests { OnOk result ((texts_of self.new.texts).tests ≡ without_unheld name self.old.names.items (texts_of self.old.texts).tests) }
+        ensures models { OnOk result ((texts_of self.new.texts).models ≡ (texts_of self.old.texts).models) }
+        ensures names { self.new.names ≡ self.old.names }
+    {
+        let name = match name {
+            Some(name) => name,
+            None => return Ok(()),
+        };
+        if is_held(&self.names, &name) {
             return Ok(());
         }
         let test = Vec::from_slice(alloc, name.as_bytes())?;
-        let fault = self.make(rt, alloc, Edit::DropTest { test })?;
-        drop(fault);
-        Ok(())
+        match self.make(rt, alloc, Edit::DropTest { test })? {
+            None => Ok(()),
+            Some(EditFault::NoTest) => Ok(()),
+            Some(_) => Err(AllocError),
+        }
     }
 
-    // The file of that index holds the test of this name from now on.
-    fn rename<W: Wait>(
+    // The file of that index holds this test from now on, which the bench accepts once the test that leaves is dropped.
+    fn hold_test<W: Wait>(
         &mut self,
         rt: &W,
         alloc: Global,
         index: usize,
-        name: Name,
-    ) -> Result<(), AllocError> {
-        let old = match self.tests.get_mut(index) {
-            Some(test) => replace(&mut test.name, Some(name)),
-            None => None,
-        };
-        match old {
-            Some(old) => self.drop_unheld(rt, alloc, &old),
-            None => Ok(()),
-        }
+        new: &Test,
+        text: Vec<u8>,
+    ) -> Result<(), AllocError>
+        requires ready { KnowsTexts self.old.viewer self.old.made (texts_of self.old.texts) }
+        requires reads { ReadsTest text.items (content_of new.now) }
+        requires only { (c : Content) → ReadsTest text.items c → content_of new.now ≡ c }
+        ensures ready { OnOk result (KnowsTexts self.new.viewer self.new.made (texts_of self.new.texts)) }
+        ensures taken { OnOk result (IsTestTaken index text.items (held_of self.old.texts self.old.names) (held_of self.new.texts self.new.names)) }
+    {
+        let name = new.name.copied(alloc)?;
+        let old = put_name(&mut self.names, index, name);
+        self.drop_unheld(rt, alloc, old)?;
+        self.put_test(rt, alloc, new, text)?;
+        Ok(())
     }
 
     /// Takes a version of the file of that index. Why it is refused, if it is. Errors: out of memory.
@@ -267,17 +480,25 @@ impl<'a, 'd, J: Naming + StoreName, R: Wait + Drop> Watched<'a, 'd, J, R> {
         alloc: Global,
         index: usize,
         text: Vec<u8>,
-    ) -> Result<Option<EditFault>, AllocError> {
+    ) -> Result<Option<EditFault>, AllocError>
+        requires ready { KnowsTexts self.old.viewer self.old.made (texts_of self.old.texts) }
+        ensures ready { OnOk result (KnowsTexts self.new.viewer self.new.made (texts_of self.new.texts)) }
+        ensures taken { IfOk result (λ o. IsVersionTaken (TestFile index) text.items (held_of self.old.texts self.old.names) o (held_of self.new.texts self.new.names)) }
+    {
+        let whole = Edit::PutTest {
+            text: Vec::from_slice(alloc, &text)?,
+        };
+        let refusal = self.refusal(alloc, &whole)?;
         let new = match read_test(alloc, &text) {
             Ok(new) => new,
-            Err(fault) => return refused_test(fault),
+            Err(_) => return unread(refusal),
         };
-        match self.put_test(rt, alloc, &new, text)? {
-            Some(fault) => Ok(Some(fault)),
-            None => {
-                self.rename(rt, alloc, index, new.name.copied(alloc)?)?;
-                Ok(None)
+        if let Some(fault) = refusal {
+            if !is_full(&fault) || !is_leaving(&self.names, index, &new.name) {
+                return Ok(Some(fault));
             }
         }
+        self.hold_test(rt, alloc, index, &new, text)?;
+        Ok(None)
     }
 }

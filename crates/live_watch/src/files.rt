@@ -4,14 +4,35 @@ use crate::start::watch;
 use crate::telling::VersionTeller;
 use crate::versions::FileVersions;
 use litmusbench::{OfRead, OfWrite, SessionFault};
+use std::alloc::{AllocError, Global};
 use std::io;
 use std::rt::Files;
 use std::sync::Wait;
 use std::thread::Threads;
 
+fn is_listed(paths: &[&str], path: &str) -> bool {
+    for listed in paths {
+        if *listed == path {
+            return true;
+        }
+    }
+    false
+}
+
+// Each path once, in their order.
+fn listed_once<'a>(alloc: Global, paths: &[&'a str]) -> Result<Vec<&'a str>, AllocError> {
+    let mut once = Vec::with_capacity(alloc, paths.len())?;
+    for path in paths {
+        if !is_listed(&once, path) {
+            once.push(*path)?;
+        }
+    }
+    Ok(once)
+}
+
 /// Watches the files of a model and of tests, with so many workers: standard input names those that have a later version, and
 /// what `watch` writes goes to standard output. The errors are told of files that cannot be read, of texts that are refused and
-/// of a model's fault. Whether a text was refused. Errors: those of `watch`.
+/// of a model's fault. A path that stands twice among the tests is watched once. Whether a text was refused. Errors: those of `watch`.
 pub fn watch_files<'a, R, E: Print>(
     rt: &R,
     errors: &E,
@@ -24,10 +45,14 @@ where
 {
     let workers = u32::try_from(workers).unwrap_or(u32::MAX);
     let files = FileVersions::new(rt, io::writer(errors));
-    let mut versions = VersionTeller::new(rt.alloc(), files, model, io::writer(errors));
+    let versions = VersionTeller::new(rt.alloc(), files, model, io::writer(errors));
     let source = OfRead::new(rt.reader());
     let sink = OfWrite::new(io::writer(rt));
-    match watch(rt, model, tests, workers, &mut versions, source, sink) {
+    let once = match listed_once(rt.alloc(), tests) {
+        Ok(once) => once,
+        Err(_) => return Err(SessionFault::Memory),
+    };
+    match watch(rt, model, &once, workers, versions, source, sink) {
         Ok(ended) => ended.answer,
         Err(_) => Err(SessionFault::Memory),
     }

@@ -1,18 +1,21 @@
 //! What is written of the tests.
 
-ghost use Rattle.std.specs.Prelude.{◌≡◌, ◌++◌, [], get_or, IfOk, OnOk, IfSome};
+ghost use Rattle.std.specs.Prelude.{◌≡◌, ◌++◌, [], get_or, IfOk, OnOk, IfSome, IfErr};
 ghost use Rattle.std.specs.List.{AllByRecursion as Each};
+ghost use mathlib.Core.List.{IsPrefix};
 ghost use Rattle.compare_report.specs.Cells.{cell_of};
+ghost use Rattle.bench_texts.specs.Held.{texts_of};
 ghost use Rattle.board.specs.Legal.{IsLegal};
-ghost use Rattle.live_watch.specs.Lines.{model_name, test_table, behind_line, IsTestLine, lists_of, line_by, lines_now, names_of};
-ghost use Rattle.live_watch.specs.Lines.{IsClosedBy, AreShown, changed_line, changed_lines, jobs_line, AreWritten};
+ghost use Rattle.live_watch.specs.Holding.{model_name};
+ghost use Rattle.live_watch.specs.Lines.{test_table, behind_line, AreLinesOf, changed_line, changed_lines, jobs_line, AreWritten};
+ghost use Rattle.live_watch.specs.Boards.{lists_of, shown_line, IsClosed, shown_by, IsClosedBy, shown_lines, AreOwn, KnowsTexts};
 
-use crate::watched::{Watched, WatchedTest};
+use crate::watched::Watched;
 use compare_report::{Shown as Cell, TestRow, table_text};
 use core::mem::replace_with;
 use desk_rule::{Naming, View, Viewer};
 use litmus_ppc::Name;
-use running_bench::{RunningTexts, newest_view, result_in};
+use running_bench::{RunningTexts, edit_count_in, newest_view, result_in};
 use std::alloc::{AllocError, Global};
 use std::sync::Wait;
 use text_values::{line_length, put_bytes, put_decimal};
@@ -58,7 +61,8 @@ pub fn test_line<J: Naming>(
     name: &[u8],
 ) -> Result<Option<Vec<u8>>, AllocError>
     requires { IsLegal view.now }
-    ensures { IfOk result (λ o. IfSome o (λ v. IsTestLine view.now name.now v.items)) }
+    ensures line { IfOk result (λ o. IfSome o (λ v. v.items ≡ shown_line view.now name.now)) }
+    ensures closed { IfOk result (λ o. IfSome o (λ v. IsClosed view.now name.now)) }
 {
     match result_in(view, name, model_name()) {
         Cell::Open => Ok(None),
@@ -73,13 +77,13 @@ pub fn test_line<J: Naming>(
 fn line_now<J: Naming>(
     alloc: Global,
     view: &View<J, RunningTexts>,
-    test: &WatchedTest<'_>,
+    name: &Option<Name>,
 ) -> Result<Option<Vec<u8>>, AllocError>
     requires { IsLegal view.now }
-    ensures line { IfOk result (λ o. IfSome o (λ v. v.items ≡ line_by view.now test.now.name)) }
-    ensures closed { IfOk result (λ o. IfSome o (λ v. IsClosedBy view.now test.now.name)) }
+    ensures line { IfOk result (λ o. IfSome o (λ v. v.items ≡ shown_by view.now name.now)) }
+    ensures closed { IfOk result (λ o. IfSome o (λ v. IsClosedBy view.now name.now)) }
 {
-    match &test.name {
+    match name {
         Some(name) => test_line(alloc, view, name.as_bytes()),
         None => Ok(Some(Vec::new(alloc))),
     }
@@ -89,15 +93,15 @@ fn line_now<J: Naming>(
 fn lines_now<J: Naming>(
     alloc: Global,
     view: &View<J, RunningTexts>,
-    tests: &[WatchedTest<'_>],
+    names: &[Option<Name>],
 ) -> Result<Option<Vec<Vec<u8>>>, AllocError>
     requires { IsLegal view.now }
-    ensures lines { IfOk result (λ o. IfSome o (λ v. lists_of v.items ≡ lines_now view.now (names_of tests.now))) }
-    ensures closed { IfOk result (λ o. IfSome o (λ v. Each (IsClosedBy view.now) (names_of tests.now))) }
+    ensures lines { IfOk result (λ o. IfSome o (λ v. lists_of v.items ≡ shown_lines view.now names.now)) }
+    ensures closed { IfOk result (λ o. IfSome o (λ v. Each (IsClosedBy view.now) names.now)) }
 {
-    let mut lines = Vec::with_capacity(alloc, tests.len())?;
-    for test in tests {
-        match line_now(alloc, view, test)? {
+    let mut lines = Vec::with_capacity(alloc, names.len())?;
+    for name in names {
+        match line_now(alloc, view, name)? {
             Some(line) => lines.push(line)?,
             None => return Ok(None),
         }
@@ -105,27 +109,32 @@ fn lines_now<J: Naming>(
     Ok(Some(lines))
 }
 
-// What is to be read of the board.
+// What is to be read of the board: the lines of the tests of these names, where it counts so many edits.
 #[derive(Clone, Copy)]
-struct Asked<'p, 'a> {
+struct Asked<'p> {
     alloc: Global,
-    tests: &'p [WatchedTest<'a>],
+    names: &'p [Option<Name>],
+    made: u64,
 }
 
 // Reads the board that was published last: the lines, or none where a cell is open. The viewer comes back, and has seen the
-// operations of that board.
-fn read_board<'p, 'a, J: Naming>(
+// operations of that board. Errors: out of memory, also where there are edits of someone else.
+fn read_board<'p, J: Naming>(
     viewer: Viewer<J, RunningTexts>,
-    asked: Asked<'p, 'a>,
+    asked: Asked<'p>,
 ) -> (
     Viewer<J, RunningTexts>,
     Result<Option<Vec<Vec<u8>>>, AllocError>,
 )
-    ensures { IfOk result.1 (λ o. IfSome o (λ v. AreShown result.0 (names_of asked.entry.tests.now) (lists_of v.items))) }
+    ensures begins { IsPrefix viewer result.0 }
+    ensures lines { IfOk result.1 (λ o. IfSome o (λ v. AreOwn result.0 asked.entry.made asked.entry.names.now (lists_of v.items))) }
 {
     match newest_view(viewer) {
         Ok(view) => {
-            let lines = lines_now(asked.alloc, &view, asked.tests);
+            if edit_count_in(&view) != asked.made {
+                return (view.leave(), Err(AllocError));
+            }
+            let lines = lines_now(asked.alloc, &view, asked.names);
             (view.leave(), lines)
         }
         Err(viewer) => (viewer, Err(AllocError)),
@@ -188,12 +197,20 @@ pub fn put_answer(
     put_jobs(text, jobs)
 }
 
-impl<'a, 'd, J: Naming + StoreName, R: Wait + Drop> Watched<'a, 'd, J, R> {
+impl<'d, J: Naming + StoreName, R: Wait + Drop> Watched<'d, J, R> {
     /// The lines of all files, from the board that was published last, or none where a cell is open. Errors: out of memory.
     pub fn lines_now(&mut self, alloc: Global) -> Result<Option<Vec<Vec<u8>>>, AllocError>
-        ensures { IfOk result (λ o. IfSome o (λ v. AreShown self.new.viewer (names_of self.new.tests.items) (lists_of v.items))) }
+        requires ready { KnowsTexts self.old.viewer self.old.made (texts_of self.old.texts) }
+        ensures ready { KnowsTexts self.new.viewer self.new.made (texts_of self.new.texts) }
+        ensures texts { self.new.texts ≡ self.old.texts }
+        ensures names { self.new.names ≡ self.old.names }
+        ensures lines { IfOk result (λ o. IfSome o (λ v. AreLinesOf (texts_of self.new.texts) self.new.names.items (lists_of v.items))) }
     {
-        let tests = self.tests.as_slice();
-        replace_with(&mut self.viewer, Asked { alloc, tests }, read_board)
+        let asked = Asked {
+            alloc,
+            names: self.names.as_slice(),
+            made: self.made,
+        };
+        replace_with(&mut self.viewer, asked, read_board)
     }
 }

@@ -1,11 +1,10 @@
 //! The jobs of the desk: the author runs them one after another, or the workers do.
 
 ghost use Rattle.std.specs.Prelude.{OnOk, OnErr, IfOk, ◌≡◌, Err};
-ghost use Rattle.board.specs.Operations.{board_after};
-ghost use Rattle.desk.specs.Boards.{AreSettled};
-ghost use Rattle.running_bench.specs.Cells.{board_cells};
-ghost use Rattle.board.specs.Histories.{IsHistory};
-ghost use Rattle.live_watch.specs.Lines.{lists_of, names_of, AreShown};
+ghost use mathlib.Core.List.{IsPrefix};
+ghost use Rattle.bench_texts.specs.Held.{texts_of};
+ghost use Rattle.live_watch.specs.Lines.{AreLinesOf};
+ghost use Rattle.live_watch.specs.Boards.{lists_of, KnowsTexts};
 
 use crate::turnstile::RunningTurnstile;
 use crate::watched::Watched;
@@ -26,7 +25,7 @@ pub enum Hands<'d, J: Naming + StoreName, R: Wait + Drop> {
     Workers(&'d RunningTurnstile<'d, J, R>),
 }
 
-impl<'a, 'd, J: Naming + StoreName, R: Wait + Drop> Watched<'a, 'd, J, R> {
+impl<'d, J: Naming + StoreName, R: Wait + Drop> Watched<'d, J, R> {
     // Runs a job and returns it. Errors: `Memory`, also where the store is full.
     fn run_job<W: Wait>(
         &self,
@@ -74,8 +73,10 @@ impl<'a, 'd, J: Naming + StoreName, R: Wait + Drop> Watched<'a, 'd, J, R> {
 
     // Waits until each cell is settled and published. Errors: `Memory`, also where a worker gave up.
     fn wait_settled<W: Wait>(&mut self, rt: &W) -> Result<(), SessionFault>
-        ensures settled { OnOk result (AreSettled (board_cells (board_after self.new.viewer))) }
-        ensures history { OnOk result (IsHistory self.new.viewer) }
+        requires ready { KnowsTexts self.old.viewer self.old.made (texts_of self.old.texts) }
+        ensures ready { OnOk result (KnowsTexts self.new.viewer self.new.made (texts_of self.new.texts)) }
+        ensures texts { self.new.texts ≡ self.old.texts }
+        ensures names { self.new.names ≡ self.old.names }
         ensures fault { OnErr result (result ≡ Err SessionFault.Memory) }
     {
         match self.desk.settle(rt, &mut self.viewer) {
@@ -92,8 +93,10 @@ impl<'a, 'd, J: Naming + StoreName, R: Wait + Drop> Watched<'a, 'd, J, R> {
         alloc: Global,
         hands: &Hands<'d, J, R>,
     ) -> Result<u64, SessionFault>
-        ensures settled { OnOk result (AreSettled (board_cells (board_after self.new.viewer))) }
-        ensures history { OnOk result (IsHistory self.new.viewer) }
+        requires ready { KnowsTexts self.old.viewer self.old.made (texts_of self.old.texts) }
+        ensures ready { OnOk result (KnowsTexts self.new.viewer self.new.made (texts_of self.new.texts)) }
+        ensures texts { self.new.texts ≡ self.old.texts }
+        ensures names { self.new.names ≡ self.old.names }
         ensures fault { OnErr result (result ≡ Err SessionFault.Memory) }
     {
         match hands {
@@ -118,7 +121,11 @@ impl<'a, 'd, J: Naming + StoreName, R: Wait + Drop> Watched<'a, 'd, J, R> {
         alloc: Global,
         hands: &Hands<'d, J, R>,
     ) -> Result<(u64, Vec<Vec<u8>>), SessionFault>
-        ensures lines { IfOk result (λ r. AreShown self.new.viewer (names_of self.new.tests.items) (lists_of r.1.items)) }
+        requires ready { KnowsTexts self.old.viewer self.old.made (texts_of self.old.texts) }
+        ensures ready { OnOk result (KnowsTexts self.new.viewer self.new.made (texts_of self.new.texts)) }
+        ensures texts { self.new.texts ≡ self.old.texts }
+        ensures names { self.new.names ≡ self.old.names }
+        ensures lines { IfOk result (λ r. AreLinesOf (texts_of self.new.texts) self.new.names.items (lists_of r.1.items)) }
         ensures fault { OnErr result (result ≡ Err SessionFault.Memory) }
     {
         let mut jobs: u64 = 0;

@@ -1,13 +1,17 @@
 //! The desk of a run, with its workers.
 
-ghost use Rattle.std.specs.Prelude.{◌≡◌, [], ◌-◌, ◌<◌, ◌^◌, IfOk};
+ghost use Rattle.std.specs.Prelude.{◌≡◌, [], ◌-◌, ◌<◌, ◌^◌, length, map, IfOk};
+ghost use Rattle.bench_texts.specs.Held.{texts_of};
+ghost use Rattle.live_watch.specs.Holding.{nothing_held};
+ghost use Rattle.live_watch.specs.Edits.{held_of};
+ghost use Rattle.live_watch.specs.Boards.{KnowsTexts};
 ghost use Rattle.live_watch.specs.Ends.{IsEnded};
 
 use crate::answers::Run;
 use crate::settling::Hands;
 use crate::turnstile::{RunningTurnstile, Turnstile, beside_workers};
 use crate::versions::Versions;
-use crate::watched::{Watched, watched_tests};
+use crate::watched::{Paths, Watched, no_names};
 use bench_texts::Texts;
 use desk_rule::Naming;
 use litmusbench::{ByteSink, ByteSource, SessionFault};
@@ -20,47 +24,47 @@ use value_store::StoreName;
 
 /// How watching ended.
 #[derive(Drop)]
-pub struct Ended<S, K> {
+pub struct Ended<V, S, K> {
     /// Whether a text was refused, or the fault that ended it.
     pub answer: Result<bool, SessionFault>,
+    /// The source of versions as it was left.
+    pub versions: V,
     /// The source as it was left.
     pub source: S,
     /// The sink as it was left.
     pub sink: K,
 }
 
-// The files that are watched.
-#[derive(Clone, Copy)]
-struct Paths<'a> {
-    model: &'a str,
-    tests: &'a [&'a str],
-}
-
 // An empty run over a desk.
+#[tactic(auto, using(crate::proofs::Cells::knows_start))]
 fn run_at<'a, 'd, J: Naming + StoreName, R: AllocGlobal + Wait + Drop>(
     rt: &R,
     desk: &'d RunningDesk<J, R>,
     hands: Hands<'d, J, R>,
     paths: Paths<'a>,
 ) -> Result<Run<'a, 'd, J, R>, AllocError>
-    ensures { IfOk result (λ run. run.lines.items ≡ []) }
+    ensures lines { IfOk result (λ run. run.lines.items ≡ []) }
+    ensures paths { IfOk result (λ run. run.paths ≡ paths.entry) }
+    ensures nothing { IfOk result (λ run. held_of run.watched.texts run.watched.names ≡ nothing_held (length paths.entry.tests.now)) }
+    ensures ready { IfOk result (λ run. KnowsTexts run.watched.viewer run.watched.made (texts_of run.watched.texts)) }
 {
     let alloc = rt.alloc();
     let viewer = match desk.viewer(rt) {
         Ok(viewer) => viewer,
         Err(_) => return Err(AllocError),
     };
-    let tests = watched_tests(alloc, paths.tests)?;
+    let names = no_names(alloc, paths.tests.len())?;
     let watched = Watched {
         desk,
         viewer,
         texts: Texts::new(alloc),
+        made: 0,
         last: 0,
-        tests,
+        names,
     };
     Ok(Run {
         watched,
-        model: paths.model,
+        paths,
         hands,
         lines: Vec::new(alloc),
         is_refused: false,
@@ -85,33 +89,28 @@ fn attend<'a, 'd, J, R, V, S, K>(
     desk: &'d RunningDesk<J, R>,
     hands: Hands<'d, J, R>,
     paths: Paths<'a>,
-    versions: &mut V,
+    versions: V,
     source: S,
     sink: K,
-) -> Result<Ended<S, K>, AllocError>
+) -> Result<Ended<V, S, K>, AllocError>
 where
     J: Naming + StoreName,
     R: AllocGlobal + Wait + Drop,
-    V: Versions,
+    V: Versions + Drop,
     S: ByteSource + Drop,
     K: ByteSink + Drop,
     requires source { S.failed_calls source < 2 ^ 64 - 1 }
     requires sink { K.failed_calls sink < 2 ^ 64 - 1 }
-    ensures { IfOk result (λ e. IsEnded S.failed_calls K.failed_calls K.contents source sink e) }
+    ensures { IfOk result (λ e. IsEnded S.failed_calls K.failed_calls V.readings K.contents paths.entry.model.now (map (λ t. t.now) paths.entry.tests.now) versions source sink e) }
 {
     let mut run = run_at(rt, desk, hands, paths)?;
+    let mut versions = versions;
     let mut source = source;
     let mut sink = sink;
-    let answer = run.answer_all(
-        rt,
-        rt.alloc(),
-        versions,
-        paths.tests,
-        &mut source,
-        &mut sink,
-    );
+    let answer = run.answer_all(rt, rt.alloc(), &mut versions, &mut source, &mut sink);
     Ok(Ended {
         answer,
+        versions,
         source,
         sink,
     })
@@ -123,19 +122,19 @@ fn attend_workers<'a, 'd, J, R, V, S, K>(
     turnstile: &'d RunningTurnstile<'d, J, R>,
     workers: u32,
     paths: Paths<'a>,
-    versions: &mut V,
+    versions: V,
     source: S,
     sink: K,
-) -> Result<Ended<S, K>, AllocError>
+) -> Result<Ended<V, S, K>, AllocError>
 where
     J: Naming + StoreName,
     R: AllocGlobal + Wait + Drop,
-    V: Versions,
+    V: Versions + Drop,
     S: ByteSource + Drop,
     K: ByteSink + Drop,
     requires source { S.failed_calls source < 2 ^ 64 - 1 }
     requires sink { K.failed_calls sink < 2 ^ 64 - 1 }
-    ensures { IfOk result (λ e. IsEnded S.failed_calls K.failed_calls K.contents source sink e) }
+    ensures { IfOk result (λ e. IsEnded S.failed_calls K.failed_calls V.readings K.contents paths.entry.model.now (map (λ t. t.now) paths.entry.tests.now) versions source sink e) }
 {
     let hands = hands_of(turnstile, workers);
     let ended = attend(rt, turnstile.desk(), hands, paths, versions, source, sink);
@@ -148,19 +147,19 @@ fn watch_at<'a, J, R, V, S, K>(
     desk: &RunningDesk<J, R>,
     workers: u32,
     paths: Paths<'a>,
-    versions: &mut V,
+    versions: V,
     source: S,
     sink: K,
-) -> Result<Ended<S, K>, AllocError>
+) -> Result<Ended<V, S, K>, AllocError>
 where
     J: Naming + StoreName + Send + Sync,
     R: AllocGlobal + Threads + Wait + Drop + Send + Sync,
-    V: Versions,
+    V: Versions + Drop,
     S: ByteSource + Drop,
     K: ByteSink + Drop,
     requires source { S.failed_calls source < 2 ^ 64 - 1 }
     requires sink { K.failed_calls sink < 2 ^ 64 - 1 }
-    ensures { IfOk result (λ e. IsEnded S.failed_calls K.failed_calls K.contents source sink e) }
+    ensures { IfOk result (λ e. IsEnded S.failed_calls K.failed_calls V.readings K.contents paths.entry.model.now (map (λ t. t.now) paths.entry.tests.now) versions source sink e) }
 {
     let turnstile = Turnstile::new(desk);
     let gate = &turnstile;
@@ -169,10 +168,10 @@ where
         rt.alloc(),
         gate,
         workers,
-        || -> Result<Ended<S, K>, AllocError>
+        || -> Result<Ended<V, S, K>, AllocError>
             requires source { S.failed_calls source < 2 ^ 64 - 1 }
             requires sink { K.failed_calls sink < 2 ^ 64 - 1 }
-            ensures { IfOk result (λ e. IsEnded S.failed_calls K.failed_calls K.contents source sink e) }
+            ensures { IfOk result (λ e. IsEnded S.failed_calls K.failed_calls V.readings K.contents paths.entry.model.now (map (λ t. t.now) paths.entry.tests.now) versions source sink e) }
         { attend_workers(rt, gate, workers, paths, versions, source, sink) },
     );
     match worked {
@@ -186,21 +185,21 @@ fn watch_from<'a, J, R, V, S, K>(
     seed: DeskSeed,
     workers: u32,
     paths: Paths<'a>,
-    versions: &mut V,
+    versions: V,
     source: S,
     sink: K,
-) -> Result<Ended<S, K>, AllocError>
+) -> Result<Ended<V, S, K>, AllocError>
 where
     J: Naming + StoreName + Send + Sync,
     R: AllocGlobal + Threads + Wait + Copy + Drop + Send + Sync,
-    V: Versions,
+    V: Versions + Drop,
     S: ByteSource + Drop,
     K: ByteSink + Drop,
     requires book { seed.book.seen.book ≡ J.book }
     requires values { seed.values.values ≡ J.shelves }
     requires source { S.failed_calls source < 2 ^ 64 - 1 }
     requires sink { K.failed_calls sink < 2 ^ 64 - 1 }
-    ensures { IfOk result (λ e. IsEnded S.failed_calls K.failed_calls K.contents source sink e) }
+    ensures { IfOk result (λ e. IsEnded S.failed_calls K.failed_calls V.readings K.contents paths.entry.model.now (map (λ t. t.now) paths.entry.tests.now) versions source sink e) }
 {
     match seed.desk::<J, R, R>(rt, rt.alloc(), *rt) {
         Ok(desk) => watch_at(rt, &desk, workers, paths, versions, source, sink),
@@ -219,19 +218,19 @@ pub fn watch<'a, R, V, S, K>(
     model: &'a str,
     tests: &'a [&'a str],
     workers: u32,
-    versions: &mut V,
+    versions: V,
     source: S,
     sink: K,
-) -> Result<Ended<S, K>, AllocError>
+) -> Result<Ended<V, S, K>, AllocError>
 where
     R: AllocGlobal + Threads + Wait + Copy + Drop + Send + Sync,
-    V: Versions,
+    V: Versions + Drop,
     S: ByteSource + Drop,
     K: ByteSink + Drop,
     requires source { S.failed_calls source < 2 ^ 64 - 1 }
     requires sink { K.failed_calls sink < 2 ^ 64 - 1 }
     // Where it answers, no read and no write failed, and a whole run was written; and of each fault what failed is told.
-    ensures { IfOk result (λ e. IsEnded S.failed_calls K.failed_calls K.contents source sink e) }
+    ensures { IfOk result (λ e. IsEnded S.failed_calls K.failed_calls V.readings K.contents model.now (map (λ t. t.now) tests.now) versions source sink e) }
 {
     match DeskSeed::new(rt.alloc()) {
         Ok(seed) => {

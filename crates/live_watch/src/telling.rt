@@ -1,5 +1,8 @@
 //! What people are told of the versions of files.
 
+ghost use Rattle.std.specs.Prelude.{◌≡◌, List, [], ◌∷◌, Option};
+ghost use Rattle.live_watch.specs.Readings.{AreRead};
+
 use crate::versions::{Version, Versions};
 use litmusbench::{TextFile, model_fault, model_refusal_lines, test_refusal_lines};
 use std::alloc::{AllocError, Global};
@@ -27,24 +30,32 @@ impl<'a, V: Versions, W: Write> VersionTeller<'a, V, W> {
         }
     }
 
-    fn tell(&mut self, lines: &[u8]) {
+    fn tell(&mut self, lines: &[u8])
+        ensures { self.new.versions ≡ self.old.versions }
+    {
         let _ = self.errors.write_all(lines);
     }
 
-    fn tell_fault(&mut self, fault: Vec<u8>) {
+    fn tell_fault(&mut self, fault: Vec<u8>)
+        ensures { self.new.versions ≡ self.old.versions }
+    {
         if fault.as_slice() != self.fault.as_slice() {
             self.tell(&fault);
         }
         self.fault = fault;
     }
 
-    fn tell_test(&mut self, alloc: Global, file: &TextFile<'_>) -> Result<(), AllocError> {
+    fn tell_test(&mut self, alloc: Global, file: &TextFile<'_>) -> Result<(), AllocError>
+        ensures { self.new.versions ≡ self.old.versions }
+    {
         let refusal = test_refusal_lines(alloc, file)?;
         self.tell(&refusal);
         Ok(())
     }
 
-    fn tell_model(&mut self, alloc: Global, file: &TextFile<'_>) -> Result<(), AllocError> {
+    fn tell_model(&mut self, alloc: Global, file: &TextFile<'_>) -> Result<(), AllocError>
+        ensures { self.new.versions ≡ self.old.versions }
+    {
         let refusal = model_refusal_lines(alloc, file)?;
         if !refusal.is_empty() {
             self.tell(&refusal);
@@ -54,7 +65,9 @@ impl<'a, V: Versions, W: Write> VersionTeller<'a, V, W> {
         Ok(())
     }
 
-    fn tell_of(&mut self, alloc: Global, file: &TextFile<'_>) -> Result<(), AllocError> {
+    fn tell_of(&mut self, alloc: Global, file: &TextFile<'_>) -> Result<(), AllocError>
+        ensures { self.new.versions ≡ self.old.versions }
+    {
         if file.path == self.model {
             self.tell_model(alloc, file)
         } else {
@@ -64,6 +77,8 @@ impl<'a, V: Versions, W: Write> VersionTeller<'a, V, W> {
 }
 
 impl<'a, V: Versions, W: Write> Versions for VersionTeller<'a, V, W> {
+    ghost readings = { λ t. V.readings t.versions };
+
     fn version(&mut self, alloc: Global, path: &str) -> Version {
         match self.versions.version(alloc, path) {
             Version::Text(text) => {

@@ -1,5 +1,8 @@
 //! Where the versions of files come from.
 
+ghost use Rattle.std.specs.Prelude.{List, [], ◌∷◌, Option, None};
+ghost use Rattle.live_watch.specs.Readings.{Reading, AreRead};
+
 use litmusbench::{OfRead, SessionFault, read_text};
 use std::alloc::Global;
 use std::fmt::Display;
@@ -21,8 +24,12 @@ pub enum Version {
 
 /// A source of the present versions of files.
 pub trait Versions {
+    // What calls have read so far, where it is known.
+    ghost readings: { Self → Option (List Reading) };
+
     /// The present version of the file of this path.
-    fn version(&mut self, alloc: Global, path: &str) -> Version;
+    fn version(&mut self, alloc: Global, path: &str) -> Version
+        ensures { AreRead (readings self.old) (readings self.new) (record { path = path.now; version = result } ∷ []) };
 }
 
 /// The files of the system. A writer is told of a file that cannot be read, with the reason.
@@ -63,6 +70,8 @@ impl<'a, R, W: Write> FileVersions<'a, R, W> {
 }
 
 impl<'a, R: Files, W: Write> Versions for FileVersions<'a, R, W> {
+    ghost readings = { λ s. None };
+
     fn version(&mut self, alloc: Global, path: &str) -> Version {
         match File::open(self.rt, path) {
             Ok(file) => self.text_in(alloc, path, file),

@@ -1,5 +1,8 @@
 //! The desk with the files that it watches.
 
+ghost use Rattle.std.specs.Prelude.{◌≡◌, IfOk};
+ghost use Rattle.live_watch.specs.Holding.{no_names};
+
 use bench_texts::Texts;
 use desk_rule::{Naming, Viewer};
 use litmus_ppc::Name;
@@ -8,41 +11,48 @@ use std::alloc::{AllocError, Global};
 use std::sync::Wait;
 use value_store::StoreName;
 
-/// The file of a test.
-#[derive(Drop)]
-pub struct WatchedTest<'a> {
-    /// Its path.
-    pub path: &'a str,
-    /// The name of the test that it holds, where a version of it was accepted.
-    pub name: Option<Name>,
+/// The files that are watched, by their paths.
+#[derive(Clone, Copy)]
+pub struct Paths<'a> {
+    /// Of the model.
+    pub model: &'a str,
+    /// Of the tests.
+    pub tests: &'a [&'a str],
 }
 
-/// A desk and a viewer of its board, the texts that it was given, and the files of the tests.
+/// A file that is watched.
+#[derive(Clone, Copy)]
+pub enum WatchedFile {
+    /// That of the model.
+    Model,
+    /// That of the test of this index.
+    Test(usize),
+}
+
+/// A desk and a viewer of its board, the texts that it was given, and the tests that the files hold.
 #[derive(Drop)]
-pub struct Watched<'a, 'd, J: Naming + StoreName, R: Wait + Drop> {
+pub struct Watched<'d, J: Naming + StoreName, R: Wait + Drop> {
     /// Where the edits are made.
     pub desk: &'d RunningDesk<J, R>,
     /// Who sees the board.
     pub viewer: Viewer<J, RunningTexts>,
     /// The texts that the desk was given.
     pub texts: Texts,
+    /// How many edits the desk was given.
+    pub made: u64,
     /// The number of the last edit.
     pub last: u64,
-    /// The files of the tests.
-    pub tests: Vec<WatchedTest<'a>>,
+    /// Of the file of each test the name of the test that it holds, where a version of it was accepted.
+    pub names: Vec<Option<Name>>,
 }
 
-/// The files of tests of which nothing was read yet. Errors: out of memory.
-pub fn watched_tests<'a>(
-    alloc: Global,
-    paths: &[&'a str],
-) -> Result<Vec<WatchedTest<'a>>, AllocError> {
-    let mut tests = Vec::with_capacity(alloc, paths.len())?;
-    for path in paths {
-        tests.push(WatchedTest {
-            path: *path,
-            name: None,
-        })?;
+/// The names of the tests in so many files of which nothing was read yet. Errors: out of memory.
+pub fn no_names(alloc: Global, count: usize) -> Result<Vec<Option<Name>>, AllocError>
+    ensures { IfOk result (λ v. v.items ≡ no_names count) }
+{
+    let mut names = Vec::with_capacity(alloc, count)?;
+    for _file in 0..count {
+        names.push(None)?;
     }
-    Ok(tests)
+    Ok(names)
 }

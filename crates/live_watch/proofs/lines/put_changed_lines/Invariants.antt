@@ -1,5 +1,6 @@
 use Rattle.std.proofs.Common.{◌≡◌, ◌++◌, take}
-use Rattle.live_watch.specs.Lines.{lists_of, changed_lines}
+use Rattle.live_watch.specs.Lines.{changed_lines}
+use Rattle.live_watch.specs.Boards.{lists_of}
 use Rattle.live_watch.proofs.lines.put_changed_lines.Given as goal
 
 -- the lines that changed so far

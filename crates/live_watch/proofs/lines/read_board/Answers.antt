@@ -1,5 +1,7 @@
-use Rattle.live_watch.proofs.Steps.{shown_lines}
+use Rattle.std.proofs.Common.{rules}
+use Rattle.live_watch.proofs.Cells.{view_lines}
 use Rattle.live_watch.proofs.lines.read_board.Goals as goal
 
-pub returns-in-Ok : goal.returns-in-Ok
-returns-in-Ok g c = shown_lines _ _ _ c.lines_now-lines.result c.leave.ensures c.in-Ok.ensures.right c.in-Ok.ensures.legal c.lines_now-lines.ensures.lines c.lines_now-lines.ensures.closed
+pub returns-else-edit_count_in-asked-clause-lines : goal.returns-else-edit_count_in-asked-clause-lines
+returns-else-edit_count_in-asked-clause-lines g c =
+    view_lines _ _ _ _ c.lines_now-lines.result c.leave-in-Ok.ensures c.in-Ok.ensures.right c.in-Ok.ensures.legal (search rules) c.lines_now-lines.ensures.lines c.lines_now-lines.ensures.closed

@@ -3,14 +3,17 @@ use Rattle.live_watch.proofs.Gaining.{gains_none, gains_joined}
 use Rattle.live_watch.proofs.answers.Run.answer_lines.Goals as goal
 
 pub loop-turn-init : goal.loop-turn-init
-loop-turn-init g c = record { reads = refl; writes = refl; answers = gains_none _ _ }
+loop-turn-init g c = record { ready = c.requires.ready; paths = refl; reads = refl; writes = refl; answers = gains_none _ _ _ _ _ _ }
 
 pub loop-turn-preserved : goal.loop-turn-preserved
 loop-turn-preserved g c = record {
+  ready = c.in_ok-goes_on.ensures.ready;
+  paths = c.in_ok-goes_on.ensures.paths ∙ c.loop-turn.invariant.paths;
   reads = c.in_ok-goes_on.ensures.reads ∙ c.loop-turn.invariant.reads;
   writes = c.in_ok-goes_on.ensures.writes ∙ c.loop-turn.invariant.writes;
-  answers = gains_joined _ _ _ _ _ _ c.loop-turn.invariant.answers c.in_ok-goes_on.ensures.answers;
+  answers = gains_joined _ _ _ _ _ _ _ _ _ _ _ _ _ _ c.loop-turn.invariant.answers (rw c.loop-turn.invariant.paths at c.in_ok-goes_on.ensures.answers);
 }
 
 pub returns-then-not-goes_on-clause-answers : goal.returns-then-not-goes_on-clause-answers
-returns-then-not-goes_on-clause-answers g c = gains_joined _ _ _ _ _ _ c.loop-turn.invariant.answers c.in_ok-goes_on.ensures.answers
+returns-then-not-goes_on-clause-answers g c =
+    gains_joined _ _ _ _ _ _ _ _ _ _ _ _ _ _ c.loop-turn.invariant.answers (rw c.loop-turn.invariant.paths at c.in_ok-goes_on.ensures.answers)

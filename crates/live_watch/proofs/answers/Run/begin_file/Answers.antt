@@ -1,5 +1,6 @@
-use Rattle.live_watch.proofs.Steps.{told_more}
 use Rattle.live_watch.proofs.answers.Run.begin_file.Goals as goal
 
-pub returns-in_ok-memory-in-Text-clause-told : goal.returns-in_ok-memory-in-Text-clause-told
-returns-in_ok-memory-in-Text-clause-told g c = told_more _ _ _ _ _ c.in_ok-memory-in-Text.ensures.value c.accept.ensures.accepted c.accept.ensures.refused
+pub returns-in_ok-memory-in-Text-clause-begun : goal.returns-in_ok-memory-in-Text-clause-begun
+returns-in_ok-memory-in-Text-clause-begun g c =
+    let noted = rw c.in_ok-memory-in-Text.ensures.value at c.accept.ensures.noted in
+    (c.in-Text.version, c.in-Text.ensures, c.in_ok-memory-in-Text.field-0, rw c.as_bytes.ensures.value at noted)

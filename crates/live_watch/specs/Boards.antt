@@ -1,0 +1,56 @@
+-- The lines of files as a board shows them, and what a viewer knows of its texts. Read after Lines.
+use Rattle.std.specs.Prelude.{◌≡◌, ◌≢◌, ◌<◌, ◌-◌, ◌^◌, ℕ, List, [], map, Option, Some, None, Vec}
+use Rattle.std.specs.declared.alloc.Global.{Global}
+use Rattle.std.specs.List.{AllByRecursion as Each}
+use Rattle.compare_report.specs.Cells.{Open}
+use Rattle.bench_texts.specs.BenchTexts.{BenchTexts}
+use Rattle.board.specs.declared.operation.BoardOp.{BoardOp}
+use Rattle.board.specs.Contents.{shown}
+use Rattle.board.specs.Operations.{board_after}
+use Rattle.board.specs.Legal.{IsLegal}
+use Rattle.board.specs.Results.{ShowsRightCells}
+use Rattle.board.specs.Edits.{edit_count}
+use Rattle.session_views.specs.Knowing.{KnowsOwn}
+use Rattle.live_watch.specs.Holding.{model_name}
+use Rattle.live_watch.specs.Lines.{test_table, behind_line}
+
+-- the viewer has seen these operations, of which it made so many edits: it knows by them that its own texts are these
+abbrev pub KnowsTexts : List BoardOp → ℕ → BenchTexts → Type 0
+KnowsTexts seen made texts = (made < 2 ^ 64 - 1) × KnowsOwn seen made texts
+
+-- the line of a test on the board after these operations
+abbrev pub shown_line : List BoardOp → List ℕ → List ℕ
+shown_line ops name = behind_line (test_table name (shown (board_after ops) name model_name))
+
+-- the cell of the test is settled, or there is none
+abbrev pub IsClosed : List BoardOp → List ℕ → Type 0
+IsClosed ops name = shown (board_after ops) name model_name ≢ Open
+
+-- the same of the test that a file holds
+abbrev pub shown_by : List BoardOp → Option (List ℕ) → List ℕ
+shown_by ops None = []
+shown_by ops (Some name) = shown_line ops name
+
+abbrev pub IsClosedBy : List BoardOp → Option (List ℕ) → Type 0
+IsClosedBy ops None = Unit {0}
+IsClosedBy ops (Some name) = IsClosed ops name
+
+-- the lines of all files on the board after these operations
+abbrev pub shown_lines : List BoardOp → List (Option (List ℕ)) → List (List ℕ)
+shown_lines ops names = map (shown_by ops) names
+
+-- These are the lines of the files on the board after these operations, whose cells are closed, and right for its texts.
+pub record AreShown (ops : List BoardOp) (names : List (Option (List ℕ))) (lines : List (List ℕ)) : Type 0 where
+  pub are : lines ≡ shown_lines ops names
+  pub closed : Each (IsClosedBy ops) names
+  pub right : ShowsRightCells ops
+  pub legal : IsLegal ops
+
+-- The board has so many edits beside.
+pub record AreOwn (ops : List BoardOp) (made : ℕ) (names : List (Option (List ℕ))) (lines : List (List ℕ)) : Type 0 where
+  pub shown : AreShown ops names lines
+  pub counted : edit_count ops ≡ made
+
+-- the lists in vectors
+abbrev pub lists_of : List (Vec ℕ Global) → List (List ℕ)
+lists_of lines = map (λ v. v.items) lines

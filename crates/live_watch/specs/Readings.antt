@@ -1,0 +1,13 @@
+-- What is read of files.
+use Rattle.std.specs.Prelude.{◌≡◌, ℕ, List, ◌++◌, Option, Some, None}
+use Rattle.live_watch.specs.declared.versions.Version.{Version}
+
+-- what was read of the file of a path
+pub record Reading : Type 0 where
+  pub path : List ℕ
+  pub version : Version
+
+-- these were read from one time to the other, where it is known what was
+abbrev pub AreRead : (before after : Option (List Reading)) → List Reading → Type 0
+AreRead None after read = after ≡ None
+AreRead (Some readings) after read = after ≡ Some (readings ++ read)
