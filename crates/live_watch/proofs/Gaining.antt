@@ -1,16 +1,19 @@
 -- Answers that a sink gained, one after another, and what was read for them.
-use Rattle.std.proofs.Common.{◌≡◌, ℕ, zero, suc, ◌+◌, ◌<◌, ◌≤◌, List, [], ◌∷◌, ◌++◌, length, map, take, get_or, true, false, Option, Some, None, Result, Ok, refl, sym, ap, subst, ◌∙◌, append_assoc, arith}
-use Rattle.std.specs.Prelude.{Vec, codes, Err, IfOk}
+use Rattle.std.proofs.Common.{◌≡◌, Bool, true, false, inl, inr, ℕ, zero, suc, ◌+◌, ◌<◌, ◌≤◌, List, [], ◌∷◌, ◌++◌, length, map, take, get_or, true, false, Option, Some, None, Result, Ok, refl, sym, ap, subst, ◌∙◌, append_assoc, arith}
+use Rattle.std.specs.Prelude.{Vec, codes, Err, IfOk, ◌==◌}
 use Rattle.std.specs.Borrow.{Bor}
 use Rattle.std.specs.declared.alloc.Global.{Global}
 use Rattle.std.proofs.KnownBytes.{Appends-nil, Appends-trans}
-use Rattle.std.specs.Io.KnownBytes.{Appends}
+use Rattle.std.specs.Io.KnownBytes.{Appends, Consumes, IsAtEnd}
+use Rattle.std.proofs.lemmas.Option.{same_Some}
+use Rattle.std.proofs.lemmas.Bool.{cases_Bool}
+use Rattle.std.proofs.lemmas.Bool.Decides.{Decides-eqb}
 use Rattle.command_line.specs.declared.fault.SessionFault.{SessionFault}
 use Rattle.live_watch.specs.declared.versions.Version.{Version}
 use Rattle.live_watch.specs.declared.versions.Version.TheVariants.{Text, Unread}
 use Rattle.live_watch.specs.Readings.{Reading, AreRead}
 use Rattle.live_watch.specs.Holding.{Holding, File, TestFile, ModelFile, FilePath, file_at, test_files, all_files}
-use Rattle.live_watch.specs.Runs.{refusal_of, AreAnswers, NoAnswer, OneMore, AreBegun, NoFile, Begun, NotBegun, IsRun, HasAnswers, IsAnswered, HasBegun, BeginsFile, HasBegunRun, NotedTaken, NotedRefused, IsTextAnswer, TextAccepted, TextRefused, IsAnswer, Unwatched, NotRead, Refused, Accepted}
+use Rattle.live_watch.specs.Runs.{refusal_of, AreAnswers, NoAnswer, OneMore, AreBegun, NoFile, Begun, NotBegun, IsRun, HasAnswers, line_before, lines_from, IsLine, AreIn, AreOfTurn, AreAll, IsAnswered, HasBegun, BeginsFile, HasBegunRun, NotedTaken, NotedRefused, IsTextAnswer, TextAccepted, TextRefused, IsAnswer, Unwatched, NotRead, Refused, Accepted}
 
 append_none : {A : Type 0} (xs : List A) → xs ++ [] ≡ xs
 append_none [] = refl
@@ -31,41 +34,165 @@ read_more (Some rs) b c xs ys first more =
 -- ---- answers
 
 -- nothing was answered
-pub gains_none : (model : List ℕ) (tests : List (List ℕ)) (held : Holding) (lines : List (List ℕ)) (r : Option (List Reading)) (a : Option (List ℕ))
-    → HasAnswers model tests held held lines lines r r a a
-gains_none model tests held lines r a = record { read = []; text = []; answers = NoAnswer held lines; reads = read_none r; gains = Appends-nil a }
+pub gains_none : (model : List ℕ) (tests : List (List ℕ)) (asks : List (List ℕ) → Type 0) (held : Holding) (lasts : List (List ℕ)) (r : Option (List Reading)) (a : Option (List ℕ))
+    → asks [] → HasAnswers model tests asks held held lasts lasts r r a a
+gains_none model tests asks held lasts r a asked =
+    record { lines = []; asked = asked; read = []; text = []; answers = NoAnswer held lasts; reads = read_none r; gains = Appends-nil a }
 
 -- one line was
-pub gains_one : (model : List ℕ) (tests : List (List ℕ)) (path : List ℕ) (old new : Holding) (lasts nows : List (List ℕ)) (r s : Option (List Reading)) (said : List ℕ) (a b : Option (List ℕ))
-    → IsAnswered path (file_at model tests path) old new lasts nows r s said → Appends a b said → HasAnswers model tests old new lasts nows r s a b
-gains_one model tests path old new lasts nows r s said a b answered gained = record {
+pub gains_one : (model : List ℕ) (tests : List (List ℕ)) (asks : List (List ℕ) → Type 0) (line : List ℕ) (old new : Holding) (lasts nows : List (List ℕ)) (r s : Option (List Reading)) (said : List ℕ) (a b : Option (List ℕ))
+    → asks (line ∷ []) → IsAnswered line (file_at model tests line) old new lasts nows r s said → Appends a b said → HasAnswers model tests asks old new lasts nows r s a b
+gains_one model tests asks line old new lasts nows r s said a b asked answered gained = record {
+  lines = [] ++ line ∷ [];
+  asked = asked;
   read = [] ++ answered.read;
   text = [] ++ said;
-  answers = OneMore path old old new lasts lasts nows [] answered.read [] said (NoAnswer old lasts) answered.answer;
+  answers = OneMore [] line old old new lasts lasts nows [] answered.read [] said (NoAnswer old lasts) answered.answer;
   reads = answered.reads;
   gains = gained;
 }
 
-joined : (model : List ℕ) (tests : List (List ℕ)) (old middle new : Holding) (lasts mids nows : List (List ℕ)) (read more : List Reading) (x y : List ℕ)
-    → AreAnswers model tests old middle lasts mids read x → AreAnswers model tests middle new mids nows more y → AreAnswers model tests old new lasts nows (read ++ more) (x ++ y)
-joined model tests old middle new lasts mids nows read more x y first (NoAnswer held lines) =
-    subst (λ (r : List Reading). AreAnswers model tests old held lasts lines r (x ++ [])) (sym (append_none read))
-    (subst (λ (text : List ℕ). AreAnswers model tests old held lasts lines read text) (sym (append_none x)) first)
-joined model tests old middle new lasts mids nows read more x y first (OneMore path from through to those these last readings others text said before answer) =
-    subst (λ (r : List Reading). AreAnswers model tests old new lasts nows r (x ++ (text ++ said))) (append_assoc read readings others)
-    (subst (λ (all : List ℕ). AreAnswers model tests old new lasts nows ((read ++ readings) ++ others) all) (append_assoc x text said)
-    (OneMore path old through new lasts these nows (read ++ readings) others (x ++ text) said
-    (joined model tests old middle through lasts mids these read readings x text first before) answer))
+-- the same answers, asked in another way
+pub gains_so : (model : List ℕ) (tests : List (List ℕ)) (asks so : List (List ℕ) → Type 0) (old new : Holding) (lasts nows : List (List ℕ)) (r s : Option (List Reading)) (a b : Option (List ℕ))
+    → ((lines : List (List ℕ)) → asks lines → so lines) → HasAnswers model tests asks old new lasts nows r s a b → HasAnswers model tests so old new lasts nows r s a b
+gains_so model tests asks so old new lasts nows r s a b law x =
+    record { lines = x.lines; asked = law x.lines x.asked; read = x.read; text = x.text; answers = x.answers; reads = x.reads; gains = x.gains }
 
-pub gains_joined : (model : List ℕ) (tests : List (List ℕ)) (old middle new : Holding) (lasts mids nows : List (List ℕ)) (r s t : Option (List Reading)) (a b c : Option (List ℕ))
-    → HasAnswers model tests old middle lasts mids r s a b → HasAnswers model tests middle new mids nows s t b c → HasAnswers model tests old new lasts nows r t a c
-gains_joined model tests old middle new lasts mids nows r s t a b c x y = record {
+joined : (model : List ℕ) (tests : List (List ℕ)) (before after : List (List ℕ)) (old middle new : Holding) (lasts mids nows : List (List ℕ)) (read more : List Reading) (x y : List ℕ)
+    → AreAnswers model tests before old middle lasts mids read x → AreAnswers model tests after middle new mids nows more y
+    → AreAnswers model tests (before ++ after) old new lasts nows (read ++ more) (x ++ y)
+joined model tests before after old middle new lasts mids nows read more x y first (NoAnswer held those) =
+    subst (λ (ls : List (List ℕ)). AreAnswers model tests ls old held lasts those (read ++ []) (x ++ [])) (sym (append_none before))
+    (subst (λ (r : List Reading). AreAnswers model tests before old held lasts those r (x ++ [])) (sym (append_none read))
+    (subst (λ (text : List ℕ). AreAnswers model tests before old held lasts those read text) (sym (append_none x)) first))
+joined model tests before after old middle new lasts mids nows read more x y first (OneMore lines line from through to those these last readings others text said answered answer) =
+    subst (λ (ls : List (List ℕ)). AreAnswers model tests ls old new lasts nows (read ++ (readings ++ others)) (x ++ (text ++ said))) (append_assoc before lines (line ∷ []))
+    (subst (λ (r : List Reading). AreAnswers model tests ((before ++ lines) ++ line ∷ []) old new lasts nows r (x ++ (text ++ said))) (append_assoc read readings others)
+    (subst (λ (all : List ℕ). AreAnswers model tests ((before ++ lines) ++ line ∷ []) old new lasts nows ((read ++ readings) ++ others) all) (append_assoc x text said)
+    (OneMore (before ++ lines) line old through new lasts these nows (read ++ readings) others (x ++ text) said
+    (joined model tests before lines old middle through lasts mids these read readings x text first answered) answer)))
+
+pub gains_joined : (model : List ℕ) (tests : List (List ℕ)) (one two all : List (List ℕ) → Type 0) (old middle new : Holding) (lasts mids nows : List (List ℕ)) (r s t : Option (List Reading)) (a b c : Option (List ℕ))
+    → ((x y : List (List ℕ)) → one x → two y → all (x ++ y))
+    → HasAnswers model tests one old middle lasts mids r s a b → HasAnswers model tests two middle new mids nows s t b c → HasAnswers model tests all old new lasts nows r t a c
+gains_joined model tests one two all old middle new lasts mids nows r s t a b c law x y = record {
+  lines = x.lines ++ y.lines;
+  asked = law x.lines y.lines x.asked y.asked;
   read = x.read ++ y.read;
   text = x.text ++ y.text;
-  answers = joined model tests old middle new lasts mids nows x.read y.read x.text y.text x.answers y.answers;
+  answers = joined model tests x.lines y.lines old middle new lasts mids nows x.read y.read x.text y.text x.answers y.answers;
   reads = read_more r s t x.read y.read x.reads y.reads;
   gains = Appends-trans a b c x.text y.text x.gains y.gains;
 }
+
+-- ---- which lines
+
+not_zero : (n : ℕ) → (suc n == 0) ≡ true → ⊥
+not_zero n e = absurd (omega (arith, (Decides-eqb (suc n) 0).0 e))
+
+true_not : true ≡ false → ⊥
+true_not e = absurd cc
+
+take_more : (xs : List ℕ) (i d : ℕ) → i < length xs → take (suc i) xs ≡ take i xs ++ get_or xs i d ∷ []
+take_more [] i d lt = absurd (omega (arith, lt))
+take_more (x ∷ xs) zero d lt = refl
+take_more (x ∷ xs) (suc i) d lt = ap (λ (l : List ℕ). x ∷ l) (take_more xs i d (omega (arith, lt)))
+
+all_taken : (xs : List ℕ) (i : ℕ) → length xs ≤ i → take i xs ≡ xs
+all_taken [] zero le = refl
+all_taken [] (suc i) le = refl
+all_taken (x ∷ xs) zero le = absurd (omega (arith, le))
+all_taken (x ∷ xs) (suc i) le = ap (λ (l : List ℕ). x ∷ l) (all_taken xs i (omega (arith, le)))
+
+-- no byte, and one line after another
+pub in_none : (front : List ℕ) → AreIn front [] front []
+in_none front = λ rest. refl
+
+pub in_both : (front middle left one two : List ℕ) (x y : List (List ℕ)) → AreIn front one middle x → AreIn middle two left y → AreIn front (one ++ two) left (x ++ y)
+in_both front middle left one two x y first then = λ rest.
+    ap (λ (l : List ℕ). lines_from front l) (append_assoc one two rest) ∙ first (two ++ rest) ∙ ap (λ (ls : List (List ℕ)). x ++ ls) (then rest)
+    ∙ sym (append_assoc x y (lines_from left rest))
+
+line_first : (line : List ℕ) (lines : List (List ℕ)) → line_before line lines ≡ line_before line [] ++ lines
+line_first [] lines = refl
+line_first (b ∷ line) lines = refl
+
+-- a line feed ends the line
+pub in_feed : (front left : List ℕ) (byte : ℕ) (x : List (List ℕ)) → byte ≡ 10 → left ≡ [] → IsLine front x → AreIn front (byte ∷ []) left x
+in_feed front left byte x feed none is = λ rest.
+    let at : lines_from front (10 ∷ rest) ≡ line_before front (lines_from [] rest) = refl in
+    ap (λ (b : ℕ). lines_from front (b ∷ rest)) feed ∙ at ∙ line_first front (lines_from [] rest)
+    ∙ ap (λ (ls : List (List ℕ)). ls ++ lines_from [] rest) (sym is) ∙ ap (λ (l : List ℕ). x ++ lines_from l rest) (sym none)
+
+-- any other byte is kept
+pub in_byte : (front left : List ℕ) (byte : ℕ) → (byte ≡ 10 → ⊥) → left ≡ front ++ byte ∷ [] → AreIn front (byte ∷ []) left []
+in_byte front left byte other kept = λ rest. elim (cases_Bool (byte == 10)) [
+  | inl t ↦ absurd (other ((Decides-eqb byte 10).0 t))
+  | inr f ↦ rw f (ap (λ (l : List ℕ). lines_from l rest) (sym kept))
+]
+
+-- an empty line is none, and another is one
+pub empty_line : (line : List ℕ) (is : Bool) → is ≡ (length line == 0) → is ≡ true → IsLine line []
+empty_line [] is e t = refl
+empty_line (b ∷ line) is e t = absurd (not_zero (length line) (sym e ∙ t))
+
+pub full_line : (line : List ℕ) (is : Bool) → is ≡ (length line == 0) → is ≡ false → IsLine line (line ∷ [])
+full_line [] is e f = absurd (true_not (sym e ∙ f))
+full_line (b ∷ line) is e f = refl
+
+-- one byte more
+pub in_next : (front middle left bytes : List ℕ) (i d : ℕ) (x y : List (List ℕ)) → i < length bytes → AreIn front (take i bytes) middle x → AreIn middle (get_or bytes i d ∷ []) left y
+    → AreIn front (take (i + 1) bytes) left (x ++ y)
+in_next front middle left bytes i d x y lt first then =
+    let one : suc i ≡ i + 1 = omega arith in
+    let more : take (i + 1) bytes ≡ take i bytes ++ get_or bytes i d ∷ [] = ap (λ (n : ℕ). take n bytes) (sym one) ∙ take_more bytes i d lt in
+    subst (λ (l : List ℕ). AreIn front l left (x ++ y)) (sym more) (in_both front middle left (take i bytes) (get_or bytes i d ∷ []) x y first then)
+
+pub in_all : (front left bytes : List ℕ) (i : ℕ) (x : List (List ℕ)) → length bytes ≤ i → AreIn front (take i bytes) left x → AreIn front bytes left x
+in_all front left bytes i x end lines = subst (λ (l : List ℕ). AreIn front l left x) (all_taken bytes i end) lines
+
+-- ---- turns
+
+-- what a turn takes of the source
+pub turn_on : (front left taken : List ℕ) (before after : Option (List ℕ)) (x : List (List ℕ)) → Consumes before after taken → AreIn front taken left x → AreOfTurn true front left before after x
+turn_on front left taken None after x consumes lines = λ bytes is. absurd cc
+turn_on front left taken (Some xs) None x consumes lines = absurd consumes
+turn_on front left taken (Some xs) (Some ys) x consumes lines = λ bytes is.
+    let same : xs ≡ bytes = same_Some xs bytes is in
+    (ys, refl, ap (λ (l : List ℕ). lines_from front l) (sym same ∙ consumes) ∙ lines ys)
+
+pub turn_end : (front left : List ℕ) (before after : Option (List ℕ)) (x : List (List ℕ)) → Consumes before after [] → IsAtEnd after → IsLine front x → AreOfTurn false front left before after x
+turn_end front left None after x consumes end line = λ bytes is. absurd cc
+turn_end front left (Some xs) None x consumes end line = absurd consumes
+turn_end front left (Some xs) (Some ys) x consumes end line = λ bytes is.
+    let same : xs ≡ bytes = same_Some xs bytes is in
+    let none : bytes ≡ [] = sym same ∙ consumes ∙ end in
+    line ∙ ap (λ (l : List ℕ). lines_from front l) (sym none)
+
+pub turns_on : (front middle left : List ℕ) (a b c : Option (List ℕ)) (x y : List (List ℕ)) → AreOfTurn true front middle a b x → AreOfTurn true middle left b c y → AreOfTurn true front left a c (x ++ y)
+turns_on front middle left a b c x y first then = λ bytes is.
+    let one = first bytes is in
+    let two = then one.0 one.1 in
+    (two.0, two.1, one.2 ∙ ap (λ (ls : List (List ℕ)). x ++ ls) two.2 ∙ sym (append_assoc x y (lines_from left two.0)))
+
+pub turns_end : (front middle left : List ℕ) (a b c : Option (List ℕ)) (x y : List (List ℕ)) → AreOfTurn true front middle a b x → AreOfTurn false middle left b c y → AreOfTurn false front left a c (x ++ y)
+turns_end front middle left a b c x y first then = λ bytes is.
+    let one = first bytes is in
+    ap (λ (ls : List (List ℕ)). x ++ ls) (then one.0 one.1) ∙ sym one.2
+
+pub no_turn : (front : List ℕ) (a : Option (List ℕ)) → AreOfTurn true front front a a []
+no_turn front a = λ bytes is. (bytes, is, refl)
+
+pub turns_on_if : (b : Bool) → b ≡ true → (front middle left : List ℕ) (r s t : Option (List ℕ)) (x y : List (List ℕ)) → AreOfTurn true front middle r s x → AreOfTurn b middle left s t y → AreOfTurn true front left r t (x ++ y)
+turns_on_if true on front middle left r s t x y first then = turns_on front middle left r s t x y first then
+turns_on_if false on front middle left r s t x y first then = absurd cc
+
+pub turns_end_if : (b : Bool) → b ≡ false → (front middle left : List ℕ) (r s t : Option (List ℕ)) (x y : List (List ℕ)) → AreOfTurn true front middle r s x → AreOfTurn b middle left s t y → AreOfTurn false front left r t (x ++ y)
+turns_end_if true off front middle left r s t x y first then = absurd cc
+turns_end_if false off front middle left r s t x y first then = turns_end front middle left r s t x y first then
+
+pub start_turn : (line : List ℕ) (a : Option (List ℕ)) → line ≡ [] → AreOfTurn true [] line a a []
+start_turn line a none = subst (λ (l : List ℕ). AreOfTurn true [] l a a []) (sym none) (no_turn [] a)
 
 -- ---- the beginning
 
@@ -191,9 +318,9 @@ watched_answered line path file f old new lasts nows r s version (Err fault) sam
 
 -- ---- a whole run
 
-pub run_of : (model : List ℕ) (tests lasts : List (List ℕ)) (held last : Holding) (firsts nows : List (List ℕ)) (r s t : Option (List Reading)) (first : List ℕ) (a b c : Option (List ℕ))
-    → HasBegunRun model tests lasts held firsts r s first → Appends a b first → HasAnswers model tests held last firsts nows s t b c → IsRun model tests lasts r t a c
-run_of model tests lasts held last firsts nows r s t first a b c begun gained more = record {
+pub run_of : (model : List ℕ) (tests lasts : List (List ℕ)) (source : Option (List ℕ)) (held last : Holding) (firsts nows : List (List ℕ)) (r s t : Option (List Reading)) (first : List ℕ) (a b c : Option (List ℕ))
+    → HasBegunRun model tests lasts held firsts r s first → Appends a b first → HasAnswers model tests (AreAll source) held last firsts nows s t b c → IsRun model tests lasts source r t a c
+run_of model tests lasts source held last firsts nows r s t first a b c begun gained more = record {
   held = held;
   last = last;
   firsts = firsts;
@@ -202,8 +329,10 @@ run_of model tests lasts held last firsts nows r s t first a b c begun gained mo
   read = more.read;
   first = first;
   text = more.text;
+  lines = more.lines;
   begun = begun.begun;
   answers = more.answers;
+  asked = more.asked;
   reads = read_more r s t begun.read more.read begun.reads more.reads;
   gains = Appends-trans a b c first more.text gained more.gains;
 }

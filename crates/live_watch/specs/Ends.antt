@@ -13,7 +13,7 @@ pub record AreCallsOf (answer : Result Bool SessionFault) (reads reads_then writ
 
 -- So it is for a source and a sink whose failed calls are counted so; and where it answers, a whole run over the files of these
 -- paths was written, from the versions that were read.
-pub record IsEnded {V S K : Type 0} (reads : S → ℕ) (writes : K → ℕ) (readings : V → Option (List Reading)) (contents : K → Option (List ℕ))
+pub record IsEnded {V S K : Type 0} (reads : S → ℕ) (remaining : S → Option (List ℕ)) (writes : K → ℕ) (readings : V → Option (List Reading)) (contents : K → Option (List ℕ))
     (model : List ℕ) (tests : List (List ℕ)) (versions : V) (source : S) (sink : K) (ended : Ended V S K) : Type 0 where
   pub calls : AreCallsOf ended.answer (reads source) (reads ended.source) (writes sink) (writes ended.sink)
-  pub run : OnOk ended.answer (IsRun model tests [] (readings versions) (readings ended.versions) (contents sink) (contents ended.sink))
+  pub run : OnOk ended.answer (IsRun model tests [] (remaining source) (readings versions) (readings ended.versions) (contents sink) (contents ended.sink))

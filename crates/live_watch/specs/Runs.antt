@@ -1,5 +1,5 @@
 -- What watching answers, and what a run writes. Read after Lines.
-use Rattle.std.specs.Prelude.{◌≡◌, ℕ, Bool, true, false, List, [], ◌∷◌, ◌++◌, codes, length, Option, Some, None, Vec}
+use Rattle.std.specs.Prelude.{◌≡◌, ◌==◌, if◌then◌else◌, ℕ, Bool, true, false, List, [], ◌∷◌, ◌++◌, codes, length, Option, Some, None, Vec}
 use Rattle.std.specs.declared.alloc.Global.{Global}
 use Rattle.std.specs.Io.KnownBytes.{Appends}
 use Rattle.bench_texts.specs.declared.fault.EditFault.{EditFault}
@@ -8,6 +8,19 @@ use Rattle.live_watch.specs.declared.versions.Version.TheVariants.{Text, Unread}
 use Rattle.live_watch.specs.Readings.{Reading, AreRead}
 use Rattle.live_watch.specs.Holding.{Holding, nothing_held, File, FilePath, all_files, file_at, IsTaken, IsVersionRefused}
 use Rattle.live_watch.specs.Lines.{AreLinesOf, AreWritten}
+
+-- ---- the lines of the source
+
+-- a line before others, if it is not empty
+abbrev pub line_before : (line : List ℕ) → (lines : List (List ℕ)) → List (List ℕ)
+line_before [] lines = lines
+line_before (byte ∷ line) lines = (byte ∷ line) ∷ lines
+
+-- The lines of these bytes that are not empty, where these stand before them in the first line. Each line ends in a line feed,
+-- and the last one may lack it.
+abbrev pub lines_from : (front bytes : List ℕ) → List (List ℕ)
+lines_from front [] = line_before front []
+lines_from front (byte ∷ bytes) = if byte == 10 then line_before front (lines_from [] bytes) else lines_from (front ++ byte ∷ []) bytes
 
 -- ---- the answer to a line of the source
 
@@ -44,12 +57,12 @@ pub data IsAnswer (path : List ℕ) (old new : Holding) (lasts nows : List (List
   Accepted : (file : File) (text : Vec ℕ Global) (said : List ℕ) → IsAccepted file text.items old new lasts nows said
       → IsAnswer path old new lasts nows (Some file) (record { path = path; version = Text text } ∷ []) said
 
--- the answers to some lines of the source, one after another
-pub data AreAnswers (model : List ℕ) (tests : List (List ℕ)) : (old new : Holding) (lasts nows : List (List ℕ)) (read : List Reading) (said : List ℕ) → Type 0 where
-  NoAnswer : (held : Holding) (lines : List (List ℕ)) → AreAnswers model tests held held lines lines [] []
-  OneMore : (path : List ℕ) (old middle new : Holding) (lasts mids nows : List (List ℕ)) (read more : List Reading) (text said : List ℕ)
-      → AreAnswers model tests old middle lasts mids read text → IsAnswer path middle new mids nows (file_at model tests path) more said
-      → AreAnswers model tests old new lasts nows (read ++ more) (text ++ said)
+-- the answers to lines of the source, one after another
+pub data AreAnswers (model : List ℕ) (tests : List (List ℕ)) : (lines : List (List ℕ)) (old new : Holding) (lasts nows : List (List ℕ)) (read : List Reading) (said : List ℕ) → Type 0 where
+  NoAnswer : (held : Holding) (lasts : List (List ℕ)) → AreAnswers model tests [] held held lasts lasts [] []
+  OneMore : (lines : List (List ℕ)) (line : List ℕ) (old middle new : Holding) (lasts mids nows : List (List ℕ)) (read more : List Reading) (text said : List ℕ)
+      → AreAnswers model tests lines old middle lasts mids read text → IsAnswer line middle new mids nows (file_at model tests line) more said
+      → AreAnswers model tests (lines ++ line ∷ []) old new lasts nows (read ++ more) (text ++ said)
 
 -- ---- the beginning of a run
 
@@ -71,9 +84,10 @@ pub record IsBegun (model : List ℕ) (tests : List (List ℕ)) (lasts : List (L
   pub right : AreLinesOf held.texts held.names lines
   pub written : AreWritten lasts lines told said
 
--- A whole run over the files of these paths is written: its beginning, and the answers to lines of the source. Before it these
--- lines were the last that were written. It is told what it read of the files.
-pub record IsRun (model : List ℕ) (tests lasts : List (List ℕ)) (read_before read_after : Option (List Reading)) (before after : Option (List ℕ)) : Type 0 where
+-- A whole run over the files of these paths is written: its beginning, and an answer to each line of the source that is not
+-- empty, where it is known which bytes it had. Before it these lines were the last that were written. It is told what it read
+-- of the files.
+pub record IsRun (model : List ℕ) (tests lasts : List (List ℕ)) (source : Option (List ℕ)) (read_before read_after : Option (List Reading)) (before after : Option (List ℕ)) : Type 0 where
   pub held : Holding
   pub last : Holding
   pub firsts : List (List ℕ)
@@ -82,8 +96,10 @@ pub record IsRun (model : List ℕ) (tests lasts : List (List ℕ)) (read_before
   pub read : List Reading
   pub first : List ℕ
   pub text : List ℕ
+  pub lines : List (List ℕ)
   pub begun : IsBegun model tests lasts held firsts first_read first
-  pub answers : AreAnswers model tests held last firsts nows read text
+  pub answers : AreAnswers model tests lines held last firsts nows read text
+  pub asked : (bytes : List ℕ) → source ≡ Some bytes → lines ≡ lines_from [] bytes
   pub reads : AreRead read_before read_after (first_read ++ read)
   pub gains : Appends before after (first ++ text)
 
@@ -100,14 +116,34 @@ pub data IsNoted (file : File) (path text : List ℕ) (old new : Holding) (befor
   NotedRefused : (fault : EditFault) → IsVersionRefused file text old.texts fault → new ≡ old → after ≡ before ++ refusal_of path fault
       → IsNoted file path text old new before after false
 
--- answers were written, and these files read for them
-pub record HasAnswers (model : List ℕ) (tests : List (List ℕ)) (old new : Holding) (lasts nows : List (List ℕ))
+-- lines for which this holds were answered, and files read for them
+pub record HasAnswers (model : List ℕ) (tests : List (List ℕ)) (asks : List (List ℕ) → Type 0) (old new : Holding) (lasts nows : List (List ℕ))
     (read_before read_after : Option (List Reading)) (before after : Option (List ℕ)) : Type 0 where
+  pub lines : List (List ℕ)
+  pub asked : asks lines
   pub read : List Reading
   pub text : List ℕ
-  pub answers : AreAnswers model tests old new lasts nows read text
+  pub answers : AreAnswers model tests lines old new lasts nows read text
   pub reads : AreRead read_before read_after read
   pub gains : Appends before after text
+
+-- it is the line, if it is not empty
+abbrev pub IsLine : (line : List ℕ) → List (List ℕ) → Type 0
+IsLine line lines = lines ≡ line_before line []
+
+-- the lines that end in these bytes, behind the first part of the first, where the second part is left
+abbrev pub AreIn : (front bytes left : List ℕ) → List (List ℕ) → Type 0
+AreIn front bytes left lines = (rest : List ℕ) → lines_from front (bytes ++ rest) ≡ lines ++ lines_from left rest
+
+-- the lines that a turn answers, where the source goes on or ends, and where its bytes are known
+abbrev pub AreOfTurn : (goes_on : Bool) → (front left : List ℕ) → (before after : Option (List ℕ)) → List (List ℕ) → Type 0
+AreOfTurn true front left before after lines =
+    (bytes : List ℕ) → before ≡ Some bytes → (rest : List ℕ) × (after ≡ Some rest) × (lines_from front bytes ≡ lines ++ lines_from left rest)
+AreOfTurn false front left before after lines = (bytes : List ℕ) → before ≡ Some bytes → lines ≡ lines_from front bytes
+
+-- all lines of the source
+abbrev pub AreAll : (source : Option (List ℕ)) → List (List ℕ) → Type 0
+AreAll source lines = (bytes : List ℕ) → source ≡ Some bytes → lines ≡ lines_from [] bytes
 
 -- a line was answered, for which this was read
 pub record IsAnswered (path : List ℕ) (file : Option File) (old new : Holding) (lasts nows : List (List ℕ))

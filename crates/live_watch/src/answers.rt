@@ -8,7 +8,7 @@ ghost use Rattle.live_watch.specs.Holding.{file_at, all_files, nothing_held};
 ghost use Rattle.live_watch.specs.Lines.{AreLinesOf, AreWritten};
 ghost use Rattle.live_watch.specs.Edits.{file_of, held_of, IsVersionTaken};
 ghost use Rattle.live_watch.specs.Boards.{lists_of, KnowsTexts};
-ghost use Rattle.live_watch.specs.Runs.{refusal_of, IsNoted, IsTextAnswer, IsAnswer, IsAnswered, HasAnswers, BeginsFile, HasBegun, HasBegunRun, IsRun};
+ghost use Rattle.live_watch.specs.Runs.{refusal_of, IsNoted, IsTextAnswer, IsAnswer, IsAnswered, HasAnswers, IsLine, AreIn, AreOfTurn, AreAll, BeginsFile, HasBegun, HasBegunRun, IsRun};
 
 use crate::lines::put_answer;
 use crate::settling::Hands;
@@ -35,7 +35,9 @@ fn memory<T>(made: Result<T, AllocError>) -> Result<T, SessionFault>
     }
 }
 
-fn push_byte(line: &mut Vec<u8>, byte: u8) -> Result<(), AllocError> {
+fn push_byte(line: &mut Vec<u8>, byte: u8) -> Result<(), AllocError>
+    ensures { OnOk result (line.new.items ≡ line.old.items ++ byte ∷ []) }
+{
     line.push(byte)?;
     Ok(())
 }
@@ -351,7 +353,7 @@ impl<'a, 'd, J: Naming + StoreName, R: Wait + Drop> Run<'a, 'd, J, R> {
         ensures unfailed { result ≢ Err SessionFault.Write → K.failed_calls sink.new ≡ K.failed_calls sink.old }
         ensures unread { result ≢ Err SessionFault.Read }
         // nothing for an empty line, and else one write, of what is answered to it
-        ensures answers { OnOk result (HasAnswers self.old.paths.model.now (map (λ t. t.now) self.old.paths.tests.now) (held_of self.old.watched.texts self.old.watched.names) (held_of self.new.watched.texts self.new.watched.names) (lists_of self.old.lines.items) (lists_of self.new.lines.items) (V.readings versions.old) (V.readings versions.new) (K.contents sink.old) (K.contents sink.new)) }
+        ensures answers { OnOk result (HasAnswers self.old.paths.model.now (map (λ t. t.now) self.old.paths.tests.now) (IsLine line.now) (held_of self.old.watched.texts self.old.watched.names) (held_of self.new.watched.texts self.new.watched.names) (lists_of self.old.lines.items) (lists_of self.new.lines.items) (V.readings versions.old) (V.readings versions.new) (K.contents sink.old) (K.contents sink.new)) }
     {
         if line.is_empty() {
             return Ok(());
@@ -377,7 +379,7 @@ impl<'a, 'd, J: Naming + StoreName, R: Wait + Drop> Run<'a, 'd, J, R> {
         ensures paths { self.new.paths ≡ self.old.paths }
         ensures writes { OnOk result (K.failed_calls sink.new ≡ K.failed_calls sink.old) }
         ensures wrote { result ≡ Err SessionFault.Write → K.failed_calls sink.new ≡ K.failed_calls sink.old + 1 }
-        ensures answers { OnOk result (HasAnswers self.old.paths.model.now (map (λ t. t.now) self.old.paths.tests.now) (held_of self.old.watched.texts self.old.watched.names) (held_of self.new.watched.texts self.new.watched.names) (lists_of self.old.lines.items) (lists_of self.new.lines.items) (V.readings versions.old) (V.readings versions.new) (K.contents sink.old) (K.contents sink.new)) }
+        ensures answers { OnOk result (HasAnswers self.old.paths.model.now (map (λ t. t.now) self.old.paths.tests.now) (AreIn line.old.items (byte ∷ []) line.new.items) (held_of self.old.watched.texts self.old.watched.names) (held_of self.new.watched.texts self.new.watched.names) (lists_of self.old.lines.items) (lists_of self.new.lines.items) (V.readings versions.old) (V.readings versions.new) (K.contents sink.old) (K.contents sink.new)) }
         ensures unfailed { result ≢ Err SessionFault.Write → K.failed_calls sink.new ≡ K.failed_calls sink.old }
         ensures unread { result ≢ Err SessionFault.Read }
     {
@@ -406,7 +408,7 @@ impl<'a, 'd, J: Naming + StoreName, R: Wait + Drop> Run<'a, 'd, J, R> {
         ensures paths { self.new.paths ≡ self.old.paths }
         ensures writes { OnOk result (K.failed_calls sink.new ≡ K.failed_calls sink.old) }
         ensures wrote { result ≡ Err SessionFault.Write → K.failed_calls sink.new ≡ K.failed_calls sink.old + 1 }
-        ensures answers { OnOk result (HasAnswers self.old.paths.model.now (map (λ t. t.now) self.old.paths.tests.now) (held_of self.old.watched.texts self.old.watched.names) (held_of self.new.watched.texts self.new.watched.names) (lists_of self.old.lines.items) (lists_of self.new.lines.items) (V.readings versions.old) (V.readings versions.new) (K.contents sink.old) (K.contents sink.new)) }
+        ensures answers { OnOk result (HasAnswers self.old.paths.model.now (map (λ t. t.now) self.old.paths.tests.now) (AreIn line.old.items bytes.now line.new.items) (held_of self.old.watched.texts self.old.watched.names) (held_of self.new.watched.texts self.new.watched.names) (lists_of self.old.lines.items) (lists_of self.new.lines.items) (V.readings versions.old) (V.readings versions.new) (K.contents sink.old) (K.contents sink.new)) }
         ensures unfailed { result ≢ Err SessionFault.Write → K.failed_calls sink.new ≡ K.failed_calls sink.old }
         ensures unread { result ≢ Err SessionFault.Read }
     {
@@ -434,7 +436,7 @@ impl<'a, 'd, J: Naming + StoreName, R: Wait + Drop> Run<'a, 'd, J, R> {
         ensures reads { OnOk result (S.failed_calls source.new ≡ S.failed_calls source.old) }
         ensures writes { OnOk result (K.failed_calls sink.new ≡ K.failed_calls sink.old) }
         ensures wrote { result ≡ Err SessionFault.Write → K.failed_calls sink.new ≡ K.failed_calls sink.old + 1 }
-        ensures answers { OnOk result (HasAnswers self.old.paths.model.now (map (λ t. t.now) self.old.paths.tests.now) (held_of self.old.watched.texts self.old.watched.names) (held_of self.new.watched.texts self.new.watched.names) (lists_of self.old.lines.items) (lists_of self.new.lines.items) (V.readings versions.old) (V.readings versions.new) (K.contents sink.old) (K.contents sink.new)) }
+        ensures answers { IfOk result (λ goes_on. HasAnswers self.old.paths.model.now (map (λ t. t.now) self.old.paths.tests.now) (AreOfTurn goes_on line.old.items line.new.items (S.remaining source.old) (S.remaining source.new)) (held_of self.old.watched.texts self.old.watched.names) (held_of self.new.watched.texts self.new.watched.names) (lists_of self.old.lines.items) (lists_of self.new.lines.items) (V.readings versions.old) (V.readings versions.new) (K.contents sink.old) (K.contents sink.new)) }
         ensures unfailed { result ≢ Err SessionFault.Write → K.failed_calls sink.new ≡ K.failed_calls sink.old }
         ensures unread { result ≢ Err SessionFault.Read → S.failed_calls source.new ≡ S.failed_calls source.old }
     {
@@ -469,7 +471,7 @@ impl<'a, 'd, J: Naming + StoreName, R: Wait + Drop> Run<'a, 'd, J, R> {
         ensures reads { OnOk result (S.failed_calls source.new ≡ S.failed_calls source.old) }
         ensures writes { OnOk result (K.failed_calls sink.new ≡ K.failed_calls sink.old) }
         ensures wrote { result ≡ Err SessionFault.Write → K.failed_calls sink.new ≡ K.failed_calls sink.old + 1 }
-        ensures answers { OnOk result (HasAnswers self.old.paths.model.now (map (λ t. t.now) self.old.paths.tests.now) (held_of self.old.watched.texts self.old.watched.names) (held_of self.new.watched.texts self.new.watched.names) (lists_of self.old.lines.items) (lists_of self.new.lines.items) (V.readings versions.old) (V.readings versions.new) (K.contents sink.old) (K.contents sink.new)) }
+        ensures answers { OnOk result (HasAnswers self.old.paths.model.now (map (λ t. t.now) self.old.paths.tests.now) (AreAll (S.remaining source.old)) (held_of self.old.watched.texts self.old.watched.names) (held_of self.new.watched.texts self.new.watched.names) (lists_of self.old.lines.items) (lists_of self.new.lines.items) (V.readings versions.old) (V.readings versions.new) (K.contents sink.old) (K.contents sink.new)) }
         ensures unfailed { result ≢ Err SessionFault.Write → K.failed_calls sink.new ≡ K.failed_calls sink.old }
         ensures unread { result ≢ Err SessionFault.Read → S.failed_calls source.new ≡ S.failed_calls source.old }
     {
@@ -500,7 +502,7 @@ impl<'a, 'd, J: Naming + StoreName, R: Wait + Drop> Run<'a, 'd, J, R> {
         ensures reads { OnOk result (S.failed_calls source.new ≡ S.failed_calls source.old) }
         ensures writes { OnOk result (K.failed_calls sink.new ≡ K.failed_calls sink.old) }
         ensures wrote { result ≡ Err SessionFault.Write → K.failed_calls sink.new ≡ K.failed_calls sink.old + 1 }
-        ensures run { OnOk result (IsRun self.old.paths.model.now (map (λ t. t.now) self.old.paths.tests.now) (lists_of self.old.lines.items) (V.readings versions.old) (V.readings versions.new) (K.contents sink.old) (K.contents sink.new)) }
+        ensures run { OnOk result (IsRun self.old.paths.model.now (map (λ t. t.now) self.old.paths.tests.now) (lists_of self.old.lines.items) (S.remaining source.old) (V.readings versions.old) (V.readings versions.new) (K.contents sink.old) (K.contents sink.new)) }
         ensures unfailed { result ≢ Err SessionFault.Write → K.failed_calls sink.new ≡ K.failed_calls sink.old }
         ensures unread { result ≢ Err SessionFault.Read → S.failed_calls source.new ≡ S.failed_calls source.old }
     {

@@ -101,7 +101,7 @@ where
     K: ByteSink + Drop,
     requires source { S.failed_calls source < 2 ^ 64 - 1 }
     requires sink { K.failed_calls sink < 2 ^ 64 - 1 }
-    ensures { IfOk result (λ e. IsEnded S.failed_calls K.failed_calls V.readings K.contents paths.entry.model.now (map (λ t. t.now) paths.entry.tests.now) versions source sink e) }
+    ensures { IfOk result (λ e. IsEnded S.failed_calls S.remaining K.failed_calls V.readings K.contents paths.entry.model.now (map (λ t. t.now) paths.entry.tests.now) versions source sink e) }
 {
     let mut run = run_at(rt, desk, hands, paths)?;
     let mut versions = versions;
@@ -134,7 +134,7 @@ where
     K: ByteSink + Drop,
     requires source { S.failed_calls source < 2 ^ 64 - 1 }
     requires sink { K.failed_calls sink < 2 ^ 64 - 1 }
-    ensures { IfOk result (λ e. IsEnded S.failed_calls K.failed_calls V.readings K.contents paths.entry.model.now (map (λ t. t.now) paths.entry.tests.now) versions source sink e) }
+    ensures { IfOk result (λ e. IsEnded S.failed_calls S.remaining K.failed_calls V.readings K.contents paths.entry.model.now (map (λ t. t.now) paths.entry.tests.now) versions source sink e) }
 {
     let hands = hands_of(turnstile, workers);
     let ended = attend(rt, turnstile.desk(), hands, paths, versions, source, sink);
@@ -159,7 +159,7 @@ where
     K: ByteSink + Drop,
     requires source { S.failed_calls source < 2 ^ 64 - 1 }
     requires sink { K.failed_calls sink < 2 ^ 64 - 1 }
-    ensures { IfOk result (λ e. IsEnded S.failed_calls K.failed_calls V.readings K.contents paths.entry.model.now (map (λ t. t.now) paths.entry.tests.now) versions source sink e) }
+    ensures { IfOk result (λ e. IsEnded S.failed_calls S.remaining K.failed_calls V.readings K.contents paths.entry.model.now (map (λ t. t.now) paths.entry.tests.now) versions source sink e) }
 {
     let turnstile = Turnstile::new(desk);
     let gate = &turnstile;
@@ -171,7 +171,7 @@ where
         || -> Result<Ended<V, S, K>, AllocError>
             requires source { S.failed_calls source < 2 ^ 64 - 1 }
             requires sink { K.failed_calls sink < 2 ^ 64 - 1 }
-            ensures { IfOk result (λ e. IsEnded S.failed_calls K.failed_calls V.readings K.contents paths.entry.model.now (map (λ t. t.now) paths.entry.tests.now) versions source sink e) }
+            ensures { IfOk result (λ e. IsEnded S.failed_calls S.remaining K.failed_calls V.readings K.contents paths.entry.model.now (map (λ t. t.now) paths.entry.tests.now) versions source sink e) }
         { attend_workers(rt, gate, workers, paths, versions, source, sink) },
     );
     match worked {
@@ -199,7 +199,7 @@ where
     requires values { seed.values.values ≡ J.shelves }
     requires source { S.failed_calls source < 2 ^ 64 - 1 }
     requires sink { K.failed_calls sink < 2 ^ 64 - 1 }
-    ensures { IfOk result (λ e. IsEnded S.failed_calls K.failed_calls V.readings K.contents paths.entry.model.now (map (λ t. t.now) paths.entry.tests.now) versions source sink e) }
+    ensures { IfOk result (λ e. IsEnded S.failed_calls S.remaining K.failed_calls V.readings K.contents paths.entry.model.now (map (λ t. t.now) paths.entry.tests.now) versions source sink e) }
 {
     match seed.desk::<J, R, R>(rt, rt.alloc(), *rt) {
         Ok(desk) => watch_at(rt, &desk, workers, paths, versions, source, sink),
@@ -230,7 +230,7 @@ where
     requires source { S.failed_calls source < 2 ^ 64 - 1 }
     requires sink { K.failed_calls sink < 2 ^ 64 - 1 }
     // Where it answers, no read and no write failed, and a whole run was written; and of each fault what failed is told.
-    ensures { IfOk result (λ e. IsEnded S.failed_calls K.failed_calls V.readings K.contents model.now (map (λ t. t.now) tests.now) versions source sink e) }
+    ensures { IfOk result (λ e. IsEnded S.failed_calls S.remaining K.failed_calls V.readings K.contents model.now (map (λ t. t.now) tests.now) versions source sink e) }
 {
     match DeskSeed::new(rt.alloc()) {
         Ok(seed) => {

@@ -1,14 +1,15 @@
-use Rattle.std.proofs.Common.{◌≡◌, map}
+use Rattle.std.proofs.Common.{◌≡◌, map, [], true}
 use Rattle.bench_texts.specs.Held.{texts_of}
 use Rattle.live_watch.specs.Edits.{held_of}
 use Rattle.live_watch.specs.Boards.{KnowsTexts, lists_of}
-use Rattle.live_watch.specs.Runs.{HasAnswers}
+use Rattle.live_watch.specs.Runs.{HasAnswers, AreOfTurn}
 use Rattle.live_watch.proofs.answers.Run.answer_lines.Given as goal
 
 -- no read and no write failed so far, and the lines so far were answered
 abbrev pub invariant-loop-turn : goal.invariant-loop-turn
 invariant-loop-turn g l =
     let reads = g.S.ByteSource.failed_calls in
+    let remaining = g.S.ByteSource.remaining in
     let calls = g.K.ByteSink.failed_calls in
     let contents = g.K.ByteSink.contents in
     let readings = g.V.Versions.readings in
@@ -18,6 +19,7 @@ invariant-loop-turn g l =
       reads : reads l.source ≡ reads l.initial.source;
       writes : calls l.sink ≡ calls l.initial.sink;
       answers : HasAnswers l.initial.self.paths.model.now (map (λ t. t.now) l.initial.self.paths.tests.now)
+          (AreOfTurn true [] l.line.items (remaining l.initial.source) (remaining l.source))
           (held_of l.initial.self.watched.texts l.initial.self.watched.names) (held_of l.self.watched.texts l.self.watched.names)
           (lists_of l.initial.self.lines.items) (lists_of l.self.lines.items) (readings l.initial.versions) (readings l.versions) (contents l.initial.sink) (contents l.sink);
     }
