@@ -1,10 +1,11 @@
 -- Why an edit is refused, and that an open desk does not say that it is closed.
-use Rattle.std.proofs.Common.{◌≡◌, ◌↔◌, Bool, true, false}
-use Rattle.std.specs.Prelude.{Result, Ok, Err}
+use Rattle.std.proofs.Common.{◌≡◌, ◌↔◌, ℕ, Bool, true, false, refl, sym, subst}
+use Rattle.std.specs.Prelude.{Result, Ok, Err, IfErr, OnErr, IsSome}
 use Rattle.memo_core.specs.declared.claims.ClaimFault.{ClaimFault}
 use Rattle.desk.specs.declared.fault.DeskFault.{DeskFault}
 use Rattle.desk.specs.declared.fault.DeskFault.TheVariants as faults
 use Rattle.desk.specs.Held.{IsRefusedBy}
+use Rattle.desk.specs.Numbers.{number_of}
 
 -- the bench says nothing of viewers
 pub refused_more : {F : Type 0} (refuses : F → Type 0) (is_ahead : Type 0) (d : DeskFault F) → IsRefusedBy refuses ⊥ d → IsRefusedBy refuses is_ahead d
@@ -35,3 +36,10 @@ not_memory e = cc
 
 pub not_claim : {A F : Type 0} (fault : ClaimFault) → (let r : Result A (DeskFault F) = Err (faults.Claim fault) in r ≡ Err faults.Closed) → ⊥
 not_claim fault e = cc
+
+-- a viewer is refused by the desk alone
+pub own_refusal : {A F : Type 0} (r : Result A (DeskFault F)) (closed : Bool) (spare : ℕ) → (r ≡ Err faults.Closed) ↔ (closed ≡ true) → (r ≡ Err faults.NoSeat) ↔ ((closed ≡ false) × (spare ≡ 0))
+    → OnErr r (closed ≡ false → spare ≡ 0) → IfErr r (λ fault. IsSome (number_of fault))
+own_refusal (Ok a) closed spare is_closed no_seat only = tt
+own_refusal (Err fault) true spare is_closed no_seat only = subst (λ (r : Result _ (DeskFault _)). IfErr r (λ f. IsSome (number_of f))) (sym (is_closed.1 refl)) refl
+own_refusal (Err fault) false spare is_closed no_seat only = subst (λ (r : Result _ (DeskFault _)). IfErr r (λ f. IsSome (number_of f))) (sym (no_seat.1 (refl, only refl))) refl

@@ -1,9 +1,10 @@
 //! The lock, and what each thread calls.
 
-ghost use Rattle.std.specs.Prelude.{◌≡◌, ◌<◌, [], IfOk, OnErr, OnOk, fold};
+ghost use Rattle.std.specs.Prelude.{◌≡◌, ◌<◌, [], IfOk, IfErr, IsSome, OnErr, OnOk, fold};
 ghost use mathlib.Core.List.{IsPrefix};
 ghost use Rattle.desk.specs.Boards.{AreSettled};
 ghost use Rattle.desk.specs.Held.{Tells, TellsSettled};
+ghost use Rattle.desk.specs.Numbers.{number_of};
 
 use crate::answer::{Accepted, Settling, Taken};
 use crate::fault::DeskFault;
@@ -150,8 +151,10 @@ impl<J: Naming + StoreName, X: BoardTexts, R: Wait + Drop> Desk<J, X, R> {
     }
 
     /// One of the viewers, which is not given again. It has seen nothing. Errors: K1, and K2 where none is left.
+    #[tactic(auto, using(crate::proofs::Refusing::own_refusal))]
     pub fn viewer<W: Wait>(&self, rt: &W) -> Result<Viewer<J, X>, DeskFault<X::Fault>>
-        ensures { IfOk result (λ v. v ≡ []) }
+        ensures given { IfOk result (λ v. v ≡ []) }
+        ensures fault { IfErr result (λ fault. IsSome (number_of fault)) }
     {
         self.lock(rt).viewer()
     }

@@ -333,6 +333,7 @@ impl<J: Naming + StoreName, X: BoardTexts, R: Wait + Drop> DeskState<J, X, R> {
     pub fn viewer(&mut self) -> Result<Viewer<J, X>, DeskFault<X::Fault>>
         ensures closed { (result ≡ Err DeskFault.Closed) ↔ (self.old.closed ≡ true) }
         ensures no_seat { (result ≡ Err DeskFault.NoSeat) ↔ ((self.old.closed ≡ false) × (self.old.spare ≡ 0)) }
+        ensures only { OnErr result (self.old.closed ≡ false → self.old.spare ≡ 0) }
         ensures err { OnErr result (self.new ≡ self.old) }
         ensures given { IfOk result (λ v. (v ≡ []) × (self.new.spare + 1 ≡ self.old.spare) × (self.new ≡ held self.old.bench self.old.all self.old.published self.new.spare self.old.closed)) }
     {
