@@ -1,5 +1,5 @@
 -- What lies under the desk's lock, and what each call makes of it.
-use Rattle.std.specs.Prelude.{◌≡◌, ℕ, ◌+◌, Bool, List, [], ◌∷◌, ◌++◌}
+use Rattle.std.specs.Prelude.{◌≡◌, ℕ, ◌+◌, Bool, List, [], ◌∷◌, ◌++◌, length}
 use Rattle.std.specs.List.{AllByRecursion as Each}
 use mathlib.Core.List.{IsPrefix}
 use Rattle.memo_core.specs.declared.claims.ClaimFault.TheVariants.{Spent}
@@ -82,10 +82,17 @@ pub record IsDone {T V O : Type 0} (is_legal : List O → Type 0) (are_settled :
   pub settled : are_settled me'
   pub legal : is_legal me'
 
-abbrev pub Settles : {T V O : Type 0} → (is_legal : List O → Type 0) → (are_settled : List O → Type 0) → (new : Held T V O) → (me me' : List O) → Settling → Type 0
-Settles is_legal are_settled new me me' Done = IsDone is_legal are_settled new me me'
-Settles is_legal are_settled new me me' (Waits changes) = (me' ≡ me) × (new.published ≡ new.all)
-Settles is_legal are_settled new me me' Refused = me' ≡ me
+-- all of so many operations is published, each cell that is settled on the bench is settled there, and the viewer knows what it knew
+pub record IsWaiting {T V O : Type 0} (are_posted : Bench T V → List O → Type 0) (new : Held T V O) (me me' : List O) (changes : ℕ) : Type 0 where
+  pub told : me' ≡ me
+  pub whole : new.published ≡ new.all
+  pub posted : are_posted new.bench new.published
+  pub count : changes ≡ length new.published
+
+abbrev pub Settles : {T V O : Type 0} → (is_legal are_settled : List O → Type 0) → (are_posted : Bench T V → List O → Type 0) → (new : Held T V O) → (me me' : List O) → Settling → Type 0
+Settles is_legal are_settled are_posted new me me' Done = IsDone is_legal are_settled new me me'
+Settles is_legal are_settled are_posted new me me' (Waits changes) = IsWaiting are_posted new me me' changes
+Settles is_legal are_settled are_posted new me me' Refused = me' ≡ me
 
 -- what the viewer of a turn of settling is told: all that it knew and what goes on from there, where every cell is settled; or nothing
 abbrev pub TellsSettled : {O : Type 0} → (is_legal : List O → Type 0) → (are_settled : List O → Type 0) → (me me' : List O) → Settling → Type 0

@@ -198,12 +198,13 @@ impl<J: Naming + StoreName, X: BoardTexts, R: Wait + Drop> DeskState<J, X, R> {
         }
     }
 
-    // Tries again what may be left, and publishes. True where readers see all operations.
+    // Tries again what may be left, and publishes. True where readers see all operations, and each settled cell among them.
     fn show_all<W: Wait>(&mut self, rt: &W) -> bool
         ensures bench { self.new.bench ≡ self.old.bench }
         ensures appends { Appends X.is_settle self.old.all self.old self.new }
         ensures grows { IsPrefix self.old.published self.new.published }
         ensures whole { IsTrue result → self.new.published ≡ self.new.all }
+        ensures posted { IsTrue result → ArePosted X.net (cells_of X.verdict_of X.outcome_in X.from_scratch X.reaches) self.new.bench (X.cells (fold X.after X.none self.new.published)) }
     {
         self.try_again(rt);
         if self.owes {
@@ -298,7 +299,8 @@ impl<J: Naming + StoreName, X: BoardTexts, R: Wait + Drop> DeskState<J, X, R> {
         Ok(())
     }
 
-    /// Publishes, and tells the viewer once each cell is settled. Errors: K1, and K2 if the viewer has seen more than this desk
+    /// Publishes, and tells the viewer once each cell is settled. Where it waits, it says how many operations are published, and
+    /// each cell that is settled on the bench is settled there. Errors: K1, and K2 if the viewer has seen more than this desk
     /// has.
     pub fn settle<W: Wait>(
         &mut self,
@@ -311,7 +313,7 @@ impl<J: Naming + StoreName, X: BoardTexts, R: Wait + Drop> DeskState<J, X, R> {
         ensures bench { self.new.bench ≡ self.old.bench }
         ensures appends { OnOk result (Appends X.is_settle self.old.all self.old self.new) }
         ensures grows { OnOk result (IsPrefix self.old.published self.new.published) }
-        ensures settles { IfOk result (λ r. Settles X.is_legal (λ ops. AreSettled (X.cells (fold X.after X.none ops))) self.new me.old me.new r) }
+        ensures settles { IfOk result (λ r. Settles X.is_legal (λ ops. AreSettled (X.cells (fold X.after X.none ops))) (λ bench ops. ArePosted X.net (cells_of X.verdict_of X.outcome_in X.from_scratch X.reaches) bench (X.cells (fold X.after X.none ops))) self.new me.old me.new r) }
     {
         if self.closed {
             return Err(DeskFault::Closed);
@@ -360,7 +362,9 @@ impl<J: Naming + StoreName, X: BoardTexts, R: Wait + Drop> DeskState<J, X, R> {
     }
 
     /// How many changes of the board there were: operations that were appended.
-    pub(crate) fn change_count(&self) -> u64 {
+    pub(crate) fn change_count(&self) -> u64
+        ensures { result ≡ length self.now.all }
+    {
         self.ledger.front().len()
     }
 

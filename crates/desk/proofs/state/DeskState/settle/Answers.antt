@@ -1,4 +1,4 @@
-use Rattle.std.proofs.Common.{◌≡◌, List, fold, refl, ap, sym, ◌∙◌, subst}
+use Rattle.std.proofs.Common.{◌≡◌, List, length, fold, refl, ap, sym, ◌∙◌, subst}
 use mathlib.Core.List.{IsPrefix}
 use Rattle.desk.specs.Boards.{AreSettled}
 use Rattle.desk.specs.Held.{Held}
@@ -40,7 +40,14 @@ pub returns-then-not-is_settled-clause-grows : goal.returns-then-not-is_settled-
 returns-then-not-is_settled-clause-grows g c = c.show_all.ensures.grows
 
 pub returns-then-not-is_settled-clause-settles : goal.returns-then-not-is_settled-clause-settles
-returns-then-not-is_settled-clause-settles g c = (refl, c.if-not-show_all.ensures.whole refl)
+returns-then-not-is_settled-clause-settles g c =
+    let whole = c.if-not-show_all.ensures.whole refl in
+    record {
+      told = refl;
+      whole = whole;
+      posted = c.if-not-show_all.ensures.posted refl;
+      count = c.change_count.ensures ∙ ap length (sym whole);
+    }
 
 pub returns-clause-bench : goal.returns-clause-bench
 returns-clause-bench g c = c.show_all.ensures.bench

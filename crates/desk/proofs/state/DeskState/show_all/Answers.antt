@@ -1,4 +1,5 @@
 use Rattle.std.proofs.Common.{ap, ◌∙◌}
+use Rattle.std.proofs.lemmas.Bool.{MatchBool-at_true}
 use Rattle.desk.specs.Held.{Held}
 use Rattle.desk.proofs.Growing.{grown_from, grown_then}
 use Rattle.desk.proofs.state.DeskState.show_all.Goals as goal
@@ -35,3 +36,6 @@ returns-clause-appends g c =
 pub returns-clause-grows : goal.returns-clause-grows
 returns-clause-grows g c =
     grown_then _ _ _ c.try_again.ensures.grows (grown_from _ _ _ (ap (λ (h : Held _ _ _). h.published) c.self.view_is) c.publish.ensures.grows)
+
+pub returns-clause-posted : goal.returns-clause-posted
+returns-clause-posted g c ok = rw (MatchBool-at_true _ _ ok c.publish.ensures.published) (c.self.invariant.3 c.if-self.false)
