@@ -1,6 +1,6 @@
 -- Why an edit is refused, and that an open desk does not say that it is closed.
 use Rattle.std.proofs.Common.{◌≡◌, ◌↔◌, ℕ, Bool, true, false, refl, sym, subst}
-use Rattle.std.specs.Prelude.{Result, Ok, Err, IfErr, OnErr, IsSome}
+use Rattle.std.specs.Prelude.{Result, Ok, Err, IfErr, IsTrue, OnErr, IsSome}
 use Rattle.memo_core.specs.declared.claims.ClaimFault.{ClaimFault}
 use Rattle.desk.specs.declared.fault.DeskFault.{DeskFault}
 use Rattle.desk.specs.declared.fault.DeskFault.TheVariants as faults
@@ -8,12 +8,16 @@ use Rattle.desk.specs.Held.{IsRefusedBy}
 use Rattle.desk.specs.Numbers.{number_of}
 
 -- the bench says nothing of viewers
-pub refused_more : {F : Type 0} (refuses : F → Type 0) (is_ahead : Type 0) (d : DeskFault F) → IsRefusedBy refuses ⊥ d → IsRefusedBy refuses is_ahead d
-refused_more refuses is_ahead (faults.Edit fault) h = h
-refused_more refuses is_ahead (faults.Claim fault) h = h
-refused_more refuses is_ahead faults.OutOfMemory h = h
-refused_more refuses is_ahead faults.Closed h = h
-refused_more refuses is_ahead faults.NoSeat h = absurd h
+pub refused_more : {F : Type 0} (refuses is_want : F → Type 0) (is_ahead : Type 0) (d : DeskFault F) → IsRefusedBy refuses is_want ⊥ d → IsRefusedBy refuses is_want is_ahead d
+refused_more refuses is_want is_ahead (faults.Edit fault) h = h
+refused_more refuses is_want is_ahead (faults.Claim fault) h = h
+refused_more refuses is_want is_ahead faults.OutOfMemory h = h
+refused_more refuses is_want is_ahead faults.Closed h = h
+refused_more refuses is_want is_ahead faults.NoSeat h = absurd h
+
+-- a test that failed for what is so
+pub not_so : {b : Bool} {P : Type 0} → IsTrue b ↔ P → b ≡ false → P → ⊥
+not_so {b} {P} so off p = let on : b ≡ true = so.1 p in cc
 
 pub never : true ≡ false → ⊥
 never e = cc

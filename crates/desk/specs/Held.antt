@@ -104,14 +104,14 @@ TellsSettled is_legal are_settled me me' Refused = me' ≡ me
 abbrev pub IsRefusedTurn : {T E V G O : Type 0} → Meaning T E V G → (old new : Held T V O) → Type 0
 IsRefusedTurn means old new = Step means old.bench core.Refused new.bench × (new ≡ held new.bench old.all old.published old.spare old.closed)
 
--- Why an edit is refused: by the bench for that fault, or by the desk for a viewer that has seen more. That the desk is closed and
--- that memory is wanted are said apart.
-abbrev pub IsRefusedBy : {F : Type 0} → (refuses : F → Type 0) → (is_ahead : Type 0) → DeskFault F → Type 0
-IsRefusedBy refuses is_ahead (faults.Edit fault) = refuses fault
-IsRefusedBy refuses is_ahead (faults.Claim fault) = ⊥
-IsRefusedBy refuses is_ahead faults.OutOfMemory = Unit {0}
-IsRefusedBy refuses is_ahead faults.Closed = Unit {0}
-IsRefusedBy refuses is_ahead faults.NoSeat = is_ahead
+-- Why an edit is refused: by the bench for that fault, which is not want of memory, or by the desk for a viewer that has seen more.
+-- That the desk is closed and that memory is wanted are said apart.
+abbrev pub IsRefusedBy : {F : Type 0} → (refuses is_want_of_memory : F → Type 0) → (is_ahead : Type 0) → DeskFault F → Type 0
+IsRefusedBy refuses is_want_of_memory is_ahead (faults.Edit fault) = refuses fault × (is_want_of_memory fault → ⊥)
+IsRefusedBy refuses is_want_of_memory is_ahead (faults.Claim fault) = ⊥
+IsRefusedBy refuses is_want_of_memory is_ahead faults.OutOfMemory = Unit {0}
+IsRefusedBy refuses is_want_of_memory is_ahead faults.Closed = Unit {0}
+IsRefusedBy refuses is_want_of_memory is_ahead faults.NoSeat = is_ahead
 
 -- Why a claim is refused: for spent numbers, and only where they are spent. That the desk is closed and that memory is wanted
 -- are said apart.

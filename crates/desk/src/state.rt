@@ -69,7 +69,7 @@ fn make_edit<J: Naming + StoreName, X: BoardTexts>(
     requires after { X.are_after bench.old.texts ledger.old.all }
     requires last { X.last_number ledger.old.all ≤ bench.old.taken }
     ensures open { result ≢ Err DeskFault.Closed }
-    ensures fault { IfErr result (λ fault. IsRefusedBy (X.refuses bench.old.texts edit (leb LAST bench.old.taken)) ⊥ fault) }
+    ensures fault { IfErr result (λ fault. IsRefusedBy (X.refuses bench.old.texts edit (leb LAST bench.old.taken)) X.is_want_of_memory ⊥ fault) }
     ensures valid { X.is_valid bench.new.texts }
     ensures after { X.are_after bench.new.texts ledger.new.all }
     ensures last { X.last_number ledger.new.all ≤ bench.new.taken }
@@ -142,7 +142,7 @@ impl<J: Naming + StoreName, X: BoardTexts, R: Wait + Drop> DeskState<J, X, R> {
         edit: X::Edit,
     ) -> Result<Accepted, DeskFault<X::Fault>>
         ensures closed { (result ≡ Err DeskFault.Closed) ↔ (self.old.closed ≡ true) }
-        ensures fault { IfErr result (λ fault. IsRefusedBy (X.refuses self.old.bench.texts edit (leb LAST self.old.bench.taken)) (length self.old.all < length me.old) fault) }
+        ensures fault { IfErr result (λ fault. IsRefusedBy (X.refuses self.old.bench.texts edit (leb LAST self.old.bench.taken)) X.is_want_of_memory (length self.old.all < length me.old) fault) }
         ensures err { OnErr result (IsRefusedTurn (meaning X.net X.is_valid X.since X.makes X.keeps X.edited) self.old self.new × (me.new ≡ me.old)) }
         ensures unspent { OnOk result (self.old.bench.taken < LAST) }
         ensures turn { IfOk result (λ a. IsEditTurn (meaning X.net X.is_valid X.since X.makes X.keeps X.edited) X.is_edit X.is_settle edit self.old self.new (number_of a)) }

@@ -1,6 +1,6 @@
 //! What the desk asks of texts, beside what the bench asks: how edits and outcomes become operations on boards.
 
-ghost use Rattle.std.specs.Prelude.{◌≡◌, ◌<◌, ◌≤◌, ℕ, List, [], ◌∷◌, ◌++◌, Some, IfOk, IfSome, IfNone, IsSome, length, slice_get, fold};
+ghost use Rattle.std.specs.Prelude.{◌≡◌, ◌<◌, ◌≤◌, ◌↔◌, ℕ, List, [], ◌∷◌, ◌++◌, Some, IfOk, IfSome, IfNone, IsSome, IsTrue, length, slice_get, fold};
 ghost use Rattle.memo_core.specs.declared.keys.Node.{Node as NodeRecord};
 ghost use Rattle.desk.specs.Boards.{BoardCell, HoldsAbove, open_of, with_outcome};
 
@@ -47,6 +47,9 @@ pub trait BoardTexts: CellTexts + Operations {
     /// Whether an operation settles the cell at an index of a board with an outcome.
     ghost settles: { Self.Board → ℕ → Self.Outcome → Self.Op → Type 0 };
 
+    /// Whether an edit was refused for want of memory.
+    ghost is_want_of_memory: { Self.Fault → Type 0 };
+
     /// The cells of a board, in their order.
     ghost cells: { Self.Board → List (BoardCell Self.Outcome) };
 
@@ -68,7 +71,8 @@ pub trait BoardTexts: CellTexts + Operations {
         ensures { IfOk result (λ op. announces self.now prepared.now number op) };
 
     /// Whether an edit was refused for want of memory.
-    fn wants_memory(fault: &Self::Fault) -> bool;
+    fn wants_memory(fault: &Self::Fault) -> bool
+        ensures { IsTrue result ↔ is_want_of_memory fault.now };
 
     /// How many cells a board has.
     fn cell_count(board: &Self::Board) -> usize

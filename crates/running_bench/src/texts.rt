@@ -336,7 +336,6 @@ impl BoardTexts for RunningTexts {
     ghost use Rattle.running_bench.specs.Cells.{board_cells};
     ghost use Rattle.std.proofs.Common.{refl};
     ghost use Rattle.board.specs.Legal.{last_number};
-    ghost use Rattle.std.specs.Prelude.{◌↔◌};
     ghost use Rattle.board.specs.Histories.{IsEditAfter, IsSettle};
     ghost use Rattle.running_bench.specs.Texts.{AreAfter, Announced, IsWantOfMemory, Settles};
     ghost use Rattle.running_bench.specs.Laws.{same_after, edits_follow, edits_after, edits_named, edits_numbered};
@@ -355,6 +354,8 @@ impl BoardTexts for RunningTexts {
 
     ghost settles = { Settles };
 
+    ghost is_want_of_memory = { IsWantOfMemory };
+
     ghost cells = { board_cells };
 
     fn start(alloc: Global) -> RunningTexts {
@@ -372,9 +373,7 @@ impl BoardTexts for RunningTexts {
         Ok(BoardOp::Edit(BoardEdit::new(alloc, number, self.texts.texts(), prepared.texts())?))
     }
 
-    fn wants_memory(fault: &EditFault) -> bool
-        ensures { IsTrue result ↔ IsWantOfMemory fault.now }
-    {
+    fn wants_memory(fault: &EditFault) -> bool {
         matches!(fault, EditFault::OutOfMemory(_))
     }
 

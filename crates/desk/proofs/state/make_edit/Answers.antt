@@ -1,5 +1,6 @@
 use Rattle.std.proofs.Common.{◌<◌, ◌+◌, ap, sym, subst, arith}
 use Rattle.desk_rule.specs.Histories.{Pressed}
+use Rattle.desk.proofs.Refusing.{not_so}
 use Rattle.desk.proofs.state.make_edit.Goals as goal
 
 pub edit_told-requires : goal.edit_told-requires
@@ -73,6 +74,9 @@ pub returns-else-wants_memory-clause-last : goal.returns-else-wants_memory-claus
 returns-else-wants_memory-clause-last g c =
     let taken = c.in-Err.ensures.refused.taken in
     rw c.in-Err.ensures.unseen (omega (arith, taken, c.requires.last))
+
+pub returns-else-wants_memory-clause-fault : goal.returns-else-wants_memory-clause-fault
+returns-else-wants_memory-clause-fault g c = (c.in-Err.ensures.fault, not_so c.wants_memory.ensures c.if-wants_memory.false)
 
 pub returns-else-wants_memory-clause-err : goal.returns-else-wants_memory-clause-err
 returns-else-wants_memory-clause-err g c = (c.in-Err.ensures.refused, c.in-Err.ensures.unseen)
