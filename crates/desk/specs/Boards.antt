@@ -1,4 +1,4 @@
--- The cells of a board. Read this file first, then Held and Turns.
+-- The cells of a board. Read this file first, then Held and Posts.
 use Rattle.std.specs.Prelude.{◌≡◌, ℕ, suc, zero, ◌<◌, ◌≤◌, ◌⊎◌, List, [], ◌∷◌, Option, Some, None, IsSome, slice_get}
 use Rattle.memo_core.specs.Graph.{Net}
 use Rattle.memo_core.specs.Run.{Bench}
