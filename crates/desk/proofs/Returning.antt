@@ -20,7 +20,7 @@ use Rattle.cells.specs.Cells.{Cells, Carries, IsSettledCell, StandsOn}
 use Rattle.desk.specs.Boards.{BoardCell, IsSettledOn, IsListedWithin, HoldsFor, ArePosted, ArePostedAbove, ArePostedFor, ArePostedBut, IsKept, AreKept, settled_with, with_outcome}
 use Rattle.desk.specs.declared.answer.Posted.{Posted}
 use Rattle.desk.specs.declared.answer.Posted.TheVariants.{Now, Later}
-use Rattle.desk.specs.Held.{Held, held, Appends, PublishesOr, IsRefusedTurn}
+use Rattle.desk.specs.Held.{Held, held, Appends, PublishesOr, IsRefusedTurn, IsShownOrOwed}
 use Rattle.desk.specs.Posts.{IsPosted}
 use Rattle.desk.proofs.Outcomes.{below_get}
 
@@ -234,27 +234,56 @@ pub was_so : (b : Bool) → not b ≡ false → IsTrue b
 was_so true e = cc
 was_so false e = cc
 
+pub is_owed : (b : Bool) → false ≡ not b → b ≡ true
+is_owed true e = refl
+is_owed false e = cc
+
+pub is_unowed : (b : Bool) → true ≡ not b → b ≡ false
+is_unowed true e = cc
+is_unowed false e = refl
+
 -- what is published does not depend on the bench before
 pub publishes_same : {T V O : Type 0} (P : Bench T V → List O → Type 0) (a b new : Held T V O) (r : Posted) → a.published ≡ b.published → PublishesOr P a new r → PublishesOr P b new r
 publishes_same P a b new Now e h = h
-publishes_same P a b new Later e h = h ∙ e
+publishes_same P a b new Later e h = (h.0 ∙ e, h.1)
 
 -- operations that settle cells were appended under the lock
-pub appends_of : {T V O : Type 0} (is_settle : O → Type 0) (inside old : Held T V O) (more : List O) → inside ≡ old → Each is_settle more → (bench : Bench T V) (all published : List O)
-    → all ≡ inside.all ++ more → Appends is_settle old.all old (held bench all published inside.spare inside.closed)
-appends_of is_settle inside old more same each bench all published e =
-    subst (λ (h : Held _ _ _). Appends is_settle h.all h (held bench all published inside.spare inside.closed)) same
+pub appends_of : {T V O : Type 0} (is_settle : O → Type 0) (inside old : Held T V O) (more : List O) → inside ≡ old → Each is_settle more → (bench : Bench T V) (all published : List O) (owes : Bool)
+    → all ≡ inside.all ++ more → Appends is_settle old.all old (held bench all published inside.spare inside.closed owes)
+appends_of is_settle inside old more same each bench all published owes e =
+    subst (λ (h : Held _ _ _). Appends is_settle h.all h (held bench all published inside.spare inside.closed owes)) same
     (record { settles = more; are_settles = each; all = e; spare = refl; closed = refl })
 
--- so they were where the bench alone was changed before
-pub appends_since : {T V O : Type 0} (is_settle : O → Type 0) (before after : Bench T V) (all published : List O) (spare : ℕ) (closed : Bool) (old new : Held T V O) → held before all published spare closed ≡ old
-    → Appends is_settle all (held after all published spare closed) new → Appends is_settle old.all old new
-appends_since is_settle before after all published spare closed old new same a =
+-- so they were where the bench, and what is owed, alone was changed before
+pub appends_since : {T V O : Type 0} (is_settle : O → Type 0) (before after : Bench T V) (all published : List O) (spare : ℕ) (closed owes owes' : Bool) (old new : Held T V O) → held before all published spare closed owes ≡ old
+    → Appends is_settle all (held after all published spare closed owes') new → Appends is_settle old.all old new
+appends_since is_settle before after all published spare closed owes owes' old new same a =
     subst (λ (h : Held _ _ _). Appends is_settle h.all h new) same
     (record { settles = a.settles; are_settles = a.are_settles; all = a.all; spare = a.spare; closed = a.closed })
 
 -- where the bench refused a call, nothing else changed
-pub refused_since : {T E V G O : Type 0} (means : Meaning T E V G) (before after : Bench T V) (all published : List O) (spare : ℕ) (closed : Bool) (old : Held T V O) → held before all published spare closed ≡ old
-    → Step means before Refused after → IsRefusedTurn means old (held after all published spare closed)
-refused_since means before after all published spare closed old same step =
-    subst (λ (h : Held _ _ _). IsRefusedTurn means h (held after all published spare closed)) same (step, refl)
+pub refused_since : {T E V G O : Type 0} (means : Meaning T E V G) (before after : Bench T V) (all published : List O) (spare : ℕ) (closed owes owes' : Bool) (old : Held T V O) → held before all published spare closed owes ≡ old
+    → Step means before Refused after → IsRefusedTurn means old (held after all published spare closed owes')
+refused_since means before after all published spare closed owes owes' old same step =
+    subst (λ (h : Held _ _ _). IsRefusedTurn means h (held after all published spare closed owes')) same (step, refl)
+
+-- where nothing was owed, and nothing but the bench changed
+pub still_since : {T V O : Type 0} (before after : Bench T V) (all published : List O) (spare : ℕ) (closed owes : Bool) (old new : Held T V O) → held before all published spare closed owes ≡ old
+    → owes ≡ false → new ≡ held after all published spare closed owes → new ≡ held new.bench old.all old.published old.spare old.closed false
+still_since before after all published spare closed owes old new same none is =
+    subst (λ (h : Held _ _ _). new ≡ held new.bench h.all h.published h.spare h.closed false) same
+    (subst (λ (h : Held _ _ _). h ≡ held h.bench all published spare closed false) (sym is) (ap (λ (b : Bool). held after all published spare closed b) none))
+
+-- what holds under the lock where nothing is owed
+pub shown_as : {T V O : Type 0} (are_posted : Bench T V → List O → Type 0) (bench : Bench T V) (all published : List O) (spare : ℕ) (closed owes : Bool) (desk : Held T V O) → held bench all published spare closed owes ≡ desk
+    → (owes ≡ false → (published ≡ all) × are_posted bench all) → IsShownOrOwed are_posted desk
+shown_as are_posted bench all published spare closed owes desk same shown =
+    subst (IsShownOrOwed are_posted) same (λ none. let s = shown none in (s.0, subst (are_posted bench) (sym s.0) s.1))
+
+-- so it is once it was tried to publish
+pub publishes_shown : {T V O : Type 0} (are_posted : Bench T V → List O → Type 0) (old new : Held T V O) (r : Posted) → PublishesOr are_posted old new r → IsShownOrOwed are_posted new
+publishes_shown are_posted old new Now p = λ none. (p.0, p.1)
+publishes_shown are_posted old new Later p = λ none. absurd (both new.owes p.1 none)
+  where
+    both : (b : Bool) → b ≡ true → b ≡ false → ⊥
+    both b on off = cc

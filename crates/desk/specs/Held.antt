@@ -1,5 +1,5 @@
 -- What lies under the desk's lock, and what each call makes of it.
-use Rattle.std.specs.Prelude.{◌≡◌, ℕ, ◌+◌, Bool, List, [], ◌∷◌, ◌++◌, length}
+use Rattle.std.specs.Prelude.{◌≡◌, ℕ, ◌+◌, Bool, true, false, List, [], ◌∷◌, ◌++◌, length}
 use Rattle.std.specs.List.{AllByRecursion as Each}
 use mathlib.Core.List.{IsPrefix}
 use Rattle.memo_core.specs.declared.claims.ClaimFault.TheVariants.{Spent}
@@ -20,9 +20,14 @@ pub record Held (T V O : Type 0) : Type 0 where
   pub published : List O  -- what readers see
   pub spare : ℕ  -- how many viewers are left to give
   pub closed : Bool
+  pub owes : Bool  -- whether readers may lack an operation or a settled cell: the next call tries again
 
-abbrev pub held : {T V O : Type 0} → Bench T V → List O → List O → ℕ → Bool → Held T V O
-held bench all published spare closed = record { bench = bench; all = all; published = published; spare = spare; closed = closed }
+abbrev pub held : {T V O : Type 0} → Bench T V → List O → List O → ℕ → Bool → Bool → Held T V O
+held bench all published spare closed owes = record { bench = bench; all = all; published = published; spare = spare; closed = closed; owes = owes }
+
+-- where nothing is owed, all is published, and each cell that is settled on the bench is settled there
+abbrev pub IsShownOrOwed : {T V O : Type 0} → (are_posted : Bench T V → List O → Type 0) → Held T V O → Type 0
+IsShownOrOwed are_posted desk = desk.owes ≡ false → (desk.published ≡ desk.all) × are_posted desk.bench desk.published
 
 abbrev pub number_of : Accepted → ℕ
 number_of (Now number) = number
@@ -69,30 +74,34 @@ abbrev pub Tells : {E O : Type 0} → (List O → Type 0) → (List O → O → 
 Tells is_legal is_edit is_settle e me me' (Now number) = HasEdit is_legal is_edit is_settle e number me me'
 Tells is_legal is_edit is_settle e me me' (Later number) = me' ≡ me
 
--- all is published, and each cell that is settled on the bench is settled there; or readers see what they saw
+-- all is published, each cell that is settled on the bench is settled there, and nothing is owed; or readers see what they saw, and
+-- the rest is owed
 abbrev pub PublishesOr : {T V O : Type 0} → (Bench T V → List O → Type 0) → (old new : Held T V O) → Posted → Type 0
-PublishesOr are_posted old new posts.Now = (new.published ≡ new.all) × are_posted new.bench new.published
-PublishesOr are_posted old new posts.Later = new.published ≡ old.published
+PublishesOr are_posted old new posts.Now = (new.published ≡ new.all) × are_posted new.bench new.published × (new.owes ≡ false)
+PublishesOr are_posted old new posts.Later = (new.published ≡ old.published) × (new.owes ≡ true)
 
--- the viewer was told all that is published, which goes on from what it knew, and there every cell is settled
+-- the viewer was told all that is published, which goes on from what it knew, and there every cell is settled; nothing is owed
 pub record IsDone {T V O : Type 0} (is_legal : List O → Type 0) (are_settled : List O → Type 0) (new : Held T V O) (me me' : List O) : Type 0 where
   pub list : me' ≡ new.published
   pub whole : new.published ≡ new.all
   pub begins : IsPrefix me me'
   pub settled : are_settled me'
   pub legal : is_legal me'
+  pub owes : new.owes ≡ false
 
--- all of so many operations is published, each cell that is settled on the bench is settled there, and the viewer knows what it knew
+-- all of so many operations is published, each cell that is settled on the bench is settled there, nothing is owed, and the viewer
+-- knows what it knew
 pub record IsWaiting {T V O : Type 0} (are_posted : Bench T V → List O → Type 0) (new : Held T V O) (me me' : List O) (changes : ℕ) : Type 0 where
   pub told : me' ≡ me
   pub whole : new.published ≡ new.all
   pub posted : are_posted new.bench new.published
   pub count : changes ≡ length new.published
+  pub owes : new.owes ≡ false
 
 abbrev pub Settles : {T V O : Type 0} → (is_legal are_settled : List O → Type 0) → (are_posted : Bench T V → List O → Type 0) → (new : Held T V O) → (me me' : List O) → Settling → Type 0
 Settles is_legal are_settled are_posted new me me' Done = IsDone is_legal are_settled new me me'
 Settles is_legal are_settled are_posted new me me' (Waits changes) = IsWaiting are_posted new me me' changes
-Settles is_legal are_settled are_posted new me me' Refused = me' ≡ me
+Settles is_legal are_settled are_posted new me me' Refused = (me' ≡ me) × (new.owes ≡ true)
 
 -- what the viewer of a turn of settling is told: all that it knew and what goes on from there, where every cell is settled; or nothing
 abbrev pub TellsSettled : {O : Type 0} → (is_legal : List O → Type 0) → (are_settled : List O → Type 0) → (me me' : List O) → Settling → Type 0
@@ -100,9 +109,9 @@ TellsSettled is_legal are_settled me me' Done = IsPrefix me me' × are_settled m
 TellsSettled is_legal are_settled me me' (Waits changes) = me' ≡ me
 TellsSettled is_legal are_settled me me' Refused = me' ≡ me
 
--- the call was refused: the texts of the bench may have more room, and nothing else changed
+-- the call was refused: the texts of the bench may have more room, the desk may owe what it did not, and nothing else changed
 abbrev pub IsRefusedTurn : {T E V G O : Type 0} → Meaning T E V G → (old new : Held T V O) → Type 0
-IsRefusedTurn means old new = Step means old.bench core.Refused new.bench × (new ≡ held new.bench old.all old.published old.spare old.closed)
+IsRefusedTurn means old new = Step means old.bench core.Refused new.bench × (new ≡ held new.bench old.all old.published old.spare old.closed new.owes)
 
 -- Why an edit is refused: by the bench for that fault, which is not want of memory, or by the desk for a viewer that has seen more.
 -- That the desk is closed and that memory is wanted are said apart.

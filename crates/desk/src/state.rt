@@ -1,6 +1,6 @@
 //! What lies under the lock. Each change of it is a method here.
 
-ghost use Rattle.std.specs.Prelude.{◌≡◌, ◌≢◌, ◌↔◌, ◌+◌, ◌≤◌, ◌<◌, [], true, false, length, fold, IsTrue, IfOk, OnOk, OnErr, Ok, Err, IfErr, IfSome, IfNone, leb};
+ghost use Rattle.std.specs.Prelude.{◌≡◌, ◌≢◌, ◌↔◌, ◌+◌, ◌≤◌, ◌<◌, [], true, false, length, fold, not, IfOk, OnOk, OnErr, Ok, Err, IfErr, IfSome, IfNone, leb};
 ghost use mathlib.Core.List.{IsPrefix};
 ghost use Rattle.memo_core.specs.Laws.{meaning};
 ghost use Rattle.memo_core.specs.Run.{Claim as Claimed, NoClaim, Returned, Lose as Lost, Renew as Renewed, Refused, Step};
@@ -52,10 +52,10 @@ where
 
     ghost Value = { Held X X.Value X.Op };
 
-    ghost view = { λ s. held s.bench s.ledger.all s.ledger.published s.seats s.closed };
+    ghost view = { λ s. held s.bench s.ledger.all s.ledger.published s.seats s.closed s.owes };
 
     ghost invariant = { λ s. X.is_valid s.bench.texts × X.are_after s.bench.texts s.ledger.all × (X.last_number s.ledger.all ≤ s.bench.taken)
-        × (s.owes ≡ false → ArePosted X.net (cells_of X.verdict_of X.outcome_in X.from_scratch X.reaches) s.bench (X.cells (fold X.after X.none s.ledger.all))) };
+        × (s.owes ≡ false → (s.ledger.published ≡ s.ledger.all) × ArePosted X.net (cells_of X.verdict_of X.outcome_in X.from_scratch X.reaches) s.bench (X.cells (fold X.after X.none s.ledger.all))) };
 }
 
 // Makes an edit on the bench, and appends its operation before it is put in place.
@@ -92,7 +92,7 @@ fn make_edit<J: Naming + StoreName, X: BoardTexts>(
 }
 
 impl<J: Naming + StoreName, X: BoardTexts, R: Wait + Drop> DeskState<J, X, R> {
-    ghost use Rattle.desk.specs.Held.{held, number_of, Appends, IsEditTurn, IsRefusedTurn, Publishes, PublishesOr, Settles, Tells};
+    ghost use Rattle.desk.specs.Held.{held, number_of, Appends, IsEditTurn, IsRefusedTurn, IsShownOrOwed, Publishes, PublishesOr, Settles, Tells};
 
     /// A bench without texts, and a board that shows nothing.
     pub fn new(
@@ -104,7 +104,7 @@ impl<J: Naming + StoreName, X: BoardTexts, R: Wait + Drop> DeskState<J, X, R> {
         requires valid { X.is_valid bench.texts }
         requires after { X.are_after bench.texts [] }
         requires press { (opening.press.all ≡ []) × (opening.press.published ≡ []) }
-        ensures { result ≡ held bench [] [] opening.seats false }
+        ensures { result ≡ held bench [] [] opening.seats false true }
     {
         let Opening { press, seats } = opening;
         DeskState {
@@ -119,7 +119,8 @@ impl<J: Naming + StoreName, X: BoardTexts, R: Wait + Drop> DeskState<J, X, R> {
     }
 
     /// Whether it was closed. What it keeps at all times: the published operations and then the pending ones are legal, and
-    /// the texts of the bench are those after them.
+    /// the texts of the bench are those after them. Where nothing is owed, all is published, and each cell that is settled on
+    /// the bench is settled there.
     pub fn is_closed(&self) -> bool
         ensures closed { result ≡ self.now.closed }
         ensures legal { X.is_legal self.now.all }
@@ -127,6 +128,7 @@ impl<J: Naming + StoreName, X: BoardTexts, R: Wait + Drop> DeskState<J, X, R> {
         ensures valid { X.is_valid self.now.bench.texts }
         ensures after { X.are_after self.now.bench.texts self.now.all }
         ensures last { X.last_number self.now.all ≤ self.now.bench.taken }
+        ensures shown { IsShownOrOwed (λ bench ops. ArePosted X.net (cells_of X.verdict_of X.outcome_in X.from_scratch X.reaches) bench (X.cells (fold X.after X.none ops))) self.now }
     {
         let _legal = self.ledger.front();
         self.closed
@@ -148,6 +150,7 @@ impl<J: Naming + StoreName, X: BoardTexts, R: Wait + Drop> DeskState<J, X, R> {
         ensures turn { IfOk result (λ a. IsEditTurn (meaning X.net X.is_valid X.since X.makes X.keeps X.edited) X.is_edit X.is_settle edit self.old self.new (number_of a)) }
         ensures published { IfOk result (λ a. Publishes self.old self.new me.old me.new a) }
         ensures told { IfOk result (λ a. Tells X.is_legal X.is_edit X.is_settle edit me.old me.new a) }
+        ensures shown { OnOk result (IsShownOrOwed (λ bench ops. ArePosted X.net (cells_of X.verdict_of X.outcome_in X.from_scratch X.reaches) bench (X.cells (fold X.after X.none ops))) self.new) }
     {
         if self.closed {
             return Err(DeskFault::Closed);
@@ -192,25 +195,24 @@ impl<J: Naming + StoreName, X: BoardTexts, R: Wait + Drop> DeskState<J, X, R> {
         ensures bench { self.new.bench ≡ self.old.bench }
         ensures appends { Appends X.is_settle self.old.all self.old self.new }
         ensures grows { IsPrefix self.old.published self.new.published }
+        ensures shown { IsShownOrOwed (λ bench ops. ArePosted X.net (cells_of X.verdict_of X.outcome_in X.from_scratch X.reaches) bench (X.cells (fold X.after X.none ops))) self.new }
+        ensures still { self.old.owes ≡ false → self.new ≡ self.old }
     {
         if self.owes {
             let _posted = self.catch_up(rt, None);
         }
     }
 
-    // Tries again what may be left, and publishes. True where readers see all operations, and each settled cell among them.
+    // Tries again what may be left. True where nothing is: readers see all operations, and each settled cell among them.
     fn show_all<W: Wait>(&mut self, rt: &W) -> bool
         ensures bench { self.new.bench ≡ self.old.bench }
         ensures appends { Appends X.is_settle self.old.all self.old self.new }
         ensures grows { IsPrefix self.old.published self.new.published }
-        ensures whole { IsTrue result → self.new.published ≡ self.new.all }
-        ensures posted { IsTrue result → ArePosted X.net (cells_of X.verdict_of X.outcome_in X.from_scratch X.reaches) self.new.bench (X.cells (fold X.after X.none self.new.published)) }
+        ensures owes { result ≡ not self.new.owes }
+        ensures shown { IsShownOrOwed (λ bench ops. ArePosted X.net (cells_of X.verdict_of X.outcome_in X.from_scratch X.reaches) bench (X.cells (fold X.after X.none ops))) self.new }
     {
         self.try_again(rt);
-        if self.owes {
-            return false;
-        }
-        self.ledger.publish(rt)
+        !self.owes
     }
 
     /// Gives out a job, if there is any work. Errors: K1, B1, want of memory; nothing is appended then.
@@ -223,6 +225,8 @@ impl<J: Naming + StoreName, X: BoardTexts, R: Wait + Drop> DeskState<J, X, R> {
         ensures none { IfOk result (λ r. IfNone r (Step (meaning X.net X.is_valid X.since X.makes X.keeps X.edited) self.old.bench NoClaim self.new.bench)) }
         ensures appends { OnOk result (Appends X.is_settle self.old.all self.old self.new) }
         ensures grows { OnOk result (IsPrefix self.old.published self.new.published) }
+        ensures shown { OnOk result (IsShownOrOwed (λ bench ops. ArePosted X.net (cells_of X.verdict_of X.outcome_in X.from_scratch X.reaches) bench (X.cells (fold X.after X.none ops))) self.new) }
+        ensures still { OnOk result (self.old.owes ≡ false → self.new ≡ held self.new.bench self.old.all self.old.published self.old.spare self.old.closed false) }
     {
         if self.closed {
             return Err(DeskFault::Closed);
@@ -271,6 +275,7 @@ impl<J: Naming + StoreName, X: BoardTexts, R: Wait + Drop> DeskState<J, X, R> {
         ensures step { IfOk result (λ r. Step (meaning X.net X.is_valid X.since X.makes X.keeps X.edited) self.old.bench (Lost claim r) self.new.bench) }
         ensures appends { OnOk result (Appends X.is_settle self.old.all self.old self.new) }
         ensures grows { OnOk result (IsPrefix self.old.published self.new.published) }
+        ensures shown { OnOk result (IsShownOrOwed (λ bench ops. ArePosted X.net (cells_of X.verdict_of X.outcome_in X.from_scratch X.reaches) bench (X.cells (fold X.after X.none ops))) self.new) }
     {
         if self.closed {
             return Err(DeskFault::Closed);
@@ -289,6 +294,7 @@ impl<J: Naming + StoreName, X: BoardTexts, R: Wait + Drop> DeskState<J, X, R> {
         ensures step { OnOk result (Step (meaning X.net X.is_valid X.since X.makes X.keeps X.edited) self.old.bench Renewed self.new.bench) }
         ensures appends { OnOk result (Appends X.is_settle self.old.all self.old self.new) }
         ensures grows { OnOk result (IsPrefix self.old.published self.new.published) }
+        ensures shown { OnOk result (IsShownOrOwed (λ bench ops. ArePosted X.net (cells_of X.verdict_of X.outcome_in X.from_scratch X.reaches) bench (X.cells (fold X.after X.none ops))) self.new) }
     {
         if self.closed {
             return Err(DeskFault::Closed);
@@ -337,7 +343,7 @@ impl<J: Naming + StoreName, X: BoardTexts, R: Wait + Drop> DeskState<J, X, R> {
         ensures no_seat { (result ≡ Err DeskFault.NoSeat) ↔ ((self.old.closed ≡ false) × (self.old.spare ≡ 0)) }
         ensures only { OnErr result (self.old.closed ≡ false → self.old.spare ≡ 0) }
         ensures err { OnErr result (self.new ≡ self.old) }
-        ensures given { IfOk result (λ v. (v ≡ []) × (self.new.spare + 1 ≡ self.old.spare) × (self.new ≡ held self.old.bench self.old.all self.old.published self.new.spare self.old.closed)) }
+        ensures given { IfOk result (λ v. (v ≡ []) × (self.new.spare + 1 ≡ self.old.spare) × (self.new ≡ held self.old.bench self.old.all self.old.published self.new.spare self.old.closed self.old.owes)) }
     {
         if self.closed {
             return Err(DeskFault::Closed);
@@ -352,7 +358,7 @@ impl<J: Naming + StoreName, X: BoardTexts, R: Wait + Drop> DeskState<J, X, R> {
     pub fn close(&mut self) -> Result<(), DeskFault<X::Fault>>
         ensures closed { (result ≡ Err DeskFault.Closed) ↔ (self.old.closed ≡ true) }
         ensures only { OnErr result (self.old.closed ≡ true) }
-        ensures now { self.new ≡ held self.old.bench self.old.all self.old.published self.old.spare true }
+        ensures now { self.new ≡ held self.old.bench self.old.all self.old.published self.old.spare true self.old.owes }
     {
         if self.closed {
             return Err(DeskFault::Closed);

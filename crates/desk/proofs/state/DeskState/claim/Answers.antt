@@ -1,4 +1,4 @@
-use Rattle.std.proofs.Common.{◌≤◌, arith, fold, ap, sym, ◌∙◌, subst}
+use Rattle.std.proofs.Common.{◌≡◌, ◌≤◌, false, arith, fold, ap, sym, ◌∙◌, subst}
 use Rattle.std.specs.Prelude.{IfSome, IfNone}
 use Rattle.memo_core.specs.Laws.{meaning}
 use Rattle.memo_core.specs.Run.{Bench, Claim, NoClaim, Step}
@@ -6,7 +6,7 @@ use Rattle.cells.specs.Cells.{cells as cells_of}
 use Rattle.desk.specs.Held.{Held}
 use Rattle.desk.proofs.Growing.{grown_from}
 use Rattle.desk.proofs.Refusing.{never, not_claim, not_memory, not_ok, other_closed}
-use Rattle.desk.proofs.Returning.{appends_since, refused_since, given_or_none, posted_claimed, posted_idle, later_claimed, later_idle}
+use Rattle.desk.proofs.Returning.{appends_since, still_since, refused_since, given_or_none, posted_claimed, posted_idle, later_claimed, later_idle}
 use Rattle.desk.proofs.state.DeskState.claim.Goals as goal
 
 pub invariant_of-self-2 : goal.invariant_of-self-2
@@ -22,13 +22,13 @@ invariant_of-self-2 g c =
       rw e.texts inv.0,
       rw e.texts inv.1,
       omega (arith, inv.2, later),
-      λ owes. given_or_none c.in-Ok.job _ _ _ e.given e.none (λ j step. posted_claimed means of old new cells j.claim j.node j.given j.keys j.values step (inv.3 owes)) (λ step. posted_idle means of old new cells step (inv.3 owes)),
+      λ owes. ((inv.3 owes).0, given_or_none c.in-Ok.job _ _ _ e.given e.none (λ j step. posted_claimed means of old new cells j.claim j.node j.given j.keys j.values step (inv.3 owes).1) (λ step. posted_idle means of old new cells step (inv.3 owes).1)),
     )
 
 pub returns-clause-appends : goal.returns-clause-appends
 returns-clause-appends g c =
     let s = c.self.inside in
-    appends_since g.X.BoardTexts.is_settle s.bench c.claim.new.self s.ledger.all s.ledger.published s.seats s.closed c.args.self.now c.try_again.new.self c.self.view_is c.try_again.ensures.appends
+    appends_since g.X.BoardTexts.is_settle s.bench c.claim.new.self s.ledger.all s.ledger.published s.seats s.closed _ _ c.args.self.now c.try_again.new.self c.self.view_is c.try_again.ensures.appends
 
 pub returns-clause-grows : goal.returns-clause-grows
 returns-clause-grows g c = grown_from _ _ _ (ap (λ (h : Held _ _ _). h.published) c.self.view_is) c.try_again.ensures.grows
@@ -47,7 +47,7 @@ pub returns-in-Err-OutOfMemory-clause-err : goal.returns-in-Err-OutOfMemory-clau
 returns-in-Err-OutOfMemory-clause-err g c =
     let means = meaning g.X.Texts.net g.X.Texts.is_valid g.X.Texts.since g.X.Texts.makes g.X.Texts.keeps g.X.Texts.edited in
     let s = c.self.inside in
-    refused_since means s.bench c.claim.new.self s.ledger.all s.ledger.published s.seats s.closed c.args.self.now c.self.view_is c.in-Err-OutOfMemory.ensures.refused
+    refused_since means s.bench c.claim.new.self s.ledger.all s.ledger.published s.seats s.closed _ _ c.args.self.now c.self.view_is c.in-Err-OutOfMemory.ensures.refused
 
 pub returns-in-Err-OutOfMemory-clause-closed : goal.returns-in-Err-OutOfMemory-clause-closed
 returns-in-Err-OutOfMemory-clause-closed g c = other_closed _ _ not_memory (sym (ap (λ (h : Held _ _ _). h.closed) c.self.view_is) ∙ c.if-self.false)
@@ -63,7 +63,7 @@ pub returns-in-Err-Spent-clause-err : goal.returns-in-Err-Spent-clause-err
 returns-in-Err-Spent-clause-err g c =
     let means = meaning g.X.Texts.net g.X.Texts.is_valid g.X.Texts.since g.X.Texts.makes g.X.Texts.keeps g.X.Texts.edited in
     let s = c.self.inside in
-    refused_since means s.bench c.claim.new.self s.ledger.all s.ledger.published s.seats s.closed c.args.self.now c.self.view_is c.in-Err-Spent.ensures.refused
+    refused_since means s.bench c.claim.new.self s.ledger.all s.ledger.published s.seats s.closed _ _ c.args.self.now c.self.view_is c.in-Err-Spent.ensures.refused
 
 pub returns-in-Err-Spent-clause-closed : goal.returns-in-Err-Spent-clause-closed
 returns-in-Err-Spent-clause-closed g c = other_closed _ _ (not_claim _) (sym (ap (λ (h : Held _ _ _). h.closed) c.self.view_is) ∙ c.if-self.false)
@@ -81,3 +81,9 @@ returns-clause-none g c =
     let s = c.self.inside in
     let after = subst (λ (n : Bench _ _). IfNone c.in-Ok.job (Step means s.bench NoClaim n)) (sym c.try_again.ensures.bench) c.in-Ok.ensures.none in
     subst (λ (b : Bench _ _). IfNone c.in-Ok.job (Step means b NoClaim c.try_again.new.self.bench)) (ap (λ (h : Held _ _ _). h.bench) c.self.view_is) after
+
+pub returns-clause-still : goal.returns-clause-still
+returns-clause-still g c owes =
+    let s = c.self.inside in
+    let before : s.owes ≡ false = ap (λ (h : Held _ _ _). h.owes) c.self.view_is ∙ owes in
+    still_since s.bench c.claim.new.self s.ledger.all s.ledger.published s.seats s.closed s.owes c.args.self.now c.try_again.new.self c.self.view_is before (c.try_again.ensures.still before)

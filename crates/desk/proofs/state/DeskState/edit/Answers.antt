@@ -11,7 +11,7 @@ invariant_of-self-2 g c =
     let p = c.if-not-publish.ensures in
     let q = c.post.ensures in
     let made = c.in_ok-number.ensures in
-    (made.valid, rw p.all q.posts.after, rw (p.all, q.posts.number) made.last, λ owes. rw p.all (q.posted (was_so c.post.result owes)))
+    (made.valid, rw p.all q.posts.after, rw (p.all, q.posts.number) made.last, λ owes. (p.published ∙ sym p.all, rw p.all (q.posted (was_so c.post.result owes))))
 
 pub returns-clause-published : goal.returns-clause-published
 returns-clause-published g c =
@@ -62,3 +62,11 @@ returns-then-not-publish-clause-closed g c = other_closed _ _ (not_ok _) (sym (a
 
 pub returns-clause-closed : goal.returns-clause-closed
 returns-clause-closed g c = other_closed _ _ (not_ok _) (sym (ap (λ (h : Held _ _ _). h.closed) c.self.view_is) ∙ c.if-self.false)
+
+pub returns-then-not-publish-clause-shown : goal.returns-then-not-publish-clause-shown
+returns-then-not-publish-clause-shown g c = λ owes. absurd (never owes)
+
+pub returns-clause-shown : goal.returns-clause-shown
+returns-clause-shown g c = λ owes.
+    let p = c.if-not-publish.ensures in
+    (p.published ∙ sym p.all, rw p.published (c.post.ensures.posted (was_so c.post.result owes)))

@@ -8,7 +8,7 @@ use Rattle.desk.proofs.state.DeskState.lose.Goals as goal
 pub returns-clause-appends : goal.returns-clause-appends
 returns-clause-appends g c =
     let s = c.self.inside in
-    appends_since g.X.BoardTexts.is_settle s.bench c.lose-lost.new.self s.ledger.all s.ledger.published s.seats s.closed c.args.self.now c.try_again.new.self c.self.view_is c.try_again.ensures.appends
+    appends_since g.X.BoardTexts.is_settle s.bench c.lose-lost.new.self s.ledger.all s.ledger.published s.seats s.closed _ _ c.args.self.now c.try_again.new.self c.self.view_is c.try_again.ensures.appends
 
 pub returns-clause-grows : goal.returns-clause-grows
 returns-clause-grows g c = grown_from _ _ _ (ap (λ (h : Held _ _ _). h.published) c.self.view_is) c.try_again.ensures.grows

@@ -4,6 +4,7 @@ use Rattle.desk.specs.Boards.{AreSettled}
 use Rattle.desk.specs.Held.{Held}
 use Rattle.desk.proofs.Growing.{begins_after}
 use Rattle.desk.proofs.Refusing.{not_ok, not_seat, other_closed}
+use Rattle.desk.proofs.Returning.{is_owed, is_unowed}
 use Rattle.desk.proofs.state.DeskState.settle.Goals as goal
 
 pub returns-then-not-begins_with-clause-closed : goal.returns-then-not-begins_with-clause-closed
@@ -28,7 +29,7 @@ pub returns-then-not-show_all-clause-grows : goal.returns-then-not-show_all-clau
 returns-then-not-show_all-clause-grows g c = c.show_all.ensures.grows
 
 pub returns-then-not-show_all-clause-settles : goal.returns-then-not-show_all-clause-settles
-returns-then-not-show_all-clause-settles g c = refl
+returns-then-not-show_all-clause-settles g c = (refl, is_owed _ c.if-not-show_all.ensures.owes)
 
 pub returns-then-not-is_settled-clause-bench : goal.returns-then-not-is_settled-clause-bench
 returns-then-not-is_settled-clause-bench g c = c.show_all.ensures.bench
@@ -41,11 +42,14 @@ returns-then-not-is_settled-clause-grows g c = c.show_all.ensures.grows
 
 pub returns-then-not-is_settled-clause-settles : goal.returns-then-not-is_settled-clause-settles
 returns-then-not-is_settled-clause-settles g c =
-    let whole = c.if-not-show_all.ensures.whole refl in
+    let owes = is_unowed _ c.if-not-show_all.ensures.owes in
+    let shown = c.if-not-show_all.ensures.shown owes in
+    let whole = shown.0 in
     record {
       told = refl;
       whole = whole;
-      posted = c.if-not-show_all.ensures.posted refl;
+      posted = shown.1;
+      owes = owes;
       count = c.change_count.ensures ∙ ap length (sym whole);
     }
 
@@ -64,7 +68,8 @@ returns-clause-settles g c =
     let new = c.show_all.new.self in
     let a = c.show_all.ensures.appends in
     let all : c.self-2.inside.ledger.all ≡ new.all = ap (λ (h : Held _ _ _). h.all) c.self-2.view_is in
-    let whole : new.published ≡ new.all = c.if-not-show_all.ensures.whole refl in
+    let owes = is_unowed _ c.if-not-show_all.ensures.owes in
+    let whole : new.published ≡ new.all = (c.if-not-show_all.ensures.shown owes).0 in
     let behind : IsPrefix me c.args.self.now.all = subst (λ (l : List _). IsPrefix me l) (ap (λ (h : Held _ _ _). h.all) c.self.view_is) (c.if-not-begins_with.ensures.begins refl) in
     let begins : IsPrefix me new.all = begins_after me c.args.self.now.all a.settles new.all behind a.all in
     let told = c.tell_all.ensures.told (subst (λ (l : List _). IsPrefix me l) (sym all) begins) in
@@ -74,4 +79,5 @@ returns-clause-settles g c =
       begins = subst (λ (l : List _). IsPrefix me l) (sym (told ∙ all)) begins;
       settled = subst (λ (l : List _). AreSettled (g.X.BoardTexts.cells (fold g.X.Operations.after g.X.Operations.none l))) (sym told) (c.is_settled.ensures c.if-not-is_settled.false);
       legal = subst (λ (l : List _). g.X.Operations.is_legal l) (sym told) c.tell_all.ensures.legal;
+      owes = owes;
     }
