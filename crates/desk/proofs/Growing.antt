@@ -16,10 +16,6 @@ grown_by false old all new begins e = prefix_same old new e
 pub grown_from : {A : Type 0} (old mid new : List A) → mid ≡ old → IsPrefix mid new → IsPrefix old new
 grown_from old mid new e p = subst (λ (l : List _). IsPrefix l new) e p
 
--- it grew, and then grew again
-pub grown_then : {A : Type 0} (old mid new : List A) → IsPrefix old mid → IsPrefix mid new → IsPrefix old new
-grown_then old mid new p q = prefix_trans old mid new p q
-
 -- ---- what was appended goes on from what a viewer knew
 
 pub begins_after : {A : Type 0} (me old more all : List A) → IsPrefix me old → all ≡ old ++ more → IsPrefix me all

@@ -1,10 +1,10 @@
 -- Why an edit is refused, and that an open desk does not say that it is closed.
-use Rattle.std.proofs.Common.{◌≡◌, ◌↔◌, ℕ, Bool, true, false, refl, sym, subst}
-use Rattle.std.specs.Prelude.{Result, Ok, Err, IfErr, IsTrue, OnErr, IsSome}
+use Rattle.std.proofs.Common.{◌≡◌, ◌↔◌, ◌<◌, ◌≤◌, ℕ, arith, Bool, true, false, refl, sym, subst}
+use Rattle.std.specs.Prelude.{Result, Ok, Err, IfErr, IsTrue, OnErr, IsSome, ⊤}
 use Rattle.memo_core.specs.declared.claims.ClaimFault.{ClaimFault}
 use Rattle.desk.specs.declared.fault.DeskFault.{DeskFault}
 use Rattle.desk.specs.declared.fault.DeskFault.TheVariants as faults
-use Rattle.desk.specs.Held.{IsRefusedBy}
+use Rattle.desk.specs.Held.{IsRefusedBy, IsClaimRefusedBy}
 use Rattle.desk.specs.Numbers.{number_of}
 
 -- the bench says nothing of viewers
@@ -47,3 +47,34 @@ pub own_refusal : {A F : Type 0} (r : Result A (DeskFault F)) (closed : Bool) (s
 own_refusal (Ok a) closed spare is_closed no_seat only = tt
 own_refusal (Err fault) true spare is_closed no_seat only = subst (λ (r : Result _ (DeskFault _)). IfErr r (λ f. IsSome (number_of f))) (sym (is_closed.1 refl)) refl
 own_refusal (Err fault) false spare is_closed no_seat only = subst (λ (r : Result _ (DeskFault _)). IfErr r (λ f. IsSome (number_of f))) (sym (no_seat.1 (refl, only refl))) refl
+
+-- a call that an open desk never refuses is refused for a closed desk
+pub closed_only : {A F : Type 0} (r : Result A (DeskFault F)) (closed : Bool) → (r ≡ Err faults.Closed) ↔ (closed ≡ true) → OnErr r (closed ≡ true) → IfErr r (λ fault. fault ≡ faults.Closed)
+closed_only (Ok a) closed is_closed only = tt
+closed_only (Err fault) closed is_closed only = subst (λ (r : Result _ (DeskFault _)). IfErr r (λ f. f ≡ faults.Closed)) (sym (is_closed.1 only)) refl
+
+-- ---- under a lock nothing is known of the desk before
+
+pub refused_there : {X E A F : Type 0} (r : Result A (DeskFault F)) (refuses : X → E → Bool → F → Type 0) (is_want : F → Type 0) (texts : X) (edit : E) (spent : Bool) (is_ahead : Type 0) → IfErr r (λ d. IsRefusedBy (refuses texts edit spent) is_want is_ahead d)
+    → IfErr r (IsRefusedBy (λ fault. (t : X) × (s : Bool) × refuses t edit s fault) is_want ⊤)
+refused_there (Ok a) refuses is_want texts edit spent is_ahead h = tt
+refused_there (Err (faults.Edit fault)) refuses is_want texts edit spent is_ahead h = ((texts, spent, h.0), h.1)
+refused_there (Err (faults.Claim fault)) refuses is_want texts edit spent is_ahead h = h
+refused_there (Err faults.OutOfMemory) refuses is_want texts edit spent is_ahead h = tt
+refused_there (Err faults.Closed) refuses is_want texts edit spent is_ahead h = tt
+refused_there (Err faults.NoSeat) refuses is_want texts edit spent is_ahead h = tt
+
+pub claim_refused : {A F : Type 0} (r : Result A (DeskFault F)) (is_spent : Type 0) → IfErr r (IsClaimRefusedBy is_spent) → IfErr r (IsClaimRefusedBy ⊤)
+claim_refused (Ok a) is_spent h = tt
+claim_refused (Err (faults.Edit fault)) is_spent h = h
+claim_refused (Err (faults.Claim fault)) is_spent h = (h.0, tt)
+claim_refused (Err faults.OutOfMemory) is_spent h = tt
+claim_refused (Err faults.Closed) is_spent h = tt
+claim_refused (Err faults.NoSeat) is_spent h = h
+
+-- a viewer that has not seen more is not refused
+pub other_seat : {A F : Type 0} (r : Result A (DeskFault F)) (closed : Bool) (all me : ℕ) → (r ≡ Err faults.NoSeat → ⊥) → me ≤ all → (r ≡ Err faults.NoSeat) ↔ ((closed ≡ false) × (all < me))
+other_seat r closed all me other le = (λ e. absurd (other e), λ h. let less : all < me = h.1 in absurd (omega (arith, le, less)))
+
+pub seat_not_ok : {A F : Type 0} (a : A) → (let r : Result A (DeskFault F) = Ok a in r ≡ Err faults.NoSeat) → ⊥
+seat_not_ok a e = cc

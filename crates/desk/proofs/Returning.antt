@@ -3,6 +3,7 @@ use Rattle.std.proofs.Common.{◌≡◌, ◌⊎◌, inl, inr, ℕ, zero, suc, �
 use Rattle.std.specs.Prelude.{option_map, IfSome, IfNone, length, IsTrue, not, Result, Ok, Err, MatchResult, fold}
 use Rattle.std.specs.List.{AllByRecursion as Each}
 use Rattle.std.proofs.lemmas.Bool.{cases_Bool}
+use Rattle.std.proofs.Math.Nat.{lt_of_not-le}
 use Rattle.memo_core.specs.declared.keys.Node.{Node}
 use Rattle.memo_core.specs.declared.keys.Key.{Key}
 use Rattle.memo_core.specs.declared.keys.Key.TheVariants.{Part, Output}
@@ -287,3 +288,10 @@ publishes_shown are_posted old new Later p = λ none. absurd (both new.owes p.1 
   where
     both : (b : Bool) → b ≡ true → b ≡ false → ⊥
     both b on off = cc
+
+-- whether a viewer has seen more, seen from outside
+pub behind_of : {T V O : Type 0} (inside old : Held T V O) (me : List O) → inside ≡ old → length me ≤ length inside.all → length me ≤ length old.all
+behind_of inside old me same le = subst (λ (h : Held _ _ _). length me ≤ length h.all) same le
+
+pub ahead_of : {T V O : Type 0} (inside old : Held T V O) (me : List O) → inside ≡ old → (length me ≤ length inside.all → ⊥) → length old.all < length me
+ahead_of inside old me same more = lt_of_not-le (subst (λ (h : Held _ _ _). length me ≤ length h.all → ⊥) same more)

@@ -1,9 +1,9 @@
 //! The lock, and what each thread calls.
 
-ghost use Rattle.std.specs.Prelude.{◌≡◌, ◌<◌, [], IfOk, IfErr, IsSome, OnErr, OnOk, fold};
+ghost use Rattle.std.specs.Prelude.{◌≡◌, ◌<◌, Bool, [], IfOk, IfErr, IsSome, OnErr, OnOk, fold, ⊤};
 ghost use mathlib.Core.List.{IsPrefix};
 ghost use Rattle.desk.specs.Boards.{AreSettled};
-ghost use Rattle.desk.specs.Held.{Tells, TellsSettled};
+ghost use Rattle.desk.specs.Held.{IsClaimRefusedBy, IsRefusedBy, Tells, TellsSettled};
 ghost use Rattle.desk.specs.Numbers.{number_of};
 
 use crate::answer::{Accepted, Settling, Taken};
@@ -76,6 +76,7 @@ impl<J: Naming + StoreName, X: BoardTexts, R: Wait + Drop> Desk<J, X, R> {
 
     /// Makes an edit, publishes it and tells this viewer. Errors: K1, K2 if the viewer has seen more than this desk has, the
     /// bench's refusals, want of memory.
+    #[tactic(auto, using(crate::proofs::Refusing::refused_there))]
     pub fn edit<W: Wait>(
         &self,
         rt: &W,
@@ -83,6 +84,7 @@ impl<J: Naming + StoreName, X: BoardTexts, R: Wait + Drop> Desk<J, X, R> {
         edit: X::Edit,
     ) -> Result<Accepted, DeskFault<X::Fault>>
         ensures err { OnErr result (me.new ≡ me.old) }
+        ensures fault { IfErr result (IsRefusedBy (λ fault. (texts : X) × (spent : Bool) × X.refuses texts edit spent fault) X.is_want_of_memory ⊤) }
         ensures told { IfOk result (λ a. Tells X.is_legal X.is_edit X.is_settle edit me.old me.new a) }
     {
         let mut state = self.lock(rt);
@@ -93,7 +95,10 @@ impl<J: Naming + StoreName, X: BoardTexts, R: Wait + Drop> Desk<J, X, R> {
     }
 
     /// Gives out a job, if there is any work. Errors: K1, B1, want of memory.
-    pub fn claim<W: Wait>(&self, rt: &W) -> Result<Option<Job<J, X>>, DeskFault<X::Fault>> {
+    #[tactic(auto, using(crate::proofs::Refusing::claim_refused))]
+    pub fn claim<W: Wait>(&self, rt: &W) -> Result<Option<Job<J, X>>, DeskFault<X::Fault>>
+        ensures { IfErr result (IsClaimRefusedBy ⊤) }
+    {
         let mut state = self.lock(rt);
         let changes = state.change_count();
         let answer = state.claim(rt);
@@ -102,7 +107,10 @@ impl<J: Naming + StoreName, X: BoardTexts, R: Wait + Drop> Desk<J, X, R> {
     }
 
     /// Waits for a job. It sleeps while there is no work. Errors: K1, B1, want of memory.
-    pub fn next_job<W: Wait>(&self, rt: &W) -> Result<Job<J, X>, DeskFault<X::Fault>> {
+    #[tactic(auto, using(crate::proofs::Refusing::claim_refused))]
+    pub fn next_job<W: Wait>(&self, rt: &W) -> Result<Job<J, X>, DeskFault<X::Fault>>
+        ensures { IfErr result (IsClaimRefusedBy ⊤) }
+    {
         for _ in rt.forever() {
             let mut state = self.lock(rt);
             if let Some(job) = state.claim(rt)? {
@@ -116,7 +124,10 @@ impl<J: Naming + StoreName, X: BoardTexts, R: Wait + Drop> Desk<J, X, R> {
     }
 
     /// Takes a return. Errors: K1.
-    pub fn finish<W: Wait>(&self, rt: &W, done: Done<J, X>) -> Result<Taken, DeskFault<X::Fault>> {
+    #[tactic(auto, using(crate::proofs::Refusing::closed_only))]
+    pub fn finish<W: Wait>(&self, rt: &W, done: Done<J, X>) -> Result<Taken, DeskFault<X::Fault>>
+        ensures { IfErr result (λ fault. fault ≡ DeskFault.Closed) }
+    {
         let mut state = self.lock(rt);
         let changes = state.change_count();
         let answer = state.finish(rt, done);
@@ -125,7 +136,10 @@ impl<J: Naming + StoreName, X: BoardTexts, R: Wait + Drop> Desk<J, X, R> {
     }
 
     /// Closes a claim, and says whether it was out. Errors: K1.
-    pub fn lose<W: Wait>(&self, rt: &W, claim: u64) -> Result<bool, DeskFault<X::Fault>> {
+    #[tactic(auto, using(crate::proofs::Refusing::closed_only))]
+    pub fn lose<W: Wait>(&self, rt: &W, claim: u64) -> Result<bool, DeskFault<X::Fault>>
+        ensures { IfErr result (λ fault. fault ≡ DeskFault.Closed) }
+    {
         let mut state = self.lock(rt);
         let changes = state.change_count();
         let answer = state.lose(rt, claim);
@@ -134,7 +148,10 @@ impl<J: Naming + StoreName, X: BoardTexts, R: Wait + Drop> Desk<J, X, R> {
     }
 
     /// Forgets all that was computed, and closes every claim. Errors: K1.
-    pub fn renew<W: Wait>(&self, rt: &W) -> Result<(), DeskFault<X::Fault>> {
+    #[tactic(auto, using(crate::proofs::Refusing::closed_only))]
+    pub fn renew<W: Wait>(&self, rt: &W) -> Result<(), DeskFault<X::Fault>>
+        ensures { IfErr result (λ fault. fault ≡ DeskFault.Closed) }
+    {
         let mut state = self.lock(rt);
         let changes = state.change_count();
         let answer = state.renew(rt);
@@ -143,7 +160,10 @@ impl<J: Naming + StoreName, X: BoardTexts, R: Wait + Drop> Desk<J, X, R> {
     }
 
     /// From now on each call is refused. Errors: K1, if it was closed.
-    pub fn close<W: Wait>(&self, rt: &W) -> Result<(), DeskFault<X::Fault>> {
+    #[tactic(auto, using(crate::proofs::Refusing::closed_only))]
+    pub fn close<W: Wait>(&self, rt: &W) -> Result<(), DeskFault<X::Fault>>
+        ensures { IfErr result (λ fault. fault ≡ DeskFault.Closed) }
+    {
         let answer = self.lock(rt).close();
         self.work.notify_all();
         self.change.notify_all();
@@ -167,6 +187,7 @@ impl<J: Naming + StoreName, X: BoardTexts, R: Wait + Drop> Desk<J, X, R> {
         me: &mut Viewer<J, X>,
     ) -> Result<Settling, DeskFault<X::Fault>>
         ensures err { OnErr result (me.new ≡ me.old) }
+        ensures fault { IfErr result (λ fault. IsSome (number_of fault)) }
         ensures told { IfOk result (λ r. TellsSettled X.is_legal (λ ops. AreSettled (X.cells (fold X.after X.none ops))) me.old me.new r) }
     {
         self.lock(rt).settle(rt, me)

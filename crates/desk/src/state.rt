@@ -144,6 +144,7 @@ impl<J: Naming + StoreName, X: BoardTexts, R: Wait + Drop> DeskState<J, X, R> {
         edit: X::Edit,
     ) -> Result<Accepted, DeskFault<X::Fault>>
         ensures closed { (result ≡ Err DeskFault.Closed) ↔ (self.old.closed ≡ true) }
+        ensures no_seat { (result ≡ Err DeskFault.NoSeat) ↔ ((self.old.closed ≡ false) × (length self.old.all < length me.old)) }
         ensures fault { IfErr result (λ fault. IsRefusedBy (X.refuses self.old.bench.texts edit (leb LAST self.old.bench.taken)) X.is_want_of_memory (length self.old.all < length me.old) fault) }
         ensures err { OnErr result (IsRefusedTurn (meaning X.net X.is_valid X.since X.makes X.keeps X.edited) self.old self.new × (me.new ≡ me.old)) }
         ensures unspent { OnOk result (self.old.bench.taken < LAST) }
@@ -215,7 +216,8 @@ impl<J: Naming + StoreName, X: BoardTexts, R: Wait + Drop> DeskState<J, X, R> {
         !self.owes
     }
 
-    /// Gives out a job, if there is any work. Errors: K1, B1, want of memory; nothing is appended then.
+    /// Gives out a job, if there is any work. Where nothing was owed, nothing but the bench changes. Errors: K1, B1, want of
+    /// memory; nothing is appended then.
     pub fn claim<W: Wait>(&mut self, rt: &W) -> Result<Option<Job<J, X>>, DeskFault<X::Fault>>
         ensures closed { (result ≡ Err DeskFault.Closed) ↔ (self.old.closed ≡ true) }
         ensures fault { IfErr result (IsClaimRefusedBy (LAST ≤ self.old.bench.taken)) }
@@ -314,6 +316,7 @@ impl<J: Naming + StoreName, X: BoardTexts, R: Wait + Drop> DeskState<J, X, R> {
         me: &mut Viewer<J, X>,
     ) -> Result<Settling, DeskFault<X::Fault>>
         ensures closed { (result ≡ Err DeskFault.Closed) ↔ (self.old.closed ≡ true) }
+        ensures no_seat { (result ≡ Err DeskFault.NoSeat) ↔ ((self.old.closed ≡ false) × (length self.old.all < length me.old)) }
         ensures only { OnErr result (self.old.closed ≡ false → length self.old.all < length me.old) }
         ensures err { OnErr result ((self.new ≡ self.old) × (me.new ≡ me.old)) }
         ensures bench { self.new.bench ≡ self.old.bench }

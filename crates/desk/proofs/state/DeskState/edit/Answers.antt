@@ -1,9 +1,9 @@
-use Rattle.std.proofs.Common.{List, [], ◌∷◌, ◌++◌, refl, ap, sym, ◌∙◌, subst}
+use Rattle.std.proofs.Common.{◌<◌, length, List, [], ◌∷◌, ◌++◌, refl, ap, sym, ◌∙◌, subst}
 use mathlib.Core.List.{IsPrefix}
 use Rattle.desk.specs.Held.{Held}
 use Rattle.desk.proofs.Growing.{begins_edit}
-use Rattle.desk.proofs.Refusing.{never, not_ok, not_seat, other_closed}
-use Rattle.desk.proofs.Returning.{was_so}
+use Rattle.desk.proofs.Refusing.{never, not_ok, not_seat, other_closed, other_seat, seat_not_ok}
+use Rattle.desk.proofs.Returning.{ahead_of, behind_of, was_so}
 use Rattle.desk.proofs.state.DeskState.edit.Goals as goal
 
 pub invariant_of-self-2 : goal.invariant_of-self-2
@@ -70,3 +70,14 @@ pub returns-clause-shown : goal.returns-clause-shown
 returns-clause-shown g c = λ owes.
     let p = c.if-not-publish.ensures in
     (p.published ∙ sym p.all, rw p.published (c.post.ensures.posted (was_so c.post.result owes)))
+
+pub returns-then-not-publish-clause-no_seat : goal.returns-then-not-publish-clause-no_seat
+returns-then-not-publish-clause-no_seat g c = other_seat _ _ _ _ (seat_not_ok _) (behind_of _ c.args.self.now c.args.me.now c.self.view_is (c.if-not-begins_with.ensures.length.0 refl))
+
+pub returns-clause-no_seat : goal.returns-clause-no_seat
+returns-clause-no_seat g c = other_seat _ _ _ _ (seat_not_ok _) (behind_of _ c.args.self.now c.args.me.now c.self.view_is (c.if-not-begins_with.ensures.length.0 refl))
+
+pub returns-then-not-begins_with-clause-no_seat : goal.returns-then-not-begins_with-clause-no_seat
+returns-then-not-begins_with-clause-no_seat g c =
+    let less : length c.args.self.now.all < length c.args.me.now = ahead_of _ c.args.self.now c.args.me.now c.self.view_is (λ le. never (sym (c.if-not-begins_with.ensures.length.1 le))) in
+    (λ e. (sym (ap (λ (h : Held _ _ _). h.closed) c.self.view_is) ∙ c.if-self.false, less), λ h. refl)

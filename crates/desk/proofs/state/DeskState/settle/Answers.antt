@@ -1,10 +1,10 @@
-use Rattle.std.proofs.Common.{◌≡◌, List, length, fold, refl, ap, sym, ◌∙◌, subst}
+use Rattle.std.proofs.Common.{◌≡◌, ◌<◌, List, length, fold, refl, ap, sym, ◌∙◌, subst}
 use mathlib.Core.List.{IsPrefix}
 use Rattle.desk.specs.Boards.{AreSettled}
 use Rattle.desk.specs.Held.{Held}
 use Rattle.desk.proofs.Growing.{begins_after}
-use Rattle.desk.proofs.Refusing.{not_ok, not_seat, other_closed}
-use Rattle.desk.proofs.Returning.{is_owed, is_unowed}
+use Rattle.desk.proofs.Refusing.{never, not_ok, not_seat, other_closed, other_seat, seat_not_ok}
+use Rattle.desk.proofs.Returning.{ahead_of, behind_of, is_owed, is_unowed}
 use Rattle.desk.proofs.state.DeskState.settle.Goals as goal
 
 pub returns-then-not-begins_with-clause-closed : goal.returns-then-not-begins_with-clause-closed
@@ -81,3 +81,17 @@ returns-clause-settles g c =
       legal = subst (λ (l : List _). g.X.Operations.is_legal l) (sym told) c.tell_all.ensures.legal;
       owes = owes;
     }
+
+pub returns-then-not-show_all-clause-no_seat : goal.returns-then-not-show_all-clause-no_seat
+returns-then-not-show_all-clause-no_seat g c = other_seat _ _ _ _ (seat_not_ok _) (behind_of _ c.args.self.now c.args.me.now c.self.view_is (c.if-not-begins_with.ensures.length.0 refl))
+
+pub returns-then-not-is_settled-clause-no_seat : goal.returns-then-not-is_settled-clause-no_seat
+returns-then-not-is_settled-clause-no_seat g c = other_seat _ _ _ _ (seat_not_ok _) (behind_of _ c.args.self.now c.args.me.now c.self.view_is (c.if-not-begins_with.ensures.length.0 refl))
+
+pub returns-clause-no_seat : goal.returns-clause-no_seat
+returns-clause-no_seat g c = other_seat _ _ _ _ (seat_not_ok _) (behind_of _ c.args.self.now c.args.me.now c.self.view_is (c.if-not-begins_with.ensures.length.0 refl))
+
+pub returns-then-not-begins_with-clause-no_seat : goal.returns-then-not-begins_with-clause-no_seat
+returns-then-not-begins_with-clause-no_seat g c =
+    let less : length c.args.self.now.all < length c.args.me.now = ahead_of _ c.args.self.now c.args.me.now c.self.view_is (λ le. never (sym (c.if-not-begins_with.ensures.length.1 le))) in
+    (λ e. (sym (ap (λ (h : Held _ _ _). h.closed) c.self.view_is) ∙ c.if-self.false, less), λ h. refl)
