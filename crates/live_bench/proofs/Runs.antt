@@ -1,15 +1,17 @@
 -- The texts of the bench are sound after any list of events.
 use Rattle.std.proofs.Common.{List}
 use Rattle.memo_core.specs.Run.{Event, IsStart, IsKept, Run, counted, state_in}
+use Rattle.memo_core.proofs.Exact.{HasRanks}
 use Rattle.memo_core.proofs.Runs.{RightState, run_right}
 use Rattle.node_values.specs.Givens.{GivenContent}
 use Rattle.node_values.specs.Values.{NodeContent}
+use Rattle.bench_nodes.specs.Nodes.{rank}
 use Rattle.bench_texts.specs.declared.edit.Edit.{Edit}
 use Rattle.cells.specs.CellLaws.{SettledCellIsFromScratch}
 use Rattle.cells.proofs.CellRuns.{from_scratch_after}
 use Rattle.running_bench.specs.CellProofs.{cells_solved}
 use Rattle.running_bench.specs.StampedTexts.{IsSound, IsThere, net_of}
-use Rattle.running_bench.specs.StampedLaws.{since_itself, since_edited, valid_edited, given_stays, texts_are_sound, used_there, used_closed}
+use Rattle.running_bench.specs.StampedLaws.{since_itself, since_edited, valid_edited, given_stays, texts_are_sound, used_there, used_closed, ranks_fall}
 use Rattle.live_bench.specs.Live.{live_meaning, live_cells}
 use Rattle.live_bench.specs.There.{LiveState}
 
@@ -20,6 +22,10 @@ kept = record {
   since_edited = since_edited;
   given_stays = given_stays;
 }
+
+-- no node stands on itself, and the inputs of used nodes are used
+pub has_ranks : HasRanks live_meaning (λ t. rank t.parts.table)
+has_ranks = record { falls = ranks_fall; used_closed = used_closed }
 
 -- they are sound, and what is kept of computations is right
 pub right_after : (events : List (Event Edit NodeContent GivenContent)) (start end : LiveState) → IsStart IsSound net_of start → Run live_meaning start events end → IsSound end.texts × RightState (counted live_meaning end.texts) (state_in live_meaning end)

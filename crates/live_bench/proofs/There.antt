@@ -23,11 +23,11 @@ use Rattle.cells.specs.Cells.{IsSettledCell, IsShown}
 use Rattle.live_bench.specs.Live.{live_cells}
 use Rattle.live_bench.specs.There.{LiveState, IsRightShown, HasJustItsCells, ShowsRight}
 
-test_names : (ts : List Test) → map (λ t. t.name) ts ≡ map (λ c. c.name) (map content_of ts)
+pub test_names : (ts : List Test) → map (λ t. t.name) ts ≡ map (λ c. c.name) (map content_of ts)
 test_names [] = refl
 test_names (t ∷ ts) = ap (λ (l : List (List ℕ)). t.name ∷ l) (test_names ts)
 
-model_names : (ms : List NamedModel) → map (λ m. m.name) ms ≡ map (λ m. m.name) (map model_of ms)
+pub model_names : (ms : List NamedModel) → map (λ m. m.name) ms ≡ map (λ m. m.name) (map model_of ms)
 model_names [] = refl
 model_names (m ∷ ms) = ap (λ (l : List (List ℕ)). m.name ∷ l) (model_names ms)
 

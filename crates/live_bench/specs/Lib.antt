@@ -1,3 +1,6 @@
 pub mod Live
 pub mod There
 pub mod Stamps
+pub mod Jobs
+pub mod Unreached
+pub mod Openings

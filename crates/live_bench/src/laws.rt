@@ -2,6 +2,9 @@
 
 ghost use Rattle.std.specs.Prelude.{◌≡◌, ℕ, List};
 ghost use Rattle.verdict.specs.declared.answer.Outcome.{Outcome};
+ghost use Rattle.board.specs.declared.operation.BoardEdit.{BoardEdit};
+ghost use Rattle.board.specs.declared.operation.BoardOp.{BoardOp};
+ghost use Rattle.board.specs.Histories.{IsHistory};
 ghost use Rattle.running_bench.specs.declared.stamped_texts.StampedTexts.{StampedTexts as StampedRecord};
 ghost use Rattle.running_bench.specs.StampedCells.{from_scratch};
 ghost use Rattle.memo_core.specs.Work.{ReturnsLowerInRuns, WorkIsBounded, WorkUnsettlesNone};
@@ -9,6 +12,9 @@ ghost use Rattle.cells.specs.CellLaws.{SettledCellIsFromScratch, UnreachedCellSt
 ghost use Rattle.live_bench.specs.Live.{live_meaning, live_cells, live_refusing, live_last};
 ghost use Rattle.live_bench.specs.Stamps.{HasLowStamps, ChangedOutputIsNewer};
 ghost use Rattle.live_bench.specs.There.{HoldsAfterEvents, HasJustItsCells, ShowsRight};
+ghost use Rattle.live_bench.specs.Jobs.{JobsAreAccepted, UnsettledIsGiven, GivenIsBounded};
+ghost use Rattle.live_bench.specs.Unreached.{UnreachedNeedsNoJob};
+ghost use Rattle.live_bench.specs.Openings.{with_edit, KeepsUnreached, OpensReached};
 
 use running_bench::StampedTexts;
 
@@ -70,4 +76,28 @@ pub fn cells_are_there()
 pub fn stamps_are_low()
     ensures low { HoldsAfterEvents HasLowStamps }
     ensures newer { ChangedOutputIsNewer }
+{}
+
+/// No more jobs are given than there are nodes to settle. After any list of events a claim that is given is of a used node that
+/// is not settled. While no edit and no renewal comes and the claim is out, a return of what its job makes is accepted: it is
+/// never stale or unknown. So a list of claims, returns, losses and refused calls gives no more claims than used nodes are
+/// unsettled at its beginning, and one more for each claim that is lost in it.
+pub fn jobs_are_bounded()
+    ensures accepted { JobsAreAccepted live_meaning }
+    ensures unsettled { UnsettledIsGiven live_meaning }
+    ensures bounded { GivenIsBounded live_meaning }
+{}
+
+/// After any list of events, where every node that cells use is settled and an edit leaves the slice of each cell what it was, every
+/// node that cells use is settled after the edit, and no claim is given.
+pub fn unreached_edits_need_no_job()
+    ensures { UnreachedNeedsNoJob }
+{}
+
+/// In a history of a running bench that ends in an edit, a cell whose slice is one before the edit and after it is shown after
+/// it as before it, settled with the same outcome or open, unless the edit puts its test or its model as a whole. Each other
+/// cell that there is before the edit and after it is shown open.
+pub fn boards_keep_unreached_cells()
+    ensures kept { (ops : List BoardOp) (edit : BoardEdit) → IsHistory (with_edit ops edit) → KeepsUnreached ops edit }
+    ensures opened { (ops : List BoardOp) (edit : BoardEdit) → IsHistory (with_edit ops edit) → OpensReached ops edit }
 {}

@@ -1,0 +1,63 @@
+-- How many jobs are given: a job that is run and returned is taken where no edit comes between, so no more are given than there
+-- are nodes to settle. Read it after Work of `memo_core`.
+use Rattle.std.specs.Prelude.{◌≡◌, ℕ, ◌+◌, ◌≤◌, Bool, true, List, [], ◌∷◌, length, Some, if◌then◌else◌}
+use Rattle.std.specs.List.{AllByRecursion as Each}
+use Rattle.memo_core.specs.declared.keys.Node.{Node}
+use Rattle.memo_core.specs.declared.keys.Key.{Key}
+use Rattle.memo_core.specs.declared.claims.Finish.{Finish}
+use Rattle.memo_core.specs.Graph.{IsSettled}
+use Rattle.memo_core.specs.Laws.{DecidesSettled}
+use Rattle.memo_core.specs.Run.{Bench, Event, Edit, Claim, NoClaim, Returned, Lose, Renew, Refused, Meaning, state_in, Step, Run, IsStart, count_unsettled}
+use Rattle.memo_core.specs.Step.{OpenClaim, Return, Has, claim_of}
+use Rattle.memo_core.specs.Work.{IsJobEvent, is_accepted, numbers_given}
+use Rattle.cells.specs.Views.{task_of, task_answered}
+
+-- the claim of this number is out
+abbrev pub IsClaimOut : {T V : Type 0} → Bench T V → ℕ → Type 0
+IsClaimOut b number = (c : OpenClaim) × (claim_of number b.claims ≡ Some c)
+
+-- After any list of events and a claim that gives a job, while claims, returns, losses and refused calls come alone and the claim
+-- is out: a return of what running this job makes is accepted.
+abbrev pub JobsAreAccepted : {T E V G : Type 0} → Meaning T E V G → Type 0
+JobsAreAccepted {T} {E} {V} {G} means =
+    (earlier later : List (Event E V G)) (first old start end new : Bench T V)
+    (number : ℕ) (n : Node) (given : G) (keys : List Key) (values : List V) (r : Return V G) (answer : Finish)
+    → IsStart means.is_valid means.net first → Run means first earlier old
+    → Step means old (Claim number n given keys values) start → Run means start later end → Each IsJobEvent later
+    → IsClaimOut end number → task_answered r ≡ task_of number n given keys values
+    → Step means end (Returned r answer) new → is_accepted answer ≡ true
+
+-- after any list of events, a claim that is given is of a used node that is not settled
+abbrev pub UnsettledIsGiven : {T E V G : Type 0} → Meaning T E V G → Type 0
+UnsettledIsGiven {T} {E} {V} {G} means =
+    (events : List (Event E V G)) (first old new : Bench T V) (number : ℕ) (n : Node) (given : G) (keys : List Key) (values : List V)
+    → IsStart means.is_valid means.net first → Run means first events old → Step means old (Claim number n given keys values) new
+    → Has (means.net old.texts).used n × (IsSettled (means.net old.texts) old.memos n → ⊥)
+
+-- how many claims are given
+abbrev pub given_count : {E V G : Type 0} → List (Event E V G) → ℕ
+given_count events = length (numbers_given events)
+
+-- 1 for a claim that is lost
+abbrev pub lost_by : {E V G : Type 0} → Event E V G → ℕ
+lost_by (Edit e) = 0
+lost_by (Claim number n given keys values) = 0
+lost_by NoClaim = 0
+lost_by (Returned r answer) = 0
+lost_by (Lose n answer) = if answer then 1 else 0
+lost_by Renew = 0
+lost_by Refused = 0
+
+-- how many claims are lost
+abbrev pub lost_count : {E V G : Type 0} → List (Event E V G) → ℕ
+lost_count [] = 0
+lost_count (e ∷ es) = lost_by e + lost_count es
+
+-- After any list of events, in a list of claims, returns, losses and refused calls: no more claims are given than used nodes are
+-- unsettled at its beginning and claims are lost.
+abbrev pub GivenIsBounded : {T E V G : Type 0} → Meaning T E V G → Type 0
+GivenIsBounded {T} {E} {V} {G} means =
+    (earlier events : List (Event E V G)) (first start end : Bench T V) (settled : Node → Bool)
+    → IsStart means.is_valid means.net first → Run means first earlier start → Run means start events end → Each IsJobEvent events
+    → DecidesSettled (state_in means start) settled
+    → given_count events ≤ count_unsettled settled (means.net start.texts).used + lost_count events
