@@ -2,6 +2,9 @@ pub mod Outcomes
 pub mod Runs
 pub mod There
 pub mod Stamps
+pub mod Ready
 pub mod Jobs
+pub mod Given
+pub mod JobLists
 pub mod Unreached
 pub mod Openings

@@ -1,12 +1,13 @@
 -- How many jobs are given: a job that is run and returned is taken where no edit comes between, so no more are given than there
 -- are nodes to settle. Read it after Work of `memo_core`.
-use Rattle.std.specs.Prelude.{◌≡◌, ℕ, ◌+◌, ◌≤◌, Bool, true, List, [], ◌∷◌, length, Some, if◌then◌else◌}
+use Rattle.std.specs.Prelude.{◌≡◌, ℕ, ◌+◌, ◌≤◌, Bool, true, false, not, List, [], ◌∷◌, length, Some, if◌then◌else◌}
 use Rattle.std.specs.List.{AllByRecursion as Each}
 use Rattle.memo_core.specs.declared.keys.Node.{Node}
 use Rattle.memo_core.specs.declared.keys.Key.{Key}
 use Rattle.memo_core.specs.declared.claims.Finish.{Finish}
 use Rattle.memo_core.specs.Graph.{IsSettled}
 use Rattle.memo_core.specs.Laws.{DecidesSettled}
+use Rattle.memo_core.specs.Right.{IsUntouchedBy}
 use Rattle.memo_core.specs.Run.{Bench, Event, Edit, Claim, NoClaim, Returned, Lose, Renew, Refused, Meaning, state_in, Step, Run, IsStart, count_unsettled}
 use Rattle.memo_core.specs.Step.{OpenClaim, Return, Has, claim_of}
 use Rattle.memo_core.specs.Work.{IsJobEvent, is_accepted, numbers_given}
@@ -61,3 +62,13 @@ GivenIsBounded {T} {E} {V} {G} means =
     → IsStart means.is_valid means.net first → Run means first earlier start → Run means start events end → Each IsJobEvent events
     → DecidesSettled (state_in means start) settled
     → given_count events ≤ count_unsettled settled (means.net start.texts).used + lost_count events
+
+-- After any list of events and an edit: where each node was settled and not touched by the edit but those that are open, no more
+-- claims are given after it and before the next than used nodes are open and claims are lost.
+abbrev pub EditBoundsGiven : {T E V G : Type 0} → Meaning T E V G → Type 0
+EditBoundsGiven {T} {E} {V} {G} means =
+    (earlier events : List (Event E V G)) (first old start end : Bench T V) (e : E) (is_open : Node → Bool)
+    → IsStart means.is_valid means.net first → Run means first earlier old → Step means old (Edit e) start
+    → ((n : Node) → is_open n ≡ false → IsSettled (means.net old.texts) old.memos n × ((d : ℕ) → IsUntouchedBy d (means.keeps start.texts) (means.net old.texts) (means.net start.texts) n))
+    → Run means start events end → Each IsJobEvent events
+    → given_count events ≤ count_unsettled (λ n. not (is_open n)) (means.net start.texts).used + lost_count events

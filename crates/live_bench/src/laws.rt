@@ -12,7 +12,8 @@ ghost use Rattle.cells.specs.CellLaws.{SettledCellIsFromScratch, UnreachedCellSt
 ghost use Rattle.live_bench.specs.Live.{live_meaning, live_cells, live_refusing, live_last};
 ghost use Rattle.live_bench.specs.Stamps.{HasLowStamps, ChangedOutputIsNewer};
 ghost use Rattle.live_bench.specs.There.{HoldsAfterEvents, HasJustItsCells, ShowsRight};
-ghost use Rattle.live_bench.specs.Jobs.{JobsAreAccepted, UnsettledIsGiven, GivenIsBounded};
+ghost use Rattle.live_bench.specs.Jobs.{JobsAreAccepted, UnsettledIsGiven, GivenIsBounded, EditBoundsGiven};
+ghost use Rattle.live_bench.specs.JobLists.{ListBoundsGiven};
 ghost use Rattle.live_bench.specs.Unreached.{UnreachedNeedsNoJob};
 ghost use Rattle.live_bench.specs.Openings.{with_edit, KeepsUnreached, OpensReached};
 
@@ -81,11 +82,14 @@ pub fn stamps_are_low()
 /// No more jobs are given than there are nodes to settle. After any list of events a claim that is given is of a used node that
 /// is not settled. While no edit and no renewal comes and the claim is out, a return of what its job makes is accepted: it is
 /// never stale or unknown. So a list of claims, returns, losses and refused calls gives no more claims than used nodes are
-/// unsettled at its beginning, and one more for each claim that is lost in it.
+/// unsettled at its beginning, and one more for each claim that is lost in it: after an edit, no more than used nodes were open
+/// before it or stand on what it touches. `run_events` is given no more by such a list.
 pub fn jobs_are_bounded()
     ensures accepted { JobsAreAccepted live_meaning }
     ensures unsettled { UnsettledIsGiven live_meaning }
     ensures bounded { GivenIsBounded live_meaning }
+    ensures edited { EditBoundsGiven live_meaning }
+    ensures listed { ListBoundsGiven live_meaning live_refusing live_last }
 {}
 
 /// After any list of events, where every node that cells use is settled and an edit leaves the slice of each cell what it was, every
