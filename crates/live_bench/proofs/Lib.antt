@@ -7,4 +7,7 @@ pub mod Jobs
 pub mod Given
 pub mod JobLists
 pub mod Unreached
+pub mod CellLists
+pub mod ReachedCells
+pub mod NewCells
 pub mod Openings

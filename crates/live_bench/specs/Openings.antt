@@ -44,9 +44,9 @@ KeepsUnreached ops edit =
     (test model : List ℕ) → HasOneSlice ops edit test model → (IsPutWhole (texts_after ops) edit test model → ⊥)
     → shown (board_after (with_edit ops edit)) test model ≡ shown (board_after ops) test model
 
--- Each other cell that there is before the edit and after it is shown open.
+-- Each other cell that there is after the edit is shown open.
 abbrev pub OpensReached : List BoardOp → BoardEdit → Type 0
 OpensReached ops edit =
-    (test model : List ℕ) → HasBoth (texts_after ops) test model → HasBoth (texts_after (with_edit ops edit)) test model
+    (test model : List ℕ) → HasBoth (texts_after (with_edit ops edit)) test model
     → IsPutWhole (texts_after ops) edit test model ⊎ (HasOneSlice ops edit test model → ⊥)
     → shown (board_after (with_edit ops edit)) test model ≡ Open

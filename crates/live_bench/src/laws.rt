@@ -100,7 +100,7 @@ pub fn unreached_edits_need_no_job()
 
 /// In a history of a running bench that ends in an edit, a cell whose slice is one before the edit and after it is shown after
 /// it as before it, settled with the same outcome or open, unless the edit puts its test or its model as a whole. Each other
-/// cell that there is before the edit and after it is shown open.
+/// cell that there is after the edit is shown open.
 pub fn boards_keep_unreached_cells()
     ensures kept { (ops : List BoardOp) (edit : BoardEdit) → IsHistory (with_edit ops edit) → KeepsUnreached ops edit }
     ensures opened { (ops : List BoardOp) (edit : BoardEdit) → IsHistory (with_edit ops edit) → OpensReached ops edit }
