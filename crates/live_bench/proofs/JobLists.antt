@@ -20,12 +20,12 @@ use Rattle.live_bench.specs.Jobs.{given_count, lost_by, lost_count, GivenIsBound
 use Rattle.live_bench.specs.JobLists.{given_in, lost_in, given_among, lost_among, ListBoundsGiven}
 
 -- one event of a job, or none, with so many claims given and lost
-record HasStep {T E V G : Type 0} (means : Meaning T E V G) (given lost : ℕ) (old new : Bench T V) : Type 0 where
-  run : List (core.Event E V G)
-  is : Run means old run new
-  jobs : Each IsJobEvent run
-  given_is : given_count run ≡ given
-  lost_is : lost_count run ≡ lost
+pub record HasStep {T E V G : Type 0} (means : Meaning T E V G) (given lost : ℕ) (old new : Bench T V) : Type 0 where
+  pub run : List (core.Event E V G)
+  pub is : Run means old run new
+  pub jobs : Each IsJobEvent run
+  pub given_is : given_count run ≡ given
+  pub lost_is : lost_count run ≡ lost
 
 no_step : {T E V G : Type 0} (means : Meaning T E V G) (old new : Bench T V) → new ≡ old → HasStep means 0 0 old new
 no_step means old new same = record { run = []; is = same; jobs = tt; given_is = refl; lost_is = refl }
@@ -58,7 +58,7 @@ module _ {T E V G F : Type 0} (means : Meaning T E V G) (refuses : Refusing T E 
   returned_step old new (Some t) (Ok answer) h = one_step means 0 0 old new (core.Returned h.0 answer) h.2 tt refl refl
   returned_step old new (Some t) (Err fault) h = no_step means old new h
 
-  answered_step : (old new : Bench T V) (given after : List (Task V G)) (e : Event E) (r : Reply F) → IsJob e → IsAnswered means refuses last old given e r new after → HasStep means (given_in r) (lost_in r) old new
+  pub answered_step : (old new : Bench T V) (given after : List (Task V G)) (e : Event E) (r : Reply F) → IsJob e → IsAnswered means refuses last old given e r new after → HasStep means (given_in r) (lost_in r) old new
   answered_step old new given after (events.Edit e) r job h = absurd job
   answered_step old new given after events.Claim (replies.Edited answer) job h = absurd h
   answered_step old new given after events.Claim (replies.Claimed answer) job h = claimed_step old new given after answer h

@@ -3,9 +3,11 @@ pub mod Runs
 pub mod There
 pub mod Stamps
 pub mod Ready
+pub mod OpenClaims
 pub mod Jobs
 pub mod Given
 pub mod JobLists
+pub mod TaskLists
 pub mod Unreached
 pub mod CellLists
 pub mod ReachedCells

@@ -1,6 +1,6 @@
 -- How many jobs are given: a job that is run and returned is taken where no edit comes between, so no more are given than there
 -- are nodes to settle. Read it after Work of `memo_core`.
-use Rattle.std.specs.Prelude.{◌≡◌, ℕ, ◌+◌, ◌≤◌, Bool, true, false, not, List, [], ◌∷◌, length, Some, if◌then◌else◌}
+use Rattle.std.specs.Prelude.{◌≡◌, ◌≢◌, ℕ, ◌+◌, ◌≤◌, ⊤, Bool, true, false, not, List, [], ◌∷◌, length, Some, if◌then◌else◌}
 use Rattle.std.specs.List.{AllByRecursion as Each}
 use Rattle.memo_core.specs.declared.keys.Node.{Node}
 use Rattle.memo_core.specs.declared.keys.Key.{Key}
@@ -27,6 +27,25 @@ JobsAreAccepted {T} {E} {V} {G} means =
     → Step means old (Claim number n given keys values) start → Run means start later end → Each IsJobEvent later
     → IsClaimOut end number → task_answered r ≡ task_of number n given keys values
     → Step means end (Returned r answer) new → is_accepted answer ≡ true
+
+-- the event neither returns nor loses the claim of this number
+abbrev pub LeavesClaim : {E V G : Type 0} → ℕ → Event E V G → Type 0
+LeavesClaim number (Edit e) = ⊤
+LeavesClaim number (Claim other n given keys values) = ⊤
+LeavesClaim number NoClaim = ⊤
+LeavesClaim number (Returned r answer) = r.claim ≢ number
+LeavesClaim number (Lose n answer) = n ≢ number
+LeavesClaim number Renew = ⊤
+LeavesClaim number Refused = ⊤
+
+-- After any list of events and a claim that gives a job, while claims, returns, losses and refused calls come alone: the claim is out
+-- as long as none of them returns or loses it.
+abbrev pub ClaimsStayOut : {T E V G : Type 0} → Meaning T E V G → Type 0
+ClaimsStayOut {T} {E} {V} {G} means =
+    (earlier later : List (Event E V G)) (first old start end : Bench T V) (number : ℕ) (n : Node) (given : G) (keys : List Key) (values : List V)
+    → IsStart means.is_valid means.net first → Run means first earlier old
+    → Step means old (Claim number n given keys values) start → Run means start later end → Each IsJobEvent later
+    → Each (LeavesClaim number) later → IsClaimOut end number
 
 -- after any list of events, a claim that is given is of a used node that is not settled
 abbrev pub UnsettledIsGiven : {T E V G : Type 0} → Meaning T E V G → Type 0

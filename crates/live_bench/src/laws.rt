@@ -12,8 +12,8 @@ ghost use Rattle.cells.specs.CellLaws.{SettledCellIsFromScratch, UnreachedCellSt
 ghost use Rattle.live_bench.specs.Live.{live_meaning, live_cells, live_refusing, live_last};
 ghost use Rattle.live_bench.specs.Stamps.{HasLowStamps, ChangedOutputIsNewer};
 ghost use Rattle.live_bench.specs.There.{HoldsAfterEvents, HasJustItsCells, ShowsRight};
-ghost use Rattle.live_bench.specs.Jobs.{JobsAreAccepted, UnsettledIsGiven, GivenIsBounded, EditBoundsGiven};
-ghost use Rattle.live_bench.specs.JobLists.{ListBoundsGiven};
+ghost use Rattle.live_bench.specs.Jobs.{JobsAreAccepted, ClaimsStayOut, UnsettledIsGiven, GivenIsBounded, EditBoundsGiven};
+ghost use Rattle.live_bench.specs.JobLists.{ListBoundsGiven, ListAcceptsJobs};
 ghost use Rattle.live_bench.specs.Unreached.{UnreachedNeedsNoJob};
 ghost use Rattle.live_bench.specs.Openings.{with_edit, KeepsUnreached, OpensReached};
 
@@ -79,13 +79,20 @@ pub fn stamps_are_low()
     ensures newer { ChangedOutputIsNewer }
 {}
 
-/// No more jobs are given than there are nodes to settle. After any list of events a claim that is given is of a used node that
-/// is not settled. While no edit and no renewal comes and the claim is out, a return of what its job makes is accepted: it is
-/// never stale or unknown. So a list of claims, returns, losses and refused calls gives no more claims than used nodes are
-/// unsettled at its beginning, and one more for each claim that is lost in it: after an edit, no more than used nodes were open
-/// before it or stand on what it touches. `run_events` is given no more by such a list.
-pub fn jobs_are_bounded()
+/// A job that is claimed, run and returned is taken. After any list of events and a claim that gives a job, while claims, returns,
+/// losses and refused calls come alone: the claim is out until it is returned or lost, and a return of what its job makes is
+/// accepted, never stale or unknown. The same holds in the lists that `run_events` takes.
+pub fn jobs_are_accepted()
     ensures accepted { JobsAreAccepted live_meaning }
+    ensures out { ClaimsStayOut live_meaning }
+    ensures listed { ListAcceptsJobs live_meaning live_refusing live_last }
+{}
+
+/// No more jobs are given than there are nodes to settle. After any list of events a claim that is given is of a used node that
+/// is not settled. A list of claims, returns, losses and refused calls gives no more claims than used nodes are unsettled at its
+/// beginning, and one more for each claim that is lost in it: after an edit, no more than used nodes were open before it or
+/// stand on what it touches. The same holds of the lists that `run_events` takes, by their replies.
+pub fn jobs_are_bounded()
     ensures unsettled { UnsettledIsGiven live_meaning }
     ensures bounded { GivenIsBounded live_meaning }
     ensures edited { EditBoundsGiven live_meaning }

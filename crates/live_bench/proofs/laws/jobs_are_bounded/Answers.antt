@@ -1,7 +1,6 @@
 use Rattle.bench_nodes.specs.Nodes.{rank}
 use Rattle.live_bench.proofs.Given.{unsettled_given, given_bounded, edit_bounds_given}
 use Rattle.live_bench.proofs.JobLists.{list_bounds_given}
-use Rattle.live_bench.proofs.Jobs.{jobs_accepted}
 use Rattle.live_bench.proofs.Runs.{kept, has_ranks}
 use Rattle.live_bench.specs.Live.{live_meaning, live_refusing, live_last}
 use Rattle.live_bench.proofs.laws.jobs_are_bounded.Goals as goal
@@ -10,7 +9,6 @@ pub returns : goal.returns
 returns c =
     let bounded = given_bounded live_meaning kept (λ t. rank t.parts.table) has_ranks in
     record {
-      accepted = jobs_accepted live_meaning;
       unsettled = unsettled_given live_meaning;
       bounded = bounded;
       edited = edit_bounds_given live_meaning kept (λ t. rank t.parts.table) has_ranks;
