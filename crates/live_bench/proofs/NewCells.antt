@@ -127,6 +127,10 @@ found_there f wanted (z ∷ zs) (suc i) x e same = elim (cases_Bool (bytes_eq (f
 not_lacking : {A : Type 0} (f : A → List ℕ) (wanted : List ℕ) (xs : List A) (i : ℕ) (x : A) → slice_get xs i ≡ Some x → f x ≡ wanted → slice_get xs (found f wanted xs) ≡ None → ⊥
 not_lacking f wanted xs i x e same none = let there = found_there f wanted xs i x e same in none-some there.0 (sym none ∙ there.1)
 
+-- nor where one of that name stands in a list with the same names
+not_named_before : {A : Type 0} (f : A → List ℕ) (wanted : List ℕ) (xs ys : List A) (i : ℕ) (x : A) → map f xs ≡ map f ys → slice_get xs i ≡ Some x → f x ≡ wanted → slice_get ys (found f wanted ys) ≡ None → ⊥
+not_named_before f wanted xs ys i x names e same none = let was = same_name f f xs ys i x names e in not_lacking f wanted ys i was.0 was.1 (was.2 ∙ same) none
+
 -- what is new stands behind the last
 put_last : {A : Type 0} (f : A → List ℕ) (wanted : List ℕ) (xs : List A) (new : A) (index count k : ℕ) (x : A) → index ≡ length xs → index ≡ count → slice_get xs (found f wanted xs) ≡ None
     → slice_get (put_at index new xs) k ≡ Some x → f x ≡ wanted → k ≡ count
@@ -201,8 +205,7 @@ module _ (h : Held) (b : BoardContent) (named : IsNamed b.rows b.columns h) (wid
             let one = length-map (put_at index new h.tests) (λ t. t.name) in
             let two = length-map h.tests (λ t. t.name) in
             let names = kept.tests (omega (arith, count, one, two, same, lt, many)) in
-            let was = same_name (λ t. t.name) (λ t. t.name) g.tests h.tests k now.content names now.test_is in
-            absurd (not_lacking (λ t. t.name) test h.tests k was.0 was.1 (was.2 ∙ now_name) none))
+            absurd (not_named_before (λ t. t.name) test g.tests h.tests k now.content names now.test_is now_name none))
         | inr full ↦ (let over = ltb-false at (length b.rows) full in
             let many = row_count in
             let last : index ≡ length h.tests = omega (arith, over, many, same, le) in
@@ -227,8 +230,7 @@ module _ (h : Held) (b : BoardContent) (named : IsNamed b.rows b.columns h) (wid
             let one = length-map (put_at index new h.models) (λ m. m.name) in
             let two = length-map h.models (λ m. m.name) in
             let names = kept.models (omega (arith, count, one, two, same, lt, many)) in
-            let was = same_name (λ m. m.name) (λ m. m.name) g.models h.models k now.under names now.model_is in
-            absurd (not_lacking (λ m. m.name) model h.models k was.0 was.1 (was.2 ∙ now_name) none))
+            absurd (not_named_before (λ m. m.name) model g.models h.models k now.under names now.model_is now_name none))
         | inr full ↦ (let over = ltb-false at (length b.columns) full in
             let many = column_count in
             let last : index ≡ length h.models = omega (arith, over, many, same, le) in

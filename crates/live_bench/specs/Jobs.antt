@@ -82,12 +82,17 @@ GivenIsBounded {T} {E} {V} {G} means =
     → DecidesSettled (state_in means start) settled
     → given_count events ≤ count_unsettled settled (means.net start.texts).used + lost_count events
 
--- After any list of events and an edit: where each node was settled and not touched by the edit but those that are open, no more
--- claims are given after it and before the next than used nodes are open and claims are lost.
+-- the node was settled before the edit, which touches nothing that it stands on
+abbrev pub IsLeftSettled : {T E V G : Type 0} → Meaning T E V G → Bench T V → Bench T V → Node → Type 0
+IsLeftSettled means old new n =
+    IsSettled (means.net old.texts) old.memos n × ((d : ℕ) → IsUntouchedBy d (means.keeps new.texts) (means.net old.texts) (means.net new.texts) n)
+
+-- After any list of events and an edit that leaves each node settled but those that are open: no more claims are given after it and
+-- before the next than used nodes are open and claims are lost.
 abbrev pub EditBoundsGiven : {T E V G : Type 0} → Meaning T E V G → Type 0
 EditBoundsGiven {T} {E} {V} {G} means =
     (earlier events : List (Event E V G)) (first old start end : Bench T V) (e : E) (is_open : Node → Bool)
     → IsStart means.is_valid means.net first → Run means first earlier old → Step means old (Edit e) start
-    → ((n : Node) → is_open n ≡ false → IsSettled (means.net old.texts) old.memos n × ((d : ℕ) → IsUntouchedBy d (means.keeps start.texts) (means.net old.texts) (means.net start.texts) n))
+    → ((n : Node) → is_open n ≡ false → IsLeftSettled means old start n)
     → Run means start events end → Each IsJobEvent events
     → given_count events ≤ count_unsettled (λ n. not (is_open n)) (means.net start.texts).used + lost_count events

@@ -1,4 +1,4 @@
-//! What holds of any list of events on the bench of tests and models.
+//! What holds of any list of events on the bench of tests and models, and of the boards that show its cells.
 
 ghost use Rattle.std.specs.Prelude.{◌≡◌, ℕ, List};
 ghost use Rattle.verdict.specs.declared.answer.Outcome.{Outcome};
