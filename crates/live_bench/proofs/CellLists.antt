@@ -82,14 +82,14 @@ changed_same c j [] x e = absurd (none-some x e)
 changed_same c zero (y ∷ ys) x e = refl
 changed_same c (suc j) (y ∷ ys) x e = changed_same c j ys x e
 
-put_other : (j : ℕ) (c : Option Outcome) (i : ℕ) (rows : List RowContent) (k l : ℕ) → (i ≡ k → j ≡ l → ⊥) → cell_at (put_cell i j c rows) k l ≡ cell_at rows k l
+pub put_other : (j : ℕ) (c : Option Outcome) (i : ℕ) (rows : List RowContent) (k l : ℕ) → (i ≡ k → j ≡ l → ⊥) → cell_at (put_cell i j c rows) k l ≡ cell_at rows k l
 put_other j c i [] k l ne = refl
 put_other j c zero (r ∷ rs) zero l ne = changed_other c j r.cells l (ne refl)
 put_other j c zero (r ∷ rs) (suc k) l ne = refl
 put_other j c (suc i) (r ∷ rs) zero l ne = refl
 put_other j c (suc i) (r ∷ rs) (suc k) l ne = put_other j c i rs k l (λ e f. ne (ap suc e) f)
 
-put_same : (j : ℕ) (c : Option Outcome) (i : ℕ) (rows : List RowContent) (x : Option Outcome) → cell_at rows i j ≡ Some x → cell_at (put_cell i j c rows) i j ≡ Some c
+pub put_same : (j : ℕ) (c : Option Outcome) (i : ℕ) (rows : List RowContent) (x : Option Outcome) → cell_at rows i j ≡ Some x → cell_at (put_cell i j c rows) i j ≡ Some c
 put_same j c i [] x e = absurd (none-some x e)
 put_same j c zero (r ∷ rs) x e = changed_same c j r.cells x e
 put_same j c (suc i) (r ∷ rs) x e = put_same j c i rs x e

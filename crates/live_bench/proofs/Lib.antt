@@ -13,3 +13,4 @@ pub mod CellLists
 pub mod ReachedCells
 pub mod NewCells
 pub mod Openings
+pub mod StaysSettled

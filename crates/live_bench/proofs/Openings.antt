@@ -31,7 +31,7 @@ use Rattle.live_bench.proofs.ReachedCells.{HasNamesApart, AreThere, kept_cell, r
 
 -- ---- lists of operations
 
-fold_last : {A S : Type 0} (f : S → A → S) (xs : List A) (x : A) (s : S) → fold f s (xs ++ x ∷ []) ≡ f (fold f s xs) x
+pub fold_last : {A S : Type 0} (f : S → A → S) (xs : List A) (x : A) (s : S) → fold f s (xs ++ x ∷ []) ≡ f (fold f s xs) x
 fold_last f [] x s = refl
 fold_last f (y ∷ ys) x s = fold_last f ys x (f s y)
 
@@ -43,7 +43,7 @@ last_made : (ops : List BoardOp) (op : BoardOp) (t : BenchTexts) → AreMadeFrom
 last_made [] op t m = m.0
 last_made (o ∷ ops) op t m = last_made ops op (contents_with t o) m.1
 
-made_beginning : (ops others : List BoardOp) (t : BenchTexts) → AreMadeFrom t (ops ++ others) → AreMadeFrom t ops
+pub made_beginning : (ops others : List BoardOp) (t : BenchTexts) → AreMadeFrom t (ops ++ others) → AreMadeFrom t ops
 made_beginning [] others t m = tt
 made_beginning (op ∷ ops) others t m = (m.0, made_beginning ops others (contents_with t op) m.1)
 
@@ -89,12 +89,12 @@ there_by h test model (Some c) (Some m) s e f is = record { content = c; under =
 both_there : (h : Held) (test model : List ℕ) → HasBoth h test model → AreThere h test model
 both_there h test model both = record { content = both.content; under = both.under; test_is = both.test_is; model_is = both.model_is }
 
-shown_at : (h : Held) (b : BoardContent) (named : IsNamed b.rows b.columns h) (test model : List ℕ) → shown b test model ≡ shown_cell (cell_at b.rows (test_at h test) (model_at h model))
+pub shown_at : (h : Held) (b : BoardContent) (named : IsNamed b.rows b.columns h) (test model : List ℕ) → shown b test model ≡ shown_cell (cell_at b.rows (test_at h test) (model_at h model))
 shown_at h b named test model =
     ap (λ (n : ℕ). shown_cell (cell_at b.rows n (found (λ c. c.name) model b.columns))) (found_alike (λ r. r.name) (λ t. t.name) test b.rows h.tests named.tests)
     ∙ ap (λ (n : ℕ). shown_cell (cell_at b.rows (test_at h test) n)) (found_alike (λ c. c.name) (λ m. m.name) model b.columns h.models named.models)
 
-named_after : (ops : List BoardOp) → IsLegal ops → IsNamed (board_after ops).rows (board_after ops).columns (texts_after ops)
+pub named_after : (ops : List BoardOp) → IsLegal ops → IsNamed (board_after ops).rows (board_after ops).columns (texts_after ops)
 named_after ops legal = names_from ops no_board nothing_held 0 legal (record { tests = refl; models = refl })
 
 module _ (ops : List BoardOp) (edit : BoardEdit) (history : IsHistory (with_edit ops edit)) (test model : List ℕ) where

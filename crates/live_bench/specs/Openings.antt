@@ -1,12 +1,13 @@
 -- Which cells of a board an edit opens, and which it leaves as they are shown. Read it after Results and Histories of `board`.
-use Rattle.std.specs.Prelude.{◌≡◌, ◌⊎◌, ℕ, List, [], ◌∷◌, ◌++◌, ◌&&◌, IsTrue, Option, bytes_eq}
+use Rattle.std.specs.Prelude.{◌≡◌, ◌⊎◌, ⊤, ℕ, List, [], ◌∷◌, ◌++◌, ◌&&◌, IsTrue, Option, bytes_eq}
 use Rattle.std.specs.List.{position_or_len}
-use Rattle.compare_report.specs.Cells.{Open}
+use Rattle.verdict.specs.declared.answer.Outcome.{Outcome}
+use Rattle.compare_report.specs.Cells.{Open, Settled}
 use Rattle.bench_slices.specs.Reach.{cell_slice, is_of}
 use Rattle.bench_slices.specs.Slices.{Slice}
 use Rattle.board.specs.declared.operation.BoardEdit.{BoardEdit}
 use Rattle.board.specs.declared.operation.BoardOp.{BoardOp}
-use Rattle.board.specs.declared.operation.BoardOp.TheVariants.{Edit}
+use Rattle.board.specs.declared.operation.BoardOp.TheVariants.{Edit, Settle}
 use Rattle.board.specs.Contents.{shown}
 use Rattle.board.specs.Legal.{Held, texts_after}
 use Rattle.board.specs.Operations.{board_after}
@@ -50,3 +51,21 @@ OpensReached ops edit =
     (test model : List ℕ) → HasBoth (texts_after (with_edit ops edit)) test model
     → IsPutWhole (texts_after ops) edit test model ⊎ (HasOneSlice ops edit test model → ⊥)
     → shown (board_after (with_edit ops edit)) test model ≡ Open
+
+-- ---- over many operations
+
+-- the operation that comes after these settles a cell, or is an edit that does not reach this one
+abbrev pub LeavesCell : List BoardOp → BoardOp → (test model : List ℕ) → Type 0
+LeavesCell ops (Edit edit) test model = HasOneSlice ops edit test model × (IsPutWhole (texts_after ops) edit test model → ⊥)
+LeavesCell ops (Settle at outcome) test model = ⊤
+
+-- and so does each of these, one after another
+abbrev pub AllLeaveCell : (ops more : List BoardOp) → (test model : List ℕ) → Type 0
+AllLeaveCell ops [] test model = ⊤
+AllLeaveCell ops (op ∷ more) test model = LeavesCell ops op test model × AllLeaveCell (ops ++ op ∷ []) more test model
+
+-- A cell that is shown as settled stays so, with the same outcome, as long as no edit reaches it.
+abbrev pub StaysSettled : (ops more : List BoardOp) → Type 0
+StaysSettled ops more =
+    (test model : List ℕ) (o : Outcome) → AllLeaveCell ops more test model → shown (board_after ops) test model ≡ Settled o
+    → shown (board_after (ops ++ more)) test model ≡ Settled o

@@ -1,6 +1,6 @@
 //! What holds of any list of events on the bench of tests and models, and of the boards that show its cells.
 
-ghost use Rattle.std.specs.Prelude.{◌≡◌, ℕ, List};
+ghost use Rattle.std.specs.Prelude.{◌≡◌, ℕ, List, ◌++◌};
 ghost use Rattle.verdict.specs.declared.answer.Outcome.{Outcome};
 ghost use Rattle.board.specs.declared.operation.BoardEdit.{BoardEdit};
 ghost use Rattle.board.specs.declared.operation.BoardOp.{BoardOp};
@@ -15,7 +15,7 @@ ghost use Rattle.live_bench.specs.There.{HoldsAfterEvents, HasJustItsCells, Show
 ghost use Rattle.live_bench.specs.Jobs.{JobsAreAccepted, ClaimsStayOut, UnsettledIsGiven, GivenIsBounded, EditBoundsGiven};
 ghost use Rattle.live_bench.specs.JobLists.{ListBoundsGiven, ListAcceptsJobs};
 ghost use Rattle.live_bench.specs.Unreached.{UnreachedNeedsNoJob};
-ghost use Rattle.live_bench.specs.Openings.{with_edit, KeepsUnreached, OpensReached};
+ghost use Rattle.live_bench.specs.Openings.{with_edit, KeepsUnreached, OpensReached, StaysSettled};
 
 use running_bench::StampedTexts;
 
@@ -107,8 +107,10 @@ pub fn unreached_edits_need_no_job()
 
 /// In a history of a running bench that ends in an edit, a cell whose slice is one before the edit and after it is shown after
 /// it as before it, settled with the same outcome or open, unless the edit puts its test or its model as a whole. Each other
-/// cell that there is after the edit is shown open.
+/// cell that there is after the edit is shown open. So a cell that is shown as settled stays so, with the same outcome, over any
+/// operations as long as no edit reaches it.
 pub fn boards_keep_unreached_cells()
     ensures kept { (ops : List BoardOp) (edit : BoardEdit) → IsHistory (with_edit ops edit) → KeepsUnreached ops edit }
     ensures opened { (ops : List BoardOp) (edit : BoardEdit) → IsHistory (with_edit ops edit) → OpensReached ops edit }
+    ensures lasting { (ops more : List BoardOp) → IsHistory (ops ++ more) → StaysSettled ops more }
 {}
