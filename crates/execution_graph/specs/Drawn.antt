@@ -25,10 +25,10 @@ pub record AreEdges (D : ℕ → ℕ → Type 0) (edges : List (ℕ × ℕ)) : T
   pub rising : IsRising edges
   pub exact : (p : ℕ × ℕ) → Contains edges p ↔ D p.0 p.1
 
--- an event of a thread is drawn; and an initial store that a load reads
-abbrev pub IsReadIfInitial : Option ℕ → List ℕ → ℕ → Type 0
-IsReadIfInitial (Some thread) sources n = Unit {0}
-IsReadIfInitial None sources n = Contains sources n
+-- an event of a thread is drawn; and an initial store that is among those of these numbers
+abbrev pub IsAmongIfInitial : Option ℕ → (named : List ℕ) → ℕ → Type 0
+IsAmongIfInitial (Some thread) named n = Unit {0}
+IsAmongIfInitial None named n = Contains named n
 
-abbrev pub IsDrawnEvent : List Event → List ℕ → ℕ → Type 0
-IsDrawnEvent events sources n = (e : Event) × (slice_get events n ≡ Some e) × IsReadIfInitial e.thread sources n
+abbrev pub IsDrawnEvent : List Event → (named : List ℕ) → ℕ → Type 0
+IsDrawnEvent events named n = (e : Event) × (slice_get events n ≡ Some e) × IsAmongIfInitial e.thread named n

@@ -91,10 +91,11 @@ clusters_as scene S T threads same clusters old = record {
 }
 
 -- the members of the set are the events that are drawn of the candidate
-pub drawn_in : (events : List Event) (sources : List ℕ) (one : Candidate) (drawn : Events) → events ≡ one.0.events.items → sources ≡ one.1.0 → IsEvents drawn (length events) (IsDrawnEvent events sources) → (a : ℕ) → IsMember drawn a ↔ IsDrawnEvent one.0.events.items one.1.0 a
-drawn_in events sources one drawn es ss are a =
-    subst (λ (xs : List ℕ). IsMember drawn a ↔ IsDrawnEvent one.0.events.items xs a) ss
-    (subst (λ (xs : List Event). IsMember drawn a ↔ IsDrawnEvent xs sources a) es (are.members a))
+pub drawn_in : (events : List Event) (sources ends : List ℕ) (one : Candidate) (drawn : Events) → events ≡ one.0.events.items → sources ≡ one.1.0
+    → IsEvents drawn (length events) (IsDrawnEvent events (sources ++ ends)) → (a : ℕ) → IsMember drawn a ↔ IsDrawnEvent one.0.events.items (one.1.0 ++ ends) a
+drawn_in events sources ends one drawn es ss are a =
+    subst (λ (xs : List ℕ). IsMember drawn a ↔ IsDrawnEvent one.0.events.items (xs ++ ends) a) ss
+    (subst (λ (xs : List Event). IsMember drawn a ↔ IsDrawnEvent xs (sources ++ ends) a) es (are.members a))
 
 -- ---- one drawing after another
 

@@ -153,7 +153,7 @@ pub record AreAllLines (s : Subject) (k : ℕ) (one : Candidate) (IsDrawn : ℕ 
 abbrev pub IsJudged : List CheckValues → ℕ → Option FirstRefusal → Type 0
 IsJudged checks k found = MatchOption found (AcceptBelow checks k (length checks)) (IsFirstRefusal checks k)
 
--- the check that refuses, as the model writes it
+-- the check that refuses, as it is printed
 abbrev pub IsCheckText : List CheckValues → List Item → FirstRefusal → List ℕ → Type 0
 IsCheckText checks items first text =
     (c : CheckValues) × (slice_get checks first.index ≡ Some c)
@@ -183,8 +183,14 @@ pub record IsSceneOf (test : Test) (k : ℕ) (one : Candidate) (scene : Scene) :
   pub events : scene.events ≡ one.0.events.items
   pub instructions : AreInstructions test scene.events scene.instructions
 
-abbrev pub IsDrawnIn : Candidate → ℕ → Type 0
-IsDrawnIn one = IsDrawnEvent one.0.events.items one.1.0
+-- the events at which the steps begin and end
+abbrev pub step_ends : (first : Option ℕ) → List ToldStep → List ℕ
+step_ends None steps = []
+step_ends (Some first) steps = first ∷ map (λ s. s.to) steps
+
+-- the events of the threads are drawn, and the initial stores that loads read or that are ends of steps
+abbrev pub IsDrawnIn : Candidate → (ends : List ℕ) → ℕ → Type 0
+IsDrawnIn one ends = IsDrawnEvent one.0.events.items (one.1.0 ++ ends)
 
 -- the candidate of number k, with its events and its pairs, and the steps of the reason
 pub record IsGraph (s : Subject) (k : ℕ) (one : Candidate) (found : Option FirstRefusal) (d : Drawing) : Type 0 where
@@ -193,9 +199,9 @@ pub record IsGraph (s : Subject) (k : ℕ) (one : Candidate) (found : Option Fir
   pub fate : List ℕ
   pub told : IsFate s.checks s.model.text found fate
   pub title : d.title.items ≡ title_text s.test.name k fate
-  pub initial : AreBoxesOf scene (IsDrawnIn one) None d.initial.items
-  pub clusters : AreClusters scene (IsDrawnIn one) (vec_len s.test.threads) d.clusters.items
-  pub edges : AreAllLines s k one (IsDrawnIn one) d.edges.items
+  pub initial : AreBoxesOf scene (IsDrawnIn one (step_ends d.first d.steps.items)) None d.initial.items
+  pub clusters : AreClusters scene (IsDrawnIn one (step_ends d.first d.steps.items)) (vec_len s.test.threads) d.clusters.items
+  pub edges : AreAllLines s k one (IsDrawnIn one (step_ends d.first d.steps.items)) d.edges.items
   pub steps : AreSteps s.model s.checks scene found d.first d.steps.items
 
 -- ---- which executions

@@ -43,7 +43,7 @@ abbrev pub written : Option Item → List ℕ
 written None = []
 written (Some item) = printed_item (clause_of item)
 
--- Why the check refuses the candidate, by the witness: the check as the model writes it, the events where the steps begin and
+-- Why the check refuses the candidate, by the witness: the check as it is printed, the events where the steps begin and
 -- end, where the first begins, and the steps.
 pub record IsReason (j : Judgement) (scene : Scene) (check : CheckValues) (witness : Witness) (r : Reason) : Type 0 where
   pub starts : List StepStart

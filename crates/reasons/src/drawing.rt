@@ -8,7 +8,7 @@ ghost use Rattle.event_origins.specs.Origins.{AreAllRuns};
 ghost use Rattle.memo_graph.specs.FromScratch.{AreItemsOf, IsFaultless};
 ghost use Rattle.reasons.specs.Drawable.{AddsDrawing, AreEdgesAt, AreReady, HasCount, IsGraphAt, subject_of};
 ghost use Rattle.bit_relations.specs.Relation.{IsMember};
-ghost use Rattle.reasons.specs.Drawings.{AreDrawingsOf, AreDrawn, AreSteps, IsCheckText, IsDrawn, IsFate};
+ghost use Rattle.reasons.specs.Drawings.{AreDrawingsOf, AreDrawn, AreSteps, IsCheckText, IsDrawn, IsFate, step_ends};
 ghost use Rattle.reasons.specs.Drawings.{IsJudged, refused_comment, title_text};
 ghost use Rattle.reasons.specs.Drawings as drawings;
 ghost use Rattle.reasons.specs.Views.{judgement_of, scene_of};
@@ -83,7 +83,7 @@ fn title_of(
     Ok(title)
 }
 
-// The check that refuses, as the model writes it.
+// The check that refuses, as it is printed.
 fn check_text(
     alloc: Global,
     judged: Judged<'_>,
@@ -138,6 +138,25 @@ fn steps_of(
     }
 }
 
+// The events at which the steps of a reason begin and end.
+fn step_ends(
+    alloc: Global,
+    first: Option<usize>,
+    steps: &[ToldStep],
+) -> Result<Vec<usize>, AllocError>
+    ensures { IfOk result (λ v. v.items ≡ step_ends first steps.now) }
+{
+    let mut ends = Vec::new(alloc);
+    let Some(first) = first else {
+        return Ok(ends);
+    };
+    ends.push(first)?;
+    for step in steps {
+        ends.push(step.to)?;
+    }
+    Ok(ends)
+}
+
 // The edges of an execution between the events that are drawn.
 fn edges_of(
     alloc: Global,
@@ -175,9 +194,10 @@ fn drawing_of(
         events: &execution.events,
         instructions: &instructions,
     };
-    let drawn = drawn_events(&execution.events, &execution.sources);
     let fate = fate_of(alloc, scene.judged, candidate, found)?;
     let (first, steps) = steps_of(alloc, scene.judged, told, found)?;
+    let ends = step_ends(alloc, first, &steps)?;
+    let drawn = drawn_events(&execution.events, &execution.sources, &ends);
     Ok(Drawing {
         title: title_of(alloc, scene.test.name.as_bytes(), candidate, &fate)?,
         initial: boxes(alloc, told, &drawn, None)?,

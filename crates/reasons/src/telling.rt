@@ -322,7 +322,7 @@ fn numbers_of(
     Ok(numbers)
 }
 
-// The check, as the model writes it.
+// The check, as it is printed.
 fn check_text(
     alloc: Global,
     judged: Judged<'_>,

@@ -1,5 +1,6 @@
-//! Says of known tests why the model of Power forbids them, or shows an execution that it keeps, or both; and draws
-//! executions of four, and one under a model that shows relations of its own.
+//! Says of known tests why the model of Power forbids them, or shows an execution that it keeps, or both, and why small models
+//! do that check in other ways; and draws executions of four, one under a model that shows relations of its own, and one in which
+//! a reason begins at an initial store that nothing reads.
 
 mod texts;
 
@@ -75,6 +76,10 @@ fn show<R: Print + AllocGlobal>(rt: &R, asked: Asked, test: &[u8]) -> io::Result
     rt.print(text_of(rt.alloc(), asked, POWER, test)?)
 }
 
+fn show_under<R: Print + AllocGlobal>(rt: &R, model: &[u8], test: &[u8]) -> io::Result<()> {
+    rt.print(text_of(rt.alloc(), PLAIN, model, test)?)
+}
+
 /// Prints each answer.
 pub fn show_all<R: Print + AllocGlobal>(rt: &R) -> io::Result<()> {
     show(rt, PLAIN, texts::MP_LWSYNC_ADDR)?;
@@ -87,9 +92,13 @@ pub fn show_all<R: Print + AllocGlobal>(rt: &R) -> io::Result<()> {
     show(rt, FORBIDDEN, texts::MP_EITHER)?;
     show(rt, DEEP, texts::MP_LWSYNC_ADDR)?;
     show(rt, DEEP, texts::LB_DATAS)?;
+    for model in texts::SMALL {
+        show_under(rt, model, texts::COWR)?;
+    }
     show_drawing(rt, POWER, texts::MP, Wanted::Shown)?;
     show_drawing(rt, POWER, texts::MP_LWSYNC_ADDR, Wanted::Forbidden)?;
     show_drawing(rt, POWER, texts::LB_DATAS, Wanted::Forbidden)?;
     show_drawing(rt, POWER, texts::COWR, Wanted::All)?;
-    show_drawing(rt, texts::SHOWING, texts::MP_LWSYNC_ADDR, Wanted::Shown)
+    show_drawing(rt, texts::SHOWING, texts::MP_LWSYNC_ADDR, Wanted::Shown)?;
+    show_drawing(rt, texts::ONCE, texts::STORE, Wanted::Forbidden)
 }

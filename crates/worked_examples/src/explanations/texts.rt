@@ -118,3 +118,29 @@ let preserved = lwsync | addr | data\n\
 show preserved, W, nothing, rf | fr\n\
 acyclic po-loc | com as coherence\n\
 ";
+
+/// A store that nothing reads.
+pub const STORE: &[u8] = b"\
+PPC store\n\
+{\n\
+0:r2=x;\n\
+}\n\
+ P0           ;\n\
+ li r1,1      ;\n\
+ stw r1,0(r2) ;\n\
+exists ([x]=1)\n\
+";
+
+/// A model that forbids each store.
+pub const ONCE: &[u8] = b"empty co as once\n";
+
+/// Models that forbid what `CoWR` asks for: by a walk with an identity, with a closure, with an optional step; by a pair, by an
+/// event; and by what a negated check asks for.
+pub const SMALL: [&[u8]; 6] = [
+    b"irreflexive [R];fr;po-loc as walk\n",
+    b"irreflexive po-loc;fr+ as closed\n",
+    b"irreflexive po-loc;co?;fr as optional\n",
+    b"empty fr & po-loc^-1 as pair\n",
+    b"empty R as event\n",
+    b"~empty rf & po-loc as negated\n",
+];

@@ -1,10 +1,10 @@
-use Rattle.std.proofs.Common.{◌≡◌, ◌∙◌, List, ap, length, refl, sym}
+use Rattle.std.proofs.Common.{◌≡◌, ◌++◌, ◌∙◌, List, ap, length, refl, sym}
 use Rattle.std.specs.Prelude.{None}
 use Rattle.bit_relations.specs.Relation.{IsEvents, IsMember}
 use Rattle.execution_graph.specs.Drawn.{IsDrawnEvent}
 use Rattle.run_combinations.specs.declared.combination.Event.{Event}
 use Rattle.reasons.specs.Drawable.{subject_of}
-use Rattle.reasons.specs.Drawings.{IsDrawnIn}
+use Rattle.reasons.specs.Drawings.{IsDrawnIn, step_ends}
 use Rattle.reasons.specs.Told.{Scene}
 use Rattle.reasons.proofs.Graphing.{boxed_as, clusters_as, drawn_in, events_shown, shown_there, sources_shown}
 use Rattle.reasons.proofs.Pairing.{edges_as_drawn}
@@ -16,7 +16,7 @@ edges_of-requires-clause-count c =
     let k = c.args.candidate in
     let e = c.args.execution.now in
     let (one, is) = shown_there space k e c.requires.shown in
-    let long : c.drawn_events-drawn.result.count ≡ length e.events.items = rw c.deref-3.ensures.value at c.drawn_events-drawn.ensures.count in
+    let long : c.drawn_events-drawn.result.count ≡ length e.events.items = rw c.deref-4.ensures.value at c.drawn_events-drawn.ensures.count in
     (one, is, long ∙ ap (λ (xs : List Event). length xs) (events_shown space k e one c.requires.shown is))
 
 pub returns : goal.returns
@@ -29,9 +29,12 @@ returns c = λ one is.
     let drawn = c.drawn_events-drawn.result in
     let same = events_shown space k e one c.requires.shown is in
     let read = sources_shown space k e one c.requires.shown is in
-    let are : IsEvents drawn (length events) (IsDrawnEvent events sources) = rw (c.deref-3.ensures.value, c.deref-4.ensures.value) at c.drawn_events-drawn.ensures in
+    let ends = step_ends c.in_ok-first.first c.in_ok-first.steps.items in
+    let told : c.in_ok-ends.ends.items ≡ ends = rw c.deref-3.ensures.value at c.in_ok-ends.ensures in
+    let named : c.deref-6.result.now ≡ ends = c.deref-6.ensures.value ∙ told in
+    let are : IsEvents drawn (length events) (IsDrawnEvent events (sources ++ ends)) = rw (c.deref-4.ensures.value, c.deref-5.ensures.value, named) at c.drawn_events-drawn.ensures in
     let scene : Scene = record { candidate = k; events = c.deref.result.now; instructions = c.deref-2.result.now } in
-    let members = drawn_in events sources one drawn same read are in
+    let members = drawn_in events sources ends one drawn same read are in
     let made = c.in_ok-instructions.ensures c.args.scene.test.now c.requires.runs in
     record {
       scene = scene;
@@ -42,9 +45,9 @@ returns c = λ one is.
       };
       fate = c.in_ok-fate.fate.items;
       told = c.in_ok-fate.ensures;
-      title = rw (c.as_bytes.ensures, c.deref-5.ensures.value) at c.in_ok-title_of.ensures;
-      initial = boxed_as scene (IsMember drawn) (IsDrawnIn one) None members c.in_ok-boxes.field-0.items c.in_ok-boxes.ensures;
-      clusters = clusters_as scene (IsMember drawn) (IsDrawnIn one) _ members c.in_ok-clusters.field-0.items (rw c.len.ensures at c.in_ok-clusters.ensures);
-      edges = edges_as_drawn (subject_of c.args.scene) k one (IsMember drawn) (IsDrawnIn one) members c.in_ok-edges_of.field-0.items (c.in_ok-edges_of.ensures one is);
+      title = rw (c.as_bytes.ensures, c.deref-7.ensures.value) at c.in_ok-title_of.ensures;
+      initial = boxed_as scene (IsMember drawn) (IsDrawnIn one ends) None members c.in_ok-boxes.field-0.items c.in_ok-boxes.ensures;
+      clusters = clusters_as scene (IsMember drawn) (IsDrawnIn one ends) _ members c.in_ok-clusters.field-0.items (rw c.len.ensures at c.in_ok-clusters.ensures);
+      edges = edges_as_drawn (subject_of c.args.scene) k one (IsMember drawn) (IsDrawnIn one ends) members c.in_ok-edges_of.field-0.items (c.in_ok-edges_of.ensures one is);
       steps = c.in_ok-first.ensures;
     }
