@@ -14,6 +14,7 @@ use desk::{Accepted, BoardTexts, Desk, DeskFault, Settling, Taken};
 use desk_rule::{Naming, View, Viewer};
 use memo_core::claims::{ClaimFault, Finish};
 use memo_core::keys::Node;
+use running_bench::StampedTexts;
 use std::alloc::{AllocError, Global};
 use std::rt::Clock;
 use std::sync::Wait;
@@ -91,6 +92,9 @@ pub trait PlayedBench: Drop {
     /// What is shown of a test under a model.
     fn shown(&self, test: &[u8], model: &[u8]) -> Shown<'_, Outcome>;
 
+    /// The name of the output of a node that goes by that number, if there is such an output.
+    fn output_name(&self, node: Node, number: u64) -> Option<&[u8]>;
+
     /// Answers a list of events. Errors: want of memory.
     fn run_events<W: Wait>(
         &mut self,
@@ -100,22 +104,18 @@ pub trait PlayedBench: Drop {
     ) -> Result<Vec<Reply<EditFault>>, AllocError>;
 }
 
-impl<K, T> PlayedBench for Bench<K, T>
-where
-    K: StoreName,
-    T: CellTexts<Edit = Edit, Fault = EditFault, Outcome = Outcome>,
-{
-    type Job = Job<K, T>;
+impl<K: StoreName> PlayedBench for Bench<K, StampedTexts> {
+    type Job = Job<K, StampedTexts>;
 
     fn edit(&mut self, alloc: Global, edit: Edit) -> Result<u64, EditFault> {
         Bench::edit(self, alloc, edit)
     }
 
-    fn claim(&mut self, alloc: Global) -> Result<Option<Job<K, T>>, ClaimFault> {
+    fn claim(&mut self, alloc: Global) -> Result<Option<Job<K, StampedTexts>>, ClaimFault> {
         Bench::claim(self, alloc)
     }
 
-    fn finish(&mut self, done: Done<K, T>) -> Finish {
+    fn finish(&mut self, done: Done<K, StampedTexts>) -> Finish {
         Bench::finish(self, done)
     }
 
@@ -129,6 +129,10 @@ where
 
     fn shown(&self, test: &[u8], model: &[u8]) -> Shown<'_, Outcome> {
         Bench::shown(self, test, model)
+    }
+
+    fn output_name(&self, node: Node, number: u64) -> Option<&[u8]> {
+        self.texts().output_name(node, number)
     }
 
     fn run_events<W: Wait>(

@@ -1,4 +1,5 @@
 pub mod Counting
+pub mod Histories
 pub mod Empty
 pub mod Preparing
 pub mod Indexes

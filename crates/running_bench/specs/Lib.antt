@@ -10,4 +10,5 @@ pub mod Texts
 pub mod Listing
 pub mod Laws
 pub mod Posted
+pub mod Outputs
 pub mod Contents

@@ -10,6 +10,7 @@
 
 mod cell_texts;
 mod copies;
+mod outputs;
 mod seed;
 pub mod stamped_laws;
 mod stamped_texts;

@@ -14,6 +14,7 @@ use cells::events::Reply;
 use cells::shown::Shown;
 use compare_report::{Shown as Cell, counts_text};
 use memo_core::claims::Finish;
+use memo_core::keys::Node;
 use std::alloc::{AllocError, Global};
 use std::sync::Wait;
 use test_cases::text_of;
@@ -84,24 +85,53 @@ fn put_replies(answer: &mut Vec<u8>, replies: &[Reply<EditFault>]) -> Result<(),
 /// What becomes of a return: none for a job that is not kept.
 type Returned = Option<Result<Offered, StoreFault>>;
 
+/// Appends the names of the outputs of a node that are new or changed.
+fn put_stored<B: PlayedBench>(
+    answer: &mut Vec<u8>,
+    bench: &B,
+    node: Node,
+    outputs: &[u64],
+) -> Result<(), AllocError> {
+    put_bytes(answer, b"stored")?;
+    for output in outputs {
+        put_bytes(answer, b" ")?;
+        if let Some(name) = bench.output_name(node, *output) {
+            put_bytes(answer, name)?;
+        }
+    }
+    Ok(())
+}
+
 /// Appends the node that a return was for, and what became of it.
-fn put_offered(answer: &mut Vec<u8>, offered: &Offered) -> Result<(), AllocError> {
+fn put_offered<B: PlayedBench>(
+    answer: &mut Vec<u8>,
+    bench: &B,
+    offered: &Offered,
+) -> Result<(), AllocError> {
     put_node(answer, offered.node)?;
-    put_finish(answer, &offered.finish)
+    match &offered.finish {
+        Finish::Stored(outputs) => put_stored(answer, bench, offered.node, outputs),
+        finish => put_finish(answer, finish),
+    }
 }
 
 /// Appends what became of a return.
-fn put_return(answer: &mut Vec<u8>, returned: Returned) -> Result<(), AllocError> {
+fn put_return<B: PlayedBench>(
+    answer: &mut Vec<u8>,
+    bench: &B,
+    returned: Returned,
+) -> Result<(), AllocError> {
     match returned {
-        Some(Ok(offered)) => put_offered(answer, &offered),
+        Some(Ok(offered)) => put_offered(answer, bench, &offered),
         Some(Err(fault)) => put_run_fault(answer, &fault),
         None => put_finish(answer, &Finish::Unknown),
     }
 }
 
 /// Counts what became of a return, and appends it, if each is told.
-fn note_return(
+fn note_return<B: PlayedBench>(
     answer: &mut Vec<u8>,
+    bench: &B,
     tally: &mut Tally,
     returned: Returned,
     each: bool,
@@ -112,7 +142,7 @@ fn note_return(
     };
     tally.note(&offered.finish);
     if each {
-        put_offered(answer, &offered)?;
+        put_offered(answer, bench, &offered)?;
         put_bytes(answer, b"\n")?;
     }
     Ok(())
@@ -180,7 +210,7 @@ impl<'a, B: PlayedBench> BenchPlay<'a, B> {
                 break;
             };
             let returned = self.claimed.offer(rt, alloc, claim)?;
-            note_return(answer, &mut tally, returned, each)?;
+            note_return(answer, &self.claimed.bench, &mut tally, returned, each)?;
         }
         put_count(answer, &tally)
     }
@@ -252,7 +282,8 @@ impl<'a, B: PlayedBench> BenchPlay<'a, B> {
         answer: &mut Vec<u8>,
         claim: u64,
     ) -> Result<(), AllocError> {
-        put_return(answer, self.claimed.offer(rt, alloc, claim)?)
+        let returned = self.claimed.offer(rt, alloc, claim)?;
+        put_return(answer, &self.claimed.bench, returned)
     }
 
     /// Makes one of many small edits.

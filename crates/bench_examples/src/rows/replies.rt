@@ -66,7 +66,7 @@ pub fn put_node(answer: &mut Vec<u8>, node: Node) -> Result<(), AllocError> {
     put_bytes(answer, b": ")
 }
 
-/// What became of a return: the outputs that are new or changed go by their positions.
+/// What became of a return: the outputs that are new or changed go by their numbers.
 pub fn put_finish(answer: &mut Vec<u8>, finish: &Finish) -> Result<(), AllocError> {
     match finish {
         Finish::Unknown => put_bytes(answer, b"unknown"),
