@@ -1,7 +1,8 @@
 -- The lines that a board shows are right for the texts that it shows.
-use Rattle.std.proofs.Common.{◌≡◌, ◌⊎◌, ℕ, ◌<◌, ◌≤◌, ◌-◌, ◌^◌, min, List, [], ◌∷◌, ◌++◌, length, Option, Some, None, Result, Ok, Err, IfOk, IfSome, refl, sym, ap, subst, ◌∙◌, inl, inr, arith}
+use Rattle.std.proofs.Common.{◌≡◌, ◌⊎◌, ℕ, ◌<◌, ◌≤◌, ◌-◌, ◌^◌, min, suc, false, map, List, [], ◌∷◌, ◌++◌, length, Option, Some, None, Result, Ok, Err, IfOk, IfSome, refl, sym, ap, subst, ◌∙◌, inl, inr, arith}
 use Rattle.std.proofs.lemmas.Bool.{cases_lt}
 use Rattle.std.specs.Prelude.{◌≢◌, slice_get, option_map, bytes_eq, Vec}
+use Rattle.std.specs.Borrow.{Bor}
 use Rattle.std.specs.List.{AllByRecursion as Each}
 use Rattle.std.specs.declared.alloc.AllocError.{AllocError}
 use Rattle.std.specs.declared.alloc.Global.{Global}
@@ -9,7 +10,8 @@ use mathlib.Core.List.{IsPrefix}
 use Rattle.text_values.specs.TestValue.{Content, content_of}
 use Rattle.compare_report.specs.Cells.{Cell, NoCell, Open, Settled}
 use Rattle.bench_texts.specs.BenchTexts.{BenchTexts, PlainModel, test_index, model_index}
-use Rattle.bench_texts.specs.Held.{model_of}
+use Rattle.bench_texts.specs.Held.{model_of, texts_of}
+use Rattle.bench_texts.specs.declared.texts.Texts.{Texts}
 use Rattle.board.specs.declared.operation.BoardOp.{BoardOp}
 use Rattle.board.specs.Contents.{shown}
 use Rattle.board.specs.Operations.{board_after}
@@ -23,9 +25,10 @@ use Rattle.session_answers.specs.Cells.{test_named, model_named}
 use Rattle.session_answers.proofs.Named.{clauses_of-items}
 use Rattle.session_views.proofs.Counts.{knows_later, knows_nothing}
 use Rattle.session_views.specs.Knowing.{KnowsOwn}
-use Rattle.live_watch.specs.Holding.{model_name}
+use Rattle.live_watch.specs.Holding.{model_name, no_names}
 use Rattle.live_watch.specs.Lines.{IsTestCell, AreLinesOf}
-use Rattle.live_watch.specs.Boards.{KnowsTexts, shown_lines, IsClosedBy, AreOwn, lists_of}
+use Rattle.live_watch.specs.Boards.{KnowsTexts, shown_lines, IsClosedBy, AreOwn, lists_of, standing_of}
+use Rattle.live_watch.specs.Runs.{at_first}
 use Rattle.live_watch.proofs.Lists.{found_mapped}
 
 test_there : (ops : List BoardOp) (t : BenchTexts) → contents_after ops ≡ t → (name : List ℕ)
@@ -98,6 +101,19 @@ pub knows_start : (seen : List BoardOp) (t : BenchTexts) → seen ≡ [] → t �
 knows_start seen t nothing none =
     let knows = subst (λ (l : List BoardOp). KnowsOwn l 0 t) (sym nothing) (subst (λ (x : BenchTexts). KnowsOwn [] 0 x) (sym none) knows_nothing) in
     (omega arith, knows)
+
+as_many : (tests : List (Bor (List ℕ))) → length (map (λ t. t.now) tests) ≡ length tests
+as_many [] = refl
+as_many (t ∷ tests) = ap suc (as_many tests)
+
+-- nothing is held at the start, no line was written and no text refused
+pub stands_first : (texts : Texts) (names : Vec (Option (List ℕ)) Global) (lines : Vec (Vec ℕ Global) Global) (tests : List (Bor (List ℕ))) (count : ℕ)
+    → texts_of texts ≡ no_contents → names.items ≡ no_names count → count ≡ length tests → lines.items ≡ []
+    → standing_of texts names lines false ≡ at_first (length (map (λ t. t.now) tests)) (lists_of lines.items)
+stands_first texts names lines tests count none empty long first =
+    let named : names.items ≡ no_names (length (map (λ t. t.now) tests)) = empty ∙ ap no_names (long ∙ sym (as_many tests)) in
+    ap (λ (t : BenchTexts). record { held = record { texts = t; names = names.items }; lines = lists_of lines.items; refused = false }) none
+    ∙ ap (λ (l : List (Option (List ℕ))). record { held = record { texts = no_contents; names = l }; lines = lists_of lines.items; refused = false }) named
 
 -- lines of a board that counts no edits but the own are those of the own texts
 pub own_lines : (ops : List BoardOp) (made : ℕ) (t : BenchTexts) (names : List (Option (List ℕ))) (lines : List (List ℕ))

@@ -6,16 +6,18 @@ use Rattle.std.specs.declared.alloc.Global.{Global}
 use Rattle.std.proofs.KnownBytes.{Appends-nil, Appends-trans}
 use Rattle.std.specs.Io.KnownBytes.{Appends, Consumes, IsAtEnd}
 use Rattle.std.proofs.lemmas.Option.{same_Some}
-use Rattle.std.proofs.lemmas.Bool.{cases_Bool}
+use Rattle.std.proofs.lemmas.Bool.{cases_Bool, false≢true}
 use Rattle.std.proofs.lemmas.Bool.Decides.{Decides-eqb}
 use Rattle.command_line.specs.declared.fault.SessionFault.{SessionFault}
+use Rattle.bench_texts.specs.declared.fault.EditFault.{EditFault}
 use Rattle.live_watch.specs.declared.versions.Version.{Version}
 use Rattle.live_watch.specs.declared.versions.Version.TheVariants.{Text, Unread}
 use Rattle.live_watch.specs.Readings.{Reading, AreRead}
-use Rattle.live_watch.specs.Holding.{Holding, File, TestFile, ModelFile, FilePath, file_at, test_files, all_files}
-use Rattle.live_watch.specs.Runs.{refusal_of, AreAnswers, NoAnswer, OneMore, AreBegun, NoFile, Begun, NotBegun, IsRun, HasAnswers, line_before, lines_from, IsLine, AreIn, AreOfTurn, AreAll, IsAnswered, HasBegun, BeginsFile, HasBegunRun, NotedTaken, NotedRefused, IsTextAnswer, TextAccepted, TextRefused, IsAnswer, Unwatched, NotRead, Refused, Accepted}
+use Rattle.live_watch.specs.Holding.{Holding, IsTaken, IsVersionRefused, File, TestFile, ModelFile, FilePath, file_at, test_files, all_files}
+use Rattle.live_watch.specs.Boards.{lists_of}
+use Rattle.live_watch.specs.Runs.{Standing, at_first, IsSettled, IsNoted, refusal_of, AreAnswers, NoAnswer, OneMore, AreBegun, NoFile, Begun, NotBegun, IsRun, HasAnswers, line_before, lines_from, IsLine, AreIn, AreOfTurn, AreAll, IsAnswered, HasBegun, BeginsFile, HasBegunRun, NotedTaken, NotedRefused, IsTextAnswer, TextAccepted, TextRefused, IsAnswer, Unwatched, NotRead, Refused, Accepted}
 
-append_none : {A : Type 0} (xs : List A) → xs ++ [] ≡ xs
+pub append_none : {A : Type 0} (xs : List A) → xs ++ [] ≡ xs
 append_none [] = refl
 append_none (x ∷ xs) = ap (λ ys. x ∷ ys) (append_none xs)
 
@@ -34,53 +36,53 @@ read_more (Some rs) b c xs ys first more =
 -- ---- answers
 
 -- nothing was answered
-pub gains_none : (model : List ℕ) (tests : List (List ℕ)) (asks : List (List ℕ) → Type 0) (held : Holding) (lasts : List (List ℕ)) (r : Option (List Reading)) (a : Option (List ℕ))
-    → asks [] → HasAnswers model tests asks held held lasts lasts r r a a
-gains_none model tests asks held lasts r a asked =
-    record { lines = []; asked = asked; read = []; text = []; answers = NoAnswer held lasts; reads = read_none r; gains = Appends-nil a }
+pub gains_none : (model : List ℕ) (tests : List (List ℕ)) (asks : List (List ℕ) → Type 0) (standing : Standing) (r : Option (List Reading)) (a : Option (List ℕ))
+    → asks [] → HasAnswers model tests asks standing standing r r a a
+gains_none model tests asks standing r a asked =
+    record { lines = []; asked = asked; read = []; text = []; answers = NoAnswer standing; reads = read_none r; gains = Appends-nil a }
 
 -- one line was
-pub gains_one : (model : List ℕ) (tests : List (List ℕ)) (asks : List (List ℕ) → Type 0) (line : List ℕ) (old new : Holding) (lasts nows : List (List ℕ)) (r s : Option (List Reading)) (said : List ℕ) (a b : Option (List ℕ))
-    → asks (line ∷ []) → IsAnswered line (file_at model tests line) old new lasts nows r s said → Appends a b said → HasAnswers model tests asks old new lasts nows r s a b
-gains_one model tests asks line old new lasts nows r s said a b asked answered gained = record {
+pub gains_one : (model : List ℕ) (tests : List (List ℕ)) (asks : List (List ℕ) → Type 0) (line : List ℕ) (old new : Standing) (r s : Option (List Reading)) (said : List ℕ) (a b : Option (List ℕ))
+    → asks (line ∷ []) → IsAnswered line (file_at model tests line) old new r s said → Appends a b said → HasAnswers model tests asks old new r s a b
+gains_one model tests asks line old new r s said a b asked answered gained = record {
   lines = [] ++ line ∷ [];
   asked = asked;
   read = [] ++ answered.read;
   text = [] ++ said;
-  answers = OneMore [] line old old new lasts lasts nows [] answered.read [] said (NoAnswer old lasts) answered.answer;
+  answers = OneMore [] line old old new [] answered.read [] said (NoAnswer old) answered.answer;
   reads = answered.reads;
   gains = gained;
 }
 
 -- the same answers, asked in another way
-pub gains_so : (model : List ℕ) (tests : List (List ℕ)) (asks so : List (List ℕ) → Type 0) (old new : Holding) (lasts nows : List (List ℕ)) (r s : Option (List Reading)) (a b : Option (List ℕ))
-    → ((lines : List (List ℕ)) → asks lines → so lines) → HasAnswers model tests asks old new lasts nows r s a b → HasAnswers model tests so old new lasts nows r s a b
-gains_so model tests asks so old new lasts nows r s a b law x =
+pub gains_so : (model : List ℕ) (tests : List (List ℕ)) (asks so : List (List ℕ) → Type 0) (old new : Standing) (r s : Option (List Reading)) (a b : Option (List ℕ))
+    → ((lines : List (List ℕ)) → asks lines → so lines) → HasAnswers model tests asks old new r s a b → HasAnswers model tests so old new r s a b
+gains_so model tests asks so old new r s a b law x =
     record { lines = x.lines; asked = law x.lines x.asked; read = x.read; text = x.text; answers = x.answers; reads = x.reads; gains = x.gains }
 
-joined : (model : List ℕ) (tests : List (List ℕ)) (before after : List (List ℕ)) (old middle new : Holding) (lasts mids nows : List (List ℕ)) (read more : List Reading) (x y : List ℕ)
-    → AreAnswers model tests before old middle lasts mids read x → AreAnswers model tests after middle new mids nows more y
-    → AreAnswers model tests (before ++ after) old new lasts nows (read ++ more) (x ++ y)
-joined model tests before after old middle new lasts mids nows read more x y first (NoAnswer held those) =
-    subst (λ (ls : List (List ℕ)). AreAnswers model tests ls old held lasts those (read ++ []) (x ++ [])) (sym (append_none before))
-    (subst (λ (r : List Reading). AreAnswers model tests before old held lasts those r (x ++ [])) (sym (append_none read))
-    (subst (λ (text : List ℕ). AreAnswers model tests before old held lasts those read text) (sym (append_none x)) first))
-joined model tests before after old middle new lasts mids nows read more x y first (OneMore lines line from through to those these last readings others text said answered answer) =
-    subst (λ (ls : List (List ℕ)). AreAnswers model tests ls old new lasts nows (read ++ (readings ++ others)) (x ++ (text ++ said))) (append_assoc before lines (line ∷ []))
-    (subst (λ (r : List Reading). AreAnswers model tests ((before ++ lines) ++ line ∷ []) old new lasts nows r (x ++ (text ++ said))) (append_assoc read readings others)
-    (subst (λ (all : List ℕ). AreAnswers model tests ((before ++ lines) ++ line ∷ []) old new lasts nows ((read ++ readings) ++ others) all) (append_assoc x text said)
-    (OneMore (before ++ lines) line old through new lasts these nows (read ++ readings) others (x ++ text) said
-    (joined model tests before lines old middle through lasts mids these read readings x text first answered) answer)))
+pub joined : (model : List ℕ) (tests : List (List ℕ)) (before after : List (List ℕ)) (old middle new : Standing) (read more : List Reading) (x y : List ℕ)
+    → AreAnswers model tests before old middle read x → AreAnswers model tests after middle new more y
+    → AreAnswers model tests (before ++ after) old new (read ++ more) (x ++ y)
+joined model tests before after old middle new read more x y first (NoAnswer standing) =
+    subst (λ (ls : List (List ℕ)). AreAnswers model tests ls old standing (read ++ []) (x ++ [])) (sym (append_none before))
+    (subst (λ (r : List Reading). AreAnswers model tests before old standing r (x ++ [])) (sym (append_none read))
+    (subst (λ (text : List ℕ). AreAnswers model tests before old standing read text) (sym (append_none x)) first))
+joined model tests before after old middle new read more x y first (OneMore lines line from through to readings others text said answered answer) =
+    subst (λ (ls : List (List ℕ)). AreAnswers model tests ls old new (read ++ (readings ++ others)) (x ++ (text ++ said))) (append_assoc before lines (line ∷ []))
+    (subst (λ (r : List Reading). AreAnswers model tests ((before ++ lines) ++ line ∷ []) old new r (x ++ (text ++ said))) (append_assoc read readings others)
+    (subst (λ (all : List ℕ). AreAnswers model tests ((before ++ lines) ++ line ∷ []) old new ((read ++ readings) ++ others) all) (append_assoc x text said)
+    (OneMore (before ++ lines) line old through new (read ++ readings) others (x ++ text) said
+    (joined model tests before lines old middle through read readings x text first answered) answer)))
 
-pub gains_joined : (model : List ℕ) (tests : List (List ℕ)) (one two all : List (List ℕ) → Type 0) (old middle new : Holding) (lasts mids nows : List (List ℕ)) (r s t : Option (List Reading)) (a b c : Option (List ℕ))
+pub gains_joined : (model : List ℕ) (tests : List (List ℕ)) (one two all : List (List ℕ) → Type 0) (old middle new : Standing) (r s t : Option (List Reading)) (a b c : Option (List ℕ))
     → ((x y : List (List ℕ)) → one x → two y → all (x ++ y))
-    → HasAnswers model tests one old middle lasts mids r s a b → HasAnswers model tests two middle new mids nows s t b c → HasAnswers model tests all old new lasts nows r t a c
-gains_joined model tests one two all old middle new lasts mids nows r s t a b c law x y = record {
+    → HasAnswers model tests one old middle r s a b → HasAnswers model tests two middle new s t b c → HasAnswers model tests all old new r t a c
+gains_joined model tests one two all old middle new r s t a b c law x y = record {
   lines = x.lines ++ y.lines;
   asked = law x.lines y.lines x.asked y.asked;
   read = x.read ++ y.read;
   text = x.text ++ y.text;
-  answers = joined model tests x.lines y.lines old middle new lasts mids nows x.read y.read x.text y.text x.answers y.answers;
+  answers = joined model tests x.lines y.lines old middle new x.read y.read x.text y.text x.answers y.answers;
   reads = read_more r s t x.read y.read x.reads y.reads;
   gains = Appends-trans a b c x.text y.text x.gains y.gains;
 }
@@ -91,7 +93,7 @@ not_zero : (n : ℕ) → (suc n == 0) ≡ true → ⊥
 not_zero n e = absurd (omega (arith, (Decides-eqb (suc n) 0).0 e))
 
 true_not : true ≡ false → ⊥
-true_not e = absurd cc
+true_not e = false≢true (sym e)
 
 take_more : (xs : List ℕ) (i d : ℕ) → i < length xs → take (suc i) xs ≡ take i xs ++ get_or xs i d ∷ []
 take_more [] i d lt = absurd (omega (arith, lt))
@@ -113,7 +115,7 @@ in_both front middle left one two x y first then = λ rest.
     ap (λ (l : List ℕ). lines_from front l) (append_assoc one two rest) ∙ first (two ++ rest) ∙ ap (λ (ls : List (List ℕ)). x ++ ls) (then rest)
     ∙ sym (append_assoc x y (lines_from left rest))
 
-line_first : (line : List ℕ) (lines : List (List ℕ)) → line_before line lines ≡ line_before line [] ++ lines
+pub line_first : (line : List ℕ) (lines : List (List ℕ)) → line_before line lines ≡ line_before line [] ++ lines
 line_first [] lines = refl
 line_first (b ∷ line) lines = refl
 
@@ -196,22 +198,23 @@ start_turn line a none = subst (λ (l : List ℕ). AreOfTurn true [] l a a []) (
 
 -- ---- the beginning
 
-pub begun_none : (held : Holding) (r : Option (List Reading)) → HasBegun [] held held r r []
-begun_none held r = record { read = []; begun = NoFile held; reads = read_none r }
+pub begun_none : (standing : Standing) (r : Option (List Reading)) → HasBegun [] standing standing r r []
+begun_none standing r = record { read = []; begun = NoFile standing; reads = read_none r }
 
 -- with one file more
-pub begun_more : (files : List FilePath) (file : FilePath) (old middle new : Holding) (r s t : Option (List Reading)) (before after : List ℕ)
+pub begun_more : (files : List FilePath) (file : FilePath) (old middle new : Standing) (r s t : Option (List Reading)) (before after : List ℕ)
     → HasBegun files old middle r s before → BeginsFile file middle new s t before after → HasBegun (files ++ file ∷ []) old new r t after
-begun_more files file old middle new r s t before after h (text, reads, true, NotedTaken taken is) = record {
+begun_more files file old middle new r s t before after h (text, reads, true, NotedTaken held taken same is) = record {
   read = h.read ++ record { path = file.path; version = Text text } ∷ [];
   begun = subst (λ (told : List ℕ). AreBegun (files ++ file ∷ []) old new (h.read ++ record { path = file.path; version = Text text } ∷ []) told) (sym is)
-      (Begun files file text old middle new h.read before h.begun taken);
+      (subst (λ (n : Standing). AreBegun (files ++ file ∷ []) old n (h.read ++ record { path = file.path; version = Text text } ∷ []) before) (sym same)
+      (Begun files file text old middle held h.read before h.begun taken));
   reads = read_more r s t h.read (record { path = file.path; version = Text text } ∷ []) h.reads reads;
 }
 begun_more files file old middle new r s t before after h (text, reads, false, NotedRefused fault refused same is) = record {
   read = h.read ++ record { path = file.path; version = Text text } ∷ [];
   begun = subst (λ (told : List ℕ). AreBegun (files ++ file ∷ []) old new (h.read ++ record { path = file.path; version = Text text } ∷ []) told) (sym is)
-      (subst (λ (held : Holding). AreBegun (files ++ file ∷ []) old held (h.read ++ record { path = file.path; version = Text text } ∷ []) (before ++ refusal_of file.path fault)) (sym same)
+      (subst (λ (n : Standing). AreBegun (files ++ file ∷ []) old n (h.read ++ record { path = file.path; version = Text text } ∷ []) (before ++ refusal_of file.path fault)) (sym same)
       (NotBegun files file text old middle h.read before fault h.begun refused));
   reads = read_more r s t h.read (record { path = file.path; version = Text text } ∷ []) h.reads reads;
 }
@@ -230,13 +233,13 @@ one_file n (suc i) (x ∷ xs) d lt =
     ∙ ap (λ (k : ℕ). take i (test_files (n + 1) (map (λ t. t.now) xs)) ++ record { file = TestFile k; path = (get_or xs i d).now } ∷ []) same)
 
 -- the file of the model is begun
-pub begun_first : (model : List ℕ) (tests : List (Bor (List ℕ))) (old new : Holding) (r s : Option (List Reading)) (after : List ℕ)
+pub begun_first : (model : List ℕ) (tests : List (Bor (List ℕ))) (old new : Standing) (r s : Option (List Reading)) (after : List ℕ)
     → BeginsFile (record { file = ModelFile; path = model }) old new r s [] after
     → HasBegun (record { file = ModelFile; path = model } ∷ take 0 (test_files 0 (map (λ t. t.now) tests))) old new r s after
 begun_first model tests old new r s after begins = begun_more [] (record { file = ModelFile; path = model }) old old new r r s [] after (begun_none old r) begins
 
 -- and the file of one test more
-pub begun_next : (model : List ℕ) (tests : List (Bor (List ℕ))) (i : ℕ) (d : Bor (List ℕ)) (old middle new : Holding) (r s t : Option (List Reading)) (before after : List ℕ)
+pub begun_next : (model : List ℕ) (tests : List (Bor (List ℕ))) (i : ℕ) (d : Bor (List ℕ)) (old middle new : Standing) (r s t : Option (List Reading)) (before after : List ℕ)
     → i < length tests
     → HasBegun (record { file = ModelFile; path = model } ∷ take i (test_files 0 (map (λ t. t.now) tests))) old middle r s before
     → BeginsFile (record { file = TestFile i; path = (get_or tests i d).now }) middle new s t before after
@@ -265,66 +268,116 @@ taken_all zero (x ∷ xs) le = absurd (omega (arith, le))
 taken_all (suc i) (x ∷ xs) le = ap (λ l. x ∷ l) (taken_all i xs (omega (arith, le)))
 
 -- all files were begun
-pub begun_all : (model : List ℕ) (tests : List (Bor (List ℕ))) (i : ℕ) (old new : Holding) (r s : Option (List Reading)) (told : List ℕ) → length tests ≤ i
+pub begun_all : (model : List ℕ) (tests : List (Bor (List ℕ))) (i : ℕ) (old new : Standing) (r s : Option (List Reading)) (told : List ℕ) → length tests ≤ i
     → HasBegun (record { file = ModelFile; path = model } ∷ take i (test_files 0 (map (λ t. t.now) tests))) old new r s told
     → HasBegun (all_files model (map (λ t. t.now) tests)) old new r s told
 begun_all model tests i old new r s told end begun =
     let files = test_files 0 (map (λ t. t.now) tests) in
     subst (λ (l : List FilePath). HasBegun (record { file = ModelFile; path = model } ∷ l) old new r s told) (taken_all i files (omega (arith, end, files_long 0 tests))) begun
 
+-- a text is taken
+pub noted_taken : (file : File) (path text : List ℕ) (old new : Holding) (lines others : Vec (Vec ℕ Global) Global) (was is : Bool) (before after : List ℕ)
+    → IsTaken file text old new → others ≡ lines → is ≡ was → after ≡ before
+    → IsNoted file path text (record { held = old; lines = lists_of lines.items; refused = was }) (record { held = new; lines = lists_of others.items; refused = is }) before after true
+noted_taken file path text old new lines others was is before after taken same refused told =
+    NotedTaken new taken
+    (ap (λ (v : Vec (Vec ℕ Global) Global). record { held = new; lines = lists_of v.items; refused = is }) same
+    ∙ ap (λ (b : Bool). record { held = new; lines = lists_of lines.items; refused = b }) refused)
+    told
+
+-- or refused
+pub noted_refused : (file : File) (path text : List ℕ) (old new : Holding) (lines others : Vec (Vec ℕ Global) Global) (fault : EditFault) (was : Bool) (before after : List ℕ)
+    → IsVersionRefused file text old.texts fault → new ≡ old → others ≡ lines → after ≡ before ++ refusal_of path fault
+    → IsNoted file path text (record { held = old; lines = lists_of lines.items; refused = was }) (record { held = new; lines = lists_of others.items; refused = true }) before after false
+noted_refused file path text old new lines others fault was before after refused same kept told =
+    NotedRefused fault refused
+    (ap (λ (h : Holding). record { held = h; lines = lists_of others.items; refused = true }) same
+    ∙ ap (λ (v : Vec (Vec ℕ Global) Global). record { held = old; lines = lists_of v.items; refused = true }) kept)
+    told
+
+-- a run begins, and its first lines are written
+pub begun_run : (model : List ℕ) (tests lasts : List (List ℕ)) (old middle new : Standing) (r s : Option (List Reading)) (told said : List ℕ)
+    → old ≡ at_first (length tests) lasts → HasBegun (all_files model tests) old middle r s told → IsSettled middle new told said → HasBegunRun model tests lasts new r s said
+begun_run model tests lasts old middle new r s told said first begun settled = record {
+  read = begun.read;
+  begun = record {
+    told = told;
+    middle = middle;
+    begun = subst (λ (x : Standing). AreBegun (all_files model tests) x middle begun.read told) first begun.begun;
+    settled = settled;
+  };
+  reads = begun.reads;
+}
+
 -- ---- one answer
 
-answered_text : (path : List ℕ) (old new : Holding) (lasts nows : List (List ℕ)) (file : File) (text : Vec ℕ Global) (said : List ℕ)
-    → IsTextAnswer file path text.items old new lasts nows said → IsAnswer path old new lasts nows (Some file) (record { path = path; version = Text text } ∷ []) said
-answered_text path old new lasts nows file text said (TextAccepted accepted) = Accepted file text said accepted
-answered_text path old new lasts nows file text said (TextRefused kept refused) = Refused file text said kept refused
+-- of a text that is accepted, after which the lines are written
+pub text_accepted : (file : File) (path text : List ℕ) (old middle new : Standing) (before mid said : List ℕ) (accepted : Bool) → before ≡ [] → accepted ≡ true
+    → IsNoted file path text old middle before mid accepted → IsSettled middle new mid said → IsTextAnswer file path text old new said
+text_accepted file path text old middle new before mid said true none is (NotedTaken held taken same told) settled =
+    TextAccepted (record {
+      held = held;
+      taken = taken;
+      settled = subst (λ (x : Standing). IsSettled x new [] said) same (subst (λ (l : List ℕ). IsSettled middle new l said) (told ∙ none) settled);
+    })
+text_accepted file path text old middle new before mid said false none is noted settled = absurd (true_not (sym is))
+
+-- and of one that is refused
+pub text_refused : (file : File) (path text : List ℕ) (old new : Standing) (before said : List ℕ) (accepted : Bool) → before ≡ [] → accepted ≡ false
+    → IsNoted file path text old new before said accepted → IsTextAnswer file path text old new said
+text_refused file path text old new before said false none is (NotedRefused fault refused stands told) =
+    TextRefused (record { fault = fault; refused = refused; stands = stands; is = told ∙ ap (λ (l : List ℕ). l ++ refusal_of path fault) none })
+text_refused file path text old new before said true none is noted = absurd (true_not is)
+
+answered_text : (path : List ℕ) (old new : Standing) (file : File) (text : Vec ℕ Global) (said : List ℕ)
+    → IsTextAnswer file path text.items old new said → IsAnswer path old new (Some file) (record { path = path; version = Text text } ∷ []) said
+answered_text path old new file text said (TextAccepted accepted) = Accepted file text said accepted
+answered_text path old new file text said (TextRefused refused) = Refused file text said refused
 
 -- of a text that was read
-pub text_answered : (path : List ℕ) (old new : Holding) (lasts nows : List (List ℕ)) (file : File) (version : Version) (text : Vec ℕ Global) → version ≡ Text text
-    → (r : Result (Vec ℕ Global) SessionFault) → IfOk r (λ t. IsTextAnswer file path text.items old new lasts nows t.items)
-    → IfOk r (λ t. IsAnswer path old new lasts nows (Some file) (record { path = path; version = version } ∷ []) t.items)
-text_answered path old new lasts nows file version text is (Ok t) answer =
-    subst (λ (v : Version). IsAnswer path old new lasts nows (Some file) (record { path = path; version = v } ∷ []) t.items) (sym is)
-    (answered_text path old new lasts nows file text t.items answer)
-text_answered path old new lasts nows file version text is (Err fault) answer = tt
+pub text_answered : (path : List ℕ) (old new : Standing) (file : File) (version : Version) (text : Vec ℕ Global) → version ≡ Text text
+    → (r : Result (Vec ℕ Global) SessionFault) → IfOk r (λ t. IsTextAnswer file path text.items old new t.items)
+    → IfOk r (λ t. IsAnswer path old new (Some file) (record { path = path; version = version } ∷ []) t.items)
+text_answered path old new file version text is (Ok t) answer =
+    subst (λ (v : Version). IsAnswer path old new (Some file) (record { path = path; version = v } ∷ []) t.items) (sym is)
+    (answered_text path old new file text t.items answer)
+text_answered path old new file version text is (Err fault) answer = tt
 
 -- of a file that cannot be read
-pub unread_answered : (path : List ℕ) (held : Holding) (lines : List (List ℕ)) (file : File) (said : List ℕ) (version : Version) → version ≡ Unread
-    → said ≡ path ++ (codes ": not read" ++ 10 ∷ []) → IsAnswer path held held lines lines (Some file) (record { path = path; version = version } ∷ []) said
-unread_answered path held lines file said version is told =
-    subst (λ (v : Version). IsAnswer path held held lines lines (Some file) (record { path = path; version = v } ∷ []) said) (sym is)
-    (NotRead file said (record { held = refl; lines = refl }) told)
+pub unread_answered : (path : List ℕ) (standing : Standing) (file : File) (said : List ℕ) (version : Version) → version ≡ Unread
+    → said ≡ path ++ (codes ": not read" ++ 10 ∷ []) → IsAnswer path standing standing (Some file) (record { path = path; version = version } ∷ []) said
+unread_answered path standing file said version is told =
+    subst (λ (v : Version). IsAnswer path standing standing (Some file) (record { path = path; version = v } ∷ []) said) (sym is) (NotRead file said refl told)
 
 -- of a path that is no file's
-pub unwatched_answered : (path : List ℕ) (file : Option File) (held : Holding) (lines : List (List ℕ)) (r : Option (List Reading)) (said : List ℕ) → None ≡ file
-    → said ≡ path ++ (codes ": not watched" ++ 10 ∷ []) → IsAnswered path file held held lines lines r r said
-unwatched_answered path file held lines r said is told = record {
+pub unwatched_answered : (path : List ℕ) (file : Option File) (standing : Standing) (r : Option (List Reading)) (said : List ℕ) → None ≡ file
+    → said ≡ path ++ (codes ": not watched" ++ 10 ∷ []) → IsAnswered path file standing standing r r said
+unwatched_answered path file standing r said is told = record {
   read = [];
-  answer = subst (λ (f : Option File). IsAnswer path held held lines lines f [] said) is (Unwatched said (record { held = refl; lines = refl }) told);
+  answer = subst (λ (f : Option File). IsAnswer path standing standing f [] said) is (Unwatched said refl told);
   reads = read_none r;
 }
 
 -- of a path that is a file's
-pub watched_answered : (line path : List ℕ) (file : File) (f : Option File) (old new : Holding) (lasts nows : List (List ℕ)) (r s : Option (List Reading)) (version : Version)
+pub watched_answered : (line path : List ℕ) (file : File) (f : Option File) (old new : Standing) (r s : Option (List Reading)) (version : Version)
     (res : Result (Vec ℕ Global) SessionFault) → path ≡ line → Some file ≡ f → AreRead r s (record { path = path; version = version } ∷ [])
-    → IfOk res (λ t. IsAnswer line old new lasts nows (Some file) (record { path = line; version = version } ∷ []) t.items)
-    → IfOk res (λ t. IsAnswered line f old new lasts nows r s t.items)
-watched_answered line path file f old new lasts nows r s version (Ok t) same is reads answer = record {
+    → IfOk res (λ t. IsAnswer line old new (Some file) (record { path = line; version = version } ∷ []) t.items)
+    → IfOk res (λ t. IsAnswered line f old new r s t.items)
+watched_answered line path file f old new r s version (Ok t) same is reads answer = record {
   read = record { path = line; version = version } ∷ [];
-  answer = subst (λ (x : Option File). IsAnswer line old new lasts nows x (record { path = line; version = version } ∷ []) t.items) is answer;
+  answer = subst (λ (x : Option File). IsAnswer line old new x (record { path = line; version = version } ∷ []) t.items) is answer;
   reads = subst (λ (p : List ℕ). AreRead r s (record { path = p; version = version } ∷ [])) same reads;
 }
-watched_answered line path file f old new lasts nows r s version (Err fault) same is reads answer = tt
+watched_answered line path file f old new r s version (Err fault) same is reads answer = tt
 
 -- ---- a whole run
 
-pub run_of : (model : List ℕ) (tests lasts : List (List ℕ)) (source : Option (List ℕ)) (held last : Holding) (firsts nows : List (List ℕ)) (r s t : Option (List Reading)) (first : List ℕ) (a b c : Option (List ℕ))
-    → HasBegunRun model tests lasts held firsts r s first → Appends a b first → HasAnswers model tests (AreAll source) held last firsts nows s t b c → IsRun model tests lasts source r t a c
-run_of model tests lasts source held last firsts nows r s t first a b c begun gained more = record {
-  held = held;
-  last = last;
-  firsts = firsts;
-  nows = nows;
+pub run_of : (model : List ℕ) (tests lasts : List (List ℕ)) (source : Option (List ℕ)) (begins ends : Standing) (r s t : Option (List Reading)) (first : List ℕ) (a b c : Option (List ℕ))
+    → HasBegunRun model tests lasts begins r s first → Appends a b first → HasAnswers model tests (AreAll source) begins ends s t b c
+    → IsRun model tests lasts ends.refused source r t a c
+run_of model tests lasts source begins ends r s t first a b c begun gained more = record {
+  begins = begins;
+  ends = ends;
   first_read = begun.read;
   read = more.read;
   first = first;
@@ -332,6 +385,7 @@ run_of model tests lasts source held last firsts nows r s t first a b c begun ga
   lines = more.lines;
   begun = begun.begun;
   answers = more.answers;
+  told = refl;
   asked = more.asked;
   reads = read_more r s t begun.read more.read begun.reads more.reads;
   gains = Appends-trans a b c first more.text gained more.gains;

@@ -4,3 +4,4 @@ pub mod Taking
 pub mod Gaining
 pub mod Steps
 pub mod Paths
+pub mod Fronts

@@ -1,9 +1,10 @@
--- The lines of files as a board shows them, and what a viewer knows of its texts. Read after Lines.
-use Rattle.std.specs.Prelude.{◌≡◌, ◌≢◌, ◌<◌, ◌-◌, ◌^◌, ℕ, List, [], map, Option, Some, None, Vec}
+-- The lines of files as a board shows them, and what a viewer knows of its texts. Read after Runs.
+use Rattle.std.specs.Prelude.{◌≡◌, ◌≢◌, ◌<◌, ◌-◌, ◌^◌, ℕ, Bool, List, [], map, Option, Some, None, Vec}
 use Rattle.std.specs.declared.alloc.Global.{Global}
 use Rattle.std.specs.List.{AllByRecursion as Each}
 use Rattle.compare_report.specs.Cells.{Open}
 use Rattle.bench_texts.specs.BenchTexts.{BenchTexts}
+use Rattle.bench_texts.specs.declared.texts.Texts.{Texts}
 use Rattle.board.specs.declared.operation.BoardOp.{BoardOp}
 use Rattle.board.specs.Contents.{shown}
 use Rattle.board.specs.Operations.{board_after}
@@ -13,6 +14,8 @@ use Rattle.board.specs.Edits.{edit_count}
 use Rattle.session_views.specs.Knowing.{KnowsOwn}
 use Rattle.live_watch.specs.Holding.{model_name}
 use Rattle.live_watch.specs.Lines.{test_table, behind_line}
+use Rattle.live_watch.specs.Edits.{held_of}
+use Rattle.live_watch.specs.Runs.{Standing}
 
 -- the viewer has seen these operations, of which it made so many edits: it knows by them that its own texts are these
 abbrev pub KnowsTexts : List BoardOp → ℕ → BenchTexts → Type 0
@@ -46,7 +49,7 @@ pub record AreShown (ops : List BoardOp) (names : List (Option (List ℕ))) (lin
   pub right : ShowsRightCells ops
   pub legal : IsLegal ops
 
--- The board has so many edits beside.
+-- So it is, and the board counts so many edits.
 pub record AreOwn (ops : List BoardOp) (made : ℕ) (names : List (Option (List ℕ))) (lines : List (List ℕ)) : Type 0 where
   pub shown : AreShown ops names lines
   pub counted : edit_count ops ≡ made
@@ -54,3 +57,7 @@ pub record AreOwn (ops : List BoardOp) (made : ℕ) (names : List (Option (List 
 -- the lists in vectors
 abbrev pub lists_of : List (Vec ℕ Global) → List (List ℕ)
 lists_of lines = map (λ v. v.items) lines
+
+-- how things stand with these texts and names, the lines that were last written, and whether a text was refused
+abbrev pub standing_of : Texts → Vec (Option (List ℕ)) Global → Vec (Vec ℕ Global) Global → Bool → Standing
+standing_of texts names lines refused = record { held = held_of texts names; lines = lists_of lines.items; refused = refused }

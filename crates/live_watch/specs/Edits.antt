@@ -14,6 +14,7 @@ use Rattle.version_edits.specs.Changes.{all_applied}
 use Rattle.version_edits.specs.Parts.{all_put}
 use Rattle.version_edits.specs.declared.items.ItemChange.{ItemChange}
 use Rattle.version_edits.specs.declared.parts.TestPart.{TestPart}
+use Rattle.live_watch.specs.declared.watched.Paths.{Paths}
 use Rattle.live_watch.specs.declared.watched.WatchedFile.{WatchedFile}
 use Rattle.live_watch.specs.declared.watched.WatchedFile.TheVariants as files
 use Rattle.live_watch.specs.Holding.{Holding, File, ModelFile, TestFile, model_name, IsTaken, IsVersionRefused}
@@ -22,6 +23,13 @@ use Rattle.live_watch.specs.Holding.{Holding, File, ModelFile, TestFile, model_n
 abbrev pub file_of : WatchedFile → File
 file_of files.Model = ModelFile
 file_of (files.Test index) = TestFile index
+
+-- the paths of the files
+abbrev pub model_path : Paths → List ℕ
+model_path paths = paths.model.now
+
+abbrev pub test_paths : Paths → List (List ℕ)
+test_paths paths = map (λ t. t.now) paths.tests.now
 
 -- what these texts and names hold
 abbrev pub held_of : Texts → Vec (Option (List ℕ)) Global → Holding

@@ -5,6 +5,7 @@ use Rattle.std.specs.Io.KnownBytes.{Appends}
 use Rattle.bench_texts.specs.declared.fault.EditFault.{EditFault}
 use Rattle.session_edits.specs.Faults.{fault_line}
 use Rattle.live_watch.specs.declared.versions.Version.TheVariants.{Text, Unread}
+use Rattle.session_script.specs.Written.{WritesFront}
 use Rattle.live_watch.specs.Readings.{Reading, AreRead}
 use Rattle.live_watch.specs.Holding.{Holding, nothing_held, File, FilePath, all_files, file_at, IsTaken, IsVersionRefused}
 use Rattle.live_watch.specs.Lines.{AreLinesOf, AreWritten}
@@ -24,108 +25,165 @@ lines_from front (byte ∷ bytes) = if byte == 10 then line_before front (lines_
 
 -- ---- the answer to a line of the source
 
+-- how things stand: what is held of the files, the lines that were last written of the files of tests, in their order, and
+-- whether a text was refused so far
+pub record Standing : Type 0 where
+  pub held : Holding
+  pub lines : List (List ℕ)
+  pub refused : Bool
+
+abbrev pub with_held : Holding → Standing → Standing
+with_held held s = record { held = held; lines = s.lines; refused = s.refused }
+
+abbrev pub with_refusal : Standing → Standing
+with_refusal s = record { held = s.held; lines = s.lines; refused = true }
+
 -- what tells of the file of this path why its text is refused
 abbrev pub refusal_of : (path : List ℕ) → EditFault → List ℕ
 refusal_of path fault = path ++ codes ": " ++ fault_line fault
 
--- what is held stays, and so does the line of each test
-pub record IsKept (old new : Holding) (lasts nows : List (List ℕ)) : Type 0 where
-  pub held : new ≡ old
-  pub lines : nows ≡ lasts
+-- the lines are those of what is held, and a text gained those that changed, and the number of jobs
+pub record IsSettled (old new : Standing) (before after : List ℕ) : Type 0 where
+  pub held : new.held ≡ old.held
+  pub refused : new.refused ≡ old.refused
+  pub right : AreLinesOf new.held.texts new.held.names new.lines
+  pub written : AreWritten old.lines new.lines before after
 
 -- A text of a file is accepted: what is held changes by it, and the answer is those of the lines that changed, and the number
 -- of jobs.
-pub record IsAccepted (file : File) (text : List ℕ) (old new : Holding) (lasts nows : List (List ℕ)) (said : List ℕ) : Type 0 where
-  pub taken : IsTaken file text old new
-  pub right : AreLinesOf new.texts new.names nows
-  pub written : AreWritten lasts nows [] said
+pub record IsAccepted (file : File) (text : List ℕ) (old new : Standing) (said : List ℕ) : Type 0 where
+  pub held : Holding
+  pub taken : IsTaken file text old.held held
+  pub settled : IsSettled (with_held held old) new [] said
 
 -- it is refused, and the answer tells why
-pub record IsRefused (file : File) (path text : List ℕ) (old : Holding) (said : List ℕ) : Type 0 where
+pub record IsRefused (file : File) (path text : List ℕ) (old new : Standing) (said : List ℕ) : Type 0 where
   pub fault : EditFault
-  pub refused : IsVersionRefused file text old.texts fault
+  pub refused : IsVersionRefused file text old.held.texts fault
+  pub stands : new ≡ with_refusal old
   pub is : said ≡ refusal_of path fault
 
--- The answer to a line that is a path, what was read for it, and what is held after it, by which file the path is of.
-pub data IsAnswer (path : List ℕ) (old new : Holding) (lasts nows : List (List ℕ)) : Option File → (read : List Reading) → (said : List ℕ) → Type 0 where
-  Unwatched : (said : List ℕ) → IsKept old new lasts nows → said ≡ path ++ (codes ": not watched" ++ 10 ∷ [])
-      → IsAnswer path old new lasts nows None [] said
-  NotRead : (file : File) (said : List ℕ) → IsKept old new lasts nows → said ≡ path ++ (codes ": not read" ++ 10 ∷ [])
-      → IsAnswer path old new lasts nows (Some file) (record { path = path; version = Unread } ∷ []) said
-  Refused : (file : File) (text : Vec ℕ Global) (said : List ℕ) → IsKept old new lasts nows → IsRefused file path text.items old said
-      → IsAnswer path old new lasts nows (Some file) (record { path = path; version = Text text } ∷ []) said
-  Accepted : (file : File) (text : Vec ℕ Global) (said : List ℕ) → IsAccepted file text.items old new lasts nows said
-      → IsAnswer path old new lasts nows (Some file) (record { path = path; version = Text text } ∷ []) said
+-- The answer to a line that is a path, what was read for it, and how things stand after it, by which file the path is of.
+pub data IsAnswer (path : List ℕ) (old new : Standing) : Option File → (read : List Reading) → (said : List ℕ) → Type 0 where
+  Unwatched : (said : List ℕ) → new ≡ old → said ≡ path ++ (codes ": not watched" ++ 10 ∷ []) → IsAnswer path old new None [] said
+  NotRead : (file : File) (said : List ℕ) → new ≡ old → said ≡ path ++ (codes ": not read" ++ 10 ∷ [])
+      → IsAnswer path old new (Some file) (record { path = path; version = Unread } ∷ []) said
+  Refused : (file : File) (text : Vec ℕ Global) (said : List ℕ) → IsRefused file path text.items old new said
+      → IsAnswer path old new (Some file) (record { path = path; version = Text text } ∷ []) said
+  Accepted : (file : File) (text : Vec ℕ Global) (said : List ℕ) → IsAccepted file text.items old new said
+      → IsAnswer path old new (Some file) (record { path = path; version = Text text } ∷ []) said
 
 -- the answers to lines of the source, one after another
-pub data AreAnswers (model : List ℕ) (tests : List (List ℕ)) : (lines : List (List ℕ)) (old new : Holding) (lasts nows : List (List ℕ)) (read : List Reading) (said : List ℕ) → Type 0 where
-  NoAnswer : (held : Holding) (lasts : List (List ℕ)) → AreAnswers model tests [] held held lasts lasts [] []
-  OneMore : (lines : List (List ℕ)) (line : List ℕ) (old middle new : Holding) (lasts mids nows : List (List ℕ)) (read more : List Reading) (text said : List ℕ)
-      → AreAnswers model tests lines old middle lasts mids read text → IsAnswer line middle new mids nows (file_at model tests line) more said
-      → AreAnswers model tests (lines ++ line ∷ []) old new lasts nows (read ++ more) (text ++ said)
+pub data AreAnswers (model : List ℕ) (tests : List (List ℕ)) : (lines : List (List ℕ)) (old new : Standing) (read : List Reading) (said : List ℕ) → Type 0 where
+  NoAnswer : (standing : Standing) → AreAnswers model tests [] standing standing [] []
+  OneMore : (lines : List (List ℕ)) (line : List ℕ) (old middle new : Standing) (read more : List Reading) (text said : List ℕ)
+      → AreAnswers model tests lines old middle read text → IsAnswer line middle new (file_at model tests line) more said
+      → AreAnswers model tests (lines ++ line ∷ []) old new (read ++ more) (text ++ said)
 
 -- ---- the beginning of a run
 
+-- before the first version of any file, of so many of tests, where these lines were the last that were written
+abbrev pub at_first : (count : ℕ) → (lasts : List (List ℕ)) → Standing
+at_first count lasts = record { held = nothing_held count; lines = lasts; refused = false }
+
 -- the first versions of some files, one after another: each is accepted, or it is told why it is refused
-pub data AreBegun : List FilePath → (old new : Holding) (read : List Reading) (told : List ℕ) → Type 0 where
-  NoFile : (held : Holding) → AreBegun [] held held [] []
-  Begun : (files : List FilePath) (file : FilePath) (text : Vec ℕ Global) (old middle new : Holding) (read : List Reading) (told : List ℕ)
-      → AreBegun files old middle read told → IsTaken file.file text.items middle new
-      → AreBegun (files ++ file ∷ []) old new (read ++ record { path = file.path; version = Text text } ∷ []) told
-  NotBegun : (files : List FilePath) (file : FilePath) (text : Vec ℕ Global) (old new : Holding) (read : List Reading) (told : List ℕ) (fault : EditFault)
-      → AreBegun files old new read told → IsVersionRefused file.file text.items new.texts fault
-      → AreBegun (files ++ file ∷ []) old new (read ++ record { path = file.path; version = Text text } ∷ []) (told ++ refusal_of file.path fault)
+pub data AreBegun : List FilePath → (old new : Standing) (read : List Reading) (told : List ℕ) → Type 0 where
+  NoFile : (standing : Standing) → AreBegun [] standing standing [] []
+  Begun : (files : List FilePath) (file : FilePath) (text : Vec ℕ Global) (old middle : Standing) (held : Holding) (read : List Reading) (told : List ℕ)
+      → AreBegun files old middle read told → IsTaken file.file text.items middle.held held
+      → AreBegun (files ++ file ∷ []) old (with_held held middle) (read ++ record { path = file.path; version = Text text } ∷ []) told
+  NotBegun : (files : List FilePath) (file : FilePath) (text : Vec ℕ Global) (old middle : Standing) (read : List Reading) (told : List ℕ) (fault : EditFault)
+      → AreBegun files old middle read told → IsVersionRefused file.file text.items middle.held.texts fault
+      → AreBegun (files ++ file ∷ []) old (with_refusal middle) (read ++ record { path = file.path; version = Text text } ∷ []) (told ++ refusal_of file.path fault)
 
 -- What is written at the start: what is told of the first versions that are refused, the line of each test, and the number of
 -- jobs.
-pub record IsBegun (model : List ℕ) (tests : List (List ℕ)) (lasts : List (List ℕ)) (held : Holding) (lines : List (List ℕ)) (read : List Reading) (said : List ℕ) : Type 0 where
+pub record IsBegun (model : List ℕ) (tests lasts : List (List ℕ)) (new : Standing) (read : List Reading) (said : List ℕ) : Type 0 where
   pub told : List ℕ
-  pub begun : AreBegun (all_files model tests) (nothing_held (length tests)) held read told
-  pub right : AreLinesOf held.texts held.names lines
-  pub written : AreWritten lasts lines told said
+  pub middle : Standing
+  pub begun : AreBegun (all_files model tests) (at_first (length tests) lasts) middle read told
+  pub settled : IsSettled middle new told said
 
 -- A whole run over the files of these paths is written: its beginning, and an answer to each line of the source that is not
 -- empty, where it is known which bytes it had. Before it these lines were the last that were written. It is told what it read
--- of the files.
-pub record IsRun (model : List ℕ) (tests lasts : List (List ℕ)) (source : Option (List ℕ)) (read_before read_after : Option (List Reading)) (before after : Option (List ℕ)) : Type 0 where
-  pub held : Holding
-  pub last : Holding
-  pub firsts : List (List ℕ)
-  pub nows : List (List ℕ)
+-- of the files, and whether a text was refused.
+pub record IsRun (model : List ℕ) (tests lasts : List (List ℕ)) (refused : Bool) (source : Option (List ℕ)) (read_before read_after : Option (List Reading)) (before after : Option (List ℕ)) : Type 0 where
+  pub begins : Standing
+  pub ends : Standing
   pub first_read : List Reading
   pub read : List Reading
   pub first : List ℕ
   pub text : List ℕ
   pub lines : List (List ℕ)
-  pub begun : IsBegun model tests lasts held firsts first_read first
-  pub answers : AreAnswers model tests lines held last firsts nows read text
+  pub begun : IsBegun model tests lasts begins first_read first
+  pub answers : AreAnswers model tests lines begins ends read text
+  pub told : ends.refused ≡ refused
   pub asked : (bytes : List ℕ) → source ≡ Some bytes → lines ≡ lines_from [] bytes
   pub reads : AreRead read_before read_after (first_read ++ read)
   pub gains : Appends before after (first ++ text)
 
+-- ---- what was written before a fault
+
+-- these are the first lines of the source, where it is known which bytes it had
+abbrev pub AreFirst : (source : Option (List ℕ)) → List (List ℕ) → Type 0
+AreFirst source lines = (bytes : List ℕ) → source ≡ Some bytes → (more : List (List ℕ)) × (lines_from [] bytes ≡ lines ++ more)
+
+-- what a run writes up to a line of the source: nothing yet, or what is written at the start, and then the answers to the first lines
+pub data IsRunText (model : List ℕ) (tests lasts : List (List ℕ)) (source : Option (List ℕ)) : (text : List ℕ) → Type 0 where
+  NothingYet : IsRunText model tests lasts source []
+  FirstLines : (begins ends : Standing) (first_read read : List Reading) (first text : List ℕ) (lines : List (List ℕ))
+      → IsBegun model tests lasts begins first_read first → AreAnswers model tests lines begins ends read text → AreFirst source lines
+      → IsRunText model tests lasts source (first ++ text)
+
+-- a run over the files of these paths ended by a fault: what was written is a front of such a text
+pub record IsCut (model : List ℕ) (tests lasts : List (List ℕ)) (source before after : Option (List ℕ)) : Type 0 where
+  pub text : List ℕ
+  pub is : IsRunText model tests lasts source text
+  pub front : WritesFront before after text
+
 -- ---- parts of a run
 
 -- what is said of a text of a file, which is accepted or refused
-pub data IsTextAnswer (file : File) (path text : List ℕ) (old new : Holding) (lasts nows : List (List ℕ)) (said : List ℕ) : Type 0 where
-  TextAccepted : IsAccepted file text old new lasts nows said → IsTextAnswer file path text old new lasts nows said
-  TextRefused : IsKept old new lasts nows → IsRefused file path text old said → IsTextAnswer file path text old new lasts nows said
+pub data IsTextAnswer (file : File) (path text : List ℕ) (old new : Standing) (said : List ℕ) : Type 0 where
+  TextAccepted : IsAccepted file text old new said → IsTextAnswer file path text old new said
+  TextRefused : IsRefused file path text old new said → IsTextAnswer file path text old new said
 
 -- a text is taken, by whether it is accepted: what is told gains why it is refused
-pub data IsNoted (file : File) (path text : List ℕ) (old new : Holding) (before after : List ℕ) : Bool → Type 0 where
-  NotedTaken : IsTaken file text old new → after ≡ before → IsNoted file path text old new before after true
-  NotedRefused : (fault : EditFault) → IsVersionRefused file text old.texts fault → new ≡ old → after ≡ before ++ refusal_of path fault
+pub data IsNoted (file : File) (path text : List ℕ) (old new : Standing) (before after : List ℕ) : Bool → Type 0 where
+  NotedTaken : (held : Holding) → IsTaken file text old.held held → new ≡ with_held held old → after ≡ before → IsNoted file path text old new before after true
+  NotedRefused : (fault : EditFault) → IsVersionRefused file text old.held.texts fault → new ≡ with_refusal old → after ≡ before ++ refusal_of path fault
       → IsNoted file path text old new before after false
 
 -- lines for which this holds were answered, and files read for them
-pub record HasAnswers (model : List ℕ) (tests : List (List ℕ)) (asks : List (List ℕ) → Type 0) (old new : Holding) (lasts nows : List (List ℕ))
+pub record HasAnswers (model : List ℕ) (tests : List (List ℕ)) (asks : List (List ℕ) → Type 0) (old new : Standing)
     (read_before read_after : Option (List Reading)) (before after : Option (List ℕ)) : Type 0 where
   pub lines : List (List ℕ)
   pub asked : asks lines
   pub read : List Reading
   pub text : List ℕ
-  pub answers : AreAnswers model tests lines old new lasts nows read text
+  pub answers : AreAnswers model tests lines old new read text
   pub reads : AreRead read_before read_after read
   pub gains : Appends before after text
+
+-- answers to lines for which this holds were made, and a front of them was written
+pub record HasFront (model : List ℕ) (tests : List (List ℕ)) (asks : List (List ℕ) → Type 0) (old : Standing) (before after : Option (List ℕ)) : Type 0 where
+  pub lines : List (List ℕ)
+  pub asked : asks lines
+  pub new : Standing
+  pub read : List Reading
+  pub text : List ℕ
+  pub answers : AreAnswers model tests lines old new read text
+  pub front : WritesFront before after text
+
+-- first lines: of one that may be empty; of those that end in these bytes, behind the first part of the first; of a source
+abbrev pub IsFrontLine : (line : List ℕ) → List (List ℕ) → Type 0
+IsFrontLine line lines = (more : List (List ℕ)) × (line_before line [] ≡ lines ++ more)
+
+abbrev pub AreFrontIn : (front bytes : List ℕ) → List (List ℕ) → Type 0
+AreFrontIn front bytes lines = (rest : List ℕ) → (more : List (List ℕ)) × (lines_from front (bytes ++ rest) ≡ lines ++ more)
+
+abbrev pub AreFrontOf : (front : List ℕ) → (source : Option (List ℕ)) → List (List ℕ) → Type 0
+AreFrontOf front source lines = (bytes : List ℕ) → source ≡ Some bytes → (more : List (List ℕ)) × (lines_from front bytes ≡ lines ++ more)
 
 -- it is the line, if it is not empty
 abbrev pub IsLine : (line : List ℕ) → List (List ℕ) → Type 0
@@ -146,27 +204,26 @@ abbrev pub AreAll : (source : Option (List ℕ)) → List (List ℕ) → Type 0
 AreAll source lines = (bytes : List ℕ) → source ≡ Some bytes → lines ≡ lines_from [] bytes
 
 -- a line was answered, for which this was read
-pub record IsAnswered (path : List ℕ) (file : Option File) (old new : Holding) (lasts nows : List (List ℕ))
-    (read_before read_after : Option (List Reading)) (said : List ℕ) : Type 0 where
+pub record IsAnswered (path : List ℕ) (file : Option File) (old new : Standing) (read_before read_after : Option (List Reading)) (said : List ℕ) : Type 0 where
   pub read : List Reading
-  pub answer : IsAnswer path old new lasts nows file read said
+  pub answer : IsAnswer path old new file read said
   pub reads : AreRead read_before read_after read
 
 -- some files were begun, for which these were read, and what is told of them stands behind what was
-pub record HasBegun (files : List FilePath) (old new : Holding) (read_before read_after : Option (List Reading)) (told : List ℕ) : Type 0 where
+pub record HasBegun (files : List FilePath) (old new : Standing) (read_before read_after : Option (List Reading)) (told : List ℕ) : Type 0 where
   pub read : List Reading
   pub begun : AreBegun files old new read told
   pub reads : AreRead read_before read_after read
 
 -- one file more was
-abbrev pub BeginsFile : FilePath → (old new : Holding) → (read_before read_after : Option (List Reading)) → (before after : List ℕ) → Type 0
+abbrev pub BeginsFile : FilePath → (old new : Standing) → (read_before read_after : Option (List Reading)) → (before after : List ℕ) → Type 0
 BeginsFile file old new read_before read_after before after =
     (text : Vec ℕ Global) × AreRead read_before read_after (record { path = file.path; version = Text text } ∷ [])
     × (accepted : Bool) × IsNoted file.file file.path text.items old new before after accepted
 
 -- a run was begun, for which these were read
-pub record HasBegunRun (model : List ℕ) (tests : List (List ℕ)) (lasts : List (List ℕ)) (held : Holding) (lines : List (List ℕ))
+pub record HasBegunRun (model : List ℕ) (tests lasts : List (List ℕ)) (new : Standing)
     (read_before read_after : Option (List Reading)) (said : List ℕ) : Type 0 where
   pub read : List Reading
-  pub begun : IsBegun model tests lasts held lines read said
+  pub begun : IsBegun model tests lasts new read said
   pub reads : AreRead read_before read_after read

@@ -3,12 +3,12 @@
 ghost use Rattle.std.specs.Prelude.{◌≡◌, ◌≢◌, ◌+◌, ◌-◌, ◌<◌, ◌^◌, ◌++◌, [], ◌∷◌, length, map, option_map, codes, true, false};
 ghost use Rattle.std.specs.Prelude.{Some, IfOk, IfSome, OnOk, OnErr, Ok, Err};
 ghost use Rattle.std.specs.Io.KnownBytes.{Appends};
+ghost use Rattle.session_script.specs.Written.{WritesFront};
 ghost use Rattle.bench_texts.specs.Held.{texts_of};
-ghost use Rattle.live_watch.specs.Holding.{file_at, all_files, nothing_held};
-ghost use Rattle.live_watch.specs.Lines.{AreLinesOf, AreWritten};
-ghost use Rattle.live_watch.specs.Edits.{file_of, held_of, IsVersionTaken};
-ghost use Rattle.live_watch.specs.Boards.{lists_of, KnowsTexts};
-ghost use Rattle.live_watch.specs.Runs.{refusal_of, IsNoted, IsTextAnswer, IsAnswer, IsAnswered, HasAnswers, IsLine, AreIn, AreOfTurn, AreAll, BeginsFile, HasBegun, HasBegunRun, IsRun};
+ghost use Rattle.live_watch.specs.Holding.{file_at, all_files};
+ghost use Rattle.live_watch.specs.Edits.{file_of, model_path, test_paths, held_of, IsVersionTaken};
+ghost use Rattle.live_watch.specs.Boards.{lists_of, standing_of, KnowsTexts};
+ghost use Rattle.live_watch.specs.Runs.{refusal_of, at_first, IsSettled, IsNoted, IsTextAnswer, IsAnswer, IsAnswered, HasAnswers, IsLine, AreIn, AreOfTurn, AreAll, BeginsFile, HasBegun, HasBegunRun, IsRun, IsCut, HasFront, IsFrontLine, AreFrontIn, AreFrontOf};
 
 use crate::lines::put_answer;
 use crate::settling::Hands;
@@ -46,6 +46,7 @@ fn push_byte(line: &mut Vec<u8>, byte: u8) -> Result<(), AllocError>
 fn write_text<K: ByteSink>(sink: &mut K, text: &[u8]) -> Result<(), SessionFault>
     requires { K.failed_calls sink.old < 2 ^ 64 - 1 }
     ensures gains { OnOk result (Appends (K.contents sink.old) (K.contents sink.new) text.now) }
+    ensures front { WritesFront (K.contents sink.old) (K.contents sink.new) text.now }
     ensures writes { OnOk result (K.failed_calls sink.new ≡ K.failed_calls sink.old) }
     ensures wrote { OnErr result (K.failed_calls sink.new ≡ K.failed_calls sink.old + 1) }
     ensures fault { OnErr result (result ≡ Err SessionFault.Write) }
@@ -81,7 +82,7 @@ fn put_said(text: &mut Vec<u8>, name: &[u8], said: &[u8]) -> Result<(), AllocErr
 
 // The file that a line names, and its path.
 fn watched_path<'a>(paths: Paths<'a>, line: &[u8]) -> Option<(WatchedFile, &'a str)>
-    ensures file { option_map (λ f. file_of f.0) result ≡ file_at paths.entry.model.now (map (λ t. t.now) paths.entry.tests.now) line.now }
+    ensures file { option_map (λ f. file_of f.0) result ≡ file_at (model_path paths.entry) (test_paths paths.entry) line.now }
     ensures path { IfSome result (λ f. f.1.now ≡ line.now) }
 {
     if paths.model.as_bytes() == line {
@@ -124,6 +125,7 @@ impl<'a, 'd, J: Naming + StoreName, R: Wait + Drop> Run<'a, 'd, J, R> {
         ensures paths { self.new.paths ≡ self.old.paths }
         ensures taken { IfOk result (λ o. IsVersionTaken (file_of file) version.items (held_of self.old.watched.texts self.old.watched.names) o (held_of self.new.watched.texts self.new.watched.names)) }
         ensures lines { self.new.lines ≡ self.old.lines }
+        ensures refused { self.new.is_refused ≡ self.old.is_refused }
     {
         match file {
             WatchedFile::Model => self.watched.take_model(rt, alloc, version),
@@ -144,8 +146,7 @@ impl<'a, 'd, J: Naming + StoreName, R: Wait + Drop> Run<'a, 'd, J, R> {
         requires ready { KnowsTexts self.old.watched.viewer self.old.watched.made (texts_of self.old.watched.texts) }
         ensures ready { OnOk result (KnowsTexts self.new.watched.viewer self.new.watched.made (texts_of self.new.watched.texts)) }
         ensures paths { self.new.paths ≡ self.old.paths }
-        ensures noted { IfOk result (IsNoted (file_of file) path.now version.items (held_of self.old.watched.texts self.old.watched.names) (held_of self.new.watched.texts self.new.watched.names) text.old.items text.new.items) }
-        ensures lines { self.new.lines ≡ self.old.lines }
+        ensures noted { IfOk result (IsNoted (file_of file) path.now version.items (standing_of self.old.watched.texts self.old.watched.names self.old.lines self.old.is_refused) (standing_of self.new.watched.texts self.new.watched.names self.new.lines self.new.is_refused) text.old.items text.new.items) }
     {
         match self.take(rt, alloc, file, version)? {
             Some(fault) => {
@@ -168,9 +169,7 @@ impl<'a, 'd, J: Naming + StoreName, R: Wait + Drop> Run<'a, 'd, J, R> {
         ensures ready { OnOk result (KnowsTexts self.new.watched.viewer self.new.watched.made (texts_of self.new.watched.texts)) }
         ensures paths { self.new.paths ≡ self.old.paths }
         ensures fault { OnErr result (result ≡ Err SessionFault.Memory) }
-        ensures held { (held_of self.new.watched.texts self.new.watched.names) ≡ (held_of self.old.watched.texts self.old.watched.names) }
-        ensures right { OnOk result (AreLinesOf (texts_of self.new.watched.texts) self.new.watched.names.items (lists_of self.new.lines.items)) }
-        ensures written { OnOk result (AreWritten (lists_of self.old.lines.items) (lists_of self.new.lines.items) text.old.items text.new.items) }
+        ensures settled { OnOk result (IsSettled (standing_of self.old.watched.texts self.old.watched.names self.old.lines self.old.is_refused) (standing_of self.new.watched.texts self.new.watched.names self.new.lines self.new.is_refused) text.old.items text.new.items) }
     {
         let (jobs, lines) = self.watched.settled_lines(rt, alloc, &self.hands)?;
         memory(put_answer(text, &self.lines, &lines, jobs))?;
@@ -192,8 +191,7 @@ impl<'a, 'd, J: Naming + StoreName, R: Wait + Drop> Run<'a, 'd, J, R> {
         ensures ready { OnOk result (KnowsTexts self.new.watched.viewer self.new.watched.made (texts_of self.new.watched.texts)) }
         ensures paths { self.new.paths ≡ self.old.paths }
         ensures fault { result ≢ Err SessionFault.Write }
-        ensures lines { self.new.lines ≡ self.old.lines }
-        ensures begun { OnOk result (BeginsFile (record { file = file_of file; path = path.now }) (held_of self.old.watched.texts self.old.watched.names) (held_of self.new.watched.texts self.new.watched.names) (V.readings versions.old) (V.readings versions.new) text.old.items text.new.items) }
+        ensures begun { OnOk result (BeginsFile (record { file = file_of file; path = path.now }) (standing_of self.old.watched.texts self.old.watched.names self.old.lines self.old.is_refused) (standing_of self.new.watched.texts self.new.watched.names self.new.lines self.new.is_refused) (V.readings versions.old) (V.readings versions.new) text.old.items text.new.items) }
     {
         match versions.version(alloc, path) {
             Version::Text(version) => {
@@ -217,8 +215,7 @@ impl<'a, 'd, J: Naming + StoreName, R: Wait + Drop> Run<'a, 'd, J, R> {
         ensures ready { OnOk result (KnowsTexts self.new.watched.viewer self.new.watched.made (texts_of self.new.watched.texts)) }
         ensures paths { self.new.paths ≡ self.old.paths }
         ensures fault { result ≢ Err SessionFault.Write }
-        ensures lines { self.new.lines ≡ self.old.lines }
-        ensures begun { IfOk result (λ t. HasBegun (all_files paths.entry.model.now (map (λ t. t.now) paths.entry.tests.now)) (held_of self.old.watched.texts self.old.watched.names) (held_of self.new.watched.texts self.new.watched.names) (V.readings versions.old) (V.readings versions.new) t.items) }
+        ensures begun { IfOk result (λ t. HasBegun (all_files (model_path paths.entry) (test_paths paths.entry)) (standing_of self.old.watched.texts self.old.watched.names self.old.lines self.old.is_refused) (standing_of self.new.watched.texts self.new.watched.names self.new.lines self.new.is_refused) (V.readings versions.old) (V.readings versions.new) t.items) }
     {
         let mut text = Vec::new(alloc);
         self.begin_file(
@@ -245,11 +242,11 @@ impl<'a, 'd, J: Naming + StoreName, R: Wait + Drop> Run<'a, 'd, J, R> {
         versions: &mut V,
     ) -> Result<Vec<u8>, SessionFault>
         requires ready { KnowsTexts self.old.watched.viewer self.old.watched.made (texts_of self.old.watched.texts) }
-        requires nothing { (held_of self.old.watched.texts self.old.watched.names) ≡ nothing_held (length self.old.paths.tests.now) }
+        requires first { (standing_of self.old.watched.texts self.old.watched.names self.old.lines self.old.is_refused) ≡ at_first (length (test_paths self.old.paths)) (lists_of self.old.lines.items) }
         ensures ready { OnOk result (KnowsTexts self.new.watched.viewer self.new.watched.made (texts_of self.new.watched.texts)) }
         ensures paths { self.new.paths ≡ self.old.paths }
         ensures fault { result ≢ Err SessionFault.Write }
-        ensures begun { IfOk result (λ t. HasBegunRun self.old.paths.model.now (map (λ t. t.now) self.old.paths.tests.now) (lists_of self.old.lines.items) (held_of self.new.watched.texts self.new.watched.names) (lists_of self.new.lines.items) (V.readings versions.old) (V.readings versions.new) t.items) }
+        ensures begun { IfOk result (λ t. HasBegunRun (model_path self.old.paths) (test_paths self.old.paths) (lists_of self.old.lines.items) (standing_of self.new.watched.texts self.new.watched.names self.new.lines self.new.is_refused) (V.readings versions.old) (V.readings versions.new) t.items) }
     {
         let paths = self.paths;
         let mut text = self.begin_files(rt, alloc, versions, paths)?;
@@ -270,7 +267,7 @@ impl<'a, 'd, J: Naming + StoreName, R: Wait + Drop> Run<'a, 'd, J, R> {
         ensures ready { OnOk result (KnowsTexts self.new.watched.viewer self.new.watched.made (texts_of self.new.watched.texts)) }
         ensures paths { self.new.paths ≡ self.old.paths }
         ensures fault { OnErr result (result ≡ Err SessionFault.Memory) }
-        ensures answer { IfOk result (λ t. IsTextAnswer (file_of file) path.now version.items (held_of self.old.watched.texts self.old.watched.names) (held_of self.new.watched.texts self.new.watched.names) (lists_of self.old.lines.items) (lists_of self.new.lines.items) t.items) }
+        ensures answer { IfOk result (λ t. IsTextAnswer (file_of file) path.now version.items (standing_of self.old.watched.texts self.old.watched.names self.old.lines self.old.is_refused) (standing_of self.new.watched.texts self.new.watched.names self.new.lines self.new.is_refused) t.items) }
     {
         let mut text = Vec::new(alloc);
         let is_accepted = memory(self.accept(rt, alloc, file, path, version, &mut text))?;
@@ -294,7 +291,7 @@ impl<'a, 'd, J: Naming + StoreName, R: Wait + Drop> Run<'a, 'd, J, R> {
         ensures ready { OnOk result (KnowsTexts self.new.watched.viewer self.new.watched.made (texts_of self.new.watched.texts)) }
         ensures paths { self.new.paths ≡ self.old.paths }
         ensures fault { OnErr result (result ≡ Err SessionFault.Memory) }
-        ensures answer { IfOk result (λ t. IsAnswer path.now (held_of self.old.watched.texts self.old.watched.names) (held_of self.new.watched.texts self.new.watched.names) (lists_of self.old.lines.items) (lists_of self.new.lines.items) (Some (file_of file)) (record { path = path.now; version = version } ∷ []) t.items) }
+        ensures answer { IfOk result (λ t. IsAnswer path.now (standing_of self.old.watched.texts self.old.watched.names self.old.lines self.old.is_refused) (standing_of self.new.watched.texts self.new.watched.names self.new.lines self.new.is_refused) (Some (file_of file)) (record { path = path.now; version = version } ∷ []) t.items) }
     {
         match version {
             Version::Text(version) => self.answer_text(rt, alloc, file, path, version),
@@ -319,7 +316,7 @@ impl<'a, 'd, J: Naming + StoreName, R: Wait + Drop> Run<'a, 'd, J, R> {
         ensures ready { OnOk result (KnowsTexts self.new.watched.viewer self.new.watched.made (texts_of self.new.watched.texts)) }
         ensures paths { self.new.paths ≡ self.old.paths }
         ensures fault { OnErr result (result ≡ Err SessionFault.Memory) }
-        ensures answer { IfOk result (λ t. IsAnswered line.now (file_at self.old.paths.model.now (map (λ t. t.now) self.old.paths.tests.now) line.now) (held_of self.old.watched.texts self.old.watched.names) (held_of self.new.watched.texts self.new.watched.names) (lists_of self.old.lines.items) (lists_of self.new.lines.items) (V.readings versions.old) (V.readings versions.new) t.items) }
+        ensures answer { IfOk result (λ t. IsAnswered line.now (file_at (model_path self.old.paths) (test_paths self.old.paths) line.now) (standing_of self.old.watched.texts self.old.watched.names self.old.lines self.old.is_refused) (standing_of self.new.watched.texts self.new.watched.names self.new.lines self.new.is_refused) (V.readings versions.old) (V.readings versions.new) t.items) }
     {
         let paths = self.paths;
         match watched_path(paths, line) {
@@ -350,10 +347,11 @@ impl<'a, 'd, J: Naming + StoreName, R: Wait + Drop> Run<'a, 'd, J, R> {
         ensures paths { self.new.paths ≡ self.old.paths }
         ensures writes { OnOk result (K.failed_calls sink.new ≡ K.failed_calls sink.old) }
         ensures wrote { result ≡ Err SessionFault.Write → K.failed_calls sink.new ≡ K.failed_calls sink.old + 1 }
+        ensures cut { OnErr result (HasFront (model_path self.old.paths) (test_paths self.old.paths) (IsFrontLine line.now) (standing_of self.old.watched.texts self.old.watched.names self.old.lines self.old.is_refused) (K.contents sink.old) (K.contents sink.new)) }
         ensures unfailed { result ≢ Err SessionFault.Write → K.failed_calls sink.new ≡ K.failed_calls sink.old }
         ensures unread { result ≢ Err SessionFault.Read }
         // nothing for an empty line, and else one write, of what is answered to it
-        ensures answers { OnOk result (HasAnswers self.old.paths.model.now (map (λ t. t.now) self.old.paths.tests.now) (IsLine line.now) (held_of self.old.watched.texts self.old.watched.names) (held_of self.new.watched.texts self.new.watched.names) (lists_of self.old.lines.items) (lists_of self.new.lines.items) (V.readings versions.old) (V.readings versions.new) (K.contents sink.old) (K.contents sink.new)) }
+        ensures answers { OnOk result (HasAnswers (model_path self.old.paths) (test_paths self.old.paths) (IsLine line.now) (standing_of self.old.watched.texts self.old.watched.names self.old.lines self.old.is_refused) (standing_of self.new.watched.texts self.new.watched.names self.new.lines self.new.is_refused) (V.readings versions.old) (V.readings versions.new) (K.contents sink.old) (K.contents sink.new)) }
     {
         if line.is_empty() {
             return Ok(());
@@ -379,7 +377,8 @@ impl<'a, 'd, J: Naming + StoreName, R: Wait + Drop> Run<'a, 'd, J, R> {
         ensures paths { self.new.paths ≡ self.old.paths }
         ensures writes { OnOk result (K.failed_calls sink.new ≡ K.failed_calls sink.old) }
         ensures wrote { result ≡ Err SessionFault.Write → K.failed_calls sink.new ≡ K.failed_calls sink.old + 1 }
-        ensures answers { OnOk result (HasAnswers self.old.paths.model.now (map (λ t. t.now) self.old.paths.tests.now) (AreIn line.old.items (byte ∷ []) line.new.items) (held_of self.old.watched.texts self.old.watched.names) (held_of self.new.watched.texts self.new.watched.names) (lists_of self.old.lines.items) (lists_of self.new.lines.items) (V.readings versions.old) (V.readings versions.new) (K.contents sink.old) (K.contents sink.new)) }
+        ensures answers { OnOk result (HasAnswers (model_path self.old.paths) (test_paths self.old.paths) (AreIn line.old.items (byte ∷ []) line.new.items) (standing_of self.old.watched.texts self.old.watched.names self.old.lines self.old.is_refused) (standing_of self.new.watched.texts self.new.watched.names self.new.lines self.new.is_refused) (V.readings versions.old) (V.readings versions.new) (K.contents sink.old) (K.contents sink.new)) }
+        ensures cut { OnErr result (HasFront (model_path self.old.paths) (test_paths self.old.paths) (AreFrontIn line.old.items (byte ∷ [])) (standing_of self.old.watched.texts self.old.watched.names self.old.lines self.old.is_refused) (K.contents sink.old) (K.contents sink.new)) }
         ensures unfailed { result ≢ Err SessionFault.Write → K.failed_calls sink.new ≡ K.failed_calls sink.old }
         ensures unread { result ≢ Err SessionFault.Read }
     {
@@ -408,7 +407,8 @@ impl<'a, 'd, J: Naming + StoreName, R: Wait + Drop> Run<'a, 'd, J, R> {
         ensures paths { self.new.paths ≡ self.old.paths }
         ensures writes { OnOk result (K.failed_calls sink.new ≡ K.failed_calls sink.old) }
         ensures wrote { result ≡ Err SessionFault.Write → K.failed_calls sink.new ≡ K.failed_calls sink.old + 1 }
-        ensures answers { OnOk result (HasAnswers self.old.paths.model.now (map (λ t. t.now) self.old.paths.tests.now) (AreIn line.old.items bytes.now line.new.items) (held_of self.old.watched.texts self.old.watched.names) (held_of self.new.watched.texts self.new.watched.names) (lists_of self.old.lines.items) (lists_of self.new.lines.items) (V.readings versions.old) (V.readings versions.new) (K.contents sink.old) (K.contents sink.new)) }
+        ensures answers { OnOk result (HasAnswers (model_path self.old.paths) (test_paths self.old.paths) (AreIn line.old.items bytes.now line.new.items) (standing_of self.old.watched.texts self.old.watched.names self.old.lines self.old.is_refused) (standing_of self.new.watched.texts self.new.watched.names self.new.lines self.new.is_refused) (V.readings versions.old) (V.readings versions.new) (K.contents sink.old) (K.contents sink.new)) }
+        ensures cut { OnErr result (HasFront (model_path self.old.paths) (test_paths self.old.paths) (AreFrontIn line.old.items bytes.now) (standing_of self.old.watched.texts self.old.watched.names self.old.lines self.old.is_refused) (K.contents sink.old) (K.contents sink.new)) }
         ensures unfailed { result ≢ Err SessionFault.Write → K.failed_calls sink.new ≡ K.failed_calls sink.old }
         ensures unread { result ≢ Err SessionFault.Read }
     {
@@ -436,7 +436,8 @@ impl<'a, 'd, J: Naming + StoreName, R: Wait + Drop> Run<'a, 'd, J, R> {
         ensures reads { OnOk result (S.failed_calls source.new ≡ S.failed_calls source.old) }
         ensures writes { OnOk result (K.failed_calls sink.new ≡ K.failed_calls sink.old) }
         ensures wrote { result ≡ Err SessionFault.Write → K.failed_calls sink.new ≡ K.failed_calls sink.old + 1 }
-        ensures answers { IfOk result (λ goes_on. HasAnswers self.old.paths.model.now (map (λ t. t.now) self.old.paths.tests.now) (AreOfTurn goes_on line.old.items line.new.items (S.remaining source.old) (S.remaining source.new)) (held_of self.old.watched.texts self.old.watched.names) (held_of self.new.watched.texts self.new.watched.names) (lists_of self.old.lines.items) (lists_of self.new.lines.items) (V.readings versions.old) (V.readings versions.new) (K.contents sink.old) (K.contents sink.new)) }
+        ensures answers { IfOk result (λ goes_on. HasAnswers (model_path self.old.paths) (test_paths self.old.paths) (AreOfTurn goes_on line.old.items line.new.items (S.remaining source.old) (S.remaining source.new)) (standing_of self.old.watched.texts self.old.watched.names self.old.lines self.old.is_refused) (standing_of self.new.watched.texts self.new.watched.names self.new.lines self.new.is_refused) (V.readings versions.old) (V.readings versions.new) (K.contents sink.old) (K.contents sink.new)) }
+        ensures cut { OnErr result (HasFront (model_path self.old.paths) (test_paths self.old.paths) (AreFrontOf line.old.items (S.remaining source.old)) (standing_of self.old.watched.texts self.old.watched.names self.old.lines self.old.is_refused) (K.contents sink.old) (K.contents sink.new)) }
         ensures unfailed { result ≢ Err SessionFault.Write → K.failed_calls sink.new ≡ K.failed_calls sink.old }
         ensures unread { result ≢ Err SessionFault.Read → S.failed_calls source.new ≡ S.failed_calls source.old }
     {
@@ -471,7 +472,8 @@ impl<'a, 'd, J: Naming + StoreName, R: Wait + Drop> Run<'a, 'd, J, R> {
         ensures reads { OnOk result (S.failed_calls source.new ≡ S.failed_calls source.old) }
         ensures writes { OnOk result (K.failed_calls sink.new ≡ K.failed_calls sink.old) }
         ensures wrote { result ≡ Err SessionFault.Write → K.failed_calls sink.new ≡ K.failed_calls sink.old + 1 }
-        ensures answers { OnOk result (HasAnswers self.old.paths.model.now (map (λ t. t.now) self.old.paths.tests.now) (AreAll (S.remaining source.old)) (held_of self.old.watched.texts self.old.watched.names) (held_of self.new.watched.texts self.new.watched.names) (lists_of self.old.lines.items) (lists_of self.new.lines.items) (V.readings versions.old) (V.readings versions.new) (K.contents sink.old) (K.contents sink.new)) }
+        ensures answers { OnOk result (HasAnswers (model_path self.old.paths) (test_paths self.old.paths) (AreAll (S.remaining source.old)) (standing_of self.old.watched.texts self.old.watched.names self.old.lines self.old.is_refused) (standing_of self.new.watched.texts self.new.watched.names self.new.lines self.new.is_refused) (V.readings versions.old) (V.readings versions.new) (K.contents sink.old) (K.contents sink.new)) }
+        ensures cut { OnErr result (HasFront (model_path self.old.paths) (test_paths self.old.paths) (AreFrontOf [] (S.remaining source.old)) (standing_of self.old.watched.texts self.old.watched.names self.old.lines self.old.is_refused) (K.contents sink.old) (K.contents sink.new)) }
         ensures unfailed { result ≢ Err SessionFault.Write → K.failed_calls sink.new ≡ K.failed_calls sink.old }
         ensures unread { result ≢ Err SessionFault.Read → S.failed_calls source.new ≡ S.failed_calls source.old }
     {
@@ -496,13 +498,14 @@ impl<'a, 'd, J: Naming + StoreName, R: Wait + Drop> Run<'a, 'd, J, R> {
         sink: &mut K,
     ) -> Result<bool, SessionFault>
         requires ready { KnowsTexts self.old.watched.viewer self.old.watched.made (texts_of self.old.watched.texts) }
-        requires nothing { (held_of self.old.watched.texts self.old.watched.names) ≡ nothing_held (length self.old.paths.tests.now) }
+        requires first { (standing_of self.old.watched.texts self.old.watched.names self.old.lines self.old.is_refused) ≡ at_first (length (test_paths self.old.paths)) (lists_of self.old.lines.items) }
         requires source { S.failed_calls source.old < 2 ^ 64 - 1 }
         requires sink { K.failed_calls sink.old < 2 ^ 64 - 1 }
         ensures reads { OnOk result (S.failed_calls source.new ≡ S.failed_calls source.old) }
         ensures writes { OnOk result (K.failed_calls sink.new ≡ K.failed_calls sink.old) }
         ensures wrote { result ≡ Err SessionFault.Write → K.failed_calls sink.new ≡ K.failed_calls sink.old + 1 }
-        ensures run { OnOk result (IsRun self.old.paths.model.now (map (λ t. t.now) self.old.paths.tests.now) (lists_of self.old.lines.items) (S.remaining source.old) (V.readings versions.old) (V.readings versions.new) (K.contents sink.old) (K.contents sink.new)) }
+        ensures run { IfOk result (λ refused. IsRun (model_path self.old.paths) (test_paths self.old.paths) (lists_of self.old.lines.items) refused (S.remaining source.old) (V.readings versions.old) (V.readings versions.new) (K.contents sink.old) (K.contents sink.new)) }
+        ensures cut { OnErr result (IsCut (model_path self.old.paths) (test_paths self.old.paths) (lists_of self.old.lines.items) (S.remaining source.old) (K.contents sink.old) (K.contents sink.new)) }
         ensures unfailed { result ≢ Err SessionFault.Write → K.failed_calls sink.new ≡ K.failed_calls sink.old }
         ensures unread { result ≢ Err SessionFault.Read → S.failed_calls source.new ≡ S.failed_calls source.old }
     {

@@ -19,11 +19,15 @@ fn is_listed(paths: &[&str], path: &str) -> bool {
     false
 }
 
-// Each path once, in their order.
-fn listed_once<'a>(alloc: Global, paths: &[&'a str]) -> Result<Vec<&'a str>, AllocError> {
+// Each path but the model's once, in their order.
+fn listed_once<'a>(
+    alloc: Global,
+    model: &str,
+    paths: &[&'a str],
+) -> Result<Vec<&'a str>, AllocError> {
     let mut once = Vec::with_capacity(alloc, paths.len())?;
     for path in paths {
-        if !is_listed(&once, path) {
+        if *path != model && !is_listed(&once, path) {
             once.push(*path)?;
         }
     }
@@ -48,7 +52,7 @@ where
     let versions = VersionTeller::new(rt.alloc(), files, model, io::writer(errors));
     let source = OfRead::new(rt.reader());
     let sink = OfWrite::new(io::writer(rt));
-    let once = match listed_once(rt.alloc(), tests) {
+    let once = match listed_once(rt.alloc(), model, tests) {
         Ok(once) => once,
         Err(_) => return Err(SessionFault::Memory),
     };

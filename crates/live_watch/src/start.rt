@@ -2,9 +2,9 @@
 
 ghost use Rattle.std.specs.Prelude.{◌≡◌, [], ◌-◌, ◌<◌, ◌^◌, length, map, IfOk};
 ghost use Rattle.bench_texts.specs.Held.{texts_of};
-ghost use Rattle.live_watch.specs.Holding.{nothing_held};
-ghost use Rattle.live_watch.specs.Edits.{held_of};
-ghost use Rattle.live_watch.specs.Boards.{KnowsTexts};
+ghost use Rattle.live_watch.specs.Edits.{model_path, test_paths};
+ghost use Rattle.live_watch.specs.Boards.{lists_of, standing_of, KnowsTexts};
+ghost use Rattle.live_watch.specs.Runs.{at_first};
 ghost use Rattle.live_watch.specs.Ends.{IsEnded};
 
 use crate::answers::Run;
@@ -36,7 +36,7 @@ pub struct Ended<V, S, K> {
 }
 
 // An empty run over a desk.
-#[tactic(auto, using(crate::proofs::Cells::knows_start))]
+#[tactic(auto, using(crate::proofs::Cells::knows_start, crate::proofs::Cells::stands_first))]
 fn run_at<'a, 'd, J: Naming + StoreName, R: AllocGlobal + Wait + Drop>(
     rt: &R,
     desk: &'d RunningDesk<J, R>,
@@ -45,7 +45,7 @@ fn run_at<'a, 'd, J: Naming + StoreName, R: AllocGlobal + Wait + Drop>(
 ) -> Result<Run<'a, 'd, J, R>, AllocError>
     ensures lines { IfOk result (λ run. run.lines.items ≡ []) }
     ensures paths { IfOk result (λ run. run.paths ≡ paths.entry) }
-    ensures nothing { IfOk result (λ run. held_of run.watched.texts run.watched.names ≡ nothing_held (length paths.entry.tests.now)) }
+    ensures first { IfOk result (λ run. standing_of run.watched.texts run.watched.names run.lines run.is_refused ≡ at_first (length (test_paths run.paths)) (lists_of run.lines.items)) }
     ensures ready { IfOk result (λ run. KnowsTexts run.watched.viewer run.watched.made (texts_of run.watched.texts)) }
 {
     let alloc = rt.alloc();
@@ -101,7 +101,7 @@ where
     K: ByteSink + Drop,
     requires source { S.failed_calls source < 2 ^ 64 - 1 }
     requires sink { K.failed_calls sink < 2 ^ 64 - 1 }
-    ensures { IfOk result (λ e. IsEnded S.failed_calls S.remaining K.failed_calls V.readings K.contents paths.entry.model.now (map (λ t. t.now) paths.entry.tests.now) versions source sink e) }
+    ensures { IfOk result (λ e. IsEnded S.failed_calls S.remaining K.failed_calls V.readings K.contents (model_path paths.entry) (test_paths paths.entry) versions source sink e) }
 {
     let mut run = run_at(rt, desk, hands, paths)?;
     let mut versions = versions;
@@ -134,7 +134,7 @@ where
     K: ByteSink + Drop,
     requires source { S.failed_calls source < 2 ^ 64 - 1 }
     requires sink { K.failed_calls sink < 2 ^ 64 - 1 }
-    ensures { IfOk result (λ e. IsEnded S.failed_calls S.remaining K.failed_calls V.readings K.contents paths.entry.model.now (map (λ t. t.now) paths.entry.tests.now) versions source sink e) }
+    ensures { IfOk result (λ e. IsEnded S.failed_calls S.remaining K.failed_calls V.readings K.contents (model_path paths.entry) (test_paths paths.entry) versions source sink e) }
 {
     let hands = hands_of(turnstile, workers);
     let ended = attend(rt, turnstile.desk(), hands, paths, versions, source, sink);
@@ -159,7 +159,7 @@ where
     K: ByteSink + Drop,
     requires source { S.failed_calls source < 2 ^ 64 - 1 }
     requires sink { K.failed_calls sink < 2 ^ 64 - 1 }
-    ensures { IfOk result (λ e. IsEnded S.failed_calls S.remaining K.failed_calls V.readings K.contents paths.entry.model.now (map (λ t. t.now) paths.entry.tests.now) versions source sink e) }
+    ensures { IfOk result (λ e. IsEnded S.failed_calls S.remaining K.failed_calls V.readings K.contents (model_path paths.entry) (test_paths paths.entry) versions source sink e) }
 {
     let turnstile = Turnstile::new(desk);
     let gate = &turnstile;
@@ -171,7 +171,7 @@ where
         || -> Result<Ended<V, S, K>, AllocError>
             requires source { S.failed_calls source < 2 ^ 64 - 1 }
             requires sink { K.failed_calls sink < 2 ^ 64 - 1 }
-            ensures { IfOk result (λ e. IsEnded S.failed_calls S.remaining K.failed_calls V.readings K.contents paths.entry.model.now (map (λ t. t.now) paths.entry.tests.now) versions source sink e) }
+            ensures { IfOk result (λ e. IsEnded S.failed_calls S.remaining K.failed_calls V.readings K.contents (model_path paths.entry) (test_paths paths.entry) versions source sink e) }
         { attend_workers(rt, gate, workers, paths, versions, source, sink) },
     );
     match worked {
@@ -199,7 +199,7 @@ where
     requires values { seed.values.values ≡ J.shelves }
     requires source { S.failed_calls source < 2 ^ 64 - 1 }
     requires sink { K.failed_calls sink < 2 ^ 64 - 1 }
-    ensures { IfOk result (λ e. IsEnded S.failed_calls S.remaining K.failed_calls V.readings K.contents paths.entry.model.now (map (λ t. t.now) paths.entry.tests.now) versions source sink e) }
+    ensures { IfOk result (λ e. IsEnded S.failed_calls S.remaining K.failed_calls V.readings K.contents (model_path paths.entry) (test_paths paths.entry) versions source sink e) }
 {
     match seed.desk::<J, R, R>(rt, rt.alloc(), *rt) {
         Ok(desk) => watch_at(rt, &desk, workers, paths, versions, source, sink),

@@ -6,7 +6,6 @@ pub loop-index-init : goal.loop-index-init
 loop-index-init g c = record {
   ready = c.in_ok-begin_file.ensures.ready;
   paths = c.in_ok-begin_file.ensures.paths;
-  lines = c.in_ok-begin_file.ensures.lines;
   begun = begun_first _ c.args.paths.tests.now _ _ _ _ _ (rw c.new-text.ensures.items at c.in_ok-begin_file.ensures.begun);
 }
 
@@ -14,7 +13,6 @@ pub loop-index-preserved : goal.loop-index-preserved
 loop-index-preserved g c = record {
   ready = c.in_ok-begin_file-2.ensures.ready;
   paths = c.in_ok-begin_file-2.ensures.paths ∙ c.loop-index.invariant.paths;
-  lines = c.in_ok-begin_file-2.ensures.lines ∙ c.loop-index.invariant.lines;
   begun = begun_next _ _ _ _ _ _ _ _ _ _ _ _ (omega arith) c.loop-index.invariant.begun c.in_ok-begin_file-2.ensures.begun;
 }
 

@@ -1,8 +1,8 @@
-use Rattle.std.proofs.Common.{◌≡◌, ◌∷◌, take, map}
+use Rattle.std.proofs.Common.{◌≡◌, ◌∷◌, take}
 use Rattle.bench_texts.specs.Held.{texts_of}
 use Rattle.live_watch.specs.Holding.{ModelFile, test_files}
-use Rattle.live_watch.specs.Edits.{held_of}
-use Rattle.live_watch.specs.Boards.{KnowsTexts}
+use Rattle.live_watch.specs.Edits.{model_path, test_paths}
+use Rattle.live_watch.specs.Boards.{KnowsTexts, standing_of}
 use Rattle.live_watch.specs.Runs.{HasBegun}
 use Rattle.live_watch.proofs.answers.Run.begin_files.Given as goal
 
@@ -10,10 +10,9 @@ use Rattle.live_watch.proofs.answers.Run.begin_files.Given as goal
 abbrev pub invariant-loop-index : goal.invariant-loop-index
 invariant-loop-index g l =
     let readings = g.V.Versions.readings in
-    let files = record { file = ModelFile; path = l.fn.paths.model.now } ∷ take l.index (test_files 0 (map (λ t. t.now) l.fn.paths.tests.now)) in
+    let files = record { file = ModelFile; path = model_path l.fn.paths } ∷ take l.index (test_files 0 (test_paths l.fn.paths)) in
     record {
       ready : KnowsTexts l.self.watched.viewer l.self.watched.made (texts_of l.self.watched.texts);
       paths : l.self.paths ≡ l.fn.self.paths;
-      lines : l.self.lines ≡ l.fn.self.lines;
-      begun : HasBegun files (held_of l.fn.self.watched.texts l.fn.self.watched.names) (held_of l.self.watched.texts l.self.watched.names) (readings l.fn.versions) (readings l.versions) l.text.items;
+      begun : HasBegun files (standing_of l.fn.self.watched.texts l.fn.self.watched.names l.fn.self.lines l.fn.self.is_refused) (standing_of l.self.watched.texts l.self.watched.names l.self.lines l.self.is_refused) (readings l.fn.versions) (readings l.versions) l.text.items;
     }
