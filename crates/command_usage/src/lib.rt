@@ -1,6 +1,7 @@
 //! What the command line says of itself: usage, help and version, as clap words them.
 #![tactic(auto)]
 
+use clap::builder::ValueRange;
 use clap::error::ErrorKind;
 use clap::{Arg, ArgAction, Command, Error};
 use std::alloc::{AllocError, Global};
@@ -23,239 +24,273 @@ const SESSION_AFTER: &str =
     po|rf|fr|co\\n.\\nitems sc\\n' | pipitsolder session\n\
     Example: pipitsolder session script.txt --workers 4";
 
-// A file that is to be named.
-fn path<'a>(alloc: Global, name: &'static str, help: &'static str) -> Arg<'a> {
-    Arg::new(alloc, name)
-        .help(help)
-        .required(true)
-        .action(ArgAction::Set)
-}
-
-// The command, which takes a file too.
-fn with_file<'a>(
-    alloc: Global,
-    command: Command<'a>,
-    name: &'static str,
-    help: &'static str,
-) -> Result<Command<'a>, AllocError> {
-    command.arg(path(alloc, name, help))
-}
-
-// The command, which takes one file or more too, behind `--` where they are the last.
-fn with_files<'a>(
-    alloc: Global,
-    command: Command<'a>,
-    name: &'static str,
-    help: &'static str,
-    are_last: bool,
-) -> Result<Command<'a>, AllocError> {
-    let files = path(alloc, name, help).num_args(1..).last(are_last);
-    command.arg(files)
-}
-
-// The command, which takes a number too, behind these dashes and this word.
-fn with_number<'a>(
-    alloc: Global,
-    command: Command<'a>,
-    long: &'static str,
-    help: &'static str,
-) -> Result<Command<'a>, AllocError> {
-    let number = Arg::new(alloc, "N")
-        .long(long)
-        .help(help)
-        .action(ArgAction::Set);
-    command.arg(number)
-}
-
-// Two dashes and this word.
-fn flag<'a>(alloc: Global, long: &'static str, help: &'static str) -> Arg<'a> {
-    Arg::new(alloc, long)
-        .long(long)
-        .help(help)
-        .action(ArgAction::SetTrue)
-}
-
-fn named<'a>(alloc: Global, name: &'static str, about: &'static str) -> Command<'a> {
-    Command::new(alloc, name).about(about)
-}
-
-fn eval_command<'a>(alloc: Global) -> Result<Command<'a>, AllocError> {
-    let command = named(
-        alloc,
-        "eval",
-        "The same, with the model and the test in two files",
-    );
-    let command = with_file(
-        alloc,
-        command,
-        "MODEL",
-        "A file that holds a model in the cat language",
-    )?;
-    with_file(
-        alloc,
-        command,
-        "TEST",
-        "A file that holds a litmus test for Power (PPC)",
-    )
-}
-
-fn table_command<'a>(alloc: Global) -> Result<Command<'a>, AllocError> {
-    let command = named(
-        alloc,
-        "table",
-        "A table of the tests of some files under the models of others",
-    );
-    let command = with_files(alloc, command, "MODEL", "Files of models", false)?;
-    with_files(alloc, command, "TEST", "Files of tests, behind `--`", true)
-}
-
-fn diff_command<'a>(alloc: Global) -> Result<Command<'a>, AllocError> {
-    let command = named(
-        alloc,
-        "diff",
-        "Which tests two models tell apart, and by which final states",
-    );
-    let command = with_file(alloc, command, "FIRST", "The file of a model")?;
-    let command = with_file(alloc, command, "SECOND", "The file of another model")?;
-    with_files(alloc, command, "TEST", "Files of tests", false)
-}
-
-// The file of a script, which need not be named.
-fn script<'a>(alloc: Global) -> Arg<'a> {
-    Arg::new(alloc, "SCRIPT")
-        .help("The file of a script, in place of standard input")
-        .action(ArgAction::Set)
-}
-
-fn session_command<'a>(alloc: Global) -> Result<Command<'a>, AllocError> {
-    let command = named(
-        alloc,
-        "session",
-        "Answers the commands of a script: edits of tests and models, and questions",
-    )
-    .after_help(SESSION_AFTER);
-    let command = command.arg(script(alloc))?;
-    with_number(
-        alloc,
-        command,
-        "workers",
-        "How many threads run the jobs, 0 to 32: 0 is the program itself",
-    )
-}
-
-// The command, which takes a model and a test.
-fn with_cell<'a>(alloc: Global, command: Command<'a>) -> Result<Command<'a>, AllocError> {
-    let command = with_file(alloc, command, "MODEL", "The file of a model")?;
-    with_file(alloc, command, "TEST", "The file of a test")
-}
-
-fn why_command<'a>(alloc: Global) -> Result<Command<'a>, AllocError> {
-    let command = named(
-        alloc,
-        "why",
-        "Why a model forbids what a test asks for, or an execution that it keeps",
-    );
-    let command = with_cell(alloc, command)?;
-    let forbidden = flag(
-        alloc,
-        "forbidden",
-        "The reasons also where an execution is kept",
-    );
-    let deep = flag(alloc, "deep", "Each name of a step with the name inside it");
-    command.arg(forbidden)?.arg(deep)
-}
-
-// The command, which takes one of three flags too.
-fn with_drawn<'a>(alloc: Global, command: Command<'a>) -> Result<Command<'a>, AllocError> {
-    let shown = flag(
-        alloc,
-        "shown",
-        "Those that are kept and have what the test asks for: the default",
-    );
-    let forbidden = flag(
-        alloc,
-        "forbidden",
-        "Those that are forbidden and have what the test asks for",
-    );
-    let all = flag(alloc, "all", "All, kept or forbidden");
-    let shown = shown.conflicts_with("forbidden")?.conflicts_with("all")?;
-    let forbidden = forbidden.conflicts_with("all")?;
-    command.arg(shown)?.arg(forbidden)?.arg(all)
-}
-
-fn draw_command<'a>(alloc: Global) -> Result<Command<'a>, AllocError> {
-    let command = named(alloc, "draw", "Drawings of executions, for dot");
-    let command = with_cell(alloc, command)?;
-    let command = with_drawn(alloc, command)?;
-    with_number(
-        alloc,
-        command,
-        "most",
-        "At most so many drawings, 1 to 64: otherwise 16",
-    )
-}
-
-fn watch_command<'a>(alloc: Global) -> Result<Command<'a>, AllocError> {
-    let command = named(
-        alloc,
-        "watch",
-        "Some tests under a model, and what changes with each later version of a file that standard input names",
-    );
-    let command = with_file(alloc, command, "MODEL", "The file of a model")?;
-    let command = with_files(alloc, command, "TEST", "Files of tests", false)?;
-    with_number(
-        alloc,
-        command,
-        "workers",
-        "How many threads run the jobs, 0 to 32, before the files: 0 is the program itself",
-    )
-}
-
-// What a word behind the name of the program asks for.
+// What an argument is.
 #[derive(Clone, Copy)]
-enum Subcommand {
-    Eval,
-    Table,
-    Diff,
-    Session,
-    Why,
-    Draw,
-    Watch,
+enum Kind {
+    // A file that is to be named.
+    File,
+    // One file or more.
+    Files,
+    // One file or more, behind `--`.
+    LastFiles,
+    // A file that need not be named.
+    OptionalFile,
+    // A number, behind two dashes and this word.
+    Number(&'static str),
+    // Two dashes and the argument's name, with none of these flags beside it.
+    Flag(&'static [&'static str]),
 }
+
+// An argument of a form.
+#[derive(Clone, Copy)]
+struct Argument {
+    name: &'static str,
+    help: &'static str,
+    kind: Kind,
+}
+
+// A form of the command line: the word behind the name of the program, and its arguments.
+#[derive(Clone, Copy)]
+struct Form {
+    name: &'static str,
+    about: &'static str,
+    arguments: &'static [Argument],
+    after: Option<&'static str>,
+}
+
+const MODEL: Argument = Argument {
+    name: "MODEL",
+    help: "The file of a model",
+    kind: Kind::File,
+};
+
+const TEST: Argument = Argument {
+    name: "TEST",
+    help: "The file of a test",
+    kind: Kind::File,
+};
+
+const TESTS: Argument = Argument {
+    name: "TEST",
+    help: "Files of tests",
+    kind: Kind::Files,
+};
+
+const EVAL: Form = Form {
+    name: "eval",
+    about: "The same, with the model and the test in two files",
+    arguments: &[
+        Argument {
+            name: "MODEL",
+            help: "A file that holds a model in the cat language",
+            kind: Kind::File,
+        },
+        Argument {
+            name: "TEST",
+            help: "A file that holds a litmus test for Power (PPC)",
+            kind: Kind::File,
+        },
+    ],
+    after: None,
+};
+
+const TABLE: Form = Form {
+    name: "table",
+    about: "A table of the tests of some files under the models of others",
+    arguments: &[
+        Argument {
+            name: "MODEL",
+            help: "Files of models",
+            kind: Kind::Files,
+        },
+        Argument {
+            name: "TEST",
+            help: "Files of tests, behind `--`",
+            kind: Kind::LastFiles,
+        },
+    ],
+    after: None,
+};
+
+const DIFF: Form = Form {
+    name: "diff",
+    about: "Which tests two models tell apart, and by which final states",
+    arguments: &[
+        Argument {
+            name: "FIRST",
+            help: "The file of a model",
+            kind: Kind::File,
+        },
+        Argument {
+            name: "SECOND",
+            help: "The file of another model",
+            kind: Kind::File,
+        },
+        TESTS,
+    ],
+    after: None,
+};
+
+const SESSION: Form = Form {
+    name: "session",
+    about: "Answers the commands of a script: edits of tests and models, and questions",
+    arguments: &[
+        Argument {
+            name: "SCRIPT",
+            help: "The file of a script, in place of standard input",
+            kind: Kind::OptionalFile,
+        },
+        Argument {
+            name: "N",
+            help: "How many threads run the jobs, 0 to 32: 0 is the program itself",
+            kind: Kind::Number("workers"),
+        },
+    ],
+    after: Some(SESSION_AFTER),
+};
+
+const WHY: Form = Form {
+    name: "why",
+    about: "Why a model forbids what a test asks for, or an execution that it keeps",
+    arguments: &[
+        MODEL,
+        TEST,
+        Argument {
+            name: "forbidden",
+            help: "The reasons also where an execution is kept",
+            kind: Kind::Flag(&[]),
+        },
+        Argument {
+            name: "deep",
+            help: "Each name of a step with the name inside it",
+            kind: Kind::Flag(&[]),
+        },
+    ],
+    after: None,
+};
+
+const DRAW: Form = Form {
+    name: "draw",
+    about: "Drawings of executions, for dot",
+    arguments: &[
+        MODEL,
+        TEST,
+        Argument {
+            name: "shown",
+            help: "Those that are kept and have what the test asks for: the default",
+            kind: Kind::Flag(&["forbidden", "all"]),
+        },
+        Argument {
+            name: "forbidden",
+            help: "Those that are forbidden and have what the test asks for",
+            kind: Kind::Flag(&["all"]),
+        },
+        Argument {
+            name: "all",
+            help: "All, kept or forbidden",
+            kind: Kind::Flag(&[]),
+        },
+        Argument {
+            name: "N",
+            help: "At most so many drawings, 1 to 64: otherwise 16",
+            kind: Kind::Number("most"),
+        },
+    ],
+    after: None,
+};
+
+const WATCH: Form = Form {
+    name: "watch",
+    about: "Some tests under a model, and what changes with each later version of a file that standard input names",
+    arguments: &[
+        MODEL,
+        TESTS,
+        Argument {
+            name: "N",
+            help: "How many threads run the jobs, 0 to 32, before the files: 0 is the program itself",
+            kind: Kind::Number("workers"),
+        },
+    ],
+    after: None,
+};
 
 // In the order of the usage.
-const SUBCOMMANDS: [Subcommand; 7] = [
-    Subcommand::Eval,
-    Subcommand::Table,
-    Subcommand::Diff,
-    Subcommand::Session,
-    Subcommand::Why,
-    Subcommand::Draw,
-    Subcommand::Watch,
-];
+const FORMS: [Form; 7] = [EVAL, TABLE, DIFF, SESSION, WHY, DRAW, WATCH];
 
-fn command_of<'a>(alloc: Global, subcommand: Subcommand) -> Result<Command<'a>, AllocError> {
-    match subcommand {
-        Subcommand::Eval => eval_command(alloc),
-        Subcommand::Table => table_command(alloc),
-        Subcommand::Diff => diff_command(alloc),
-        Subcommand::Session => session_command(alloc),
-        Subcommand::Why => why_command(alloc),
-        Subcommand::Draw => draw_command(alloc),
-        Subcommand::Watch => watch_command(alloc),
+// How many values a positional argument takes.
+fn values_of(kind: Kind) -> ValueRange {
+    match kind {
+        Kind::Files | Kind::LastFiles => ValueRange::new(1..),
+        _ => ValueRange::SINGLE,
     }
+}
+
+// An argument that has its place among the words.
+fn file_argument<'a>(alloc: Global, argument: Argument) -> Arg<'a> {
+    let kind = argument.kind;
+    Arg::new(alloc, argument.name)
+        .help(argument.help)
+        .required(!matches!(kind, Kind::OptionalFile))
+        .num_args(values_of(kind))
+        .last(matches!(kind, Kind::LastFiles))
+        .action(ArgAction::Set)
+}
+
+// An argument behind two dashes and this word.
+fn option<'a>(alloc: Global, argument: Argument, long: &'static str, action: ArgAction) -> Arg<'a> {
+    Arg::new(alloc, argument.name)
+        .long(long)
+        .help(argument.help)
+        .action(action)
+}
+
+fn argument_of<'a>(alloc: Global, argument: Argument) -> Result<Arg<'a>, AllocError> {
+    match argument.kind {
+        Kind::Number(long) => Ok(option(alloc, argument, long, ArgAction::Set)),
+        Kind::Flag(others) => {
+            option(alloc, argument, argument.name, ArgAction::SetTrue).conflicts_with_all(others)
+        }
+        _ => Ok(file_argument(alloc, argument)),
+    }
+}
+
+fn arguments_of<'a>(alloc: Global, arguments: &[Argument]) -> Result<Vec<Arg<'a>>, AllocError> {
+    let mut built = Vec::new(alloc);
+    for argument in arguments {
+        built.push(argument_of(alloc, *argument)?)?;
+    }
+    Ok(built)
+}
+
+// The command of this name, without arguments.
+fn bare_command<'a>(alloc: Global, form: Form) -> Command<'a> {
+    let command = Command::new(alloc, form.name).about(form.about);
+    match form.after {
+        Some(after) => command.after_help(after),
+        None => command,
+    }
+}
+
+fn command_of<'a>(alloc: Global, form: Form) -> Result<Command<'a>, AllocError> {
+    let arguments = arguments_of(alloc, form.arguments)?;
+    bare_command(alloc, form).args(arguments)
+}
+
+fn commands<'a>(alloc: Global) -> Result<Vec<Command<'a>>, AllocError> {
+    let mut commands = Vec::new(alloc);
+    for form in FORMS {
+        commands.push(command_of(alloc, form)?)?;
+    }
+    Ok(commands)
 }
 
 fn program<'a>(alloc: Global) -> Result<Command<'a>, AllocError> {
-    let mut program = Command::new(alloc, "pipitsolder")
+    let commands = commands(alloc)?;
+    Command::new(alloc, "pipitsolder")
         .about(ABOUT)
         .after_help(AFTER)
-        .version(VERSION);
-    for subcommand in SUBCOMMANDS {
-        let command = command_of(alloc, subcommand)?;
-        program = program.subcommand(command)?;
-    }
-    Ok(program)
+        .version(VERSION)
+        .subcommands(commands)
 }
 
 // What is told of words of this subcommand that clap takes and that have no form.
