@@ -9,7 +9,7 @@ use Rattle.bench_texts.specs.declared.change.Change.{Change}
 use Rattle.bench_texts.specs.declared.texts.Texts.{Texts}
 use Rattle.bench_texts.specs.Changes.{texts_after, IsReady}
 use Rattle.bench_texts.specs.Edits.{Edit, missing, Makes, limit_fault, Applies, Refuses}
-use Rattle.bench_texts.specs.Answers.{Answers, IsLimited}
+use Rattle.bench_texts.specs.Answers.{Answers, IsChangeBy, IsLimited}
 
 -- a fault of the limits is one of two
 refused_so : (full spent : Bool) (f : EditFault) → (if full then Some faults.Full else (if spent then Some faults.Spent else None)) ≡ Some f → (f ≡ faults.Full) ⊎ (f ≡ faults.Spent)
@@ -23,10 +23,10 @@ refused_by_limit t new spent e f there makes limit = elim (refused_so (is_full n
   | inr h ↦ subst (λ g. Refuses t spent e g) (sym h) (there, record { new = new; makes = makes; limit = limit ∙ ap Some h })
 ]
 
-pub limited_answers : (t : BenchTexts) (spent : Bool) (e : Edit) (change : Change) (r : Result Change EditFault) → missing t e ≡ None → Makes t e (texts_after change t) → IsLimited t spent change (texts_after change t) r → Answers t spent e r
-limited_answers t spent e change (Ok c) there makes l =
-    subst (λ d. Applies t spent e (texts_after d t)) (sym l.0) (record { all_there = there; makes = makes; within = l.1 })
-limited_answers t spent e change (Err f) there makes l = refused_by_limit t (texts_after change t) spent e f there makes l
+pub limited_answers : (t : BenchTexts) (spent : Bool) (e : Edit) (change : Change) (r : Result Change EditFault) → missing t e ≡ None → Makes t e (texts_after change t) → IsChangeBy t e change → IsLimited t spent change (texts_after change t) r → Answers t spent e r
+limited_answers t spent e change (Ok c) there makes by l =
+    subst (λ d. Applies t spent e (texts_after d t) × IsChangeBy t e d) (sym l.0) (record { all_there = there; makes = makes; within = l.1 }, by)
+limited_answers t spent e change (Err f) there makes by l = refused_by_limit t (texts_after change t) spent e f there makes l
 
 pub limited_ready : (t : BenchTexts) (texts : Texts) (spent : Bool) (change : Change) (new : BenchTexts) (r : Result Change EditFault) → IsReady texts change → IsLimited t spent change new r → IfOk r (IsReady texts)
 limited_ready t texts spent change new (Ok c) ready l = subst (IsReady texts) (sym l.0) ready

@@ -3,16 +3,22 @@ use Rattle.std.specs.Prelude.{◌≡◌, Bool, Some, None, Result, Ok, Err, Matc
 use Rattle.bench_texts.specs.declared.change.Change.{Change}
 use Rattle.bench_texts.specs.declared.fault.EditFault.{EditFault}
 use Rattle.bench_texts.specs.declared.fault.EditFault.TheVariants as faults
+use Rattle.bench_texts.specs.declared.replacement.Replacement.{Replacement}
 use Rattle.litmus_ppc.specs.declared.fault.LitmusFault.{LitmusFault}
 use Rattle.litmus_ppc.specs.declared.fault.LitmusFault.TheVariants as litmus
 use Rattle.cat_syntax.specs.declared.fault.CatFault.{CatFault}
 use Rattle.cat_syntax.specs.declared.fault.CatFault.TheVariants as cat
 use Rattle.bench_texts.specs.BenchTexts.{BenchTexts}
-use Rattle.bench_texts.specs.Changes.{texts_after}
+use Rattle.bench_texts.specs.Changes.{texts_after, IsPutFor}
 use Rattle.bench_texts.specs.Edits.{Edit, limit_fault, Applies, Refuses}
+use Rattle.bench_texts.specs.Replacements.{IsPutBy}
+
+-- what is put or dropped for the change is what the edit puts or drops
+abbrev pub IsChangeBy : BenchTexts → Edit → Change → Type 0
+IsChangeBy t e change = (r : Replacement) → IsPutFor change r → IsPutBy t e r
 
 abbrev pub Answers : BenchTexts → Bool → Edit → Result Change EditFault → Type 0
-Answers t spent e (Ok change) = Applies t spent e (texts_after change t)
+Answers t spent e (Ok change) = Applies t spent e (texts_after change t) × IsChangeBy t e change
 Answers t spent e (Err fault) = Refuses t spent e fault
 
 -- the change, unless the texts that it makes are over a limit

@@ -5,9 +5,12 @@ use Rattle.text_values.specs.TestValue.{content_of, steps_of, formula_of}
 use Rattle.text_values.specs.ModelValues.{clause_of}
 use Rattle.bench_texts.specs.declared.change.Change.{Change}
 use Rattle.bench_texts.specs.declared.change.Change.TheVariants as changes
+use Rattle.bench_texts.specs.declared.replacement.Replacement.{Replacement}
+use Rattle.bench_texts.specs.declared.replacement.Replacement.TheVariants as made
 use Rattle.bench_texts.specs.declared.texts.Texts.{Texts}
 use Rattle.bench_texts.specs.BenchTexts.{BenchTexts, put_at, changed_at, with_init, with_thread, with_condition, with_observed, with_items, with_tests, with_models}
 use Rattle.bench_texts.specs.Held.{model_of, texts_of, IsRead}
+use Rattle.bench_texts.specs.Replacements.{IsTestPut, IsModelPut}
 
 -- the texts after the change
 abbrev pub texts_after : Change → BenchTexts → BenchTexts
@@ -40,3 +43,17 @@ IsReady t (changes.SetItem at index number item) = (at < vec_len t.models) × Ho
 IsReady t (changes.InsertItem at index item) =
     (at < vec_len t.models) × HoldsAt (λ m. index ≤ length m.items) (texts_of t).models at × HoldsAt (λ m. length m.items < 256) (texts_of t).models at × (t.next + 1 < 2 ^ 64)
 IsReady t (changes.RemoveItem at index) = (at < vec_len t.models) × HoldsAt (λ m. index < length m.items) (texts_of t).models at
+
+-- the test or the model that it changes is put or dropped
+abbrev pub IsPutFor : Change → Replacement → Type 0
+IsPutFor (changes.PutTest at test) r = r ≡ made.PutTest at test
+IsPutFor (changes.DropTest at) r = r ≡ made.DropTest at
+IsPutFor (changes.SetInit at init) r = IsTestPut at r
+IsPutFor (changes.SetThread at thread other) r = IsTestPut at r
+IsPutFor (changes.SetCond at c) r = IsTestPut at r
+IsPutFor (changes.SetObserved at observed) r = IsTestPut at r
+IsPutFor (changes.PutModel at model next) r = IsModelPut at r
+IsPutFor (changes.DropModel at) r = r ≡ made.DropModel at
+IsPutFor (changes.SetItem at index number item) r = IsModelPut at r
+IsPutFor (changes.InsertItem at index item) r = IsModelPut at r
+IsPutFor (changes.RemoveItem at index) r = IsModelPut at r

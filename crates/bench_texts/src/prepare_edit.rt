@@ -3,7 +3,7 @@
 ghost use Rattle.std.specs.Prelude.{◌≡◌, IfOk, MatchResult};
 ghost use Rattle.bench_texts.specs.Held.{texts_of, AreRead};
 ghost use Rattle.bench_texts.specs.Changes.{IsReady};
-ghost use Rattle.bench_texts.specs.Replacements.{texts_with, IsReplaceable};
+ghost use Rattle.bench_texts.specs.Replacements.{texts_with, IsReplaceable, IsPutBy};
 ghost use Rattle.bench_texts.specs.Edits.{edit_of, is_whole, Applies, Refuses};
 ghost use Rattle.bench_texts.specs.Answers.{Answers};
 
@@ -27,6 +27,8 @@ impl Texts {
         ensures answer { MatchResult result (λ p. Applies (texts_of self.old) spent (edit_of edit.now) (texts_with p.replacement (texts_of self.old))) (Refuses (texts_of self.old) spent (edit_of edit.now)) }
         // `commit` can be called.
         ensures ready { IfOk result (λ p. IsReplaceable self.new p.replacement) }
+        // The edit puts or drops the test or the model that it names.
+        ensures target { IfOk result (λ p. IsPutBy (texts_of self.old) (edit_of edit.now) p.replacement) }
         // It is known whether the edit puts or drops a whole test or model.
         ensures whole { IfOk result (λ p. p.whole ≡ is_whole (edit_of edit.now)) }
         // No text is changed: each test and each model is the one that it was.

@@ -50,9 +50,11 @@ impl Texts {
     ghost use Rattle.text_values.specs.ModelValues.{clauses_of};
     ghost use Rattle.bench_texts.specs.Held.{texts_of, AreRead};
     ghost use Rattle.bench_texts.specs.Limits.{models_outputs};
-    ghost use Rattle.bench_texts.specs.Changes.{IsReady, texts_after};
+    ghost use Rattle.bench_texts.specs.Changes.{IsReady, IsPutFor, texts_after};
     ghost use Rattle.bench_texts.specs.Edits.{PutModel, DropModel, has_model, limit_fault};
     ghost use Rattle.bench_texts.specs.Answers.{Answers};
+    ghost use Rattle.bench_texts.specs.declared.replacement.Replacement.{Replacement};
+    ghost use Rattle.bench_texts.specs.Replacements.{IsModelPut};
 
     // The index of a model that is there.
     pub(crate) fn find_model(&self, name: &[u8]) -> Result<usize, EditFault>
@@ -125,6 +127,7 @@ impl Texts {
         requires index { at ≤ vec_len self.old.models }
         requires next { self.old.next ≤ 2 ^ 63 }
         ensures change { IfOk result (λ c. texts_after c (texts_of self.old) ≡ with_models (put_at at (record { name = name.now; items = numbered_items (texts_of self.old).next (clauses_of text.items.items) })) ((texts_of self.old).next + length (clauses_of text.items.items)) (texts_of self.old)) }
+        ensures target { IfOk result (λ c. (r : Replacement) → IsPutFor c r → IsModelPut at r) }
         ensures ready { IfOk result (IsReady self.new) }
         ensures kept { texts_of self.new ≡ texts_of self.old }
         ensures tests { self.new.tests.items ≡ self.old.tests.items }

@@ -2,7 +2,7 @@
 
 ghost use Rattle.std.specs.Prelude.{◌≡◌, IfOk};
 ghost use Rattle.bench_texts.specs.Held.{texts_of};
-ghost use Rattle.bench_texts.specs.Changes.{texts_after, IsReady};
+ghost use Rattle.bench_texts.specs.Changes.{texts_after, IsReady, IsPutFor};
 ghost use Rattle.bench_texts.specs.Replacements.{texts_with, IsReplaceable};
 
 use crate::change::Change;
@@ -21,6 +21,7 @@ impl Texts {
         requires { IsReady self.now change }
         ensures texts { IfOk result (λ r. texts_with r (texts_of self.now) ≡ texts_after change (texts_of self.now)) }
         ensures ready { IfOk result (IsReplaceable self.now) }
+        ensures target { IfOk result (IsPutFor change) }
     {
         match change {
             Change::PutTest { at, test } => Ok(Replacement::PutTest { at, test }),

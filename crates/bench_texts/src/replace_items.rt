@@ -4,7 +4,7 @@ ghost use Rattle.std.specs.Prelude.{◌≡◌, IfOk};
 ghost use Rattle.bench_texts.specs.declared.change.Change.TheVariants as changes;
 ghost use Rattle.bench_texts.specs.Held.{texts_of};
 ghost use Rattle.bench_texts.specs.Changes.{texts_after, IsReady};
-ghost use Rattle.bench_texts.specs.Replacements.{texts_with, IsReplaceable};
+ghost use Rattle.bench_texts.specs.Replacements.{texts_with, IsReplaceable, IsModelPut};
 
 use crate::replacement::Replacement;
 use crate::texts::Texts;
@@ -23,6 +23,7 @@ impl Texts {
         requires { IsReady self.now (changes.SetItem at index number item) }
         ensures texts { IfOk result (λ r. texts_with r (texts_of self.now) ≡ texts_after (changes.SetItem at index number item) (texts_of self.now)) }
         ensures ready { IfOk result (IsReplaceable self.now) }
+        ensures target { IfOk result (IsModelPut at) }
     {
         let model = self.models[at].with_set(alloc, index, number, item)?;
         let next = self.next;
@@ -39,6 +40,7 @@ impl Texts {
         requires { IsReady self.now (changes.InsertItem at index item) }
         ensures texts { IfOk result (λ r. texts_with r (texts_of self.now) ≡ texts_after (changes.InsertItem at index item) (texts_of self.now)) }
         ensures ready { IfOk result (IsReplaceable self.now) }
+        ensures target { IfOk result (IsModelPut at) }
     {
         let model = self.models[at].with_inserted(alloc, index, self.next, item)?;
         let next = self.next + 1;
@@ -54,6 +56,7 @@ impl Texts {
         requires { IsReady self.now (changes.RemoveItem at index) }
         ensures texts { IfOk result (λ r. texts_with r (texts_of self.now) ≡ texts_after (changes.RemoveItem at index) (texts_of self.now)) }
         ensures ready { IfOk result (IsReplaceable self.now) }
+        ensures target { IfOk result (IsModelPut at) }
     {
         let model = self.models[at].with_removed(alloc, index)?;
         let next = self.next;

@@ -4,7 +4,7 @@ ghost use Rattle.std.specs.Prelude.{◌≡◌, IfOk};
 ghost use Rattle.bench_texts.specs.declared.change.Change.TheVariants as changes;
 ghost use Rattle.bench_texts.specs.Held.{texts_of};
 ghost use Rattle.bench_texts.specs.Changes.{texts_after, IsReady};
-ghost use Rattle.bench_texts.specs.Replacements.{texts_with, IsReplaceable};
+ghost use Rattle.bench_texts.specs.Replacements.{texts_with, IsReplaceable, IsTestPut};
 
 use crate::changed_tests::{
     test_with_condition, test_with_init, test_with_observed, test_with_thread,
@@ -24,6 +24,7 @@ impl Texts {
         requires { IsReady self.now (changes.SetInit at init) }
         ensures texts { IfOk result (λ r. texts_with r (texts_of self.now) ≡ texts_after (changes.SetInit at init) (texts_of self.now)) }
         ensures ready { IfOk result (IsReplaceable self.now) }
+        ensures target { IfOk result (IsTestPut at) }
     {
         let test = test_with_init(alloc, &self.tests[at], init)?;
         Ok(Replacement::PutTest { at, test })
@@ -39,6 +40,7 @@ impl Texts {
         requires { IsReady self.now (changes.SetThread at thread other) }
         ensures texts { IfOk result (λ r. texts_with r (texts_of self.now) ≡ texts_after (changes.SetThread at thread other) (texts_of self.now)) }
         ensures ready { IfOk result (IsReplaceable self.now) }
+        ensures target { IfOk result (IsTestPut at) }
     {
         let test = test_with_thread(alloc, &self.tests[at], thread, other)?;
         Ok(Replacement::PutTest { at, test })
@@ -53,6 +55,7 @@ impl Texts {
         requires { IsReady self.now (changes.SetCond at condition) }
         ensures texts { IfOk result (λ r. texts_with r (texts_of self.now) ≡ texts_after (changes.SetCond at condition) (texts_of self.now)) }
         ensures ready { IfOk result (IsReplaceable self.now) }
+        ensures target { IfOk result (IsTestPut at) }
     {
         let test = test_with_condition(alloc, &self.tests[at], condition)?;
         Ok(Replacement::PutTest { at, test })
@@ -67,6 +70,7 @@ impl Texts {
         requires { IsReady self.now (changes.SetObserved at observed) }
         ensures texts { IfOk result (λ r. texts_with r (texts_of self.now) ≡ texts_after (changes.SetObserved at observed) (texts_of self.now)) }
         ensures ready { IfOk result (IsReplaceable self.now) }
+        ensures target { IfOk result (IsTestPut at) }
     {
         let test = test_with_observed(alloc, &self.tests[at], observed)?;
         Ok(Replacement::PutTest { at, test })

@@ -1,4 +1,4 @@
-use Rattle.std.proofs.Common.{refl, ap}
+use Rattle.std.proofs.Common.{refl, ap, ◌∙◌}
 use Rattle.bench_texts.specs.declared.change.Change.TheVariants as changes
 use Rattle.bench_texts.specs.BenchTexts.{with_tests}
 use Rattle.bench_texts.specs.Held.{texts_of}
@@ -8,6 +8,7 @@ use Rattle.std.proofs.Common.{remove, arith}
 use Rattle.std.proofs.lemmas.Grind.{common_steps}
 use Rattle.bench_texts.specs.Edits.{DropTest}
 use Rattle.bench_texts.proofs.Lists.{length-remove}
+use Rattle.bench_texts.specs.declared.replacement.Replacement.TheVariants as made
 use Rattle.bench_texts.proofs.texts.Texts.prepare_drop_test.Goals as goal
 
 pub returns-clause-answer : goal.returns-clause-answer
@@ -15,6 +16,7 @@ returns-clause-answer c =
     limited_answers (texts_of c.args.self.now) c.args.spent (DropTest c.args.test.now) (changes.DropTest c.in_ok-at.at) c.limited.result
     (rw c.in_ok-at.ensures.1 refl)
     (ap (λ i. with_tests (λ ts. remove ts i) (texts_of c.args.self.now)) c.in_ok-at.ensures.0)
+    (λ r put. put ∙ ap made.DropTest c.in_ok-at.ensures.0)
     (c.limited.ensures (texts_after (changes.DropTest c.in_ok-at.at) (texts_of c.args.self.now)) (grind (arith, common_steps, length-remove (texts_of c.args.self.now).tests c.in_ok-at.at)) (grind (arith, common_steps)) c.outputs.ensures)
 
 pub returns-clause-ready : goal.returns-clause-ready

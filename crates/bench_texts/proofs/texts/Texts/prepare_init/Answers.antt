@@ -1,4 +1,4 @@
-use Rattle.std.proofs.Common.{refl, ap}
+use Rattle.std.proofs.Common.{refl, ap, subst}
 use Rattle.bench_texts.specs.declared.change.Change.TheVariants as changes
 use Rattle.bench_texts.specs.BenchTexts.{changed_at, with_init, with_tests}
 use Rattle.bench_texts.specs.Held.{texts_of}
@@ -6,12 +6,14 @@ use Rattle.bench_texts.specs.Changes.{texts_after}
 use Rattle.bench_texts.specs.Edits.{SetInit}
 use Rattle.bench_texts.proofs.Lists.{length-changed_at}
 use Rattle.bench_texts.proofs.Refusing.{limited_answers, limited_ready}
+use Rattle.bench_texts.specs.Replacements.{IsTestPut}
 use Rattle.bench_texts.proofs.texts.Texts.prepare_init.Goals as goal
 
 pub returns-in-Ok-clause-answer : goal.returns-in-Ok-clause-answer
 returns-in-Ok-clause-answer c =
     limited_answers (texts_of c.args.self.now) c.args.spent (SetInit c.args.test.now c.args.text.now) (changes.SetInit c.in_ok-at.at c.in-Ok.init) c.limited_alike.result (rw c.in_ok-at.ensures.1 refl)
     (c.in-Ok.init.items, rw (← c.threads_at.ensures) c.in-Ok.ensures.found, ap (λ i. with_tests (changed_at i (with_init c.in-Ok.init.items)) (texts_of c.args.self.now)) c.in_ok-at.ensures.0)
+    (λ r put. subst (λ i. IsTestPut i r) c.in_ok-at.ensures.0 put)
     (c.limited_alike.ensures (texts_after (changes.SetInit c.in_ok-at.at c.in-Ok.init) (texts_of c.args.self.now)) (length-changed_at (with_init c.in-Ok.init.items) (texts_of c.args.self.now).tests c.in_ok-at.at) refl)
 
 pub returns-in-Ok-clause-ready : goal.returns-in-Ok-clause-ready

@@ -1,4 +1,4 @@
-use Rattle.std.proofs.Common.{◌≡◌, ◌<◌, ◌+◌, length, get_or, min, insert, refl, ap, sym, ◌∙◌, arith, [], inr}
+use Rattle.std.proofs.Common.{◌≡◌, ◌<◌, ◌+◌, length, get_or, min, insert, refl, ap, sym, ◌∙◌, arith, [], inr, subst}
 use Rattle.std.proofs.lemmas.Grind.{common_steps}
 use Rattle.text_values.specs.ModelValues.{clause_of}
 use Rattle.bench_texts.specs.declared.change.Change.TheVariants as changes
@@ -10,6 +10,7 @@ use Rattle.bench_texts.specs.Edits.{InsertItem, model_items}
 use Rattle.bench_texts.proofs.Lists.{length-changed_at, get_or-map, held_here, index-map}
 use Rattle.bench_texts.proofs.Counts.{outputs-with, items-insert, counted-more}
 use Rattle.bench_texts.proofs.Refusing.{limited_answers, limited_ready_within, unspent}
+use Rattle.bench_texts.specs.Replacements.{IsModelPut}
 use Rattle.bench_texts.proofs.texts.Texts.prepare_insert_item.Goals as goal
 
 pub returns-then-len-ge-MAX_ITEMS-clause-answer : goal.returns-then-len-ge-MAX_ITEMS-clause-answer
@@ -32,6 +33,7 @@ returns-clause-answer c =
     limited_answers t c.args.spent (InsertItem c.args.model.now c.args.before c.args.text.now) (changes.InsertItem c.in_ok-at.at c.in_ok-index.index c.in-Ok.item) c.limited.result
     (rw (c.in_ok-at.ensures.1, c.in_ok-index.ensures.1) refl)
     (clause_of c.in-Ok.item, c.in-Ok.ensures.found, rw held (omega arith), ap (λ i. with_models (changed_at i (with_items (λ is. insert is c.in_ok-index.index y))) (t.next + 1) t) c.in_ok-at.ensures.0 ∙ ap (λ k. with_models (changed_at (model_index c.args.model.now t.models) (with_items (λ is. insert is k y))) (t.next + 1) t) c.in_ok-index.ensures.0)
+    (λ r put. subst (λ i. IsModelPut i r) c.in_ok-at.ensures.0 put)
     within
 
 pub returns-clause-ready : goal.returns-clause-ready

@@ -1,4 +1,4 @@
-use Rattle.std.proofs.Common.{◌≡◌, ◌<◌, length, get_or, min, remove, refl, ap, sym, ◌∙◌, arith}
+use Rattle.std.proofs.Common.{◌≡◌, ◌<◌, length, get_or, min, remove, refl, ap, sym, ◌∙◌, arith, subst}
 use Rattle.std.proofs.lemmas.Grind.{common_steps}
 use Rattle.bench_texts.specs.declared.change.Change.TheVariants as changes
 use Rattle.bench_texts.specs.BenchTexts.{model_index, changed_at, with_items, with_models}
@@ -9,6 +9,7 @@ use Rattle.bench_texts.specs.Edits.{RemoveItem}
 use Rattle.bench_texts.proofs.Lists.{length-changed_at, get_or-map, held_at}
 use Rattle.bench_texts.proofs.Counts.{outputs-with, items-remove}
 use Rattle.bench_texts.proofs.Refusing.{limited_answers, limited_ready}
+use Rattle.bench_texts.specs.Replacements.{IsModelPut}
 use Rattle.bench_texts.proofs.texts.Texts.prepare_remove_item.Goals as goal
 
 pub outputs_without-of_items-requires : goal.outputs_without-of_items-requires
@@ -24,6 +25,7 @@ returns-clause-answer c =
     limited_answers (texts_of c.args.self.now) c.args.spent (RemoveItem c.args.model.now c.args.item) (changes.RemoveItem c.in_ok-at.at c.in_ok-index.index) c.limited.result
     (rw (c.in_ok-at.ensures.1, c.in_ok-index.ensures.1) refl)
     (ap (λ i. with_models (changed_at i (with_items (λ is. remove is c.in_ok-index.index))) (texts_of c.args.self.now).next (texts_of c.args.self.now)) c.in_ok-at.ensures.0 ∙ ap (λ k. with_models (changed_at (model_index c.args.model.now (texts_of c.args.self.now).models) (with_items (λ is. remove is k))) (texts_of c.args.self.now).next (texts_of c.args.self.now)) c.in_ok-index.ensures.0)
+    (λ r put. subst (λ i. IsModelPut i r) c.in_ok-at.ensures.0 put)
     within
 
 pub returns-clause-ready : goal.returns-clause-ready

@@ -1,4 +1,4 @@
-use Rattle.std.proofs.Common.{◌≡◌, ◌<◌, length, get_or, min, refl, ap, sym, ◌∙◌, arith}
+use Rattle.std.proofs.Common.{◌≡◌, ◌<◌, length, get_or, min, refl, ap, sym, ◌∙◌, arith, subst}
 use Rattle.std.proofs.lemmas.Grind.{common_steps}
 use Rattle.text_values.specs.ModelValues.{clause_of}
 use Rattle.bench_texts.specs.declared.change.Change.TheVariants as changes
@@ -10,6 +10,7 @@ use Rattle.bench_texts.specs.Edits.{SetItem}
 use Rattle.bench_texts.proofs.Lists.{length-changed_at, get_or-map, held_at}
 use Rattle.bench_texts.proofs.Counts.{outputs-with, items-put, counted-more}
 use Rattle.bench_texts.proofs.Refusing.{limited_answers, limited_ready}
+use Rattle.bench_texts.specs.Replacements.{IsModelPut}
 use Rattle.bench_texts.proofs.texts.Texts.prepare_set_item.Goals as goal
 
 pub outputs_without-others-requires : goal.outputs_without-others-requires
@@ -27,6 +28,7 @@ returns-clause-answer c =
     limited_answers (texts_of c.args.self.now) c.args.spent (SetItem c.args.model.now c.args.number c.args.text.now) (changes.SetItem c.in_ok-at.at c.in_ok-index.index c.args.number c.in-Ok.item) c.limited.result
     (rw (c.in_ok-at.ensures.1, c.in_ok-index.ensures.1) refl)
     (clause_of c.in-Ok.item, c.in-Ok.ensures.found, ap (λ i. with_models (changed_at i (with_items (put_at c.in_ok-index.index y))) (texts_of c.args.self.now).next (texts_of c.args.self.now)) c.in_ok-at.ensures.0 ∙ ap (λ k. with_models (changed_at (model_index c.args.model.now (texts_of c.args.self.now).models) (with_items (put_at k y))) (texts_of c.args.self.now).next (texts_of c.args.self.now)) c.in_ok-index.ensures.0)
+    (λ r put. subst (λ i. IsModelPut i r) c.in_ok-at.ensures.0 put)
     within
 
 pub returns-clause-ready : goal.returns-clause-ready

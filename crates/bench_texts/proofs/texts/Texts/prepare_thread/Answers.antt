@@ -1,4 +1,4 @@
-use Rattle.std.proofs.Common.{refl, ap, length}
+use Rattle.std.proofs.Common.{refl, ap, length, subst}
 use Rattle.text_values.specs.TestValue.{steps_of}
 use Rattle.bench_texts.specs.declared.change.Change.TheVariants as changes
 use Rattle.bench_texts.specs.BenchTexts.{changed_at, with_thread, with_tests}
@@ -11,6 +11,7 @@ use Rattle.std.proofs.Common.{◌<◌}
 use Rattle.std.proofs.lemmas.Bool.{lt-ltb}
 use Rattle.bench_texts.specs.Edits.{thread_count}
 use Rattle.bench_texts.proofs.Lists.{held_count}
+use Rattle.bench_texts.specs.Replacements.{IsTestPut}
 use Rattle.bench_texts.proofs.texts.Texts.prepare_thread.Goals as goal
 
 pub returns-in-Ok-clause-answer : goal.returns-in-Ok-clause-answer
@@ -19,6 +20,7 @@ returns-in-Ok-clause-answer c =
     limited_answers (texts_of c.args.self.now) c.args.spent (SetThread c.args.test.now c.args.thread c.args.text.now) (changes.SetThread c.in_ok-at.at c.args.thread c.in-Ok.other) c.limited_alike.result
     (rw (c.in_ok-at.ensures.1, lt-ltb _ _ below) refl)
     (steps_of c.in-Ok.other, c.in-Ok.ensures.found, ap (λ i. with_tests (changed_at i (with_thread c.args.thread (steps_of c.in-Ok.other))) (texts_of c.args.self.now)) c.in_ok-at.ensures.0)
+    (λ r put. subst (λ i. IsTestPut i r) c.in_ok-at.ensures.0 put)
     (c.limited_alike.ensures (texts_after (changes.SetThread c.in_ok-at.at c.args.thread c.in-Ok.other) (texts_of c.args.self.now)) (length-changed_at (with_thread c.args.thread (steps_of c.in-Ok.other)) (texts_of c.args.self.now).tests c.in_ok-at.at) refl)
 
 pub returns-in-Ok-clause-ready : goal.returns-in-Ok-clause-ready
