@@ -6,6 +6,7 @@ use Rattle.bench_texts.specs.BenchTexts.{BenchTexts}
 use Rattle.bench_texts.specs.Edits.{Edit, edit_of, is_whole, Applies}
 use Rattle.bench_texts.specs.Held.{model_of}
 use Rattle.bench_texts.specs.Replacements.{texts_with}
+use Rattle.board.specs.declared.operation.BoardEdit.{BoardEdit}
 use Rattle.board.specs.declared.operation.BoardOp.{BoardOp}
 use Rattle.board.specs.declared.operation.BoardOp.TheVariants as ops
 use Rattle.board.specs.Legal as legal
@@ -37,9 +38,15 @@ HasContents ops = IsContentOf (contents_after ops) (texts_after ops)
 
 -- ---- histories
 
+-- These texts make the edit, and the operation is its: it puts in place what the edit makes, and says whether the edit puts or
+-- drops a test or a model as a whole.
+pub record IsMadeBy (t : BenchTexts) (edit : BoardEdit) (e : Edit) : Type 0 where
+  pub applies : Applies t false e (texts_with edit.prepared.value.replacement t)
+  pub whole : edit.prepared.value.whole ≡ is_whole e
+
 -- an edit is one that these texts make
 abbrev pub IsMadeOn : BenchTexts → BoardOp → Type 0
-IsMadeOn t (ops.Edit edit) = (e : Edit) × Applies t false e (texts_with edit.prepared.value.replacement t)
+IsMadeOn t (ops.Edit edit) = (e : Edit) × IsMadeBy t edit e
 IsMadeOn t (ops.Settle at outcome) = Unit {0}
 
 -- each edit among these operations is one that these texts, after the operations before it, make
@@ -63,8 +70,7 @@ MayComeNext all op = MayFollow (texts_after all) (legal.last_number all) op × I
 
 -- the operation is that of the edit of these texts, under that number
 abbrev pub IsEditOf : BenchTexts → BoardOp → Edit → ℕ → Type 0
-IsEditOf t (ops.Edit edit) e number =
-    (edit.number ≡ number) × Applies t false e (texts_with edit.prepared.value.replacement t) × (edit.prepared.value.whole ≡ is_whole e)
+IsEditOf t (ops.Edit edit) e number = (edit.number ≡ number) × IsMadeBy t edit e
 IsEditOf t (ops.Settle at outcome) e number = ⊥
 
 -- the operation is that of the edit of the texts after these, under that number
