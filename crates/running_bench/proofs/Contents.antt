@@ -28,7 +28,7 @@ one_more [] op t = refl
 one_more (o ∷ ops) op t = one_more ops op (contents_with t o)
 
 applied_here : (t : BenchTexts) (op : BoardOp) (e : edits.Edit) (number : ℕ) → IsEditOf t op e number → edits.Applies t false e (contents_with t op)
-applied_here t (Edit edit) e number h = h.1
+applied_here t (Edit edit) e number h = h.1.applies
 applied_here t (Settle at outcome) e number h = absurd h
 
 pub edit_is_applied : (ops : List BoardOp) (op : BoardOp) → IsApplied ops op
@@ -41,7 +41,7 @@ abbrev AreFew : BenchTexts → Type 0
 AreFew t = (length t.tests ≤ 512) × (length t.models ≤ 16)
 
 few_with : (t : BenchTexts) (op : BoardOp) → AreFew t → IsMadeOn t op → AreFew (contents_with t op)
-few_with t (Edit edit) few made = made_few t (texts_with edit.prepared.value.replacement t) made.0 made.1
+few_with t (Edit edit) few made = made_few t (texts_with edit.prepared.value.replacement t) made.0 made.1.applies
 few_with t (Settle at outcome) few made = few
 
 few_from : (ops : List BoardOp) (t : BenchTexts) → AreFew t → AreMadeFrom t ops → AreFew (fold contents_with t ops)

@@ -208,7 +208,7 @@ edits_named t u e p number (ops.Edit b) all sound a h n =
     subst (λ (x : BenchTexts). Applies x false (edit_of e) (texts_with p.texts.replacement x)) a.contents h.applies in
     let put : Applies now false (edit_of e) (texts_with b.prepared.value.replacement now) =
     subst (λ (q : Prepared). Applies now false (edit_of e) (texts_with q.replacement now)) (sym n.1) applies in
-    (n.0, put, ap (λ (q : Prepared). q.whole) n.1 ∙ h.whole)
+    (n.0, record { applies = put; whole = ap (λ (q : Prepared). q.whole) n.1 ∙ h.whole })
 edits_named t u e p number (ops.Settle at outcome) all sound a h n = absurd n
 
 pub edits_follow : (t u : StampedTexts) (e : Edit) (p : PreparedEdit) (number : ℕ) (op : BoardOp) (all : List BoardOp)
