@@ -38,8 +38,8 @@ HasContents ops = IsContentOf (contents_after ops) (texts_after ops)
 
 -- ---- histories
 
--- These texts make the edit, and the operation is its: it puts in place what the edit makes, and says whether the edit puts or
--- drops a test or a model as a whole.
+-- The operation is that of this edit, which these texts make: it puts in place what the edit makes of them, and says whether the
+-- edit puts or drops a test or a model as a whole.
 pub record IsMadeBy (t : BenchTexts) (edit : BoardEdit) (e : Edit) : Type 0 where
   pub applies : Applies t false e (texts_with edit.prepared.value.replacement t)
   pub whole : edit.prepared.value.whole ≡ is_whole e

@@ -1,13 +1,15 @@
 -- An edit opens the cells that it reaches and leaves each other as it is shown.
 use Rattle.std.proofs.Common.{◌≡◌, ℕ, ◌⊎◌, inl, inr, false, List, [], ◌∷◌, ◌++◌, length, map, Option, Some, None, refl, sym, ap, subst, ◌∙◌}
-use Rattle.std.specs.Prelude.{slice_get, fold}
+use Rattle.std.specs.Cmp.Derive.{both_true}
+use Rattle.std.specs.Prelude.{slice_get, fold, IsTrue, ◌&&◌}
 use Rattle.std.proofs.lemmas.Option.{none-some}
 use Rattle.text_values.specs.declared.test.Test.{Test}
 use Rattle.compare_report.specs.Cells.{Cell, NoCell, Open, Settled}
+use Rattle.memo_core.specs.Equality.{and_true}
 use Rattle.bench_texts.specs.declared.model.NamedModel.{NamedModel}
 use Rattle.bench_texts.specs.declared.replacement.Replacement.{Replacement}
 use Rattle.bench_texts.specs.BenchTexts.{BenchTexts}
-use Rattle.bench_slices.specs.Reach.{cell_slice}
+use Rattle.bench_slices.specs.Reach.{cell_slice, is_of}
 use Rattle.bench_slices.specs.Slices.{Slice}
 use Rattle.orderly_texts.specs.Orderly.{AreApart, IsOrderly}
 use Rattle.orderly_texts.proofs.Orderly.{applied_orderly}
@@ -48,7 +50,7 @@ made_beginning [] others t m = tt
 made_beginning (op ∷ ops) others t m = (m.0, made_beginning ops others (contents_with t op) m.1)
 
 orderly_with : (t : BenchTexts) (op : BoardOp) → IsOrderly t → IsMadeOn t op → IsOrderly (contents_with t op)
-orderly_with t (Edit edit) orderly made = applied_orderly t (contents_with t (Edit edit)) false made.0 orderly made.1
+orderly_with t (Edit edit) orderly made = applied_orderly t (contents_with t (Edit edit)) false made.0 orderly made.1.applies
 orderly_with t (Settle at outcome) orderly made = orderly
 
 orderly_from : (ops : List BoardOp) (t : BenchTexts) → IsOrderly t → AreMadeFrom t ops → IsOrderly (fold contents_with t ops)
@@ -67,6 +69,22 @@ names_apart ops made =
       tests = subst (λ (l : List (List ℕ)). AreApart l) (ap (map (λ c. c.name)) same.tests ∙ sym (test_names h.tests)) orderly.tests;
       models = subst (λ (l : List (List ℕ)). AreApart l) (ap (map (λ m. m.name)) same.models ∙ sym (model_names h.models)) orderly.models;
     }
+
+-- ---- edits of a whole test or model
+
+-- the operation says so of its edit
+abbrev IsSaidWhole : Held → BoardEdit → (test model : List ℕ) → Type 0
+IsSaidWhole h edit test model = IsTrue (edit.prepared.value.whole && is_of edit.prepared.value.replacement (test_at h test) (model_at h model))
+
+-- it says what is so
+put_whole : (ops : List BoardOp) (edit : BoardEdit) (test model : List ℕ) → IsMadeOn (contents_after ops) (Edit edit) → IsSaidWhole (texts_after ops) edit test model → IsPutWhole ops edit test model
+put_whole ops edit test model made said =
+    let h : Held = texts_after ops in
+    let parts = and_true edit.prepared.value.whole (is_of edit.prepared.value.replacement (test_at h test) (model_at h model)) said in
+    record { made = made.0; is_made = made.1; whole = sym made.1.whole ∙ parts.0; of_cell = parts.1 }
+
+said_whole : (ops : List BoardOp) (edit : BoardEdit) (test model : List ℕ) → IsPutWhole ops edit test model → IsSaidWhole (texts_after ops) edit test model
+said_whole ops edit test model put = both_true ((put.is_made).whole ∙ put.whole) put.of_cell
 
 -- ---- cells that are shown
 
@@ -137,7 +155,7 @@ module _ (ops : List BoardOp) (edit : BoardEdit) (history : IsHistory (with_edit
       ∙ (ap (λ (c : BoardContent). shown_cell (cell_at c.rows (test_at (texts_after (with_edit ops edit)) test) (model_at (texts_after (with_edit ops edit)) model))) board_is
       ∙ ap (λ (g : Held). shown_cell (cell_at rows_later (test_at g test) (model_at g model))) texts_are)
 
-  kept_there : (s : Slice) → slice_named h test model ≡ Some s → slice_named h test model ≡ slice_named (texts_after (with_edit ops edit)) test model → (IsPutWhole h edit test model → ⊥)
+  kept_there : (s : Slice) → slice_named h test model ≡ Some s → slice_named h test model ≡ slice_named (texts_after (with_edit ops edit)) test model → (IsSaidWhole h edit test model → ⊥)
       → shown (board_after (with_edit ops edit)) test model ≡ shown b test model
   kept_there s is same part =
       let was = there_by h test model (test_named h test) (model_named h model) s refl refl is in
@@ -153,7 +171,7 @@ module _ (ops : List BoardOp) (edit : BoardEdit) (history : IsHistory (with_edit
       let after = none_shown g test model (shown (board_after (with_edit ops edit)) test model) (right_cell (with_edit ops edit) history.0 test model) (lacks_by (test_named g test) (model_named g model) (sym same ∙ is)) in
       after ∙ sym before
 
-  kept_by : (s : Option Slice) → slice_named h test model ≡ s → slice_named h test model ≡ slice_named (texts_after (with_edit ops edit)) test model → (IsPutWhole h edit test model → ⊥)
+  kept_by : (s : Option Slice) → slice_named h test model ≡ s → slice_named h test model ≡ slice_named (texts_after (with_edit ops edit)) test model → (IsSaidWhole h edit test model → ⊥)
       → shown (board_after (with_edit ops edit)) test model ≡ shown b test model
   kept_by None is same part = kept_none is same
   kept_by (Some s) is same part = kept_there s is same part
@@ -170,7 +188,7 @@ module _ (ops : List BoardOp) (edit : BoardEdit) (history : IsHistory (with_edit
       let are : IsContentOf (contents_with (contents_after ops) (Edit edit)) (texts_after (with_edit ops edit)) = subst (λ (t : BenchTexts). IsContentOf t (texts_after (with_edit ops edit))) contents now in
       subst (λ (g : Held). HeldKept h g) texts_are
       (held_kept (contents_after ops) (contents_with (contents_after ops) (Edit edit)) h (texts_after (with_edit ops edit)) was are
-      (applied_kept (contents_after ops) (contents_with (contents_after ops) (Edit edit)) made.0 made.1))
+      (applied_kept (contents_after ops) (contents_with (contents_after ops) (Edit edit)) made.0 made.1.applies))
 
   -- a cell that the edit adds, and one that it reaches
   opened_none : slice_named h test model ≡ None → HasBoth (texts_after (with_edit ops edit)) test model → shown (board_after (with_edit ops edit)) test model ≡ Open
@@ -180,20 +198,24 @@ module _ (ops : List BoardOp) (edit : BoardEdit) (history : IsHistory (with_edit
       shown_later ∙ ap shown_cell cell
 
   opened_there : (s : Slice) → slice_named h test model ≡ Some s → HasBoth (texts_after (with_edit ops edit)) test model
-      → IsPutWhole h edit test model ⊎ (slice_named h test model ≡ slice_named (texts_after (with_edit ops edit)) test model → ⊥) → shown (board_after (with_edit ops edit)) test model ≡ Open
+      → IsSaidWhole h edit test model ⊎ (slice_named h test model ≡ slice_named (texts_after (with_edit ops edit)) test model → ⊥) → shown (board_after (with_edit ops edit)) test model ≡ Open
   opened_there s is after reached =
       let was = there_by h test model (test_named h test) (model_named h model) s refl refl is in
-      let later = subst (λ (g : Held). IsPutWhole h edit test model ⊎ (slice_named h test model ≡ slice_named g test model → ⊥)) texts_are reached in
+      let later = subst (λ (g : Held). IsSaidWhole h edit test model ⊎ (slice_named h test model ≡ slice_named g test model → ⊥)) texts_are reached in
       let cell = reached_cell h b (named_after ops legal) wide test model was edit.prepared.value.whole edit.change edit.reached.items r announces apart_before apart_later (now_there after) later in
       shown_later ∙ ap shown_cell cell
 
   opened_by : (s : Option Slice) → slice_named h test model ≡ s → HasBoth (texts_after (with_edit ops edit)) test model
-      → IsPutWhole h edit test model ⊎ (slice_named h test model ≡ slice_named (texts_after (with_edit ops edit)) test model → ⊥) → shown (board_after (with_edit ops edit)) test model ≡ Open
+      → IsSaidWhole h edit test model ⊎ (slice_named h test model ≡ slice_named (texts_after (with_edit ops edit)) test model → ⊥) → shown (board_after (with_edit ops edit)) test model ≡ Open
   opened_by None is after reached = opened_none is after
   opened_by (Some s) is after reached = opened_there s is after reached
 
 pub keeps_unreached : (ops : List BoardOp) (edit : BoardEdit) → IsHistory (with_edit ops edit) → KeepsUnreached ops edit
-keeps_unreached ops edit history test model same part = kept_by ops edit history test model (slice_named (texts_after ops) test model) refl same part
+keeps_unreached ops edit history test model same part =
+    let made = last_made ops (Edit edit) no_contents history.1 in
+    kept_by ops edit history test model (slice_named (texts_after ops) test model) refl same (λ said. part (put_whole ops edit test model made said))
 
 pub opens_reached : (ops : List BoardOp) (edit : BoardEdit) → IsHistory (with_edit ops edit) → OpensReached ops edit
-opens_reached ops edit history test model after reached = opened_by ops edit history test model (slice_named (texts_after ops) test model) refl after reached
+opens_reached ops edit history test model after reached =
+    opened_by ops edit history test model (slice_named (texts_after ops) test model) refl after
+    (elim reached [ inl put ↦ inl (said_whole ops edit test model put) | inr differ ↦ inr differ ])
