@@ -86,7 +86,7 @@ is_counted t (Edit edit) e number n h = refl
 is_counted t (Settle at outcome) e number n h = absurd h
 
 is_made : (t new : BenchTexts) (op : BoardOp) (e : edits.Edit) (number : ℕ) → HasOneResult t e → edits.Applies t false e new → IsEditOf t op e number → contents_with t op ≡ new
-is_made t new (Edit edit) e number one applies h = one (contents_with t (Edit edit)) new h.1 applies
+is_made t new (Edit edit) e number one applies h = one (contents_with t (Edit edit)) new h.1.applies applies
 is_made t new (Settle at outcome) e number one applies h = absurd h
 
 regrouped : (a : List BoardOp) (op : BoardOp) (b more : List BoardOp) → ((a ++ op ∷ []) ++ b) ++ more ≡ a ++ op ∷ (b ++ more)
