@@ -181,6 +181,7 @@ fn read_first<S: ByteSource>(
 ) -> Result<Vec<u8>, SessionFault>
     requires { S.failed_calls source.old < 2 ^ 64 - 1 }
     ensures bytes { IfOk result (λ v. IfSome (S.remaining source.old) (λ all. v.items ≡ take most all)) }
+    ensures end { OnOk result (IsAtEnd (S.remaining source.new)) }
     ensures failed { result ≡ Err SessionFault.Read → IsReadFault (S.failed_calls source.old) (S.failed_calls source.new) (S.remaining source.old) }
     ensures same { result ≢ Err SessionFault.Read → S.failed_calls source.new ≡ S.failed_calls source.old }
     ensures fault { result ≢ Err SessionFault.Write }
@@ -200,6 +201,7 @@ fn read_first<S: ByteSource>(
 pub fn read_text<S: ByteSource>(alloc: Global, source: &mut S) -> Result<Vec<u8>, SessionFault>
     requires { S.failed_calls source.old < 2 ^ 64 - 1 }
     ensures bytes { IfOk result (λ v. IfSome (S.remaining source.old) (λ all. v.items ≡ take 65537 all)) }
+    ensures end { OnOk result (IsAtEnd (S.remaining source.new)) }
     // `Read` comes after one failed call or at the bound, and all else after none.
     ensures failed { result ≡ Err SessionFault.Read → IsReadFault (S.failed_calls source.old) (S.failed_calls source.new) (S.remaining source.old) }
     ensures same { result ≢ Err SessionFault.Read → S.failed_calls source.new ≡ S.failed_calls source.old }
@@ -236,6 +238,9 @@ pub fn eval_stream<R: AllocGlobal, S: ByteSource, W: ByteSink, L: AnswerListener
     requires sink { W.failed_calls sink.old < 2 ^ 64 - 1 }
     // The answer to the texts into which the input is cut is written, or a front of it, or nothing.
     ensures written { IsStreamed (S.remaining source.old) (W.contents sink.old) (W.contents sink.new) result }
+    // Nothing is written unless all of the input was read.
+    ensures end { OnOk result (IsAtEnd (S.remaining source.new)) }
+    ensures write_end { result ≡ Err SessionFault.Write → IsAtEnd (S.remaining source.new) }
     // `Read` comes after one failed read or at the bound, `Write` after one failed write, and all else after none.
     ensures read { result ≡ Err SessionFault.Read → IsReadFault (S.failed_calls source.old) (S.failed_calls source.new) (S.remaining source.old) }
     ensures no_read { result ≢ Err SessionFault.Read → S.failed_calls source.new ≡ S.failed_calls source.old }

@@ -31,7 +31,9 @@ fault_line (faults.Test f) = test_line f
 fault_line (faults.Model f) = model_line f
 fault_line fault = bench_line (number_of fault)
 
--- want of memory is no answer
+-- want of memory is no answer, nor is it where a text was read
 abbrev pub IsAnswer : EditFault → Type 0
 IsAnswer (faults.OutOfMemory e) = ⊥
+IsAnswer (faults.Test (litmus.OutOfMemory e)) = ⊥
+IsAnswer (faults.Model (cat.OutOfMemory e)) = ⊥
 IsAnswer fault = Unit {0}

@@ -64,7 +64,8 @@ fn refused_at(alloc: Global, letter: u8, number: u8, offset: usize) -> Result<An
 }
 
 fn refused_test(alloc: Global, fault: LitmusFault) -> Result<Answer, AllocError>
-    ensures { IfOk result (λ a. a ≡ denied (test_line fault)) }
+    ensures line { IfOk result (λ a. a ≡ denied (test_line fault)) }
+    ensures answer { OnOk result (IsAnswer (EditFault.Test fault)) }
 {
     match fault {
         LitmusFault::Refused { rule, offset } => refused_at(alloc, b'L', rule.number(), offset),
@@ -73,7 +74,8 @@ fn refused_test(alloc: Global, fault: LitmusFault) -> Result<Answer, AllocError>
 }
 
 fn refused_model(alloc: Global, fault: CatFault) -> Result<Answer, AllocError>
-    ensures { IfOk result (λ a. a ≡ denied (model_line fault)) }
+    ensures line { IfOk result (λ a. a ≡ denied (model_line fault)) }
+    ensures answer { OnOk result (IsAnswer (EditFault.Model fault)) }
 {
     match fault {
         CatFault::Refused { rule, offset } => refused_at(alloc, b'C', rule.number(), offset),

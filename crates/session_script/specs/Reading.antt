@@ -18,6 +18,10 @@ waiting_in r = drop r.start r.waiting.items
 abbrev pub left_to : ScriptReader → Option (List ℕ) → Option (List ℕ)
 left_to r source = prepend_known (waiting_in r) source
 
+-- no more than one read's bytes wait, if no more did before
+abbrev pub ReadsFewAhead : (old new : ScriptReader) → Type 0
+ReadsFewAhead old new = length (waiting_in old) ≤ 4096 → length (waiting_in new) ≤ 4096
+
 -- so many reads that give bytes may still come
 abbrev pub turns_of : ScriptReader → ℕ
 turns_of r = r.turns

@@ -4,7 +4,7 @@ ghost use Rattle.std.specs.Prelude.{◌≡◌, ◌≢◌, ◌+◌, ◌-◌, ◌<
 ghost use Rattle.std.specs.Io.KnownBytes.{Consumes, IsAtEnd};
 ghost use Rattle.session_script.specs.Commands.{is_dot, skips};
 ghost use Rattle.session_script.specs.Lines.{without_return};
-ghost use Rattle.session_script.specs.Reading.{waiting_in, left_to, turns_of, work_of, IsPart, IsPaid, IsLine, IsText, HasText, IsSaid, IsNext};
+ghost use Rattle.session_script.specs.Reading.{waiting_in, left_to, turns_of, work_of, ReadsFewAhead, IsPart, IsPaid, IsLine, IsText, HasText, IsSaid, IsNext};
 
 use crate::command::{Command, ScriptRule};
 use crate::parse::request_of;
@@ -80,6 +80,7 @@ impl ScriptReader {
 
     // Moves what waits of a line to it. Whether the line ends there.
     fn take_part(&mut self, line: &mut Vec<u8>) -> Result<bool, AllocError>
+        ensures ahead { OnOk result (ReadsFewAhead self.old self.new) }
         ensures part { IfOk result (λ ended. IsPart ended (waiting_in self.old) (waiting_in self.new) line.old.items line.new.items) }
         ensures whole { IfOk result (λ ended. work_of self.new + length line.new.items ≤ work_of self.old + length line.old.items) }
         ensures turns { IfOk result (λ ended. turns_of self.new ≡ turns_of self.old) }
@@ -123,6 +124,7 @@ impl ScriptReader {
     // Reads once, where nothing waits. Whether something waits then; a read that gives nothing takes no turn.
     fn fill<S: ByteSource>(&mut self, source: &mut S) -> Result<bool, ReadFault>
         requires { S.failed_calls source.old < 2 ^ 64 - 1 }
+        ensures ahead { OnOk result (ReadsFewAhead self.old self.new) }
         ensures given { IfOk result (λ some. Consumes (S.remaining source.old) (S.remaining source.new) (waiting_in self.new)) }
         ensures end { result ≡ Ok false → IsAtEnd (left_to self.new (S.remaining source.new)) }
         ensures work { IfOk result (λ some. work_of self.new ≤ work_of self.old) }
@@ -152,6 +154,7 @@ impl ScriptReader {
     // The next line, or none at the end. What is read of a line that a failed read cuts off is lost.
     fn read_line<S: ByteSource>(&mut self, source: &mut S) -> Result<Option<Vec<u8>>, ReadFault>
         requires { S.failed_calls source.old < 2 ^ 64 - 1 }
+        ensures ahead { OnOk result (ReadsFewAhead self.old self.new) }
         ensures line { IfOk result (λ line. IsLine (left_to self.old (S.remaining source.old)) (left_to self.new (S.remaining source.new)) (option_map (λ l. l.items) line)) }
         ensures work { IfOk result (λ line. work_of self.new ≤ work_of self.old) }
         ensures less { IfOk result (λ line. IfSome line (λ some. work_of self.new < work_of self.old)) }
@@ -180,6 +183,7 @@ impl ScriptReader {
     // The text of a request, or none where the script ends before it does.
     fn text<S: ByteSource>(&mut self, source: &mut S) -> Result<Option<ScriptText>, ReadFault>
         requires { S.failed_calls source.old < 2 ^ 64 - 1 }
+        ensures ahead { OnOk result (ReadsFewAhead self.old self.new) }
         ensures text { IfOk result (IsText (left_to self.old (S.remaining source.old)) (left_to self.new (S.remaining source.new))) }
         ensures work { IfOk result (λ text. work_of self.new ≤ work_of self.old) }
         ensures less { IfOk result (λ text. IfSome text (λ some. work_of self.new < work_of self.old)) }
@@ -211,6 +215,7 @@ impl ScriptReader {
         request: Request,
     ) -> Result<Command, ReadFault>
         requires { S.failed_calls source.old < 2 ^ 64 - 1 }
+        ensures ahead { OnOk result (ReadsFewAhead self.old self.new) }
         ensures text { IfOk result (HasText (left_to self.old (S.remaining source.old)) (left_to self.new (S.remaining source.new)) request) }
         ensures work { IfOk result (λ c. work_of self.new ≤ work_of self.old) }
         ensures paid { IfOk result (λ c. IsPaid (turns_of self.old) (turns_of self.new) (S.remaining source.old) (S.remaining source.new)) }
@@ -232,6 +237,7 @@ impl ScriptReader {
         words: &[ScriptText],
     ) -> Result<Command, ReadFault>
         requires { S.failed_calls source.old < 2 ^ 64 - 1 }
+        ensures ahead { OnOk result (ReadsFewAhead self.old self.new) }
         ensures said { IfOk result (λ c. IsSaid (left_to self.old (S.remaining source.old)) (left_to self.new (S.remaining source.new)) words.now c) }
         ensures work { IfOk result (λ c. work_of self.new ≤ work_of self.old) }
         ensures paid { IfOk result (λ c. IsPaid (turns_of self.old) (turns_of self.new) (S.remaining source.old) (S.remaining source.new)) }
@@ -261,6 +267,8 @@ impl ScriptReader {
         requires { S.failed_calls source.old < 2 ^ 64 - 1 }
         // The command is the first of those that were left, and the others are left still.
         ensures next { IfOk result (λ c. IsNext (left_to self.old (S.remaining source.old)) (left_to self.new (S.remaining source.new)) c) }
+        // At most 4,096 bytes are read and not yet used, as long as no more were.
+        ensures ahead { OnOk result (ReadsFewAhead self.old self.new) }
         // Each command takes some of the work that is left, so that asking until there is no command ends.
         ensures work { IfOk result (λ c. IfSome c (λ some. work_of self.new < work_of self.old)) }
         // Each turn that is taken gave a byte at least, and `Endless` comes where no turn is left.

@@ -2,7 +2,7 @@
 
 ghost use Rattle.std.specs.Prelude.{◌≡◌, ◌≢◌, ◌+◌, ◌-◌, ◌<◌, ◌≤◌, ◌^◌, ◌++◌, List, ℕ, Option, Some, OnOk, OnErr, IfOk, IfSome, length, take};
 ghost use Rattle.std.specs.Io.{ReadsAtMost};
-ghost use Rattle.std.specs.Io.KnownBytes.{ReadConsumes};
+ghost use Rattle.std.specs.Io.KnownBytes.{IsAtEnd, ReadConsumes};
 ghost use Rattle.session_script.specs.declared.source.ReadFault.TheVariants.{Memory};
 
 use std::alloc::{AllocError, Global};
@@ -151,6 +151,7 @@ pub fn read_front<S: ByteSource>(
 ) -> Result<Vec<u8>, ReadFault>
     requires { S.failed_calls source.old < 2 ^ 64 - 1 }
     ensures bytes { IfOk result (λ v. IfSome (S.remaining source.old) (λ all. v.items ≡ take most all)) }
+    ensures end { OnOk result (IsAtEnd (S.remaining source.new)) }
     // `Read` comes after one failed call, and all else after none.
     ensures read { result ≡ Err ReadFault.Read → S.failed_calls source.new ≡ S.failed_calls source.old + 1 }
     ensures same { result ≢ Err ReadFault.Read → S.failed_calls source.new ≡ S.failed_calls source.old }

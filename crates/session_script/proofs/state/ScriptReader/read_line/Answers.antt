@@ -12,6 +12,7 @@ pub parts-preserved : goal.parts-preserved
 parts-preserved g c =
     let open_part = part_is_open (waiting_in c.parts.self) (waiting_in c.take_part.new.self) c.parts.line.items c.take_part.new.line.items c.in_ok-ends.ends c.if-ends.false c.in_ok-ends.ensures.part in
     record {
+      ahead = λ few. c.in_ok-more.ensures.ahead (c.in_ok-ends.ensures.ahead (c.parts.invariant.ahead few));
       same = search rules;
       unbroken = line_is_unbroken (waiting_in c.parts.self) (waiting_in c.take_part.new.self) c.parts.line.items c.take_part.new.line.items c.parts.invariant.unbroken open_part;
       read = line_goes_on (left_to c.args.self.now (g.S.ByteSource.remaining c.args.source.now)) (g.S.ByteSource.remaining c.parts.source) (g.S.ByteSource.remaining c.fill.new.source) (waiting_in c.parts.self) (waiting_in c.take_part.new.self) c.parts.line.items c.take_part.new.line.items (waiting_in c.fill.new.self) c.parts.invariant.read open_part c.in_ok-more.ensures.given;

@@ -7,6 +7,7 @@ use Rattle.session_script.proofs.state.ScriptReader.text.Goals as goal
 
 pub lines-init : goal.lines-init
 lines-init g c = record {
+  ahead = λ few. few;
   work = omega arith;
   paid = paid_none (turns_of c.args.self.now) (g.S.ByteSource.remaining c.args.source.now);
   same = refl;
@@ -37,6 +38,7 @@ lines-preserved g c =
     let ends : is_dot c.in-Some.line.items ≡ false = ap (λ (l : List ℕ). is_dot l) (sym c.deref.ensures.value) ∙ sym c.if-dot.ensures in
     let put : c.put_line.new.text.items ≡ take 65537 (c.lines.text.items ++ c.in-Some.line.items ++ 10 ∷ []) = c.in_ok-put_line-in-Some.ensures ∙ ap (λ (l : List ℕ). take 65537 (c.lines.text.items ++ l ++ 10 ∷ [])) c.deref-in-Some.ensures.value in
     record {
+      ahead = λ few. c.in_ok-read.ensures.ahead (c.lines.invariant.ahead few);
       work = omega (arith, c.in_ok-read.ensures.work);
       paid = paid_on (turns_of c.args.self.now) (turns_of c.lines.self) (turns_of c.read_line.new.self) (g.S.ByteSource.remaining c.args.source.now) (g.S.ByteSource.remaining c.lines.source) (g.S.ByteSource.remaining c.read_line.new.source) c.lines.invariant.paid c.in_ok-read.ensures.paid;
       same = search rules;

@@ -1,5 +1,5 @@
 use Rattle.std.proofs.Common.{◌≡◌, ◌≤◌, length}
-use Rattle.session_script.specs.Reading.{left_to, turns_of, work_of, IsPaid}
+use Rattle.session_script.specs.Reading.{left_to, turns_of, work_of, ReadsFewAhead, IsPaid}
 use Rattle.session_script.specs.declared.request.Request.{Request}
 use Rattle.session_script.proofs.Steps.{InText}
 use Rattle.session_script.proofs.state.ScriptReader.text.Given as goal
@@ -7,6 +7,7 @@ use Rattle.session_script.proofs.state.ScriptReader.text.Given as goal
 -- the lines so far are those of the text
 abbrev pub invariant-lines : goal.invariant-lines
 invariant-lines g l = record {
+  ahead : ReadsFewAhead l.initial.self l.self;
   work : work_of l.self ≤ work_of l.initial.self;
   paid : IsPaid (turns_of l.initial.self) (turns_of l.self) (g.S.ByteSource.remaining l.initial.source) (g.S.ByteSource.remaining l.source);
   same : g.S.ByteSource.failed_calls l.source ≡ g.S.ByteSource.failed_calls l.initial.source;
