@@ -1,6 +1,7 @@
 //! A model and a test from a source, and what is said of them to a sink.
 
-ghost use Rattle.std.specs.Prelude.{◌≡◌, ◌≢◌, ◌+◌, ◌-◌, ◌<◌, ◌^◌, true, Err, IfOk, IfSome, take};
+ghost use Rattle.std.specs.Prelude.{◌≡◌, ◌≢◌, ◌+◌, ◌-◌, ◌<◌, ◌^◌, true, Err, IfOk, IfSome, OnOk, take};
+ghost use Rattle.std.specs.Io.KnownBytes.{IsAtEnd};
 ghost use Rattle.litmusbench.specs.Answer.{IsAnswer, IsReadFault, IsSaidOf, IsWritten, IsStreamed};
 ghost use Rattle.litmusbench.specs.Made.{AreWritten, IsMade};
 ghost use Rattle.litmusbench.specs.Pictures.{IsPictureAnswer, IsPictureWritten};
