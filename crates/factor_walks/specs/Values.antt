@@ -4,6 +4,7 @@ use Rattle.std.specs.List.{All}
 use denote.Ref.{Bor}
 use Rattle.bit_relations.specs.Relation.{Has}
 use Rattle.binding_graph.specs.declared.resolved.Code.{Code}
+use Rattle.binding_kinds.specs.declared.kinds.Kind.TheVariants as kinds
 use Rattle.binding_graph.specs.Trees.{RelTree, rel_code}
 use Rattle.candidates.specs.declared.candidate.Space.{Space}
 use Rattle.cat_eval.specs.declared.column.Column.{Column}
@@ -16,9 +17,10 @@ use Rattle.factor_walks.specs.Factors.{Part, factors_of, tree_part}
 abbrev pub value_part : FactorValues → Part
 value_part v = record { repeats = v.repeats; steps = v.code.steps.items }
 
--- it has the values of its relation in the candidates of the space
-abbrev pub IsValued : List (Bor Column) → Space → FactorValues → Type 0
-IsValued inputs space factor = AreValues factor.code inputs space factor.values
+-- its expression is of a relation, and it has the values of that in the candidates of the space
+pub record IsValued (inputs : List (Bor Column)) (space : Space) (factor : FactorValues) : Type 0 where
+  pub kind : factor.code.kind ≡ kinds.OfRelation
+  pub values : AreValues factor.code inputs space factor.values
 
 -- the factors of an expression, with their values in the candidates of a space
 pub record AreFactorValues (code : Code) (inputs : List (Bor Column)) (space : Space) (factors : List FactorValues) : Type 0 where

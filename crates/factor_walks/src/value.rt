@@ -3,9 +3,8 @@
 ghost use Rattle.std.specs.Prelude.{◌≡◌, ◌↔◌, ℕ, IfOk};
 ghost use Rattle.bit_relations.specs.Relation.{Has};
 ghost use Rattle.check_witness.specs.Pairs.{HasPair};
-ghost use Rattle.check_witness.specs.Values.{AreValues};
 ghost use Rattle.factor_walks.specs.Factors.{part_of};
-ghost use Rattle.factor_walks.specs.Values.{AreFactorValues, AreLinksAt, IsLinkAt, value_part};
+ghost use Rattle.factor_walks.specs.Values.{AreFactorValues, AreLinksAt, IsLinkAt, IsValued, value_part};
 
 use crate::factor::{Factor, Repeats, factors};
 use crate::run::Link;
@@ -35,7 +34,7 @@ fn factor_value(
     inputs: &[&Column],
 ) -> Result<FactorValues, AllocError>
     ensures part { IfOk result (λ v. value_part v ≡ part_of factor.now) }
-    ensures values { IfOk result (λ v. AreValues v.code inputs.now space.now v.values) }
+    ensures values { IfOk result (IsValued inputs.now space.now) }
 {
     let steps = Vec::from_slice(alloc, &factor.steps)?;
     let kind = Kind::OfRelation;

@@ -1,5 +1,5 @@
 -- The steps of a reason: where they begin, where they lead, and what carries each. Read Labels first.
-use Rattle.std.specs.Prelude.{ℕ, ◌≡◌, ◌⊎◌, List, [], ◌∷◌, ◌++◌, Option, Some, None, if◌then◌else◌, nat_eq, map}
+use Rattle.std.specs.Prelude.{ℕ, ◌≡◌, ◌<◌, ◌⊎◌, length, List, [], ◌∷◌, ◌++◌, Option, Some, None, if◌then◌else◌, nat_eq, map}
 use Rattle.std.specs.List.{AllZip, list_any}
 use Rattle.binding_graph.specs.declared.resolved.Code.{Code}
 use Rattle.check_witness.specs.declared.witness.Witness.{Witness}
@@ -44,9 +44,9 @@ pub record IsWalkBack (check : CheckValues) (k event : ℕ) (starts : List StepS
   pub walk : IsWalk links event runs event
   pub through : starts ≡ starts_through check.factors.items runs
 
--- from the event back to it: such a walk, or one step of the whole expression
+-- from the event back to it: such a walk, of one step or more, or one step of the whole expression
 abbrev pub LeadsBack : CheckValues → ℕ → ℕ → List StepStart → Type 0
-LeadsBack check k event starts = IsWalkBack check k event starts ⊎ (starts ≡ start_at check.check.now.code event ∷ [])
+LeadsBack check k event starts = (IsWalkBack check k event starts × (0 < length starts)) ⊎ (starts ≡ start_at check.check.now.code event ∷ [])
 
 -- where the steps begin that show why the check refuses the candidate of number k
 abbrev pub AreStarts : CheckValues → ℕ → Witness → List StepStart → Type 0
