@@ -1,5 +1,5 @@
 -- Models that a question asks for, with their indexes.
-use Rattle.std.specs.Prelude.{◌≡◌, Some, slice_get}
+use Rattle.std.specs.Prelude.{◌≡◌, ℕ, Some, slice_get}
 use Rattle.bench_texts.specs.BenchTexts.{PlainModel}
 use Rattle.bench_texts.specs.declared.texts.Texts.{Texts}
 use Rattle.bench_texts.specs.Held.{model_of, texts_of}
@@ -7,6 +7,9 @@ use Rattle.session_views.specs.declared.find.AskedModel.{AskedModel}
 
 abbrev pub asked_model : AskedModel → PlainModel
 asked_model asked = model_of asked.model.now
+
+abbrev pub asked_index : AskedModel → ℕ
+asked_index asked = asked.index
 
 -- the model is that of the index
 abbrev pub IsThere : Texts → AskedModel → Type 0

@@ -1,3 +1,4 @@
 pub mod Knowing
 pub mod Shown
 pub mod Asked
+pub mod Waiting

@@ -1,12 +1,13 @@
 //! The answers to questions, from a board.
 
-ghost use Rattle.std.specs.Prelude.{◌≡◌, IfOk, IfSome, All, Some, map, option_map, slice_get};
+ghost use Rattle.std.specs.Prelude.{◌≡◌, IfOk, IfSome, IfNone, All, Some, map, option_map, slice_get};
 ghost use Rattle.text_values.specs.TestValue.{content_of};
 ghost use Rattle.bench_texts.specs.Held.{texts_of};
 ghost use Rattle.session_answers.specs.Cells.{models_named};
 ghost use Rattle.session_answers.specs.Questions.{IsItems, IsLog, IsCounts, IsTable, IsDifference, IsReply};
-ghost use Rattle.session_views.specs.Asked.{IsThere, asked_model};
+ghost use Rattle.session_views.specs.Asked.{IsThere, asked_index, asked_model};
 ghost use Rattle.session_views.specs.Shown.{ShowsTexts};
+ghost use Rattle.session_views.specs.Waiting.{IsAwaiting, IsOpenAmong, IsOpenAt, IsOpenUnder, model_indexes};
 
 use crate::find::{AskedModel, asked_outcome, named_model, named_models, named_test};
 use crate::rows::{asked_rows, row_pairs};
@@ -44,7 +45,8 @@ fn log_under(
     requires shows { ShowsTexts (texts_of view.texts.now) view.board.now }
     requires test { slice_get (texts_of view.texts.now).tests view.index ≡ Some (content_of test.now) }
     requires model { IsThere view.texts.now asked.now }
-    ensures { IfOk result (λ r. IfSome r (IsLog (Some (content_of test.now)) (Some (asked_model asked.now)))) }
+    ensures answer { IfOk result (λ r. IfSome r (IsLog (Some (content_of test.now)) (Some (asked_model asked.now)))) }
+    ensures waits { IfOk result (λ r. IfNone r (IsOpenAt view.entry.board.now view.entry.index asked.now.index)) }
 {
     match asked_outcome(view.texts, view.board, view.index, test, asked) {
         Some(outcome) => {
@@ -64,7 +66,8 @@ fn log(
     requires shows { ShowsTexts (texts_of view.texts.now) view.board.now }
     requires test { IfSome test (λ t. slice_get (texts_of view.texts.now).tests view.index ≡ Some (content_of t.now)) }
     requires model { IfSome model (IsThere view.texts.now) }
-    ensures { IfOk result (λ r. IfSome r (IsLog (option_map (λ t. content_of t.now) test.entry) (option_map asked_model model.entry))) }
+    ensures answer { IfOk result (λ r. IfSome r (IsLog (option_map (λ t. content_of t.now) test.entry) (option_map asked_model model.entry))) }
+    ensures waits { IfOk result (λ r. IfNone r (IsOpenUnder view.entry.board.now view.entry.index (option_map asked_index model.entry))) }
 {
     match test {
         Some(test) => match model {
@@ -84,7 +87,8 @@ fn counts_under(
     requires shows { ShowsTexts (texts_of view.texts.now) view.board.now }
     requires test { slice_get (texts_of view.texts.now).tests view.index ≡ Some (content_of test.now) }
     requires model { IsThere view.texts.now asked.now }
-    ensures { IfOk result (λ r. IfSome r (IsCounts (Some (content_of test.now)) (Some (asked_model asked.now)))) }
+    ensures answer { IfOk result (λ r. IfSome r (IsCounts (Some (content_of test.now)) (Some (asked_model asked.now)))) }
+    ensures waits { IfOk result (λ r. IfNone r (IsOpenAt view.entry.board.now view.entry.index asked.now.index)) }
 {
     match asked_outcome(view.texts, view.board, view.index, test, asked) {
         Some(outcome) => {
@@ -104,7 +108,8 @@ fn counts(
     requires shows { ShowsTexts (texts_of view.texts.now) view.board.now }
     requires test { IfSome test (λ t. slice_get (texts_of view.texts.now).tests view.index ≡ Some (content_of t.now)) }
     requires model { IfSome model (IsThere view.texts.now) }
-    ensures { IfOk result (λ r. IfSome r (IsCounts (option_map (λ t. content_of t.now) test.entry) (option_map asked_model model.entry))) }
+    ensures answer { IfOk result (λ r. IfSome r (IsCounts (option_map (λ t. content_of t.now) test.entry) (option_map asked_model model.entry))) }
+    ensures waits { IfOk result (λ r. IfNone r (IsOpenUnder view.entry.board.now view.entry.index (option_map asked_index model.entry))) }
 {
     match test {
         Some(test) => match model {
@@ -134,7 +139,8 @@ fn table_under(
 ) -> Result<Option<Answer>, AllocError>
     requires shows { ShowsTexts (texts_of texts.now) board.now }
     requires models { All (IsThere texts.now) models.now }
-    ensures { IfOk result (λ r. IfSome r (IsTable (texts_of texts.now) names.now (Some (map asked_model models.now)))) }
+    ensures answer { IfOk result (λ r. IfSome r (IsTable (texts_of texts.now) names.now (Some (map asked_model models.now)))) }
+    ensures waits { IfOk result (λ r. IfNone r (IsOpenAmong board.now (map asked_index models.now))) }
 {
     match asked_rows(alloc, texts, board, models)? {
         Some(rows) => {
@@ -152,7 +158,8 @@ fn table(
     names: &[ScriptText],
 ) -> Result<Option<Answer>, AllocError>
     requires { ShowsTexts (texts_of texts.now) board.now }
-    ensures { IfOk result (λ r. IfSome r (IsTable (texts_of texts.now) names.now (models_named (texts_of texts.now) names.now))) }
+    ensures answer { IfOk result (λ r. IfSome r (IsTable (texts_of texts.now) names.now (models_named (texts_of texts.now) names.now))) }
+    ensures waits { IfOk result (λ r. IfNone r (IsOpenAmong board.now (model_indexes (texts_of texts.now) names.now))) }
 {
     match named_models(alloc, texts, names)? {
         Some(models) => table_under(alloc, texts, board, names, &models),
@@ -168,7 +175,8 @@ fn difference_under(
 ) -> Result<Option<Answer>, AllocError>
     requires shows { ShowsTexts (texts_of texts.now) board.now }
     requires models { All (IsThere texts.now) models.now }
-    ensures { IfOk result (λ r. IfSome r (IsDifference (texts_of texts.now) (Some (map asked_model models.now)))) }
+    ensures answer { IfOk result (λ r. IfSome r (IsDifference (texts_of texts.now) (Some (map asked_model models.now)))) }
+    ensures waits { IfOk result (λ r. IfNone r (IsOpenAmong board.now (map asked_index models.now))) }
 {
     match asked_rows(alloc, texts, board, models)? {
         Some(rows) => {
@@ -186,7 +194,8 @@ fn difference(
     names: &[ScriptText],
 ) -> Result<Option<Answer>, AllocError>
     requires { ShowsTexts (texts_of texts.now) board.now }
-    ensures { IfOk result (λ r. IfSome r (IsDifference (texts_of texts.now) (models_named (texts_of texts.now) names.now))) }
+    ensures answer { IfOk result (λ r. IfSome r (IsDifference (texts_of texts.now) (models_named (texts_of texts.now) names.now))) }
+    ensures waits { IfOk result (λ r. IfNone r (IsOpenAmong board.now (model_indexes (texts_of texts.now) names.now))) }
 {
     match named_models(alloc, texts, names)? {
         Some(models) => difference_under(alloc, texts, board, &models),
@@ -196,6 +205,7 @@ fn difference(
 
 /// The answer to a question about the texts that a board shows, or none while a cell is open that it asks for. Errors: out of
 /// memory.
+#[tactic(auto, using(crate::proofs::Opening::open_under))]
 pub fn answer_from_board(
     alloc: Global,
     texts: &Texts,
@@ -203,7 +213,8 @@ pub fn answer_from_board(
     question: &Question,
 ) -> Result<Option<Answer>, AllocError>
     requires { ShowsTexts (texts_of texts.now) board.now }
-    ensures { IfOk result (λ r. IfSome r (IsReply (texts_of texts.now) question.now)) }
+    ensures answer { IfOk result (λ r. IfSome r (IsReply (texts_of texts.now) question.now)) }
+    ensures waits { IfOk result (λ r. IfNone r (IsAwaiting (texts_of texts.now) board.now question.now)) }
 {
     match question {
         Question::Items { model } => {

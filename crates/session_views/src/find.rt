@@ -1,12 +1,14 @@
 //! Tests and models by their names, and the outcomes of their cells.
 
-ghost use Rattle.std.specs.Prelude.{◌≡◌, IfOk, IfSome, All, Some, map, option_map, slice_get};
+ghost use Rattle.std.specs.Prelude.{◌≡◌, IfOk, IfSome, IfNone, All, Some, map, option_map, slice_get};
 ghost use Rattle.text_values.specs.TestValue.{content_of};
+ghost use Rattle.bench_texts.specs.BenchTexts.{model_index};
 ghost use Rattle.bench_texts.specs.Held.{model_of, texts_of};
 ghost use Rattle.board.specs.Contents.{cell_at};
 ghost use Rattle.session_answers.specs.Cells.{IsOutcome, test_named, model_named, models_named};
-ghost use Rattle.session_views.specs.Asked.{IsThere, asked_model};
+ghost use Rattle.session_views.specs.Asked.{IsThere, asked_index, asked_model};
 ghost use Rattle.session_views.specs.Shown.{ShowsTexts};
+ghost use Rattle.session_views.specs.Waiting.{IsOpenAt, IsUnsettled, model_indexes};
 
 use bench_texts::{NamedModel, Texts};
 use board::{Board, CellIndex};
@@ -26,9 +28,10 @@ pub(crate) struct AskedModel<'t> {
 }
 
 // The outcome of a cell, if it is settled.
-#[tactic(auto, using(crate::proofs::Cells::settled_cell))]
+#[tactic(auto, using(crate::proofs::Cells::settled_cell, crate::proofs::Opening::open_cell, crate::proofs::Opening::no_cell))]
 fn settled_at<'b>(board: &'b Board, at: CellIndex) -> Option<&'b Outcome>
-    ensures { IfSome result (λ o. cell_at board.now.rows at.test at.model ≡ Some (Some o.now)) }
+    ensures settled { IfSome result (λ o. cell_at board.now.rows at.test at.model ≡ Some (Some o.now)) }
+    ensures unsettled { IfNone result (IsUnsettled (cell_at board.now.rows at.test at.model)) }
 {
     match board.show_at(at) {
         Shown::Settled(outcome) => Some(outcome),
@@ -37,7 +40,7 @@ fn settled_at<'b>(board: &'b Board, at: CellIndex) -> Option<&'b Outcome>
     }
 }
 
-/// The outcome of a test, by its index, under a model, if its cell is settled.
+/// The outcome of a test, by its index, under a model, if its cell is settled, and none where it is open.
 #[tactic(auto, using(crate::proofs::Cells::right_cell))]
 pub(crate) fn asked_outcome<'b>(
     texts: &Texts,
@@ -49,7 +52,8 @@ pub(crate) fn asked_outcome<'b>(
     requires shows { ShowsTexts (texts_of texts.now) board.now }
     requires test { slice_get (texts_of texts.now).tests index ≡ Some (content_of test.now) }
     requires model { IsThere texts.now asked.now }
-    ensures { IfSome result (λ o. IsOutcome (content_of test.now) (asked_model asked.now) o.now) }
+    ensures settled { IfSome result (λ o. IsOutcome (content_of test.now) (asked_model asked.now) o.now) }
+    ensures waits { IfNone result (IsOpenAt board.now index asked.now.index) }
 {
     let _texts = texts;
     let _test = test;
@@ -80,6 +84,7 @@ fn model_at<'t>(texts: &'t Texts, index: usize) -> Option<&'t NamedModel>
 pub(crate) fn named_model<'t>(texts: &'t Texts, name: &[u8]) -> Option<AskedModel<'t>>
     ensures named { option_map asked_model result ≡ model_named (texts_of texts.now) name.now }
     ensures there { IfSome result (IsThere texts.now) }
+    ensures index { IfSome result (λ a. a.index ≡ model_index name.now (texts_of texts.now).models) }
 {
     let index = texts.model_index(name);
     match model_at(texts, index) {
@@ -96,6 +101,7 @@ pub(crate) fn named_models<'t>(
 ) -> Result<Option<Vec<AskedModel<'t>>>, AllocError>
     ensures named { IfOk result (λ found. option_map (λ v. map asked_model v.items) found ≡ models_named (texts_of texts.now) names.now) }
     ensures there { IfOk result (λ found. IfSome found (λ v. All (IsThere texts.now) v.items)) }
+    ensures indexes { IfOk result (λ found. IfSome found (λ v. map asked_index v.items ≡ model_indexes (texts_of texts.now) names.now)) }
 {
     let mut found = Vec::with_capacity(alloc, names.len())?;
     for name in names {

@@ -1,6 +1,6 @@
 //! Settled cells of a board as rows of a table, and as pairs of cells.
 
-ghost use Rattle.std.specs.Prelude.{◌≡◌, IfOk, IfSome, All, Some, map, slice_get, slice_index_or};
+ghost use Rattle.std.specs.Prelude.{◌≡◌, IfOk, IfSome, IfNone, All, Some, map, slice_get, slice_index_or};
 ghost use Rattle.text_values.specs.TestValue.{content_of};
 ghost use Rattle.bench_texts.specs.Held.{texts_of};
 ghost use Rattle.compare_report.specs.Cells.{cell_of, NoCell};
@@ -9,8 +9,9 @@ ghost use Rattle.compare_report.specs.Differences.{pair_of};
 ghost use Rattle.session_answers.specs.Cells.{IsRow, IsCell};
 ghost use Rattle.session_answers.specs.Questions.{AreRows};
 ghost use Rattle.session_answers.specs.Rows.{pair_in};
-ghost use Rattle.session_views.specs.Asked.{IsThere, asked_model};
+ghost use Rattle.session_views.specs.Asked.{IsThere, asked_index, asked_model};
 ghost use Rattle.session_views.specs.Shown.{ShowsTexts};
+ghost use Rattle.session_views.specs.Waiting.{IsOpenAt, IsOpenAmong};
 
 use crate::find::{AskedModel, asked_outcome};
 use bench_texts::Texts;
@@ -30,7 +31,8 @@ fn asked_cell<'t>(
     requires shows { ShowsTexts (texts_of texts.now) board.now }
     requires test { slice_get (texts_of texts.now).tests index ≡ Some (content_of test.now) }
     requires model { IsThere texts.now asked.now }
-    ensures { IfSome result (λ cell. IsCell (content_of test.now) (asked_model asked.now) (cell_of cell)) }
+    ensures settled { IfSome result (λ cell. IsCell (content_of test.now) (asked_model asked.now) (cell_of cell)) }
+    ensures waits { IfNone result (IsOpenAt board.now index asked.now.index) }
 {
     match asked_outcome(texts, board, index, test, asked) {
         Some(outcome) => Some(Shown::Settled(outcome)),
@@ -50,7 +52,8 @@ fn asked_row<'t>(
     requires shows { ShowsTexts (texts_of texts.now) board.now }
     requires test { slice_get (texts_of texts.now).tests index ≡ Some (content_of test.now) }
     requires models { All (IsThere texts.now) models.now }
-    ensures { IfOk result (λ r. IfSome r (λ row. IsRow (map asked_model models.now) (content_of test.now) (row_of row))) }
+    ensures settled { IfOk result (λ r. IfSome r (λ row. IsRow (map asked_model models.now) (content_of test.now) (row_of row))) }
+    ensures waits { IfOk result (λ r. IfNone r (IsOpenAmong board.now (map asked_index models.now))) }
 {
     let mut cells = Vec::with_capacity(alloc, models.len())?;
     for asked in models {
@@ -74,7 +77,8 @@ pub(crate) fn asked_rows<'t>(
 ) -> Result<Option<Vec<TestRow<'t>>>, AllocError>
     requires shows { ShowsTexts (texts_of texts.now) board.now }
     requires models { All (IsThere texts.now) models.now }
-    ensures { IfOk result (λ r. IfSome r (λ rows. AreRows (texts_of texts.now) (map asked_model models.now) (map row_of rows.items))) }
+    ensures settled { IfOk result (λ r. IfSome r (λ rows. AreRows (texts_of texts.now) (map asked_model models.now) (map row_of rows.items))) }
+    ensures waits { IfOk result (λ r. IfNone r (IsOpenAmong board.now (map asked_index models.now))) }
 {
     let tests = texts.tests();
     let mut rows = Vec::with_capacity(alloc, tests.len())?;
