@@ -47,6 +47,7 @@ impl<K: StoreName, T: CellTexts> Bench<K, T> {
         ensures memos { IfOk result (λ bench. bench.memos ≡ []) }
         ensures claims { IfOk result (λ bench. bench.claims ≡ []) }
         ensures taken { IfOk result (λ bench. bench.taken ≡ 0) }
+        ensures none { IfOk result (λ bench. T.is_empty bench.texts) }
         ensures valid { IfOk result (λ bench. T.is_valid bench.texts) }
         ensures parts { IfOk result (λ bench. (p q : ℕ) → (T.net bench.texts).part p q ≡ 0) }
     {

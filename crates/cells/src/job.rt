@@ -67,8 +67,9 @@ impl<K: StoreName, T: CellTexts> Job<K, T> {
         self.job.claim
     }
 
-    /// Computes what its node makes, and puts what is new or changed into the store. Where memory is refused or the store
-    /// is full, the job comes back as it was. It may wait while another thread grows the store.
+    /// Computes what its node makes, and puts it into the store. Where memory is refused or the store is full, the job comes
+    /// back as it was. It may wait while another thread grows the store. That a value which did
+    /// not change keeps its token is said of the job of `memo_bench`, which this runs.
     pub fn run<R: Wait>(self, rt: &R, alloc: Global) -> Result<Done<K, T>, (Job<K, T>, RunFault)>
         ensures same { IfOk result (λ done. task_answered done ≡ self) }
         ensures made { IfOk result (λ done. T.makes done.node done.given done.keys done.values done.outputs) }

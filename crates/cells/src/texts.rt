@@ -26,11 +26,15 @@ pub trait CellTexts: Texts {
     /// Whether an edit, with the texts before it and after it, reaches the cell of a test and a model.
     ghost reaches: { Self → Self.Edit → Self → List ℕ → List ℕ → Type 0 };
 
+    /// Whether there are no tests and no models, before the first edit.
+    ghost is_empty: { Self → Type 0 };
+
     /// Whether two edits are the same, wherever they lie in memory.
     ghost same_edit: { Self.Edit → Self.Edit → Type 0 };
 
     /// No tests and no models.
     fn empty(alloc: Global) -> Self
+        ensures none { is_empty result }
         ensures new { (p q : ℕ) → (Self.net result).part p q ≡ 0 }
         ensures last { Self.last result ≡ 0 }
         ensures valid { Self.is_valid result };
