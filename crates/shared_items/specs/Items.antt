@@ -3,7 +3,15 @@ use Rattle.std.specs.Prelude.{ℕ, List, [], Option, Some, None}
 use Rattle.std.specs.Arc.{arc_value}
 pub use Rattle.binding_graph.specs.Contents.{CodeContent, BodyContent, RoleContent, Group, Check, Silent, code_content, body_content, role_content}
 pub use Rattle.shared_items.specs.Naming.{SeenName, role_at, item_outputs}
+use Rattle.binding_graph.specs.declared.resolved.Resolved.{Resolved}
 use Rattle.shared_items.specs.declared.items.SharedItem.{SharedItem}
+
+-- the model that it is an item of, and its index there
+abbrev pub shared_model : SharedItem → Resolved
+shared_model s = arc_value s.resolved
+
+abbrev pub shared_index : SharedItem → ℕ
+shared_index s = s.index
 
 -- what an item of a model does
 abbrev pub shared_role : SharedItem → RoleContent

@@ -31,8 +31,9 @@ impl Drop for SharedItem {
 }
 
 impl SharedItem {
-    ghost use Rattle.std.specs.Prelude.{IfOk, option_map};
-    ghost use Rattle.shared_items.specs.Items.{role_content, shared_role, shared_history, held_history};
+    ghost use Rattle.std.specs.Prelude.{IfOk, Some, option_map};
+    ghost use Rattle.std.specs.List.{slice_get};
+    ghost use Rattle.shared_items.specs.Items.{role_content, shared_model, shared_index, shared_role, shared_history, held_history};
     ghost use Rattle.shared_items.specs.Naming.{item_outputs};
 
     // The history of an item that does this, where it was known as the other before, if at all.
@@ -58,6 +59,8 @@ impl SharedItem {
         before: Option<&SharedItem>,
     ) -> Result<SharedItem, AllocError>
         requires { index < vec_len (arc_value resolved).items }
+        ensures model { IfOk result (λ s. shared_model s ≡ arc_value resolved) }
+        ensures index { IfOk result (λ s. shared_index s ≡ index) }
         ensures role { IfOk result (λ s. shared_role s ≡ role_at (arc_value resolved).items.items index) }
         ensures history { let held = held_history (option_map (λ b. b.now) before.entry) in IfOk result (λ s. shared_history s ≡ with_role_names held (role_at (arc_value resolved).items.items index)) }
     {
@@ -71,6 +74,8 @@ impl SharedItem {
 
     /// The same once more. Errors: too many of them.
     pub fn again(&self) -> Result<SharedItem, AllocError>
+        ensures model { IfOk result (λ s. shared_model s ≡ shared_model self.now) }
+        ensures index { IfOk result (λ s. shared_index s ≡ shared_index self.now) }
         ensures role { IfOk result (λ s. shared_role s ≡ shared_role self.now) }
         ensures history { IfOk result (λ s. shared_history s ≡ shared_history self.now) }
     {
@@ -83,7 +88,8 @@ impl SharedItem {
 
     /// The item.
     pub fn item(&self) -> &ResolvedItem
-        ensures { role_content result.now.role ≡ shared_role self.now }
+        ensures item { slice_get (shared_model self.now).items.items (shared_index self.now) ≡ Some result.now }
+        ensures role { role_content result.now.role ≡ shared_role self.now }
     {
         &self.resolved.items[self.index]
     }
