@@ -1,6 +1,6 @@
 //! Copies of items.
 
-ghost use Rattle.std.specs.Prelude.{◌≡◌, IfOk, map};
+ghost use Rattle.std.specs.Prelude.{◌≡◌, ◌≤◌, ◌+◌, IfOk, length, map, vec_capacity};
 ghost use Rattle.text_values.specs.ModelValues.{binding_of, shown_of, check_of, clause_of, clauses_of};
 
 use crate::expressions::copied_expression;
@@ -114,9 +114,13 @@ pub fn copied_item(alloc: Global, item: &Item) -> Result<Item, AllocError>
 
 /// Copies of items, in their order, with room for so many more. Errors: out of memory.
 pub fn copied_items(alloc: Global, items: &[Item], room: usize) -> Result<Vec<Item>, AllocError>
-    ensures { IfOk result (λ v. clauses_of v.items ≡ clauses_of items.now) }
+    ensures clauses { IfOk result (λ v. clauses_of v.items ≡ clauses_of items.now) }
+    ensures room { IfOk result (λ v. length items.now + room ≤ vec_capacity v) }
 {
-    let mut copies = Vec::with_capacity(alloc, items.len().saturating_add(room))?;
+    let Some(capacity) = items.len().checked_add(room) else {
+        return Err(AllocError);
+    };
+    let mut copies = Vec::with_capacity(alloc, capacity)?;
     for item in items {
         copies.push(copied_item(alloc, item)?)?;
     }
