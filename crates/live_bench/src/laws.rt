@@ -7,7 +7,7 @@ ghost use Rattle.board.specs.declared.operation.BoardOp.{BoardOp};
 ghost use Rattle.board.specs.Histories.{IsHistory};
 ghost use Rattle.running_bench.specs.declared.stamped_texts.StampedTexts.{StampedTexts as StampedRecord};
 ghost use Rattle.running_bench.specs.StampedCells.{from_scratch};
-ghost use Rattle.memo_core.specs.Work.{ReturnsLowerInRuns, WorkIsBounded, WorkUnsettlesNone};
+ghost use Rattle.memo_core.specs.Work.{ReturnsLowerInRuns, WorkIsBounded, WorkUnsettlesNone, SettledIsDecided};
 ghost use Rattle.cells.specs.CellLaws.{SettledCellIsFromScratch, UnreachedCellStays, OnlyNeededIsGiven, NoneIsOutTwice, EditBoundsWork, QuietCellsAreSettled, ListsAreRuns, ListBoundsWork};
 ghost use Rattle.live_bench.specs.Live.{live_meaning, live_cells, live_refusing, live_last};
 ghost use Rattle.live_bench.specs.Stamps.{HasLowStamps, ChangedOutputIsNewer};
@@ -37,8 +37,8 @@ pub fn unreached_cells_stay()
 /// Only what some cell needs is given out, and no two claims that are out are of one node with the same inputs and stamps. An
 /// accepted return of a node with settled inputs lowers the number of unsettled used nodes. Claims, returns, losses and
 /// refused calls unsettle no node, and of the claims that a list of them gives no more returns are accepted than it settles
-/// used nodes: after an edit, no more than were open before it or stand on what it touches. Where no claim is given and none
-/// is out, every cell is settled.
+/// used nodes: after an edit, no more than were open before it or stand on what it touches. It is decided which nodes are
+/// settled, so the unsettled ones can be counted. Where no claim is given and none is out, every cell is settled.
 pub fn work_is_exact()
     ensures needed { OnlyNeededIsGiven live_meaning live_cells }
     ensures apart { NoneIsOutTwice live_meaning }
@@ -46,9 +46,11 @@ pub fn work_is_exact()
     ensures bounded { WorkIsBounded live_meaning }
     ensures kept { WorkUnsettlesNone live_meaning }
     ensures edited { EditBoundsWork live_meaning }
+    ensures decided { SettledIsDecided live_meaning }
     ensures quiet { QuietCellsAreSettled live_meaning live_cells }
 {
     cells::laws::exact_work::<StampedTexts>();
+    memo_core::laws::exact_work::<StampedTexts>();
 }
 
 /// What `run_events` does is such a run, so all of this holds of it.
