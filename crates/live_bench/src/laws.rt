@@ -6,8 +6,10 @@ ghost use Rattle.board.specs.declared.operation.BoardEdit.{BoardEdit};
 ghost use Rattle.board.specs.declared.operation.BoardOp.{BoardOp};
 ghost use Rattle.board.specs.Histories.{IsHistory};
 ghost use Rattle.running_bench.specs.declared.stamped_texts.StampedTexts.{StampedTexts as StampedRecord};
+ghost use Rattle.running_bench.specs.StampedTexts.{IsThere};
 ghost use Rattle.running_bench.specs.StampedCells.{from_scratch};
 ghost use Rattle.memo_core.specs.Work.{ReturnsLowerInRuns, WorkIsBounded, WorkUnsettlesNone, SettledIsDecided};
+ghost use Rattle.memo_core.specs.Laws.{SettledIsSolved, MatchingIsMade, ValuesStayPresent, GivenStaysPresent};
 ghost use Rattle.cells.specs.CellLaws.{SettledCellIsFromScratch, UnreachedCellStays, OnlyNeededIsGiven, NoneIsOutTwice, EditBoundsWork, QuietCellsAreSettled, ListsAreRuns, ListBoundsWork};
 ghost use Rattle.live_bench.specs.Live.{live_meaning, live_cells, live_refusing, live_last};
 ghost use Rattle.live_bench.specs.Stamps.{HasLowStamps, ChangedOutputIsNewer};
@@ -51,6 +53,20 @@ pub fn work_is_exact()
 {
     cells::laws::exact_work::<StampedTexts>();
     memo_core::laws::exact_work::<StampedTexts>();
+}
+
+/// After any list of events, a used node that is settled holds what is made of what its job is given now and of the present values
+/// of its present inputs. So does each node whose memo's inputs and stamps are the present ones, as far as its inputs have
+/// values. What a job was given, and the values that it holds, stay the present ones as long as its inputs and stamps are the
+/// present ones, whatever happens between.
+pub fn memos_are_right()
+    ensures settled { SettledIsSolved live_meaning IsThere }
+    ensures matching { MatchingIsMade live_meaning }
+    ensures values { ValuesStayPresent live_meaning }
+    ensures given { GivenStaysPresent live_meaning }
+{
+    memo_core::laws::headline::<StampedTexts>();
+    memo_core::laws::honest::<StampedTexts>();
 }
 
 /// What `run_events` does is such a run, so all of this holds of it.
