@@ -102,13 +102,15 @@ where
     session_at(rt, &desk, source, sink, listener, workers, gate)
 }
 
-/// Answers the commands of a script one after another, each by one write as soon as its last line feed is read. Whether
-/// a command was refused. The cells that it is asked for are computed by so many workers, at most 32, or by the session itself
-/// where there are none, and kept between questions; the bytes are the same for each number of workers. Errors: `Read` where a
-/// read failed or the script did not end within 16,777,216 reads that gave bytes, `Write`, `Memory`, or `Shared` where the desk
-/// is not the session's alone; what was written by then is the output of the first commands, and of the next answer a front
-/// where a write failed. A listener hears of each answer behind its write and of each model that is put or changed, and how far
-/// a table is while cells of it are open; a gate hears of each job of a worker.
+/// Answers the commands of a script one after another, each by one write as soon as its last line feed is read. Whether a
+/// command was refused. So many workers, at most 32, compute the open cells of all tests and models from each edit on. Where
+/// there are none the session runs jobs itself while a question waits for its cells, and these may be jobs of other cells.
+/// What is computed is kept for later questions. The bytes are the same for each number of workers, unless the jobs fill the
+/// store of values. Errors: `Read` where a read failed or the script did not end within 16,777,216 reads that gave bytes,
+/// `Write`, `Memory`, or `Shared` where the desk is not the session's alone; what was written by then is the output of the
+/// first commands, and of the next answer a front where a write failed. A listener hears of each answer behind its write and
+/// of each model that is put or changed, and how far a table is while cells of it are open; a gate hears of each job of a
+/// worker.
 pub fn session<R, S, K, L, G>(
     rt: &R,
     source: &mut S,
