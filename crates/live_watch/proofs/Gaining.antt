@@ -5,6 +5,7 @@ use Rattle.std.specs.Borrow.{Bor}
 use Rattle.std.specs.declared.alloc.Global.{Global}
 use Rattle.std.proofs.KnownBytes.{Appends-nil, Appends-trans}
 use Rattle.std.specs.Io.KnownBytes.{Appends, Consumes, IsAtEnd}
+use Rattle.std.proofs.lemmas.List.{length-append, length-take-le}
 use Rattle.std.proofs.lemmas.Option.{same_Some}
 use Rattle.std.proofs.lemmas.Bool.{cases_Bool, false≢true}
 use Rattle.std.proofs.lemmas.Bool.Decides.{Decides-eqb}
@@ -12,7 +13,7 @@ use Rattle.command_line.specs.declared.fault.SessionFault.{SessionFault}
 use Rattle.bench_texts.specs.declared.fault.EditFault.{EditFault}
 use Rattle.live_watch.specs.declared.versions.Version.{Version}
 use Rattle.live_watch.specs.declared.versions.Version.TheVariants.{Text, Unread}
-use Rattle.live_watch.specs.Readings.{Reading, AreRead}
+use Rattle.live_watch.specs.Readings.{Reading, AreRead, HasReadAtMost}
 use Rattle.live_watch.specs.Holding.{Holding, IsTaken, IsVersionRefused, File, TestFile, ModelFile, FilePath, file_at, test_files, all_files}
 use Rattle.live_watch.specs.Boards.{lists_of}
 use Rattle.live_watch.specs.Runs.{Standing, at_first, IsSettled, IsNoted, refusal_of, AreAnswers, NoAnswer, OneMore, AreBegun, NoFile, Begun, NotBegun, IsRun, HasAnswers, line_before, lines_from, IsLine, AreIn, AreOfTurn, AreAll, IsAnswered, HasBegun, BeginsFile, HasBegunRun, NotedTaken, NotedRefused, IsTextAnswer, TextAccepted, TextRefused, IsAnswer, Unwatched, NotRead, Refused, Accepted}
@@ -32,6 +33,16 @@ read_more None b c xs ys first more = subst (λ (o : Option (List Reading)). Are
 read_more (Some rs) b c xs ys first more =
     let then : AreRead (Some (rs ++ xs)) c ys = subst (λ (o : Option (List Reading)). AreRead o c ys) first more in
     then ∙ ap (λ (l : List Reading). Some l) (append_assoc rs xs ys)
+
+-- no reading, one, and as many as may be
+pub none_read : (r : Option (List Reading)) → HasReadAtMost 1 r r
+none_read r = record { read = []; few = omega arith; are = read_none r }
+
+pub one_read : (r s : Option (List Reading)) (reading : Reading) → AreRead r s (reading ∷ []) → HasReadAtMost 1 r s
+one_read r s reading are = record { read = reading ∷ []; few = omega arith; are = are }
+
+pub few_read : (n m : ℕ) (r s : Option (List Reading)) → n ≤ m → HasReadAtMost n r s → HasReadAtMost m r s
+few_read n m r s within h = record { read = h.read; few = omega (arith, within, h.few); are = h.are }
 
 -- ---- answers
 
@@ -60,19 +71,19 @@ pub gains_so : (model : List ℕ) (tests : List (List ℕ)) (asks so : List (Lis
 gains_so model tests asks so old new r s a b law x =
     record { lines = x.lines; asked = law x.lines x.asked; read = x.read; text = x.text; answers = x.answers; reads = x.reads; gains = x.gains }
 
-pub joined : (model : List ℕ) (tests : List (List ℕ)) (before after : List (List ℕ)) (old middle new : Standing) (read more : List Reading) (x y : List ℕ)
+pub answers_joined : (model : List ℕ) (tests : List (List ℕ)) (before after : List (List ℕ)) (old middle new : Standing) (read more : List Reading) (x y : List ℕ)
     → AreAnswers model tests before old middle read x → AreAnswers model tests after middle new more y
     → AreAnswers model tests (before ++ after) old new (read ++ more) (x ++ y)
-joined model tests before after old middle new read more x y first (NoAnswer standing) =
+answers_joined model tests before after old middle new read more x y first (NoAnswer standing) =
     subst (λ (ls : List (List ℕ)). AreAnswers model tests ls old standing (read ++ []) (x ++ [])) (sym (append_none before))
     (subst (λ (r : List Reading). AreAnswers model tests before old standing r (x ++ [])) (sym (append_none read))
     (subst (λ (text : List ℕ). AreAnswers model tests before old standing read text) (sym (append_none x)) first))
-joined model tests before after old middle new read more x y first (OneMore lines line from through to readings others text said answered answer) =
+answers_joined model tests before after old middle new read more x y first (OneMore lines line from through to readings others text said answered answer) =
     subst (λ (ls : List (List ℕ)). AreAnswers model tests ls old new (read ++ (readings ++ others)) (x ++ (text ++ said))) (append_assoc before lines (line ∷ []))
     (subst (λ (r : List Reading). AreAnswers model tests ((before ++ lines) ++ line ∷ []) old new r (x ++ (text ++ said))) (append_assoc read readings others)
     (subst (λ (all : List ℕ). AreAnswers model tests ((before ++ lines) ++ line ∷ []) old new ((read ++ readings) ++ others) all) (append_assoc x text said)
     (OneMore (before ++ lines) line old through new (read ++ readings) others (x ++ text) said
-    (joined model tests before lines old middle through read readings x text first answered) answer)))
+    (answers_joined model tests before lines old middle through read readings x text first answered) answer)))
 
 pub gains_joined : (model : List ℕ) (tests : List (List ℕ)) (one two all : List (List ℕ) → Type 0) (old middle new : Standing) (r s t : Option (List Reading)) (a b c : Option (List ℕ))
     → ((x y : List (List ℕ)) → one x → two y → all (x ++ y))
@@ -82,7 +93,7 @@ gains_joined model tests one two all old middle new r s t a b c law x y = record
   asked = law x.lines y.lines x.asked y.asked;
   read = x.read ++ y.read;
   text = x.text ++ y.text;
-  answers = joined model tests x.lines y.lines old middle new x.read y.read x.text y.text x.answers y.answers;
+  answers = answers_joined model tests x.lines y.lines old middle new x.read y.read x.text y.text x.answers y.answers;
   reads = read_more r s t x.read y.read x.reads y.reads;
   gains = Appends-trans a b c x.text y.text x.gains y.gains;
 }
@@ -274,6 +285,39 @@ pub begun_all : (model : List ℕ) (tests : List (Bor (List ℕ))) (i : ℕ) (ol
 begun_all model tests i old new r s told end begun =
     let files = test_files 0 (map (λ t. t.now) tests) in
     subst (λ (l : List FilePath). HasBegun (record { file = ModelFile; path = model } ∷ l) old new r s told) (taken_all i files (omega (arith, end, files_long 0 tests))) begun
+
+-- for each file that was begun one was read
+begun_long : (files : List FilePath) (old new : Standing) (read : List Reading) (told : List ℕ) → AreBegun files old new read told → length read ≡ length files
+begun_long files old new read told (NoFile standing) = refl
+begun_long files old new read told (Begun before file text from middle held readings said begun taken) =
+    let reading : Reading = record { path = file.path; version = Text text } in
+    length-append readings (reading ∷ []) ∙ ap (λ (n : ℕ). n + 1) (begun_long before from middle readings said begun) ∙ sym (length-append before (file ∷ []))
+begun_long files old new read told (NotBegun before file text from middle readings said fault begun refused) =
+    let reading : Reading = record { path = file.path; version = Text text } in
+    length-append readings (reading ∷ []) ∙ ap (λ (n : ℕ). n + 1) (begun_long before from middle readings said begun) ∙ sym (length-append before (file ∷ []))
+
+pub begun_few : (files : List FilePath) (old new : Standing) (r s : Option (List Reading)) (told : List ℕ) → HasBegun files old new r s told → HasReadAtMost (length files) r s
+begun_few files old new r s told begun = record {
+  read = begun.read;
+  few = omega (arith, begun_long files old new begun.read told begun.begun);
+  are = begun.reads;
+}
+
+-- the files of the model and of tests so far, and one more
+pub begun_and_one : (model : List ℕ) (tests : List (Bor (List ℕ))) (i : ℕ) (old new : Standing) (r s t : Option (List Reading)) (told : List ℕ) → i < length tests
+    → HasBegun (record { file = ModelFile; path = model } ∷ take i (test_files 0 (map (λ t. t.now) tests))) old new r s told → HasReadAtMost 1 s t
+    → HasReadAtMost (length (all_files model (map (λ t. t.now) tests))) r t
+begun_and_one model tests i old new r s t told lt begun one =
+    let files = test_files 0 (map (λ t. t.now) tests) in
+    let long : length files ≡ length tests = files_long 0 tests in
+    let taken : length (take i files) ≡ i = length-take-le i files (omega (arith, lt, long)) in
+    let first : length begun.read ≡ suc (length (take i files)) = begun_long (record { file = ModelFile; path = model } ∷ take i files) old new begun.read told begun.begun in
+    let whole : length (all_files model (map (λ t. t.now) tests)) ≡ suc (length files) = refl in
+    record {
+      read = begun.read ++ one.read;
+      few = omega (arith, length-append begun.read one.read, first, taken, long, whole, lt, one.few);
+      are = read_more r s t begun.read one.read begun.reads one.are;
+    }
 
 -- a text is taken
 pub noted_taken : (file : File) (path text : List ℕ) (old new : Holding) (lines others : Vec (Vec ℕ Global) Global) (was is : Bool) (before after : List ℕ)

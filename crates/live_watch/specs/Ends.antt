@@ -12,10 +12,10 @@ pub record AreCallsOf (answer : Result Bool SessionFault) (reads reads_then writ
   pub unread : answer ≢ Err SessionFault.Read → reads_then ≡ reads
 
 -- So it is for a source and a sink whose failed calls are counted so; and where it answers, a whole run over the files of these
--- paths was written, from the versions that were read, and the answer is whether a text was refused. Where it ends by a fault, what was written is a
--- front of what such a run writes up to a line of the source.
+-- paths was written, of the versions that were read, and the answer is whether a text was refused. Where it ends by a fault, what
+-- was written is a front of what such a run writes up to a line of the source, of the versions that were read first.
 pub record IsEnded {V S K : Type 0} (reads : S → ℕ) (remaining : S → Option (List ℕ)) (writes : K → ℕ) (readings : V → Option (List Reading)) (contents : K → Option (List ℕ))
     (model : List ℕ) (tests : List (List ℕ)) (versions : V) (source : S) (sink : K) (ended : Ended V S K) : Type 0 where
   pub calls : AreCallsOf ended.answer (reads source) (reads ended.source) (writes sink) (writes ended.sink)
   pub run : IfOk ended.answer (λ refused. IsRun model tests [] refused (remaining source) (readings versions) (readings ended.versions) (contents sink) (contents ended.sink))
-  pub cut : OnErr ended.answer (IsCut model tests [] (remaining source) (contents sink) (contents ended.sink))
+  pub cut : OnErr ended.answer (IsCut model tests [] (remaining source) (readings versions) (readings ended.versions) (contents sink) (contents ended.sink))

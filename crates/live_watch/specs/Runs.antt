@@ -1,5 +1,5 @@
 -- What watching answers, and what a run writes. Read after Lines.
-use Rattle.std.specs.Prelude.{◌≡◌, ◌==◌, if◌then◌else◌, ℕ, Bool, true, false, List, [], ◌∷◌, ◌++◌, codes, length, Option, Some, None, Vec}
+use Rattle.std.specs.Prelude.{◌≡◌, ◌≤◌, ◌==◌, if◌then◌else◌, ℕ, Bool, true, false, List, [], ◌∷◌, ◌++◌, codes, length, Option, Some, None, Vec}
 use Rattle.std.specs.declared.alloc.Global.{Global}
 use Rattle.std.specs.Io.KnownBytes.{Appends}
 use Rattle.bench_texts.specs.declared.fault.EditFault.{EditFault}
@@ -124,21 +124,29 @@ pub record IsRun (model : List ℕ) (tests lasts : List (List ℕ)) (refused : B
 
 -- ---- what was written before a fault
 
--- these are the first lines of the source, where it is known which bytes it had
-abbrev pub AreFirst : (source : Option (List ℕ)) → List (List ℕ) → Type 0
-AreFirst source lines = (bytes : List ℕ) → source ≡ Some bytes → (more : List (List ℕ)) × (lines_from [] bytes ≡ lines ++ more)
+-- these are the first lines of the source behind the first part of its first line, where it is known which bytes it had
+abbrev pub AreFrontOf : (front : List ℕ) → (source : Option (List ℕ)) → List (List ℕ) → Type 0
+AreFrontOf front source lines = (bytes : List ℕ) → source ≡ Some bytes → (more : List (List ℕ)) × (lines_from front bytes ≡ lines ++ more)
 
--- what a run writes up to a line of the source: nothing yet, or what is written at the start, and then the answers to the first lines
-pub data IsRunText (model : List ℕ) (tests lasts : List (List ℕ)) (source : Option (List ℕ)) : (text : List ℕ) → Type 0 where
-  NothingYet : IsRunText model tests lasts source []
+-- What a run writes up to a line of the source, of these readings, and how many more it makes at most for what it writes next:
+-- nothing yet, and next the start, for which it reads each file; or the start and then the answers to the first lines, and next
+-- the answer to one line.
+pub data IsRunText (model : List ℕ) (tests lasts : List (List ℕ)) (source : Option (List ℕ)) : (read : List Reading) (most : ℕ) (text : List ℕ) → Type 0 where
+  NothingYet : IsRunText model tests lasts source [] (length (all_files model tests)) []
   FirstLines : (begins ends : Standing) (first_read read : List Reading) (first text : List ℕ) (lines : List (List ℕ))
-      → IsBegun model tests lasts begins first_read first → AreAnswers model tests lines begins ends read text → AreFirst source lines
-      → IsRunText model tests lasts source (first ++ text)
+      → IsBegun model tests lasts begins first_read first → AreAnswers model tests lines begins ends read text → AreFrontOf [] source lines
+      → IsRunText model tests lasts source (first_read ++ read) 1 (first ++ text)
 
--- a run over the files of these paths ended by a fault: what was written is a front of such a text
-pub record IsCut (model : List ℕ) (tests lasts : List (List ℕ)) (source before after : Option (List ℕ)) : Type 0 where
+-- A run over the files of these paths ended by a fault: what was written is a front of such a text, of what was read first. The
+-- other readings were made for what was to be written next.
+pub record IsCut (model : List ℕ) (tests lasts : List (List ℕ)) (source : Option (List ℕ)) (read_before read_after : Option (List Reading)) (before after : Option (List ℕ)) : Type 0 where
+  pub read : List Reading
+  pub more : List Reading
+  pub most : ℕ
   pub text : List ℕ
-  pub is : IsRunText model tests lasts source text
+  pub is : IsRunText model tests lasts source read most text
+  pub few : length more ≤ most
+  pub reads : AreRead read_before read_after (read ++ more)
   pub front : WritesFront before after text
 
 -- ---- parts of a run
@@ -165,25 +173,27 @@ pub record HasAnswers (model : List ℕ) (tests : List (List ℕ)) (asks : List 
   pub reads : AreRead read_before read_after read
   pub gains : Appends before after text
 
--- answers to lines for which this holds were made, and a front of them was written
-pub record HasFront (model : List ℕ) (tests : List (List ℕ)) (asks : List (List ℕ) → Type 0) (old : Standing) (before after : Option (List ℕ)) : Type 0 where
+-- Answers to lines for which this holds were made, for which files were read, and a front of them was written. For the next
+-- line a file was read at most once.
+pub record HasFront (model : List ℕ) (tests : List (List ℕ)) (asks : List (List ℕ) → Type 0) (old : Standing)
+    (read_before read_after : Option (List Reading)) (before after : Option (List ℕ)) : Type 0 where
   pub lines : List (List ℕ)
   pub asked : asks lines
   pub new : Standing
   pub read : List Reading
+  pub more : List Reading
   pub text : List ℕ
   pub answers : AreAnswers model tests lines old new read text
+  pub few : length more ≤ 1
+  pub reads : AreRead read_before read_after (read ++ more)
   pub front : WritesFront before after text
 
--- first lines: of one that may be empty; of those that end in these bytes, behind the first part of the first; of a source
+-- first lines: of one that may be empty; of those that end in these bytes, behind the first part of the first
 abbrev pub IsFrontLine : (line : List ℕ) → List (List ℕ) → Type 0
 IsFrontLine line lines = (more : List (List ℕ)) × (line_before line [] ≡ lines ++ more)
 
 abbrev pub AreFrontIn : (front bytes : List ℕ) → List (List ℕ) → Type 0
 AreFrontIn front bytes lines = (rest : List ℕ) → (more : List (List ℕ)) × (lines_from front (bytes ++ rest) ≡ lines ++ more)
-
-abbrev pub AreFrontOf : (front : List ℕ) → (source : Option (List ℕ)) → List (List ℕ) → Type 0
-AreFrontOf front source lines = (bytes : List ℕ) → source ≡ Some bytes → (more : List (List ℕ)) × (lines_from front bytes ≡ lines ++ more)
 
 -- it is the line, if it is not empty
 abbrev pub IsLine : (line : List ℕ) → List (List ℕ) → Type 0

@@ -5,6 +5,7 @@ ghost use Rattle.std.specs.Prelude.{Some, IfOk, IfSome, OnOk, OnErr, Ok, Err};
 ghost use Rattle.std.specs.Io.KnownBytes.{Appends};
 ghost use Rattle.session_script.specs.Written.{WritesFront};
 ghost use Rattle.bench_texts.specs.Held.{texts_of};
+ghost use Rattle.live_watch.specs.Readings.{HasReadAtMost};
 ghost use Rattle.live_watch.specs.Holding.{file_at, all_files};
 ghost use Rattle.live_watch.specs.Edits.{file_of, model_path, test_paths, held_of, IsVersionTaken};
 ghost use Rattle.live_watch.specs.Boards.{lists_of, standing_of, KnowsTexts};
@@ -192,6 +193,7 @@ impl<'a, 'd, J: Naming + StoreName, R: Wait + Drop> Run<'a, 'd, J, R> {
         ensures paths { self.new.paths ≡ self.old.paths }
         ensures fault { result ≢ Err SessionFault.Write }
         ensures begun { OnOk result (BeginsFile (record { file = file_of file; path = path.now }) (standing_of self.old.watched.texts self.old.watched.names self.old.lines self.old.is_refused) (standing_of self.new.watched.texts self.new.watched.names self.new.lines self.new.is_refused) (V.readings versions.old) (V.readings versions.new) text.old.items text.new.items) }
+        ensures readings { OnErr result (HasReadAtMost 1 (V.readings versions.old) (V.readings versions.new)) }
     {
         match versions.version(alloc, path) {
             Version::Text(version) => {
@@ -216,6 +218,7 @@ impl<'a, 'd, J: Naming + StoreName, R: Wait + Drop> Run<'a, 'd, J, R> {
         ensures paths { self.new.paths ≡ self.old.paths }
         ensures fault { result ≢ Err SessionFault.Write }
         ensures begun { IfOk result (λ t. HasBegun (all_files (model_path paths.entry) (test_paths paths.entry)) (standing_of self.old.watched.texts self.old.watched.names self.old.lines self.old.is_refused) (standing_of self.new.watched.texts self.new.watched.names self.new.lines self.new.is_refused) (V.readings versions.old) (V.readings versions.new) t.items) }
+        ensures readings { OnErr result (HasReadAtMost (length (all_files (model_path paths.entry) (test_paths paths.entry))) (V.readings versions.old) (V.readings versions.new)) }
     {
         let mut text = Vec::new(alloc);
         self.begin_file(
@@ -247,6 +250,7 @@ impl<'a, 'd, J: Naming + StoreName, R: Wait + Drop> Run<'a, 'd, J, R> {
         ensures paths { self.new.paths ≡ self.old.paths }
         ensures fault { result ≢ Err SessionFault.Write }
         ensures begun { IfOk result (λ t. HasBegunRun (model_path self.old.paths) (test_paths self.old.paths) (lists_of self.old.lines.items) (standing_of self.new.watched.texts self.new.watched.names self.new.lines self.new.is_refused) (V.readings versions.old) (V.readings versions.new) t.items) }
+        ensures readings { OnErr result (HasReadAtMost (length (all_files (model_path self.old.paths) (test_paths self.old.paths))) (V.readings versions.old) (V.readings versions.new)) }
     {
         let paths = self.paths;
         let mut text = self.begin_files(rt, alloc, versions, paths)?;
@@ -317,6 +321,7 @@ impl<'a, 'd, J: Naming + StoreName, R: Wait + Drop> Run<'a, 'd, J, R> {
         ensures paths { self.new.paths ≡ self.old.paths }
         ensures fault { OnErr result (result ≡ Err SessionFault.Memory) }
         ensures answer { IfOk result (λ t. IsAnswered line.now (file_at (model_path self.old.paths) (test_paths self.old.paths) line.now) (standing_of self.old.watched.texts self.old.watched.names self.old.lines self.old.is_refused) (standing_of self.new.watched.texts self.new.watched.names self.new.lines self.new.is_refused) (V.readings versions.old) (V.readings versions.new) t.items) }
+        ensures readings { OnErr result (HasReadAtMost 1 (V.readings versions.old) (V.readings versions.new)) }
     {
         let paths = self.paths;
         match watched_path(paths, line) {
@@ -347,7 +352,7 @@ impl<'a, 'd, J: Naming + StoreName, R: Wait + Drop> Run<'a, 'd, J, R> {
         ensures paths { self.new.paths ≡ self.old.paths }
         ensures writes { OnOk result (K.failed_calls sink.new ≡ K.failed_calls sink.old) }
         ensures wrote { result ≡ Err SessionFault.Write → K.failed_calls sink.new ≡ K.failed_calls sink.old + 1 }
-        ensures cut { OnErr result (HasFront (model_path self.old.paths) (test_paths self.old.paths) (IsFrontLine line.now) (standing_of self.old.watched.texts self.old.watched.names self.old.lines self.old.is_refused) (K.contents sink.old) (K.contents sink.new)) }
+        ensures cut { OnErr result (HasFront (model_path self.old.paths) (test_paths self.old.paths) (IsFrontLine line.now) (standing_of self.old.watched.texts self.old.watched.names self.old.lines self.old.is_refused) (V.readings versions.old) (V.readings versions.new) (K.contents sink.old) (K.contents sink.new)) }
         ensures unfailed { result ≢ Err SessionFault.Write → K.failed_calls sink.new ≡ K.failed_calls sink.old }
         ensures unread { result ≢ Err SessionFault.Read }
         // nothing for an empty line, and else one write, of what is answered to it
@@ -378,7 +383,7 @@ impl<'a, 'd, J: Naming + StoreName, R: Wait + Drop> Run<'a, 'd, J, R> {
         ensures writes { OnOk result (K.failed_calls sink.new ≡ K.failed_calls sink.old) }
         ensures wrote { result ≡ Err SessionFault.Write → K.failed_calls sink.new ≡ K.failed_calls sink.old + 1 }
         ensures answers { OnOk result (HasAnswers (model_path self.old.paths) (test_paths self.old.paths) (AreIn line.old.items (byte ∷ []) line.new.items) (standing_of self.old.watched.texts self.old.watched.names self.old.lines self.old.is_refused) (standing_of self.new.watched.texts self.new.watched.names self.new.lines self.new.is_refused) (V.readings versions.old) (V.readings versions.new) (K.contents sink.old) (K.contents sink.new)) }
-        ensures cut { OnErr result (HasFront (model_path self.old.paths) (test_paths self.old.paths) (AreFrontIn line.old.items (byte ∷ [])) (standing_of self.old.watched.texts self.old.watched.names self.old.lines self.old.is_refused) (K.contents sink.old) (K.contents sink.new)) }
+        ensures cut { OnErr result (HasFront (model_path self.old.paths) (test_paths self.old.paths) (AreFrontIn line.old.items (byte ∷ [])) (standing_of self.old.watched.texts self.old.watched.names self.old.lines self.old.is_refused) (V.readings versions.old) (V.readings versions.new) (K.contents sink.old) (K.contents sink.new)) }
         ensures unfailed { result ≢ Err SessionFault.Write → K.failed_calls sink.new ≡ K.failed_calls sink.old }
         ensures unread { result ≢ Err SessionFault.Read }
     {
@@ -408,7 +413,7 @@ impl<'a, 'd, J: Naming + StoreName, R: Wait + Drop> Run<'a, 'd, J, R> {
         ensures writes { OnOk result (K.failed_calls sink.new ≡ K.failed_calls sink.old) }
         ensures wrote { result ≡ Err SessionFault.Write → K.failed_calls sink.new ≡ K.failed_calls sink.old + 1 }
         ensures answers { OnOk result (HasAnswers (model_path self.old.paths) (test_paths self.old.paths) (AreIn line.old.items bytes.now line.new.items) (standing_of self.old.watched.texts self.old.watched.names self.old.lines self.old.is_refused) (standing_of self.new.watched.texts self.new.watched.names self.new.lines self.new.is_refused) (V.readings versions.old) (V.readings versions.new) (K.contents sink.old) (K.contents sink.new)) }
-        ensures cut { OnErr result (HasFront (model_path self.old.paths) (test_paths self.old.paths) (AreFrontIn line.old.items bytes.now) (standing_of self.old.watched.texts self.old.watched.names self.old.lines self.old.is_refused) (K.contents sink.old) (K.contents sink.new)) }
+        ensures cut { OnErr result (HasFront (model_path self.old.paths) (test_paths self.old.paths) (AreFrontIn line.old.items bytes.now) (standing_of self.old.watched.texts self.old.watched.names self.old.lines self.old.is_refused) (V.readings versions.old) (V.readings versions.new) (K.contents sink.old) (K.contents sink.new)) }
         ensures unfailed { result ≢ Err SessionFault.Write → K.failed_calls sink.new ≡ K.failed_calls sink.old }
         ensures unread { result ≢ Err SessionFault.Read }
     {
@@ -437,7 +442,7 @@ impl<'a, 'd, J: Naming + StoreName, R: Wait + Drop> Run<'a, 'd, J, R> {
         ensures writes { OnOk result (K.failed_calls sink.new ≡ K.failed_calls sink.old) }
         ensures wrote { result ≡ Err SessionFault.Write → K.failed_calls sink.new ≡ K.failed_calls sink.old + 1 }
         ensures answers { IfOk result (λ goes_on. HasAnswers (model_path self.old.paths) (test_paths self.old.paths) (AreOfTurn goes_on line.old.items line.new.items (S.remaining source.old) (S.remaining source.new)) (standing_of self.old.watched.texts self.old.watched.names self.old.lines self.old.is_refused) (standing_of self.new.watched.texts self.new.watched.names self.new.lines self.new.is_refused) (V.readings versions.old) (V.readings versions.new) (K.contents sink.old) (K.contents sink.new)) }
-        ensures cut { OnErr result (HasFront (model_path self.old.paths) (test_paths self.old.paths) (AreFrontOf line.old.items (S.remaining source.old)) (standing_of self.old.watched.texts self.old.watched.names self.old.lines self.old.is_refused) (K.contents sink.old) (K.contents sink.new)) }
+        ensures cut { OnErr result (HasFront (model_path self.old.paths) (test_paths self.old.paths) (AreFrontOf line.old.items (S.remaining source.old)) (standing_of self.old.watched.texts self.old.watched.names self.old.lines self.old.is_refused) (V.readings versions.old) (V.readings versions.new) (K.contents sink.old) (K.contents sink.new)) }
         ensures unfailed { result ≢ Err SessionFault.Write → K.failed_calls sink.new ≡ K.failed_calls sink.old }
         ensures unread { result ≢ Err SessionFault.Read → S.failed_calls source.new ≡ S.failed_calls source.old }
     {
@@ -473,7 +478,7 @@ impl<'a, 'd, J: Naming + StoreName, R: Wait + Drop> Run<'a, 'd, J, R> {
         ensures writes { OnOk result (K.failed_calls sink.new ≡ K.failed_calls sink.old) }
         ensures wrote { result ≡ Err SessionFault.Write → K.failed_calls sink.new ≡ K.failed_calls sink.old + 1 }
         ensures answers { OnOk result (HasAnswers (model_path self.old.paths) (test_paths self.old.paths) (AreAll (S.remaining source.old)) (standing_of self.old.watched.texts self.old.watched.names self.old.lines self.old.is_refused) (standing_of self.new.watched.texts self.new.watched.names self.new.lines self.new.is_refused) (V.readings versions.old) (V.readings versions.new) (K.contents sink.old) (K.contents sink.new)) }
-        ensures cut { OnErr result (HasFront (model_path self.old.paths) (test_paths self.old.paths) (AreFrontOf [] (S.remaining source.old)) (standing_of self.old.watched.texts self.old.watched.names self.old.lines self.old.is_refused) (K.contents sink.old) (K.contents sink.new)) }
+        ensures cut { OnErr result (HasFront (model_path self.old.paths) (test_paths self.old.paths) (AreFrontOf [] (S.remaining source.old)) (standing_of self.old.watched.texts self.old.watched.names self.old.lines self.old.is_refused) (V.readings versions.old) (V.readings versions.new) (K.contents sink.old) (K.contents sink.new)) }
         ensures unfailed { result ≢ Err SessionFault.Write → K.failed_calls sink.new ≡ K.failed_calls sink.old }
         ensures unread { result ≢ Err SessionFault.Read → S.failed_calls source.new ≡ S.failed_calls source.old }
     {
@@ -505,7 +510,7 @@ impl<'a, 'd, J: Naming + StoreName, R: Wait + Drop> Run<'a, 'd, J, R> {
         ensures writes { OnOk result (K.failed_calls sink.new ≡ K.failed_calls sink.old) }
         ensures wrote { result ≡ Err SessionFault.Write → K.failed_calls sink.new ≡ K.failed_calls sink.old + 1 }
         ensures run { IfOk result (λ refused. IsRun (model_path self.old.paths) (test_paths self.old.paths) (lists_of self.old.lines.items) refused (S.remaining source.old) (V.readings versions.old) (V.readings versions.new) (K.contents sink.old) (K.contents sink.new)) }
-        ensures cut { OnErr result (IsCut (model_path self.old.paths) (test_paths self.old.paths) (lists_of self.old.lines.items) (S.remaining source.old) (K.contents sink.old) (K.contents sink.new)) }
+        ensures cut { OnErr result (IsCut (model_path self.old.paths) (test_paths self.old.paths) (lists_of self.old.lines.items) (S.remaining source.old) (V.readings versions.old) (V.readings versions.new) (K.contents sink.old) (K.contents sink.new)) }
         ensures unfailed { result ≢ Err SessionFault.Write → K.failed_calls sink.new ≡ K.failed_calls sink.old }
         ensures unread { result ≢ Err SessionFault.Read → S.failed_calls source.new ≡ S.failed_calls source.old }
     {

@@ -29,7 +29,7 @@ returns-then-not-goes_on-clause-answers g c =
 
 pub returns-in_err-goes_on-clause-cut : goal.returns-in_err-goes_on-clause-cut
 returns-in_err-goes_on-clause-cut g c =
-    on_err _ _ (front_behind _ _ _ _ _ _ _ _ _ _ _ _ (λ x y first then. front_after _ c.loop-turn.line.items _ _ x y first then)
+    on_err _ _ (front_behind _ _ _ _ _ _ _ _ _ _ _ _ _ (λ x y first then. front_after _ c.loop-turn.line.items _ _ x y first then)
     c.loop-turn.invariant.answers (rw c.loop-turn.invariant.paths at c.in_err-goes_on.ensures.cut))
 
 pub returns-clause-cut : goal.returns-clause-cut

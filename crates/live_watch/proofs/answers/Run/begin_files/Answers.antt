@@ -1,5 +1,6 @@
 use Rattle.std.proofs.Common.{◌∙◌, arith}
-use Rattle.live_watch.proofs.Gaining.{begun_first, begun_next, begun_all}
+use Rattle.live_watch.proofs.Gaining.{few_read, begun_first, begun_next, begun_all, begun_and_one}
+use Rattle.live_watch.proofs.Fronts.{on_err}
 use Rattle.live_watch.proofs.answers.Run.begin_files.Goals as goal
 
 pub loop-index-init : goal.loop-index-init
@@ -18,3 +19,10 @@ loop-index-preserved g c = record {
 
 pub returns-clause-begun : goal.returns-clause-begun
 returns-clause-begun g c = begun_all _ _ _ _ _ _ _ _ (omega arith) c.loop-index.invariant.begun
+
+pub returns-in_err-begin_file-clause-readings : goal.returns-in_err-begin_file-clause-readings
+returns-in_err-begin_file-clause-readings g c = on_err _ _ (few_read 1 _ _ _ (omega arith) c.in_err-begin_file.ensures.readings)
+
+pub returns-in_err-begin_file-2-clause-readings : goal.returns-in_err-begin_file-2-clause-readings
+returns-in_err-begin_file-2-clause-readings g c =
+    on_err _ _ (begun_and_one _ c.args.paths.tests.now c.loop-index.index _ _ _ _ _ _ (omega arith) c.loop-index.invariant.begun c.in_err-begin_file-2.ensures.readings)

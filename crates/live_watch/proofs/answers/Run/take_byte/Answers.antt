@@ -1,5 +1,5 @@
 use Rattle.std.proofs.Common.{[], ◌∷◌}
-use Rattle.live_watch.proofs.Gaining.{gains_none, in_byte}
+use Rattle.live_watch.proofs.Gaining.{gains_none, in_byte, none_read}
 use Rattle.live_watch.proofs.Fronts.{on_err, front_none, front_so, line_in, none_in}
 use Rattle.live_watch.proofs.answers.Run.take_byte.Goals as goal
 
@@ -9,7 +9,7 @@ returns-clause-answers g c =
 
 pub returns-in_err-write_answer-clause-cut : goal.returns-in_err-write_answer-clause-cut
 returns-in_err-write_answer-clause-cut g c =
-    on_err _ _ (front_so _ _ _ _ _ _ _ (line_in c.args.line.now.items c.args.byte c.if-byte-eq10.true) (rw c.deref.ensures.value at c.in_err-write_answer.ensures.cut))
+    on_err _ _ (front_so _ _ _ _ _ _ _ _ _ (line_in c.args.line.now.items c.args.byte c.if-byte-eq10.true) (rw c.deref.ensures.value at c.in_err-write_answer.ensures.cut))
 
 pub returns-in_err-memory-clause-cut : goal.returns-in_err-memory-clause-cut
-returns-in_err-memory-clause-cut g c = on_err _ _ (front_none _ _ _ _ _ (none_in c.args.line.now.items (c.args.byte ∷ [])))
+returns-in_err-memory-clause-cut g c = on_err _ _ (front_none _ _ _ _ _ _ _ (none_in c.args.line.now.items (c.args.byte ∷ [])) (none_read _))

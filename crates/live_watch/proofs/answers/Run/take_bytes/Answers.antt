@@ -18,6 +18,6 @@ loop-byte-preserved g c = record {
 
 pub returns-in_err-take_byte-clause-cut : goal.returns-in_err-take_byte-clause-cut
 returns-in_err-take_byte-clause-cut g c =
-    on_err _ _ (front_behind _ _ _ _ _ _ _ _ _ _ _ _
+    on_err _ _ (front_behind _ _ _ _ _ _ _ _ _ _ _ _ _
     (λ x y first then. next_in c.args.line.now.items c.loop-byte.line.items c.args.bytes.now c.loop-byte.byte-index _ x y (omega arith) first then)
     c.loop-byte.invariant.answers (rw c.loop-byte.invariant.paths at c.in_err-take_byte.ensures.cut))

@@ -12,7 +12,7 @@ returns-clause-answers g c =
     c.in_ok-text.ensures.answer (rw c.deref.ensures.value at c.in_ok-write_text.ensures.gains)
 
 pub returns-in_err-text-clause-cut : goal.returns-in_err-text-clause-cut
-returns-in_err-text-clause-cut g c = on_err _ _ (front_none _ _ _ _ _ (none_of_line c.args.line.now))
+returns-in_err-text-clause-cut g c = on_err _ _ (front_none _ _ _ _ _ _ _ (none_of_line c.args.line.now) c.in_err-text.ensures.readings)
 
 pub returns-in_err-write_text-clause-cut : goal.returns-in_err-write_text-clause-cut
 returns-in_err-write_text-clause-cut g c =
