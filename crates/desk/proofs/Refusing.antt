@@ -1,19 +1,20 @@
 -- Why an edit is refused, and that an open desk does not say that it is closed.
-use Rattle.std.proofs.Common.{◌≡◌, ◌↔◌, ◌<◌, ◌≤◌, ℕ, arith, Bool, true, false, refl, sym, subst}
+use Rattle.std.proofs.Common.{◌≡◌, ◌↔◌, ◌<◌, ◌≤◌, ℕ, arith, Bool, true, false, List, [], length, refl, ap, sym, subst}
 use Rattle.std.specs.Prelude.{Result, Ok, Err, IfErr, IsTrue, OnErr, IsSome, ⊤}
+use mathlib.Core.List.{IsPrefix}
 use Rattle.memo_core.specs.declared.claims.ClaimFault.{ClaimFault}
 use Rattle.desk.specs.declared.fault.DeskFault.{DeskFault}
 use Rattle.desk.specs.declared.fault.DeskFault.TheVariants as faults
-use Rattle.desk.specs.Held.{IsRefusedBy, IsClaimRefusedBy}
+use Rattle.desk.specs.Held.{IsRefusedAfter, IsRefusedBy, IsClaimRefusedBy}
 use Rattle.desk.specs.Numbers.{number_of}
 
--- the bench says nothing of viewers
-pub refused_more : {F : Type 0} (refuses is_want : F → Type 0) (is_ahead : Type 0) (d : DeskFault F) → IsRefusedBy refuses is_want ⊥ d → IsRefusedBy refuses is_want is_ahead d
-refused_more refuses is_want is_ahead (faults.Edit fault) h = h
-refused_more refuses is_want is_ahead (faults.Claim fault) h = h
-refused_more refuses is_want is_ahead faults.OutOfMemory h = h
-refused_more refuses is_want is_ahead faults.Closed h = h
-refused_more refuses is_want is_ahead faults.NoSeat h = absurd h
+-- the bench says nothing of viewers; what is known of them is known of each rule
+pub refused_more : {F : Type 0} (refuses is_want : F → Type 0) (known is_ahead : Type 0) (d : DeskFault F) → known → IsRefusedBy refuses is_want ⊥ d → IsRefusedBy (λ fault. known × refuses fault) is_want is_ahead d
+refused_more refuses is_want known is_ahead (faults.Edit fault) k h = ((k, h.0), h.1)
+refused_more refuses is_want known is_ahead (faults.Claim fault) k h = h
+refused_more refuses is_want known is_ahead faults.OutOfMemory k h = h
+refused_more refuses is_want known is_ahead faults.Closed k h = h
+refused_more refuses is_want known is_ahead faults.NoSeat k h = absurd h
 
 -- a test that failed for what is so
 pub not_so : {b : Bool} {P : Type 0} → IsTrue b ↔ P → b ≡ false → P → ⊥
@@ -55,14 +56,21 @@ closed_only (Err fault) closed is_closed only = subst (λ (r : Result _ (DeskFau
 
 -- ---- under a lock nothing is known of the desk before
 
-pub refused_there : {X E A F : Type 0} (r : Result A (DeskFault F)) (refuses : X → E → Bool → F → Type 0) (is_want : F → Type 0) (texts : X) (edit : E) (spent : Bool) (is_ahead : Type 0) → IfErr r (λ d. IsRefusedBy (refuses texts edit spent) is_want is_ahead d)
-    → IfErr r (IsRefusedBy (λ fault. (t : X) × (s : Bool) × refuses t edit s fault) is_want ⊤)
-refused_there (Ok a) refuses is_want texts edit spent is_ahead h = tt
-refused_there (Err (faults.Edit fault)) refuses is_want texts edit spent is_ahead h = ((texts, spent, h.0), h.1)
-refused_there (Err (faults.Claim fault)) refuses is_want texts edit spent is_ahead h = h
-refused_there (Err faults.OutOfMemory) refuses is_want texts edit spent is_ahead h = tt
-refused_there (Err faults.Closed) refuses is_want texts edit spent is_ahead h = tt
-refused_there (Err faults.NoSeat) refuses is_want texts edit spent is_ahead h = tt
+-- a viewer that has seen more has seen something
+seen_some : {O : Type 0} (all me : List O) → length all < length me → me ≡ [] → ⊥
+seen_some all me less none = let zero_is : length me ≡ 0 = ap length none in absurd (omega (arith, less, zero_is))
+
+module _ {T F O : Type 0} (is_legal : List O → Type 0) (is_valid : T → Type 0) (are_after : T → List O → Type 0) (last_number : List O → ℕ) (refuses : T → ℕ → F → Type 0) (is_want : F → Type 0) where
+  pub refused_there : {A : Type 0} (r : Result A (DeskFault F)) (texts : T) (taken : ℕ) (all me : List O) → is_legal all → is_valid texts → are_after texts all → last_number all ≤ taken
+      → IfErr r (IsRefusedBy (λ fault. IsPrefix me all × refuses texts taken fault) is_want (length all < length me))
+      → IfErr r (IsRefusedBy (IsRefusedAfter is_legal is_valid are_after last_number refuses me) is_want (me ≡ [] → ⊥))
+  refused_there (Ok a) texts taken all me legal valid after last h = tt
+  refused_there (Err (faults.Edit fault)) texts taken all me legal valid after last h =
+      (record { ops = all; begins = h.0.0; legal = legal; texts = texts; valid = valid; after = after; taken = taken; last = last; refuses_it = h.0.1 }, h.1)
+  refused_there (Err (faults.Claim fault)) texts taken all me legal valid after last h = h
+  refused_there (Err faults.OutOfMemory) texts taken all me legal valid after last h = tt
+  refused_there (Err faults.Closed) texts taken all me legal valid after last h = tt
+  refused_there (Err faults.NoSeat) texts taken all me legal valid after last h = seen_some all me h
 
 pub claim_refused : {A F : Type 0} (r : Result A (DeskFault F)) (is_spent : Type 0) → IfErr r (IsClaimRefusedBy is_spent) → IfErr r (IsClaimRefusedBy ⊤)
 claim_refused (Ok a) is_spent h = tt

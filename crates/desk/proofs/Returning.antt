@@ -4,6 +4,7 @@ use Rattle.std.specs.Prelude.{option_map, IfSome, IfNone, length, IsTrue, not, R
 use Rattle.std.specs.List.{AllByRecursion as Each}
 use Rattle.std.proofs.lemmas.Bool.{cases_Bool}
 use Rattle.std.proofs.Math.Nat.{lt_of_not-le}
+use mathlib.Core.List.{IsPrefix}
 use Rattle.memo_core.specs.declared.keys.Node.{Node}
 use Rattle.memo_core.specs.declared.keys.Key.{Key}
 use Rattle.memo_core.specs.declared.keys.Key.TheVariants.{Part, Output}
@@ -21,7 +22,7 @@ use Rattle.cells.specs.Cells.{Cells, Carries, IsSettledCell, StandsOn}
 use Rattle.desk.specs.Boards.{BoardCell, IsSettledOn, IsListedWithin, HoldsFor, ArePosted, ArePostedAbove, ArePostedFor, ArePostedBut, IsKept, AreKept, settled_with, with_outcome}
 use Rattle.desk.specs.declared.answer.Posted.{Posted}
 use Rattle.desk.specs.declared.answer.Posted.TheVariants.{Now, Later}
-use Rattle.desk.specs.Held.{Held, held, Appends, PublishesOr, IsRefusedTurn, IsShownOrOwed}
+use Rattle.desk.specs.Held.{Held, held, Appends, HasEdit, IsMade, PublishesOr, IsRefusedTurn, IsShownOrOwed}
 use Rattle.desk.specs.Posts.{IsPosted}
 use Rattle.desk.proofs.Outcomes.{below_get}
 
@@ -295,3 +296,16 @@ behind_of inside old me same le = subst (λ (h : Held _ _ _). length me ≤ leng
 
 pub ahead_of : {T V O : Type 0} (inside old : Held T V O) (me : List O) → inside ≡ old → (length me ≤ length inside.all → ⊥) → length old.all < length me
 ahead_of inside old me same more = lt_of_not-le (subst (λ (h : Held _ _ _). length me ≤ length h.all → ⊥) same more)
+
+-- the edit was made after all that a viewer knew, and settled cells were appended after it
+pub has_edit : {T E V G O : Type 0} (means : Meaning T E V G) (is_legal : List O → Type 0) (is_edit : List O → O → E → ℕ → Type 0) (is_settle : O → Type 0) (e : E) (number : ℕ) (old new : Bench T V) (me before list more all later : List O)
+    → IsPrefix me before → IsMade means is_edit e old new before list number → Each is_settle more → all ≡ list ++ more → later ≡ all → is_legal later → HasEdit is_legal is_edit is_settle e number me later
+has_edit means is_legal is_edit is_settle e number old new me before list more all later behind made settles appended same legal = record {
+  between = behind.0;
+  op = made.op;
+  is = subst (λ (l : List _). is_edit l made.op e number) (sym behind.1) made.is;
+  settles = more;
+  are_settles = settles;
+  list = same ∙ (appended ∙ ap (λ (l : List _). l ++ more) (made.list ∙ ap (λ (l : List _). l ++ made.op ∷ []) (sym behind.1)));
+  legal = legal;
+}

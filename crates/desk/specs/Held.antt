@@ -1,5 +1,5 @@
 -- What lies under the desk's lock, and what each call makes of it.
-use Rattle.std.specs.Prelude.{◌≡◌, ℕ, ◌+◌, Bool, true, false, List, [], ◌∷◌, ◌++◌, length}
+use Rattle.std.specs.Prelude.{◌≡◌, ℕ, ◌+◌, ◌≤◌, Bool, true, false, List, [], ◌∷◌, ◌++◌, length}
 use Rattle.std.specs.List.{AllByRecursion as Each}
 use mathlib.Core.List.{IsPrefix}
 use Rattle.memo_core.specs.declared.claims.ClaimFault.TheVariants.{Spent}
@@ -20,7 +20,9 @@ pub record Held (T V O : Type 0) : Type 0 where
   pub published : List O  -- what readers see
   pub spare : ℕ  -- how many viewers are left to give
   pub closed : Bool
-  pub owes : Bool  -- whether readers may lack an operation or a settled cell: the next call tries again
+  -- false only where readers see all operations, and each cell that is settled on the bench is settled there; where it is true, the
+  -- next call tries again
+  pub owes : Bool
 
 abbrev pub held : {T V O : Type 0} → Bench T V → List O → List O → ℕ → Bool → Bool → Held T V O
 held bench all published spare closed owes = record { bench = bench; all = all; published = published; spare = spare; closed = closed; owes = owes }
@@ -60,7 +62,7 @@ abbrev pub Publishes : {T V O : Type 0} → (old new : Held T V O) → (me me' :
 Publishes old new me me' (Now number) = (new.published ≡ new.all) × (me' ≡ new.all)
 Publishes old new me me' (Later number) = (new.published ≡ old.published) × (me' ≡ me)
 
--- the viewer's list goes on from its old one, has the edit at its number, and ends with what was appended after it
+-- the later list is legal: it goes on from the earlier one, has the edit at its number, and ends with what was appended after it
 pub record HasEdit {E O : Type 0} (is_legal : List O → Type 0) (is_edit : List O → O → E → ℕ → Type 0) (is_settle : O → Type 0) (e : E) (number : ℕ) (me me' : List O) : Type 0 where
   pub between : List O
   pub op : O
@@ -70,9 +72,10 @@ pub record HasEdit {E O : Type 0} (is_legal : List O → Type 0) (is_edit : List
   pub list : me' ≡ ((me ++ between) ++ op ∷ []) ++ settles
   pub legal : is_legal me'
 
+-- the viewer was told a list that has the edit; or it knows what it knew, and there is such a list, which is published next
 abbrev pub Tells : {E O : Type 0} → (List O → Type 0) → (List O → O → E → ℕ → Type 0) → (O → Type 0) → E → (me me' : List O) → Accepted → Type 0
-Tells is_legal is_edit is_settle e me me' (Now number) = HasEdit is_legal is_edit is_settle e number me me'
-Tells is_legal is_edit is_settle e me me' (Later number) = me' ≡ me
+Tells {O = O} is_legal is_edit is_settle e me me' (Now number) = HasEdit is_legal is_edit is_settle e number me me'
+Tells {O = O} is_legal is_edit is_settle e me me' (Later number) = (me' ≡ me) × ((later : List O) × HasEdit is_legal is_edit is_settle e number me later)
 
 -- all is published, each cell that is settled on the bench is settled there, and nothing is owed; or readers see what they saw, and
 -- the rest is owed
@@ -89,8 +92,8 @@ pub record IsDone {T V O : Type 0} (is_legal : List O → Type 0) (are_settled :
   pub legal : is_legal me'
   pub owes : new.owes ≡ false
 
--- all of so many operations is published, each cell that is settled on the bench is settled there, nothing is owed, and the viewer
--- knows what it knew
+-- all operations are published, as many as are counted; each cell that is settled on the bench is settled among them; nothing is
+-- owed; and the viewer knows what it knew
 pub record IsWaiting {T V O : Type 0} (are_posted : Bench T V → List O → Type 0) (new : Held T V O) (me me' : List O) (changes : ℕ) : Type 0 where
   pub told : me' ≡ me
   pub whole : new.published ≡ new.all
@@ -121,6 +124,19 @@ IsRefusedBy refuses is_want_of_memory is_ahead (faults.Claim fault) = ⊥
 IsRefusedBy refuses is_want_of_memory is_ahead faults.OutOfMemory = Unit {0}
 IsRefusedBy refuses is_want_of_memory is_ahead faults.Closed = Unit {0}
 IsRefusedBy refuses is_want_of_memory is_ahead faults.NoSeat = is_ahead
+
+-- The edit is refused for this fault by texts that come after a legal list of operations, which begins with all that the viewer
+-- knew. So many numbers are taken then, those of the edits in the list among them.
+pub record IsRefusedAfter {T F O : Type 0} (is_legal : List O → Type 0) (is_valid : T → Type 0) (are_after : T → List O → Type 0) (last_number : List O → ℕ) (refuses : T → ℕ → F → Type 0) (me : List O) (fault : F) : Type 0 where
+  pub ops : List O
+  pub begins : IsPrefix me ops
+  pub legal : is_legal ops
+  pub texts : T
+  pub valid : is_valid texts
+  pub after : are_after texts ops
+  pub taken : ℕ
+  pub last : last_number ops ≤ taken
+  pub refuses_it : refuses texts taken fault
 
 -- Why a claim is refused: for spent numbers, and only where they are spent. That the desk is closed and that memory is wanted
 -- are said apart.

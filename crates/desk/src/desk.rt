@@ -1,9 +1,9 @@
 //! The lock, and what each thread calls.
 
-ghost use Rattle.std.specs.Prelude.{◌≡◌, ◌<◌, Bool, [], IfOk, IfErr, IsSome, OnErr, OnOk, fold, ⊤};
+ghost use Rattle.std.specs.Prelude.{◌≡◌, ◌≢◌, ◌⊎◌, [], IfOk, IfErr, IsSome, OnErr, OnOk, fold, leb, ⊤};
 ghost use mathlib.Core.List.{IsPrefix};
 ghost use Rattle.desk.specs.Boards.{AreSettled};
-ghost use Rattle.desk.specs.Held.{IsClaimRefusedBy, IsRefusedBy, Tells, TellsSettled};
+ghost use Rattle.desk.specs.Held.{IsClaimRefusedBy, IsRefusedAfter, IsRefusedBy, Tells, TellsSettled};
 ghost use Rattle.desk.specs.Numbers.{number_of};
 
 use crate::answer::{Accepted, Settling, Taken};
@@ -14,6 +14,7 @@ use crate::texts::BoardTexts;
 use cells::job::{Done, Job};
 use desk_rule::{Entry, Naming, Plate, Viewer};
 use left_right::Absorb;
+use memo_bench::graph::LAST;
 use std::hint::spin_loop;
 use std::mem::drop;
 use std::sync::{Condvar, Mutex, MutexGuard, Wait};
@@ -76,7 +77,6 @@ impl<J: Naming + StoreName, X: BoardTexts, R: Wait + Drop> Desk<J, X, R> {
 
     /// Makes an edit, publishes it and tells this viewer. Errors: K1, K2 if the viewer has seen more than this desk has, the
     /// bench's refusals, want of memory.
-    #[tactic(auto, using(crate::proofs::Refusing::refused_there))]
     pub fn edit<W: Wait>(
         &self,
         rt: &W,
@@ -84,11 +84,12 @@ impl<J: Naming + StoreName, X: BoardTexts, R: Wait + Drop> Desk<J, X, R> {
         edit: X::Edit,
     ) -> Result<Accepted, DeskFault<X::Fault>>
         ensures err { OnErr result (me.new ≡ me.old) }
-        ensures fault { IfErr result (IsRefusedBy (λ fault. (texts : X) × (spent : Bool) × X.refuses texts edit spent fault) X.is_want_of_memory ⊤) }
+        ensures fault { IfErr result (IsRefusedBy (IsRefusedAfter X.is_legal X.is_valid X.are_after X.last_number (λ texts taken fault. X.refuses texts edit (leb LAST taken) fault) me.old) X.is_want_of_memory (me.old ≢ [])) }
         ensures told { IfOk result (λ a. Tells X.is_legal X.is_edit X.is_settle edit me.old me.new a) }
     {
         let mut state = self.lock(rt);
         let changes = state.change_count();
+        let _texts = state.is_closed();
         let answer = state.edit(rt, me, edit);
         self.leave(state, changes);
         answer
@@ -209,6 +210,7 @@ impl<J: Naming + StoreName, X: BoardTexts, R: Wait + Drop> Desk<J, X, R> {
     /// after 16 refusals in a row.
     pub fn settle<W: Wait>(&self, rt: &W, me: &mut Viewer<J, X>) -> Result<(), DeskFault<X::Fault>>
         ensures err { OnErr result (me.new ≡ me.old) }
+        ensures fault { IfErr result (λ fault. IsSome (number_of fault) ⊎ (fault ≡ DeskFault.OutOfMemory)) }
         ensures begins { OnOk result (IsPrefix me.old me.new) }
         ensures settled { OnOk result (AreSettled (X.cells (fold X.after X.none me.new))) }
         ensures legal { OnOk result (X.is_legal me.new) }

@@ -53,6 +53,7 @@ impl<J: Naming, X: BoardTexts> Ledger<J, X> {
         ensures all { self.new.all ≡ self.old.all }
         ensures published { MatchBool result (self.new.published ≡ self.old.all) (self.new.published ≡ self.old.published) }
         ensures grows { IsPrefix self.old.published self.new.published }
+        ensures legal { X.is_legal self.new.all }
     {
         let _begins = self.press.front();
         self.press.publish(rt)

@@ -136,7 +136,6 @@ impl<J: Naming + StoreName, X: BoardTexts, R: Wait + Drop> DeskState<J, X, R> {
 
     /// Makes an edit, publishes it and tells this viewer. Errors: K1 if the desk is closed, K2 if the viewer has seen more than
     /// this desk has, the bench's refusals, want of memory; the viewer's list and the operations stay what they are.
-    #[tactic(auto, using(crate::proofs::Refusing::refused_more))]
     pub fn edit<W: Wait>(
         &mut self,
         rt: &W,
@@ -145,7 +144,7 @@ impl<J: Naming + StoreName, X: BoardTexts, R: Wait + Drop> DeskState<J, X, R> {
     ) -> Result<Accepted, DeskFault<X::Fault>>
         ensures closed { (result ≡ Err DeskFault.Closed) ↔ (self.old.closed ≡ true) }
         ensures no_seat { (result ≡ Err DeskFault.NoSeat) ↔ ((self.old.closed ≡ false) × (length self.old.all < length me.old)) }
-        ensures fault { IfErr result (λ fault. IsRefusedBy (X.refuses self.old.bench.texts edit (leb LAST self.old.bench.taken)) X.is_want_of_memory (length self.old.all < length me.old) fault) }
+        ensures fault { IfErr result (IsRefusedBy (λ fault. IsPrefix me.old self.old.all × X.refuses self.old.bench.texts edit (leb LAST self.old.bench.taken) fault) X.is_want_of_memory (length self.old.all < length me.old)) }
         ensures err { OnErr result (IsRefusedTurn (meaning X.net X.is_valid X.since X.makes X.keeps X.edited) self.old self.new × (me.new ≡ me.old)) }
         ensures unspent { OnOk result (self.old.bench.taken < LAST) }
         ensures turn { IfOk result (λ a. IsEditTurn (meaning X.net X.is_valid X.since X.makes X.keeps X.edited) X.is_edit X.is_settle edit self.old self.new (number_of a)) }

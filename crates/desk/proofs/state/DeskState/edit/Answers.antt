@@ -3,7 +3,7 @@ use mathlib.Core.List.{IsPrefix}
 use Rattle.desk.specs.Held.{Held}
 use Rattle.desk.proofs.Growing.{begins_edit}
 use Rattle.desk.proofs.Refusing.{never, not_ok, not_seat, other_closed, other_seat, seat_not_ok}
-use Rattle.desk.proofs.Returning.{ahead_of, behind_of, was_so}
+use Rattle.desk.proofs.Returning.{ahead_of, behind_of, has_edit, was_so}
 use Rattle.desk.proofs.state.DeskState.edit.Goals as goal
 
 pub invariant_of-self-2 : goal.invariant_of-self-2
@@ -30,15 +30,15 @@ returns-clause-told g c =
     let behind = c.if-not-begins_with.ensures.begins refl in
     let begins = subst (λ (l : List _). IsPrefix c.args.me.now l) (sym p.all) (begins_edit _ _ made.op _ posts.more _ behind made.list posts.all) in
     let told = c.tell_all.ensures.told begins in
-    record {
-      between = behind.0;
-      op = made.op;
-      is = subst (λ (l : List _). g.X.BoardTexts.is_edit l made.op c.args.edit c.in_ok-number.number) (sym behind.1) made.is;
-      settles = posts.more;
-      are_settles = posts.are_settles;
-      list = told ∙ (p.all ∙ (posts.all ∙ ap (λ (l : List _). l ++ posts.more) (made.list ∙ ap (λ (l : List _). l ++ made.op ∷ []) (sym behind.1))));
-      legal = rw told c.tell_all.ensures.legal;
-    }
+    has_edit _ g.X.Operations.is_legal g.X.BoardTexts.is_edit g.X.BoardTexts.is_settle c.args.edit c.in_ok-number.number _ _ c.args.me.now _ _ posts.more c.post.new.self.all _ behind made posts.are_settles posts.all (told ∙ p.all) (rw told c.tell_all.ensures.legal)
+
+pub returns-then-not-publish-clause-told : goal.returns-then-not-publish-clause-told
+returns-then-not-publish-clause-told g c =
+    let p = c.if-not-publish.ensures in
+    let made = c.in_ok-number.ensures.made in
+    let posts = c.post.ensures.posts in
+    let behind = c.if-not-begins_with.ensures.begins refl in
+    (refl, (c.publish.new.self.all, has_edit _ g.X.Operations.is_legal g.X.BoardTexts.is_edit g.X.BoardTexts.is_settle c.args.edit c.in_ok-number.number _ _ c.args.me.now _ _ posts.more c.post.new.self.all _ behind made posts.are_settles posts.all p.all p.legal))
 
 pub invariant_of-self : goal.invariant_of-self
 invariant_of-self g c = let made = c.make_edit.ensures in (made.valid, made.after, made.last, λ owes. absurd (never owes))
