@@ -1,5 +1,5 @@
 -- What lies under the desk's lock, and what each call makes of it.
-use Rattle.std.specs.Prelude.{◌≡◌, ℕ, ◌+◌, ◌≤◌, Bool, true, false, List, [], ◌∷◌, ◌++◌, length}
+use Rattle.std.specs.Prelude.{◌≡◌, ◌⊎◌, ℕ, ◌+◌, ◌≤◌, Bool, true, false, List, [], ◌∷◌, ◌++◌, length}
 use Rattle.std.specs.List.{AllByRecursion as Each}
 use mathlib.Core.List.{IsPrefix}
 use Rattle.memo_core.specs.declared.claims.ClaimFault.TheVariants.{Spent}
@@ -76,6 +76,19 @@ pub record HasEdit {E O : Type 0} (is_legal : List O → Type 0) (is_edit : List
 abbrev pub Tells : {E O : Type 0} → (List O → Type 0) → (List O → O → E → ℕ → Type 0) → (O → Type 0) → E → (me me' : List O) → Accepted → Type 0
 Tells {O = O} is_legal is_edit is_settle e me me' (Now number) = HasEdit is_legal is_edit is_settle e number me me'
 Tells {O = O} is_legal is_edit is_settle e me me' (Later number) = (me' ≡ me) × ((later : List O) × HasEdit is_legal is_edit is_settle e number me later)
+
+-- readers see all operations, or what they saw
+abbrev pub ShowsAllOrAsBefore : {T V O : Type 0} → (old new : Held T V O) → Type 0
+ShowsAllOrAsBefore old new = (new.published ≡ new.all) ⊎ (new.published ≡ old.published)
+
+-- the desk is closed, and what was owed was tried once more: operations that settle cells may have been appended
+pub record IsClosing {T V O : Type 0} (is_settle : O → Type 0) (old new : Held T V O) : Type 0 where
+  pub settles : List O
+  pub are_settles : Each is_settle settles
+  pub all : new.all ≡ old.all ++ settles
+  pub bench : new.bench ≡ old.bench
+  pub spare : new.spare ≡ old.spare
+  pub closed : new.closed ≡ true
 
 -- all is published, each cell that is settled on the bench is settled there, and nothing is owed; or readers see what they saw, and
 -- the rest is owed

@@ -165,7 +165,7 @@ impl<J: Naming + StoreName, X: BoardTexts, R: Wait + Drop> Desk<J, X, R> {
     pub fn close<W: Wait>(&self, rt: &W) -> Result<(), DeskFault<X::Fault>>
         ensures { IfErr result (λ fault. fault ≡ DeskFault.Closed) }
     {
-        let answer = self.lock(rt).close();
+        let answer = self.lock(rt).close(rt);
         self.work.notify_all();
         self.change.notify_all();
         answer

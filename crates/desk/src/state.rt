@@ -6,7 +6,7 @@ ghost use Rattle.memo_core.specs.Laws.{meaning};
 ghost use Rattle.memo_core.specs.Run.{Claim as Claimed, NoClaim, Returned, Lose as Lost, Renew as Renewed, Refused, Step};
 ghost use Rattle.cells.specs.Cells.{cells as cells_of};
 ghost use Rattle.desk.specs.Boards.{ArePosted, ArePostedBut, AreSettled};
-ghost use Rattle.desk.specs.Held.{IsMade, IsRefusedBy, IsClaimRefusedBy};
+ghost use Rattle.desk.specs.Held.{IsMade, IsRefusedBy, IsClaimRefusedBy, IsClosing, ShowsAllOrAsBefore};
 
 use crate::answer::{Accepted, Posted, Settling, Taken};
 use crate::fault::DeskFault;
@@ -195,6 +195,7 @@ impl<J: Naming + StoreName, X: BoardTexts, R: Wait + Drop> DeskState<J, X, R> {
         ensures bench { self.new.bench ≡ self.old.bench }
         ensures appends { Appends X.is_settle self.old.all self.old self.new }
         ensures grows { IsPrefix self.old.published self.new.published }
+        ensures whole { ShowsAllOrAsBefore self.old self.new }
         ensures shown { IsShownOrOwed (λ bench ops. ArePosted X.net (cells_of X.verdict_of X.outcome_in X.from_scratch X.reaches) bench (X.cells (fold X.after X.none ops))) self.new }
         ensures still { self.old.owes ≡ false → self.new ≡ self.old }
     {
@@ -208,6 +209,7 @@ impl<J: Naming + StoreName, X: BoardTexts, R: Wait + Drop> DeskState<J, X, R> {
         ensures bench { self.new.bench ≡ self.old.bench }
         ensures appends { Appends X.is_settle self.old.all self.old self.new }
         ensures grows { IsPrefix self.old.published self.new.published }
+        ensures whole { ShowsAllOrAsBefore self.old self.new }
         ensures owes { result ≡ not self.new.owes }
         ensures shown { IsShownOrOwed (λ bench ops. ArePosted X.net (cells_of X.verdict_of X.outcome_in X.from_scratch X.reaches) bench (X.cells (fold X.after X.none ops))) self.new }
     {
@@ -226,6 +228,7 @@ impl<J: Naming + StoreName, X: BoardTexts, R: Wait + Drop> DeskState<J, X, R> {
         ensures none { IfOk result (λ r. IfNone r (Step (meaning X.net X.is_valid X.since X.makes X.keeps X.edited) self.old.bench NoClaim self.new.bench)) }
         ensures appends { OnOk result (Appends X.is_settle self.old.all self.old self.new) }
         ensures grows { OnOk result (IsPrefix self.old.published self.new.published) }
+        ensures whole { OnOk result (ShowsAllOrAsBefore self.old self.new) }
         ensures shown { OnOk result (IsShownOrOwed (λ bench ops. ArePosted X.net (cells_of X.verdict_of X.outcome_in X.from_scratch X.reaches) bench (X.cells (fold X.after X.none ops))) self.new) }
         ensures still { OnOk result (self.old.owes ≡ false → self.new ≡ held self.new.bench self.old.all self.old.published self.old.spare self.old.closed false) }
     {
@@ -276,6 +279,7 @@ impl<J: Naming + StoreName, X: BoardTexts, R: Wait + Drop> DeskState<J, X, R> {
         ensures step { IfOk result (λ r. Step (meaning X.net X.is_valid X.since X.makes X.keeps X.edited) self.old.bench (Lost claim r) self.new.bench) }
         ensures appends { OnOk result (Appends X.is_settle self.old.all self.old self.new) }
         ensures grows { OnOk result (IsPrefix self.old.published self.new.published) }
+        ensures whole { OnOk result (ShowsAllOrAsBefore self.old self.new) }
         ensures shown { OnOk result (IsShownOrOwed (λ bench ops. ArePosted X.net (cells_of X.verdict_of X.outcome_in X.from_scratch X.reaches) bench (X.cells (fold X.after X.none ops))) self.new) }
     {
         if self.closed {
@@ -295,6 +299,7 @@ impl<J: Naming + StoreName, X: BoardTexts, R: Wait + Drop> DeskState<J, X, R> {
         ensures step { OnOk result (Step (meaning X.net X.is_valid X.since X.makes X.keeps X.edited) self.old.bench Renewed self.new.bench) }
         ensures appends { OnOk result (Appends X.is_settle self.old.all self.old self.new) }
         ensures grows { OnOk result (IsPrefix self.old.published self.new.published) }
+        ensures whole { OnOk result (ShowsAllOrAsBefore self.old self.new) }
         ensures shown { OnOk result (IsShownOrOwed (λ bench ops. ArePosted X.net (cells_of X.verdict_of X.outcome_in X.from_scratch X.reaches) bench (X.cells (fold X.after X.none ops))) self.new) }
     {
         if self.closed {
@@ -321,6 +326,7 @@ impl<J: Naming + StoreName, X: BoardTexts, R: Wait + Drop> DeskState<J, X, R> {
         ensures bench { self.new.bench ≡ self.old.bench }
         ensures appends { OnOk result (Appends X.is_settle self.old.all self.old self.new) }
         ensures grows { OnOk result (IsPrefix self.old.published self.new.published) }
+        ensures whole { OnOk result (ShowsAllOrAsBefore self.old self.new) }
         ensures settles { IfOk result (λ r. Settles X.is_legal (λ ops. AreSettled (X.cells (fold X.after X.none ops))) (λ bench ops. ArePosted X.net (cells_of X.verdict_of X.outcome_in X.from_scratch X.reaches) bench (X.cells (fold X.after X.none ops))) self.new me.old me.new r) }
     {
         if self.closed {
@@ -356,15 +362,20 @@ impl<J: Naming + StoreName, X: BoardTexts, R: Wait + Drop> DeskState<J, X, R> {
         }
     }
 
-    /// From now on each call is refused. Errors: K1, if it was closed.
-    pub fn close(&mut self) -> Result<(), DeskFault<X::Fault>>
+    /// From now on each call is refused. What was owed to the readers is tried once more before. Errors: K1, if it was closed.
+    pub fn close<W: Wait>(&mut self, rt: &W) -> Result<(), DeskFault<X::Fault>>
         ensures closed { (result ≡ Err DeskFault.Closed) ↔ (self.old.closed ≡ true) }
         ensures only { OnErr result (self.old.closed ≡ true) }
-        ensures now { self.new ≡ held self.old.bench self.old.all self.old.published self.old.spare true self.old.owes }
+        ensures err { OnErr result (self.new ≡ self.old) }
+        ensures closes { OnOk result (IsClosing X.is_settle self.old self.new) }
+        ensures grows { OnOk result (IsPrefix self.old.published self.new.published) }
+        ensures whole { OnOk result (ShowsAllOrAsBefore self.old self.new) }
+        ensures shown { OnOk result (IsShownOrOwed (λ bench ops. ArePosted X.net (cells_of X.verdict_of X.outcome_in X.from_scratch X.reaches) bench (X.cells (fold X.after X.none ops))) self.new) }
     {
         if self.closed {
             return Err(DeskFault::Closed);
         }
+        self.try_again(rt);
         self.closed = true;
         Ok(())
     }

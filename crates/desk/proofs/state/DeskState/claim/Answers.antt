@@ -4,7 +4,7 @@ use Rattle.memo_core.specs.Laws.{meaning}
 use Rattle.memo_core.specs.Run.{Bench, Claim, NoClaim, Step}
 use Rattle.cells.specs.Cells.{cells as cells_of}
 use Rattle.desk.specs.Held.{Held}
-use Rattle.desk.proofs.Growing.{grown_from}
+use Rattle.desk.proofs.Growing.{grown_from, whole_from}
 use Rattle.desk.proofs.Refusing.{never, not_claim, not_memory, not_ok, other_closed}
 use Rattle.desk.proofs.Returning.{appends_since, still_since, refused_since, given_or_none, posted_claimed, posted_idle, later_claimed, later_idle}
 use Rattle.desk.proofs.state.DeskState.claim.Goals as goal
@@ -87,3 +87,6 @@ returns-clause-still g c owes =
     let s = c.self.inside in
     let before : s.owes ≡ false = ap (λ (h : Held _ _ _). h.owes) c.self.view_is ∙ owes in
     still_since s.bench c.claim.new.self s.ledger.all s.ledger.published s.seats s.closed s.owes c.args.self.now c.try_again.new.self c.self.view_is before (c.try_again.ensures.still before)
+
+pub returns-clause-whole : goal.returns-clause-whole
+returns-clause-whole g c = whole_from _ _ _ _ (ap (λ (h : Held _ _ _). h.published) c.self.view_is) c.try_again.ensures.whole

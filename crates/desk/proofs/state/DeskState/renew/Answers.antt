@@ -1,6 +1,6 @@
 use Rattle.std.proofs.Common.{ap, sym, ◌∙◌}
 use Rattle.desk.specs.Held.{Held}
-use Rattle.desk.proofs.Growing.{grown_from}
+use Rattle.desk.proofs.Growing.{grown_from, whole_from}
 use Rattle.desk.proofs.Refusing.{not_ok, other_closed}
 use Rattle.desk.proofs.Returning.{appends_since}
 use Rattle.desk.proofs.state.DeskState.renew.Goals as goal
@@ -15,3 +15,6 @@ returns-clause-grows g c = grown_from _ _ _ (ap (λ (h : Held _ _ _). h.publishe
 
 pub returns-clause-closed : goal.returns-clause-closed
 returns-clause-closed g c = other_closed _ _ (not_ok _) (sym (ap (λ (h : Held _ _ _). h.closed) c.self.view_is) ∙ c.if-self.false)
+
+pub returns-clause-whole : goal.returns-clause-whole
+returns-clause-whole g c = whole_from _ _ _ _ (ap (λ (h : Held _ _ _). h.published) c.self.view_is) c.try_again.ensures.whole

@@ -95,3 +95,12 @@ pub returns-then-not-begins_with-clause-no_seat : goal.returns-then-not-begins_w
 returns-then-not-begins_with-clause-no_seat g c =
     let less : length c.args.self.now.all < length c.args.me.now = ahead_of _ c.args.self.now c.args.me.now c.self.view_is (λ le. never (sym (c.if-not-begins_with.ensures.length.1 le))) in
     (λ e. (sym (ap (λ (h : Held _ _ _). h.closed) c.self.view_is) ∙ c.if-self.false, less), λ h. refl)
+
+pub returns-then-not-show_all-clause-whole : goal.returns-then-not-show_all-clause-whole
+returns-then-not-show_all-clause-whole g c = c.show_all.ensures.whole
+
+pub returns-then-not-is_settled-clause-whole : goal.returns-then-not-is_settled-clause-whole
+returns-then-not-is_settled-clause-whole g c = c.show_all.ensures.whole
+
+pub returns-clause-whole : goal.returns-clause-whole
+returns-clause-whole g c = c.show_all.ensures.whole

@@ -1,6 +1,7 @@
-use Rattle.std.proofs.Common.{fold}
+use Rattle.std.proofs.Common.{inr, fold, refl}
 use Rattle.cells.specs.Cells.{cells as cells_of}
 use Rattle.desk.specs.Boards.{ArePosted}
+use Rattle.desk.proofs.Growing.{whole_by}
 use Rattle.desk.proofs.Returning.{publishes_shown, shown_as}
 use Rattle.desk.proofs.state.DeskState.try_again.Goals as goal
 
@@ -14,3 +15,11 @@ pub returns-then-self-clause-shown : goal.returns-then-self-clause-shown
 returns-then-self-clause-shown g c =
     let means = cells_of g.X.CellTexts.verdict_of g.X.CellTexts.outcome_in g.X.CellTexts.from_scratch g.X.CellTexts.reaches in
     publishes_shown (λ bench ops. ArePosted g.X.Texts.net means bench (g.X.BoardTexts.cells (fold g.X.Operations.after g.X.Operations.none ops))) c.args.self.now c.catch_up-posted.new.self c.catch_up-posted.result c.catch_up-posted.ensures.posted
+
+pub returns-else-self-clause-whole : goal.returns-else-self-clause-whole
+returns-else-self-clause-whole g c = inr refl
+
+pub returns-then-self-clause-whole : goal.returns-then-self-clause-whole
+returns-then-self-clause-whole g c =
+    let means = cells_of g.X.CellTexts.verdict_of g.X.CellTexts.outcome_in g.X.CellTexts.from_scratch g.X.CellTexts.reaches in
+    whole_by (λ bench ops. ArePosted g.X.Texts.net means bench (g.X.BoardTexts.cells (fold g.X.Operations.after g.X.Operations.none ops))) c.args.self.now c.catch_up-posted.new.self c.catch_up-posted.result c.catch_up-posted.ensures.posted
