@@ -5,7 +5,7 @@ use Rattle.bench_texts.specs.declared.edit.Edit as code
 use Rattle.bench_texts.specs.BenchTexts.{BenchTexts}
 use Rattle.bench_texts.specs.Edits.{Edit, edit_of, is_whole, Applies}
 use Rattle.bench_texts.specs.Held.{model_of}
-use Rattle.bench_texts.specs.Replacements.{texts_with}
+use Rattle.bench_texts.specs.Replacements.{texts_with, IsPutBy}
 use Rattle.board.specs.declared.operation.BoardEdit.{BoardEdit}
 use Rattle.board.specs.declared.operation.BoardOp.{BoardOp}
 use Rattle.board.specs.declared.operation.BoardOp.TheVariants as ops
@@ -38,10 +38,11 @@ HasContents ops = IsContentOf (contents_after ops) (texts_after ops)
 
 -- ---- histories
 
--- The operation is that of this edit, which these texts make: it puts in place what the edit makes of them, and says whether the
--- edit puts or drops a test or a model as a whole.
+-- The operation is that of this edit, which these texts make: it puts in place what the edit makes of them, of the test or the
+-- model that the edit names, and says whether the edit puts or drops it as a whole.
 pub record IsMadeBy (t : BenchTexts) (edit : BoardEdit) (e : Edit) : Type 0 where
   pub applies : Applies t false e (texts_with edit.prepared.value.replacement t)
+  pub target : IsPutBy t e edit.prepared.value.replacement
   pub whole : edit.prepared.value.whole ≡ is_whole e
 
 -- an edit is one that these texts make

@@ -3,7 +3,7 @@ use Rattle.std.specs.Prelude.{◌≡◌, ℕ, ◌+◌, ◌*◌, ◌<◌, ◌≤�
 use Rattle.bench_texts.specs.declared.edit.Edit as code
 use Rattle.bench_texts.specs.Edits.{edit_of, is_whole, Applies}
 use Rattle.bench_texts.specs.Held.{texts_of, AreRead}
-use Rattle.bench_texts.specs.Replacements.{texts_with, tests_with, models_with, IsReplaceable}
+use Rattle.bench_texts.specs.Replacements.{texts_with, tests_with, models_with, IsPutBy, IsReplaceable}
 use Rattle.stamped_parts.specs.declared.parts.Parts.{Parts}
 use Rattle.stamped_parts.specs.States.{IsSameState}
 use Rattle.stamped_parts.specs.Written.{IsStamped}
@@ -42,10 +42,11 @@ pub record IsSame (t u : StampedTexts) : Type 0 where
   pub read : AreRead t.texts → AreRead u.texts
   pub state : IsSameState (state_of t) (state_of u)
 
--- the edit is accepted, there is room for what it puts, its parts are made of that, and it is known whether it puts or drops a
--- test or a model as a whole
+-- the edit is accepted, it puts or drops the test or the model that it names, there is room for what it puts, its parts are made of
+-- that, and it is known whether it puts or drops a test or a model as a whole
 pub record IsPrepared (t : StampedTexts) (e : code.Edit) (p : PreparedEdit) (u : StampedTexts) : Type 0 where
   pub applies : Applies (texts_of t.texts) false (edit_of e) (texts_with p.texts.replacement (texts_of t.texts))
+  pub target : IsPutBy (texts_of t.texts) (edit_of e) p.texts.replacement
   pub fits : IsReplaceable u.texts p.texts.replacement
   pub made : parts.IsMade t.parts t.texts.tests.items t.texts.models.items p.texts.replacement p.parts
   pub whole : p.texts.whole ≡ is_whole (edit_of e)

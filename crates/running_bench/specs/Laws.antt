@@ -22,7 +22,7 @@ use Rattle.bench_texts.specs.Edits.{edit_of, Applies, Edit as PlainEdit}
 use Rattle.bench_texts.specs.Held.{texts_of}
 use Rattle.bench_texts.specs.Held as plain
 use Rattle.bench_texts.specs.Limits.{is_full, is_spent, models_outputs}
-use Rattle.bench_texts.specs.Replacements.{texts_with}
+use Rattle.bench_texts.specs.Replacements.{texts_with, IsPutBy}
 use Rattle.bench_texts.proofs.Lists.{length-changed_at}
 use Rattle.desk_rule.proofs.Showing.{fold_push}
 use Rattle.desk.specs.Boards.{BoardCell, with_outcome}
@@ -208,7 +208,9 @@ edits_named t u e p number (ops.Edit b) all sound a h n =
     subst (λ (x : BenchTexts). Applies x false (edit_of e) (texts_with p.texts.replacement x)) a.contents h.applies in
     let put : Applies now false (edit_of e) (texts_with b.prepared.value.replacement now) =
     subst (λ (q : Prepared). Applies now false (edit_of e) (texts_with q.replacement now)) (sym n.1) applies in
-    (n.0, record { applies = put; whole = ap (λ (q : Prepared). q.whole) n.1 ∙ h.whole })
+    let target : IsPutBy now (edit_of e) b.prepared.value.replacement =
+    subst (λ (q : Prepared). IsPutBy now (edit_of e) q.replacement) (sym n.1) (subst (λ (x : BenchTexts). IsPutBy x (edit_of e) p.texts.replacement) a.contents h.target) in
+    (n.0, record { applies = put; target = target; whole = ap (λ (q : Prepared). q.whole) n.1 ∙ h.whole })
 edits_named t u e p number (ops.Settle at outcome) all sound a h n = absurd n
 
 pub edits_follow : (t u : StampedTexts) (e : Edit) (p : PreparedEdit) (number : ℕ) (op : BoardOp) (all : List BoardOp)
