@@ -78,6 +78,8 @@ impl CellTexts for StampedTexts {
 
     ghost use Rattle.std.specs.Prelude.{◌≡◌, true, Some};
     ghost use Rattle.bench_texts.specs.Edits.{edit_of};
+    ghost use Rattle.bench_texts.specs.Held.{texts_of};
+    ghost use Rattle.board.specs.Histories.{no_contents};
     ghost use Rattle.node_values.specs.Values.{outcome_in};
     ghost use Rattle.running_bench.specs.StampedTexts.{verdict_of};
     ghost use Rattle.running_bench.specs.StampedCells.{from_scratch, Reaches};
@@ -91,6 +93,8 @@ impl CellTexts for StampedTexts {
     ghost from_scratch = { from_scratch };
 
     ghost reaches = { Reaches };
+
+    ghost is_empty = { λ t. texts_of t.texts ≡ no_contents };
 
     ghost same_edit = { λ e f. edit_of e ≡ edit_of f };
 
