@@ -10,7 +10,7 @@ use std::alloc::{AllocError, Global};
 impl CellTexts for Sheet {
     type Outcome = u64;
 
-    ghost use Rattle.std.specs.Prelude.{◌≡◌, true, Some};
+    ghost use Rattle.std.specs.Prelude.{◌≡◌, true, [], Some};
     ghost use Rattle.layer_tests.specs.SheetCells.{verdict_at, from_scratch, reaches};
     ghost use Rattle.layer_tests.specs.CellProofs.{edited_alike, refused_alike, verdicts_used, all_needed, cells_solved, cells_left};
 
@@ -21,6 +21,8 @@ impl CellTexts for Sheet {
     ghost from_scratch = { from_scratch };
 
     ghost reaches = { λ s e _ test _. reaches s e test ≡ true };
+
+    ghost is_empty = { λ s. (s.rows.items ≡ []) × (s.base ≡ 0) × (s.base_stamp ≡ 0) × (s.last ≡ 0) };
 
     ghost same_edit = { λ e f. e ≡ f };
 
