@@ -9,6 +9,7 @@ pub mod Given
 pub mod JobLists
 pub mod TaskLists
 pub mod Unreached
+pub mod Memos
 pub mod CellLists
 pub mod ReachedCells
 pub mod NewCells

@@ -4,4 +4,5 @@ pub mod Stamps
 pub mod Jobs
 pub mod JobLists
 pub mod Unreached
+pub mod Memos
 pub mod Openings

@@ -9,13 +9,14 @@ ghost use Rattle.running_bench.specs.declared.stamped_texts.StampedTexts.{Stampe
 ghost use Rattle.running_bench.specs.StampedTexts.{IsThere};
 ghost use Rattle.running_bench.specs.StampedCells.{from_scratch};
 ghost use Rattle.memo_core.specs.Work.{ReturnsLowerInRuns, WorkIsBounded, WorkUnsettlesNone, SettledIsDecided};
-ghost use Rattle.memo_core.specs.Laws.{SettledIsSolved, MatchingIsMade, ValuesStayPresent, GivenStaysPresent};
+ghost use Rattle.memo_core.specs.Laws.{SettledIsSolved, ValuesStayPresent, GivenStaysPresent};
 ghost use Rattle.cells.specs.CellLaws.{SettledCellIsFromScratch, UnreachedCellStays, OnlyNeededIsGiven, NoneIsOutTwice, EditBoundsWork, QuietCellsAreSettled, ListsAreRuns, ListBoundsWork};
 ghost use Rattle.live_bench.specs.Live.{live_meaning, live_cells, live_refusing, live_last};
 ghost use Rattle.live_bench.specs.Stamps.{HasLowStamps, ChangedOutputIsNewer};
 ghost use Rattle.live_bench.specs.There.{HoldsAfterEvents, HasJustItsCells, ShowsRight};
 ghost use Rattle.live_bench.specs.Jobs.{JobsAreAccepted, ClaimsStayOut, UnsettledIsGiven, GivenIsBounded, EditBoundsGiven};
 ghost use Rattle.live_bench.specs.JobLists.{ListBoundsGiven, ListAcceptsJobs};
+ghost use Rattle.live_bench.specs.Memos.{MatchingIsSolved};
 ghost use Rattle.live_bench.specs.Unreached.{UnreachedNeedsNoJob};
 ghost use Rattle.live_bench.specs.Openings.{with_edit, KeepsUnreached, OpensReached, StaysSettled};
 
@@ -56,12 +57,11 @@ pub fn work_is_exact()
 }
 
 /// After any list of events, a used node that is settled holds what is made of what its job is given now and of the present values
-/// of its present inputs. So does each node whose memo's inputs and stamps are the present ones, as far as its inputs have
-/// values. What a job was given, and the values that it holds, stay the present ones as long as its inputs and stamps are the
-/// present ones, whatever happens between.
+/// of its present inputs. So does each node whose memo's inputs and stamps are the present ones. What a job was given, and the
+/// values that it holds, stay the present ones as long as its inputs and stamps are the present ones, whatever happens between.
 pub fn memos_are_right()
     ensures settled { SettledIsSolved live_meaning IsThere }
-    ensures matching { MatchingIsMade live_meaning }
+    ensures matching { MatchingIsSolved live_meaning }
     ensures values { ValuesStayPresent live_meaning }
     ensures given { GivenStaysPresent live_meaning }
 {
