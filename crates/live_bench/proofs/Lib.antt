@@ -10,6 +10,8 @@ pub mod JobLists
 pub mod TaskLists
 pub mod Unreached
 pub mod Memos
+pub mod SameVerdicts
+pub mod Refusals
 pub mod CellLists
 pub mod ReachedCells
 pub mod NewCells

@@ -5,4 +5,5 @@ pub mod Jobs
 pub mod JobLists
 pub mod Unreached
 pub mod Memos
+pub mod Refusals
 pub mod Openings

@@ -17,6 +17,7 @@ ghost use Rattle.live_bench.specs.There.{HoldsAfterEvents, HasJustItsCells, Show
 ghost use Rattle.live_bench.specs.Jobs.{JobsAreAccepted, ClaimsStayOut, UnsettledIsGiven, GivenIsBounded, EditBoundsGiven};
 ghost use Rattle.live_bench.specs.JobLists.{ListBoundsGiven, ListAcceptsJobs};
 ghost use Rattle.live_bench.specs.Memos.{MatchingIsSolved};
+ghost use Rattle.live_bench.specs.Refusals.{RefusedChangesNothing, RefusedEditChangesNothing};
 ghost use Rattle.live_bench.specs.Unreached.{UnreachedNeedsNoJob};
 ghost use Rattle.live_bench.specs.Openings.{with_edit, KeepsUnreached, OpensReached, StaysSettled};
 
@@ -121,6 +122,13 @@ pub fn jobs_are_bounded()
 /// node that cells use is settled after the edit, and no claim is given.
 pub fn unreached_edits_need_no_job()
     ensures { UnreachedNeedsNoJob }
+{}
+
+/// After any list of events, an edit that is refused changes nothing: not the tests and the models of the bench, not what is kept of
+/// computations, and each cell is shown as before. Nor does any other refused call that leaves the last edit the one that it was.
+pub fn refused_edits_change_nothing()
+    ensures calls { RefusedChangesNothing }
+    ensures edits { RefusedEditChangesNothing }
 {}
 
 /// In a history of a running bench that ends in an edit, a cell whose slice is one before the edit and after it is shown after
