@@ -12,6 +12,7 @@ pub mod Unreached
 pub mod Memos
 pub mod SameVerdicts
 pub mod Refusals
+pub mod OutputNames
 pub mod CellLists
 pub mod ReachedCells
 pub mod NewCells

@@ -6,4 +6,5 @@ pub mod JobLists
 pub mod Unreached
 pub mod Memos
 pub mod Refusals
+pub mod OutputNames
 pub mod Openings

@@ -6,7 +6,7 @@ ghost use Rattle.board.specs.declared.operation.BoardEdit.{BoardEdit};
 ghost use Rattle.board.specs.declared.operation.BoardOp.{BoardOp};
 ghost use Rattle.board.specs.Histories.{IsHistory};
 ghost use Rattle.running_bench.specs.declared.stamped_texts.StampedTexts.{StampedTexts as StampedRecord};
-ghost use Rattle.running_bench.specs.StampedTexts.{IsThere};
+ghost use Rattle.running_bench.specs.StampedTexts.{IsThere, IsSound};
 ghost use Rattle.running_bench.specs.StampedCells.{from_scratch};
 ghost use Rattle.memo_core.specs.Work.{ReturnsLowerInRuns, WorkIsBounded, WorkUnsettlesNone, SettledIsDecided};
 ghost use Rattle.memo_core.specs.Laws.{SettledIsSolved, ValuesStayPresent, GivenStaysPresent};
@@ -18,6 +18,7 @@ ghost use Rattle.live_bench.specs.Jobs.{JobsAreAccepted, ClaimsStayOut, Unsettle
 ghost use Rattle.live_bench.specs.JobLists.{ListBoundsGiven, ListAcceptsJobs};
 ghost use Rattle.live_bench.specs.Memos.{MatchingIsSolved};
 ghost use Rattle.live_bench.specs.Refusals.{RefusedChangesNothing, RefusedEditChangesNothing};
+ghost use Rattle.live_bench.specs.OutputNames.{OutputsHaveTheirNames};
 ghost use Rattle.live_bench.specs.Unreached.{UnreachedNeedsNoJob};
 ghost use Rattle.live_bench.specs.Openings.{with_edit, KeepsUnreached, OpensReached, StaysSettled};
 
@@ -129,6 +130,12 @@ pub fn unreached_edits_need_no_job()
 pub fn refused_edits_change_nothing()
     ensures calls { RefusedChangesNothing }
     ensures edits { RefusedEditChangesNothing }
+{}
+
+/// The number by which a return tells an output of an item tells its name: of a group the name that it binds first is that of the
+/// output that comes first, and so on, and the only output of a check or a flag goes by 0.
+pub fn outputs_have_their_names()
+    ensures { (t : StampedRecord) → IsSound t → OutputsHaveTheirNames t }
 {}
 
 /// In a history of a running bench that ends in an edit, a cell whose slice is one before the edit and after it is shown after
