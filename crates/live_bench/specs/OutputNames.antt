@@ -1,5 +1,5 @@
 -- The names of the outputs of items, which returns tell by numbers. Read it after StampedTexts and Outputs of `running_bench`.
-use Rattle.std.specs.Prelude.{◌≡◌, ℕ, List, [], ◌∷◌, Some, codes, map, slice_get}
+use Rattle.std.specs.Prelude.{◌≡◌, ◌⊎◌, ℕ, List, [], ◌∷◌, Some, codes, map, slice_get}
 use Rattle.memo_core.specs.Step.{Has}
 use Rattle.memo_core.specs.declared.keys.Kind.{Kind}
 use Rattle.memo_core.specs.declared.keys.Kind.TheVariants as kinds
@@ -8,8 +8,11 @@ use Rattle.binding_graph.specs.Contents.{RoleContent, Group, Check, Silent, role
 use Rattle.binding_graph.specs.declared.resolved.ResolvedItem.{ResolvedItem}
 use Rattle.shared_items.specs.Naming.{item_outputs}
 use Rattle.model_slots.specs.Slots.{number_at}
+use Rattle.node_values.specs.Givens.{GivenContent}
+use Rattle.node_values.specs.Makes.{output_names}
 use Rattle.bench_texts.specs.declared.model.NamedModel.{NamedModel}
 use Rattle.stamped_parts.specs.Contents.{histories}
+use Rattle.stamped_parts.specs.States.{given}
 use Rattle.edited_parts.specs.Readings.{resolved_in}
 use Rattle.running_bench.specs.declared.stamped_texts.StampedTexts.{StampedTexts}
 use Rattle.running_bench.specs.StampedTexts.{state_of}
@@ -49,3 +52,8 @@ OutputsHaveTheirNames t =
     (test item index number : ℕ) (does : RoleContent) → IsItemOf t item does
     → slice_get (item_outputs does (histories (state_of t) item)) index ≡ Some number
     → output_name (histories (state_of t)) (item_node does test item) number ≡ slice_get (names_given does) index
+
+-- The node of a space or of a verdict gives one output, which goes by 0.
+abbrev pub OthersHaveOneOutput : StampedTexts → Type 0
+OthersHaveOneOutput t =
+    (n : Node) (g : GivenContent) → (n.kind ≡ kinds.Space) ⊎ (n.kind ≡ kinds.Verdict) → given (state_of t) n ≡ Some g → output_names g ≡ 0 ∷ []

@@ -1,5 +1,6 @@
 use Rattle.live_bench.proofs.OutputNames.{outputs_have_their_names}
+use Rattle.live_bench.proofs.OneOutput.{others_have_one_output}
 use Rattle.live_bench.proofs.laws.outputs_have_their_names.Goals as goal
 
 pub returns : goal.returns
-returns c = outputs_have_their_names
+returns c = record { items = outputs_have_their_names; others = others_have_one_output }
