@@ -13,6 +13,7 @@ pub mod Memos
 pub mod SameVerdicts
 pub mod Refusals
 pub mod OutputNames
+pub mod ToldOutputs
 pub mod OneOutput
 pub mod CellLists
 pub mod ReachedCells

@@ -1,14 +1,12 @@
 -- The node of a space or of a verdict gives one output.
-use Rattle.std.proofs.Common.{◌≡◌, ◌⊎◌, ℕ, inl, inr, List, [], ◌∷◌, ◌++◌, Option, Some, None, sym, ap, subst, ◌∙◌}
+use Rattle.std.proofs.Common.{◌≡◌, ℕ, inl, inr, List, [], ◌∷◌, ◌++◌, Option, Some, None, sym, ap, ◌∙◌}
 use Rattle.std.proofs.lemmas.Option.{none-some}
 use Rattle.text_values.specs.declared.test.InitEntry.{InitEntry}
 use Rattle.text_values.specs.declared.test.Quantifier.{Quantifier}
 use Rattle.text_values.specs.declared.test.Step.{Step}
 use Rattle.text_values.specs.TestValue.{Formula}
 use Rattle.memo_core.specs.declared.keys.Kind.{Kind}
-use Rattle.memo_core.specs.declared.keys.Kind.TheVariants as kinds
 use Rattle.memo_core.specs.declared.keys.Key.{Key}
-use Rattle.memo_core.specs.declared.keys.Node.{Node}
 use Rattle.node_values.specs.Givens.{GivenContent}
 use Rattle.node_values.specs.Makes.{output_names}
 use Rattle.bench_nodes.specs.Nodes.{inputs}

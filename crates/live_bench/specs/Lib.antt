@@ -7,4 +7,5 @@ pub mod Unreached
 pub mod Memos
 pub mod Refusals
 pub mod OutputNames
+pub mod ToldOutputs
 pub mod Openings
