@@ -56,4 +56,5 @@ OutputsHaveTheirNames t =
 -- The node of a space or of a verdict gives one output, which goes by 0.
 abbrev pub OthersHaveOneOutput : StampedTexts → Type 0
 OthersHaveOneOutput t =
-    (n : Node) (g : GivenContent) → (n.kind ≡ kinds.Space) ⊎ (n.kind ≡ kinds.Verdict) → given (state_of t) n ≡ Some g → output_names g ≡ 0 ∷ []
+    (n : Node) (g : GivenContent) → (n.kind ≡ kinds.Space) ⊎ (n.kind ≡ kinds.Verdict)
+    → given (state_of t) n ≡ Some g → output_names g ≡ 0 ∷ []
