@@ -165,7 +165,7 @@ impl<J: Naming, L: Operations> Press<J, L> {
         Ok(())
     }
 
-    /// Whether readers lack an operation.
+    /// Whether readers may lack an operation. It is false only where they see all.
     pub fn is_pending(&self) -> bool
         ensures { IsFalse result → self.now.published ≡ self.now.all }
     {
