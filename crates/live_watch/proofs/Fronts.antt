@@ -1,7 +1,7 @@
 -- What was written before a fault.
 use Rattle.std.proofs.Common.{◌≡◌, ℕ, zero, suc, ◌+◌, ◌<◌, List, [], ◌∷◌, ◌++◌, length, take, drop, get_or, Option, Some, None, Result, Ok, true, refl, sym, ap, subst, ◌∙◌, append_assoc, arith}
 use Rattle.std.specs.Prelude.{Err, OnErr}
-use Rattle.std.specs.Io.KnownBytes.{Appends, Consumes, IsAtEnd}
+use Rattle.std.specs.Io.KnownBytes.{Appends, Consumes}
 use Rattle.std.proofs.KnownBytes.{Appends-nil, Appends-trans}
 use Rattle.std.proofs.Math.Seq.{take-append-add}
 use Rattle.std.proofs.lemmas.List.{take_all, length-append}
@@ -168,14 +168,6 @@ front_on front taken (Some xs) (Some ys) x consumes lines = λ bytes is.
     let same : xs ≡ bytes = same_Some xs bytes is in
     let at = lines ys in
     (at.0, ap (λ (l : List ℕ). lines_from front l) (sym same ∙ consumes) ∙ at.1)
-
-pub front_end : (front : List ℕ) (before after : Option (List ℕ)) (x : List (List ℕ)) → Consumes before after [] → IsAtEnd after → IsFrontLine front x → AreFrontOf front before x
-front_end front None after x consumes end line = λ bytes is. absurd cc
-front_end front (Some xs) None x consumes end line = absurd consumes
-front_end front (Some xs) (Some ys) x consumes end line = λ bytes is.
-    let same : xs ≡ bytes = same_Some xs bytes is in
-    let none : bytes ≡ [] = sym same ∙ consumes ∙ end in
-    (line.0, ap (λ (l : List ℕ). lines_from front l) none ∙ line.1)
 
 -- behind the turns so far
 pub front_after : (front middle : List ℕ) (a b : Option (List ℕ)) (x y : List (List ℕ)) → AreOfTurn true front middle a b x → AreFrontOf middle b y → AreFrontOf front a (x ++ y)

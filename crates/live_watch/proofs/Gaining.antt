@@ -4,9 +4,8 @@ use Rattle.std.specs.Prelude.{Vec, codes, Err, IfOk, ◌==◌}
 use Rattle.std.specs.Borrow.{Bor}
 use Rattle.std.specs.declared.alloc.Global.{Global}
 use Rattle.std.proofs.KnownBytes.{Appends-nil, Appends-trans}
-use Rattle.std.specs.Io.KnownBytes.{Appends, Consumes, IsAtEnd}
+use Rattle.std.specs.Io.KnownBytes.{Appends}
 use Rattle.std.proofs.lemmas.List.{length-append, length-take-le}
-use Rattle.std.proofs.lemmas.Option.{same_Some}
 use Rattle.std.proofs.lemmas.Bool.{cases_Bool, false≢true}
 use Rattle.std.proofs.lemmas.Bool.Decides.{Decides-eqb}
 use Rattle.command_line.specs.declared.fault.SessionFault.{SessionFault}
@@ -16,7 +15,7 @@ use Rattle.live_watch.specs.declared.versions.Version.TheVariants.{Text, Unread}
 use Rattle.live_watch.specs.Readings.{Reading, AreRead, HasReadAtMost}
 use Rattle.live_watch.specs.Holding.{Holding, IsTaken, IsVersionRefused, File, TestFile, ModelFile, FilePath, file_at, test_files, all_files}
 use Rattle.live_watch.specs.Boards.{lists_of}
-use Rattle.live_watch.specs.Runs.{Standing, at_first, IsSettled, IsNoted, refusal_of, AreAnswers, NoAnswer, OneMore, AreBegun, NoFile, Begun, NotBegun, IsRun, HasAnswers, line_before, lines_from, IsLine, AreIn, AreOfTurn, AreAll, IsAnswered, HasBegun, BeginsFile, HasBegunRun, NotedTaken, NotedRefused, IsTextAnswer, TextAccepted, TextRefused, IsAnswer, Unwatched, NotRead, Refused, Accepted}
+use Rattle.live_watch.specs.Runs.{Standing, IsSettled, IsNoted, refusal_of, AreAnswers, NoAnswer, OneMore, AreBegun, NoFile, Begun, NotBegun, IsRun, HasAnswers, line_before, lines_from, IsLine, AreIn, AreOfTurn, AreAll, IsAnswered, HasBegun, BeginsFile, HasBegunRun, NotedTaken, NotedRefused, IsTextAnswer, TextAccepted, TextRefused, IsAnswer, Unwatched, NotRead, Refused, Accepted}
 
 pub append_none : {A : Type 0} (xs : List A) → xs ++ [] ≡ xs
 append_none [] = refl
@@ -65,12 +64,6 @@ gains_one model tests asks line old new r s said a b asked answered gained = rec
   gains = gained;
 }
 
--- the same answers, asked in another way
-pub gains_so : (model : List ℕ) (tests : List (List ℕ)) (asks so : List (List ℕ) → Type 0) (old new : Standing) (r s : Option (List Reading)) (a b : Option (List ℕ))
-    → ((lines : List (List ℕ)) → asks lines → so lines) → HasAnswers model tests asks old new r s a b → HasAnswers model tests so old new r s a b
-gains_so model tests asks so old new r s a b law x =
-    record { lines = x.lines; asked = law x.lines x.asked; read = x.read; text = x.text; answers = x.answers; reads = x.reads; gains = x.gains }
-
 pub answers_joined : (model : List ℕ) (tests : List (List ℕ)) (before after : List (List ℕ)) (old middle new : Standing) (read more : List Reading) (x y : List ℕ)
     → AreAnswers model tests before old middle read x → AreAnswers model tests after middle new more y
     → AreAnswers model tests (before ++ after) old new (read ++ more) (x ++ y)
@@ -111,12 +104,6 @@ take_more [] i d lt = absurd (omega (arith, lt))
 take_more (x ∷ xs) zero d lt = refl
 take_more (x ∷ xs) (suc i) d lt = ap (λ (l : List ℕ). x ∷ l) (take_more xs i d (omega (arith, lt)))
 
-all_taken : (xs : List ℕ) (i : ℕ) → length xs ≤ i → take i xs ≡ xs
-all_taken [] zero le = refl
-all_taken [] (suc i) le = refl
-all_taken (x ∷ xs) zero le = absurd (omega (arith, le))
-all_taken (x ∷ xs) (suc i) le = ap (λ (l : List ℕ). x ∷ l) (all_taken xs i (omega (arith, le)))
-
 -- no byte, and one line after another
 pub in_none : (front : List ℕ) → AreIn front [] front []
 in_none front = λ rest. refl
@@ -129,13 +116,6 @@ in_both front middle left one two x y first then = λ rest.
 pub line_first : (line : List ℕ) (lines : List (List ℕ)) → line_before line lines ≡ line_before line [] ++ lines
 line_first [] lines = refl
 line_first (b ∷ line) lines = refl
-
--- a line feed ends the line
-pub in_feed : (front left : List ℕ) (byte : ℕ) (x : List (List ℕ)) → byte ≡ 10 → left ≡ [] → IsLine front x → AreIn front (byte ∷ []) left x
-in_feed front left byte x feed none is = λ rest.
-    let at : lines_from front (10 ∷ rest) ≡ line_before front (lines_from [] rest) = refl in
-    ap (λ (b : ℕ). lines_from front (b ∷ rest)) feed ∙ at ∙ line_first front (lines_from [] rest)
-    ∙ ap (λ (ls : List (List ℕ)). ls ++ lines_from [] rest) (sym is) ∙ ap (λ (l : List ℕ). x ++ lines_from l rest) (sym none)
 
 -- any other byte is kept
 pub in_byte : (front left : List ℕ) (byte : ℕ) → (byte ≡ 10 → ⊥) → left ≡ front ++ byte ∷ [] → AreIn front (byte ∷ []) left []
@@ -161,26 +141,7 @@ in_next front middle left bytes i d x y lt first then =
     let more : take (i + 1) bytes ≡ take i bytes ++ get_or bytes i d ∷ [] = ap (λ (n : ℕ). take n bytes) (sym one) ∙ take_more bytes i d lt in
     subst (λ (l : List ℕ). AreIn front l left (x ++ y)) (sym more) (in_both front middle left (take i bytes) (get_or bytes i d ∷ []) x y first then)
 
-pub in_all : (front left bytes : List ℕ) (i : ℕ) (x : List (List ℕ)) → length bytes ≤ i → AreIn front (take i bytes) left x → AreIn front bytes left x
-in_all front left bytes i x end lines = subst (λ (l : List ℕ). AreIn front l left x) (all_taken bytes i end) lines
-
 -- ---- turns
-
--- what a turn takes of the source
-pub turn_on : (front left taken : List ℕ) (before after : Option (List ℕ)) (x : List (List ℕ)) → Consumes before after taken → AreIn front taken left x → AreOfTurn true front left before after x
-turn_on front left taken None after x consumes lines = λ bytes is. absurd cc
-turn_on front left taken (Some xs) None x consumes lines = absurd consumes
-turn_on front left taken (Some xs) (Some ys) x consumes lines = λ bytes is.
-    let same : xs ≡ bytes = same_Some xs bytes is in
-    (ys, refl, ap (λ (l : List ℕ). lines_from front l) (sym same ∙ consumes) ∙ lines ys)
-
-pub turn_end : (front left : List ℕ) (before after : Option (List ℕ)) (x : List (List ℕ)) → Consumes before after [] → IsAtEnd after → IsLine front x → AreOfTurn false front left before after x
-turn_end front left None after x consumes end line = λ bytes is. absurd cc
-turn_end front left (Some xs) None x consumes end line = absurd consumes
-turn_end front left (Some xs) (Some ys) x consumes end line = λ bytes is.
-    let same : xs ≡ bytes = same_Some xs bytes is in
-    let none : bytes ≡ [] = sym same ∙ consumes ∙ end in
-    line ∙ ap (λ (l : List ℕ). lines_from front l) (sym none)
 
 pub turns_on : (front middle left : List ℕ) (a b c : Option (List ℕ)) (x y : List (List ℕ)) → AreOfTurn true front middle a b x → AreOfTurn true middle left b c y → AreOfTurn true front left a c (x ++ y)
 turns_on front middle left a b c x y first then = λ bytes is.
@@ -339,20 +300,6 @@ noted_refused file path text old new lines others fault was before after refused
     ∙ ap (λ (v : Vec (Vec ℕ Global) Global). record { held = old; lines = lists_of v.items; refused = true }) kept)
     told
 
--- a run begins, and its first lines are written
-pub begun_run : (model : List ℕ) (tests lasts : List (List ℕ)) (old middle new : Standing) (r s : Option (List Reading)) (told said : List ℕ)
-    → old ≡ at_first (length tests) lasts → HasBegun (all_files model tests) old middle r s told → IsSettled middle new told said → HasBegunRun model tests lasts new r s said
-begun_run model tests lasts old middle new r s told said first begun settled = record {
-  read = begun.read;
-  begun = record {
-    told = told;
-    middle = middle;
-    begun = subst (λ (x : Standing). AreBegun (all_files model tests) x middle begun.read told) first begun.begun;
-    settled = settled;
-  };
-  reads = begun.reads;
-}
-
 -- ---- one answer
 
 -- of a text that is accepted, after which the lines are written
@@ -401,18 +348,6 @@ unwatched_answered path file standing r said is told = record {
   answer = subst (λ (f : Option File). IsAnswer path standing standing f [] said) is (Unwatched said refl told);
   reads = read_none r;
 }
-
--- of a path that is a file's
-pub watched_answered : (line path : List ℕ) (file : File) (f : Option File) (old new : Standing) (r s : Option (List Reading)) (version : Version)
-    (res : Result (Vec ℕ Global) SessionFault) → path ≡ line → Some file ≡ f → AreRead r s (record { path = path; version = version } ∷ [])
-    → IfOk res (λ t. IsAnswer line old new (Some file) (record { path = line; version = version } ∷ []) t.items)
-    → IfOk res (λ t. IsAnswered line f old new r s t.items)
-watched_answered line path file f old new r s version (Ok t) same is reads answer = record {
-  read = record { path = line; version = version } ∷ [];
-  answer = subst (λ (x : Option File). IsAnswer line old new x (record { path = line; version = version } ∷ []) t.items) is answer;
-  reads = subst (λ (p : List ℕ). AreRead r s (record { path = p; version = version } ∷ [])) same reads;
-}
-watched_answered line path file f old new r s version (Err fault) same is reads answer = tt
 
 -- ---- a whole run
 

@@ -1,7 +1,7 @@
 -- Lists with one element put at an index, and the first element that passes a test.
 use Rattle.std.proofs.Common.{◌≡◌, ℕ, zero, suc, ◌+◌, ◌<◌, ◌≤◌, List, [], ◌∷◌, length, map, Bool, true, Some, refl, sym, ap, ◌∙◌, inl, inr, arith}
 use Rattle.std.specs.Prelude.{slice_get, option_map, get_or, set}
-use Rattle.std.specs.List.{position_or_len, remove}
+use Rattle.std.specs.List.{position_or_len}
 use Rattle.std.proofs.lemmas.Bool.{cases_Bool}
 use Rattle.std.proofs.lemmas.Option.{same_Some}
 use Rattle.bench_texts.specs.BenchTexts.{put_at, changed_at}
@@ -33,12 +33,6 @@ changed_is_put f zero (y ∷ ys) lt = record { old = y; there = refl; is = refl 
 changed_is_put f (suc i) (y ∷ ys) lt =
     let more = changed_is_put f i ys (omega (arith, lt)) in
     record { old = more.old; there = more.there; is = ap (λ l. y ∷ l) more.is }
-
-pub remove_past : {A : Type 0} (xs : List A) (i : ℕ) → length xs ≤ i → remove xs i ≡ xs
-remove_past [] zero le = refl
-remove_past [] (suc i) le = refl
-remove_past (x ∷ xs) zero le = absurd (omega (arith, le))
-remove_past (x ∷ xs) (suc i) le = ap (λ l. x ∷ l) (remove_past xs i (omega (arith, le)))
 
 -- ---- the first element that passes
 

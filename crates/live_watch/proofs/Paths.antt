@@ -4,7 +4,7 @@ use Rattle.std.specs.Prelude.{bytes_eq}
 use Rattle.std.specs.Borrow.{Bor}
 use Rattle.std.specs.List.{list_any}
 use Rattle.std.proofs.lemmas.Bool.{lt-ltb, le-ltb}
-use Rattle.live_watch.specs.Holding.{ModelFile, TestFile, path_index, file_at}
+use Rattle.live_watch.specs.Holding.{TestFile, path_index, file_at}
 
 one_more : (n : ℕ) → 1 + n ≡ suc n
 one_more n = omega arith
@@ -38,9 +38,6 @@ past_all line (x ∷ xs) none =
     let first : bytes_eq x.now line ≡ false = neither_first (bytes_eq x.now line) (list_any (λ t. bytes_eq t.now line) xs) none in
     let others : list_any (λ t. bytes_eq t.now line) xs ≡ false = neither_second (bytes_eq x.now line) (list_any (λ t. bytes_eq t.now line) xs) none in
     rw first (one_more (path_index line (map (λ t. t.now) xs)) ∙ ap suc (past_all line xs others))
-
-pub at_model : (model : List ℕ) (tests : List (List ℕ)) (line : List ℕ) → bytes_eq model line ≡ true → Some ModelFile ≡ file_at model tests line
-at_model model tests line is = rw is refl
 
 pub at_test : (model : List ℕ) (tests : List (Bor (List ℕ))) (line : List ℕ) (i : ℕ) (d : Bor (List ℕ)) (bytes : List ℕ) → bytes_eq model line ≡ false → i < length tests
     → list_any (λ t. bytes_eq t.now line) (take i tests) ≡ false → bytes ≡ (get_or tests i d).now → bytes_eq bytes line ≡ true

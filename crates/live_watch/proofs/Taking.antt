@@ -1,10 +1,10 @@
 -- What edits and versions make of the texts.
-use Rattle.std.proofs.Common.{◌≡◌, ℕ, suc, ◌+◌, ◌<◌, ◌≤◌, List, [], ◌∷◌, length, map, Bool, true, false, nat_lt, Option, Some, None, inl, inr, refl, sym, ap, subst, ◌∙◌, arith}
+use Rattle.std.proofs.Common.{◌≡◌, ℕ, suc, ◌+◌, ◌<◌, List, [], ◌∷◌, length, map, Bool, true, false, nat_lt, Option, Some, None, inl, inr, refl, sym, ap, subst, ◌∙◌, arith}
 use Rattle.std.specs.Prelude.{slice_get, bytes_eq, Vec, vec_len, ◌==◌, IsTrue}
 use Rattle.std.specs.declared.alloc.Global.{Global}
 use Rattle.std.proofs.lemmas.Bool.Decides.{Decides-eqb}
-use Rattle.std.specs.List.{position_or_len, remove}
-use Rattle.std.proofs.lemmas.Bool.{cases_Bool, ltb-true, ltb-false}
+use Rattle.std.specs.List.{position_or_len}
+use Rattle.std.proofs.lemmas.Bool.{cases_Bool, ltb-true}
 use Rattle.std.proofs.lemmas.Option.{same_Some}
 use Rattle.std.proofs.lemmas.Slice.Eq.{bytes_eq-Decides}
 use Rattle.text_values.specs.declared.test.Test.{Test}
@@ -28,7 +28,7 @@ use Rattle.version_edits.specs.declared.items.ItemChange.TheVariants as changes
 use Rattle.version_edits.specs.declared.parts.TestPart.{TestPart}
 use Rattle.live_watch.specs.Holding.{Holding, model_name, name_at, without_unheld, tests_left, HoldsItems, IsTestTaken}
 use Rattle.live_watch.specs.Edits.{IsMade, IsOfModel, AreChanges, AreParts, AreSameBut}
-use Rattle.live_watch.proofs.Lists.{put_same, put_twice, IsPut, changed_is_put, remove_past, index_put, nothing_of}
+use Rattle.live_watch.proofs.Lists.{put_same, put_twice, IsPut, changed_is_put, index_put, nothing_of}
 
 -- ---- bytes
 
@@ -163,26 +163,6 @@ put_whole a t new text c only but made =
     let same : read ≡ c = sym (only read made.makes.1) in
     let is : new.tests ≡ put_at (test_index read.name t.tests) read t.tests = ap (λ (x : BenchTexts). x.tests) made.makes.2 in
     is ∙ ap (λ (d : Content). put_at (test_index d.name t.tests) d t.tests) same ∙ put_after c.name a.tests t.tests c but
-
-pub whole_keeps_models : (t new : BenchTexts) (text : List ℕ) → Applies t false (PutTest text) new → new.models ≡ t.models
-whole_keeps_models t new text made = ap (λ (x : BenchTexts). x.models) made.makes.2
-
--- ---- a test is dropped
-
-pub drop_made : (t new : BenchTexts) (name : List ℕ) → Applies t false (DropTest name) new → new.tests ≡ remove t.tests (test_index name t.tests)
-drop_made t new name made = ap (λ (x : BenchTexts). x.tests) made.makes
-
-pub drop_keeps_models : (t new : BenchTexts) (name : List ℕ) → Applies t false (DropTest name) new → new.models ≡ t.models
-drop_keeps_models t new name made = ap (λ (x : BenchTexts). x.models) made.makes
-
-not_there : (b : Bool) → unless b faults.NoTest None ≡ Some faults.NoTest → b ≡ false
-not_there true e = absurd cc
-not_there false e = refl
-
-pub none_dropped : (t new : BenchTexts) (name : List ℕ) → IsMade t (DropTest name) (Some faults.NoTest) new → new.tests ≡ remove t.tests (test_index name t.tests)
-none_dropped t new name made =
-    let past : length t.tests ≤ test_index name t.tests = ltb-false (test_index name t.tests) (length t.tests) (not_there (has_test t name) made.1) in
-    ap (λ (x : BenchTexts). x.tests) made.2 ∙ sym (remove_past t.tests (test_index name t.tests) past)
 
 -- ---- what changes and parts make
 

@@ -229,7 +229,10 @@ where
     K: ByteSink + Drop,
     requires source { S.failed_calls source < 2 ^ 64 - 1 }
     requires sink { K.failed_calls sink < 2 ^ 64 - 1 }
-    // Where it answers, no read and no write failed, and a whole run was written; and of each fault what failed is told.
+    // Where it answers, no read and no write failed, and a whole run was written, of the versions that were read. Where it ends
+    // by a fault, what failed is told, and what was written is a front of what a run writes up to a line of the source, of the
+    // versions that were read first. What was read then is at most one version, or where nothing was written, no more than
+    // there are files.
     ensures { IfOk result (λ e. IsEnded S.failed_calls S.remaining K.failed_calls V.readings K.contents model.now (map (λ t. t.now) tests.now) versions source sink e) }
 {
     match DeskSeed::new(rt.alloc()) {
