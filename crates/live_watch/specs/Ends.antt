@@ -6,10 +6,12 @@ use Rattle.live_watch.specs.Readings.{Reading}
 use Rattle.live_watch.specs.Runs.{IsRun, IsCut}
 
 -- One write failed just where the fault is `Write`. No read failed, if the fault is not `Read`. So none failed where it answers.
+-- It never ends for edits that others made at its desk, since there are none.
 pub record AreCallsOf (answer : Result Bool SessionFault) (reads reads_then writes writes_then : ℕ) : Type 0 where
   pub wrote : answer ≡ Err SessionFault.Write → writes_then ≡ writes + 1
   pub unfailed : answer ≢ Err SessionFault.Write → writes_then ≡ writes
   pub unread : answer ≢ Err SessionFault.Read → reads_then ≡ reads
+  pub unshared : answer ≢ Err SessionFault.Shared
 
 -- So it is for a source and a sink whose failed calls are counted so; and where it answers, a whole run over the files of these
 -- paths was written, of the versions that were read, and the answer is whether a text was refused. Where it ends by a fault, what

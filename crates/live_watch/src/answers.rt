@@ -192,6 +192,7 @@ impl<'a, 'd, J: Naming + StoreName, R: Wait + Drop> Run<'a, 'd, J, R> {
         ensures ready { OnOk result (KnowsTexts self.new.watched.viewer self.new.watched.made (texts_of self.new.watched.texts)) }
         ensures paths { self.new.paths ≡ self.old.paths }
         ensures fault { result ≢ Err SessionFault.Write }
+        ensures unshared { result ≢ Err SessionFault.Shared }
         ensures begun { OnOk result (BeginsFile (record { file = file_of file; path = path.now }) (standing_of self.old.watched.texts self.old.watched.names self.old.lines self.old.is_refused) (standing_of self.new.watched.texts self.new.watched.names self.new.lines self.new.is_refused) (V.readings versions.old) (V.readings versions.new) text.old.items text.new.items) }
         ensures readings { OnErr result (HasReadAtMost 1 (V.readings versions.old) (V.readings versions.new)) }
     {
@@ -217,6 +218,7 @@ impl<'a, 'd, J: Naming + StoreName, R: Wait + Drop> Run<'a, 'd, J, R> {
         ensures ready { OnOk result (KnowsTexts self.new.watched.viewer self.new.watched.made (texts_of self.new.watched.texts)) }
         ensures paths { self.new.paths ≡ self.old.paths }
         ensures fault { result ≢ Err SessionFault.Write }
+        ensures unshared { result ≢ Err SessionFault.Shared }
         ensures begun { IfOk result (λ t. HasBegun (all_files (model_path paths.entry) (test_paths paths.entry)) (standing_of self.old.watched.texts self.old.watched.names self.old.lines self.old.is_refused) (standing_of self.new.watched.texts self.new.watched.names self.new.lines self.new.is_refused) (V.readings versions.old) (V.readings versions.new) t.items) }
         ensures readings { OnErr result (HasReadAtMost (length (all_files (model_path paths.entry) (test_paths paths.entry))) (V.readings versions.old) (V.readings versions.new)) }
     {
@@ -249,6 +251,7 @@ impl<'a, 'd, J: Naming + StoreName, R: Wait + Drop> Run<'a, 'd, J, R> {
         ensures ready { OnOk result (KnowsTexts self.new.watched.viewer self.new.watched.made (texts_of self.new.watched.texts)) }
         ensures paths { self.new.paths ≡ self.old.paths }
         ensures fault { result ≢ Err SessionFault.Write }
+        ensures unshared { result ≢ Err SessionFault.Shared }
         ensures begun { IfOk result (λ t. HasBegunRun (model_path self.old.paths) (test_paths self.old.paths) (lists_of self.old.lines.items) (standing_of self.new.watched.texts self.new.watched.names self.new.lines self.new.is_refused) (V.readings versions.old) (V.readings versions.new) t.items) }
         ensures readings { OnErr result (HasReadAtMost (length (all_files (model_path self.old.paths) (test_paths self.old.paths))) (V.readings versions.old) (V.readings versions.new)) }
     {
@@ -355,6 +358,7 @@ impl<'a, 'd, J: Naming + StoreName, R: Wait + Drop> Run<'a, 'd, J, R> {
         ensures cut { OnErr result (HasFront (model_path self.old.paths) (test_paths self.old.paths) (IsFrontLine line.now) (standing_of self.old.watched.texts self.old.watched.names self.old.lines self.old.is_refused) (V.readings versions.old) (V.readings versions.new) (K.contents sink.old) (K.contents sink.new)) }
         ensures unfailed { result ≢ Err SessionFault.Write → K.failed_calls sink.new ≡ K.failed_calls sink.old }
         ensures unread { result ≢ Err SessionFault.Read }
+        ensures unshared { result ≢ Err SessionFault.Shared }
         // nothing for an empty line, and else one write, of what is answered to it
         ensures answers { OnOk result (HasAnswers (model_path self.old.paths) (test_paths self.old.paths) (IsLine line.now) (standing_of self.old.watched.texts self.old.watched.names self.old.lines self.old.is_refused) (standing_of self.new.watched.texts self.new.watched.names self.new.lines self.new.is_refused) (V.readings versions.old) (V.readings versions.new) (K.contents sink.old) (K.contents sink.new)) }
     {
@@ -386,6 +390,7 @@ impl<'a, 'd, J: Naming + StoreName, R: Wait + Drop> Run<'a, 'd, J, R> {
         ensures cut { OnErr result (HasFront (model_path self.old.paths) (test_paths self.old.paths) (AreFrontIn line.old.items (byte ∷ [])) (standing_of self.old.watched.texts self.old.watched.names self.old.lines self.old.is_refused) (V.readings versions.old) (V.readings versions.new) (K.contents sink.old) (K.contents sink.new)) }
         ensures unfailed { result ≢ Err SessionFault.Write → K.failed_calls sink.new ≡ K.failed_calls sink.old }
         ensures unread { result ≢ Err SessionFault.Read }
+        ensures unshared { result ≢ Err SessionFault.Shared }
     {
         if byte == b'\n' {
             self.write_answer(rt, alloc, versions, line, sink)?;
@@ -416,6 +421,7 @@ impl<'a, 'd, J: Naming + StoreName, R: Wait + Drop> Run<'a, 'd, J, R> {
         ensures cut { OnErr result (HasFront (model_path self.old.paths) (test_paths self.old.paths) (AreFrontIn line.old.items bytes.now) (standing_of self.old.watched.texts self.old.watched.names self.old.lines self.old.is_refused) (V.readings versions.old) (V.readings versions.new) (K.contents sink.old) (K.contents sink.new)) }
         ensures unfailed { result ≢ Err SessionFault.Write → K.failed_calls sink.new ≡ K.failed_calls sink.old }
         ensures unread { result ≢ Err SessionFault.Read }
+        ensures unshared { result ≢ Err SessionFault.Shared }
     {
         for byte in bytes {
             self.take_byte(rt, alloc, versions, line, *byte, sink)?;
@@ -445,6 +451,7 @@ impl<'a, 'd, J: Naming + StoreName, R: Wait + Drop> Run<'a, 'd, J, R> {
         ensures cut { OnErr result (HasFront (model_path self.old.paths) (test_paths self.old.paths) (AreFrontOf line.old.items (S.remaining source.old)) (standing_of self.old.watched.texts self.old.watched.names self.old.lines self.old.is_refused) (V.readings versions.old) (V.readings versions.new) (K.contents sink.old) (K.contents sink.new)) }
         ensures unfailed { result ≢ Err SessionFault.Write → K.failed_calls sink.new ≡ K.failed_calls sink.old }
         ensures unread { result ≢ Err SessionFault.Read → S.failed_calls source.new ≡ S.failed_calls source.old }
+        ensures unshared { result ≢ Err SessionFault.Shared }
     {
         let mut buffer = [0u8; 4096];
         match source.read_some(&mut buffer) {
@@ -481,6 +488,7 @@ impl<'a, 'd, J: Naming + StoreName, R: Wait + Drop> Run<'a, 'd, J, R> {
         ensures cut { OnErr result (HasFront (model_path self.old.paths) (test_paths self.old.paths) (AreFrontOf [] (S.remaining source.old)) (standing_of self.old.watched.texts self.old.watched.names self.old.lines self.old.is_refused) (V.readings versions.old) (V.readings versions.new) (K.contents sink.old) (K.contents sink.new)) }
         ensures unfailed { result ≢ Err SessionFault.Write → K.failed_calls sink.new ≡ K.failed_calls sink.old }
         ensures unread { result ≢ Err SessionFault.Read → S.failed_calls source.new ≡ S.failed_calls source.old }
+        ensures unshared { result ≢ Err SessionFault.Shared }
     {
         let mut line = Vec::new(alloc);
         for _turn in 0..MAX_TURNS {
@@ -513,6 +521,7 @@ impl<'a, 'd, J: Naming + StoreName, R: Wait + Drop> Run<'a, 'd, J, R> {
         ensures cut { OnErr result (IsCut (model_path self.old.paths) (test_paths self.old.paths) (lists_of self.old.lines.items) (S.remaining source.old) (V.readings versions.old) (V.readings versions.new) (K.contents sink.old) (K.contents sink.new)) }
         ensures unfailed { result ≢ Err SessionFault.Write → K.failed_calls sink.new ≡ K.failed_calls sink.old }
         ensures unread { result ≢ Err SessionFault.Read → S.failed_calls source.new ≡ S.failed_calls source.old }
+        ensures unshared { result ≢ Err SessionFault.Shared }
     {
         let text = self.begin(rt, alloc, versions)?;
         write_text(sink, &text)?;

@@ -21,7 +21,9 @@ pub struct VersionTeller<'a, V, W> {
 
 impl<'a, V: Versions, W: Write> VersionTeller<'a, V, W> {
     /// Has told nothing. The model is the file of this path, any other holds a test.
-    pub fn new(alloc: Global, versions: V, model: &'a str, errors: W) -> Self {
+    pub fn new(alloc: Global, versions: V, model: &'a str, errors: W) -> Self
+        ensures { result.versions ≡ versions }
+    {
         VersionTeller {
             versions,
             model,
