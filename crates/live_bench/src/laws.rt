@@ -143,7 +143,7 @@ pub fn outputs_have_their_names()
 {}
 
 /// In a history of a running bench that ends in an edit, a cell whose slice is one before the edit and after it is shown after
-/// it as before it, settled with the same outcome or open, unless the edit puts its test or its model as a whole. Each other
+/// it as before it, settled with the same outcome or open, unless the edit puts or drops its test or its model as a whole. Each other
 /// cell that there is after the edit is shown open. So a cell that is shown as settled stays so, with the same outcome, over any
 /// operations as long as no edit reaches it.
 pub fn boards_keep_unreached_cells()
