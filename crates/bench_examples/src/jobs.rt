@@ -13,6 +13,7 @@ pub enum Stage<P: PlayedJob> {
 }
 
 impl<P: PlayedJob> Stage<P> {
+    /// The number of the claim of the job.
     pub fn claim_number(&self) -> u64 {
         match self {
             Stage::Waiting(job) => job.claim_number(),

@@ -22,6 +22,7 @@ pub struct Shared {
 }
 
 impl Shared {
+    /// No fault was found, and the last edit is not settled.
     pub fn new(plan: Plan) -> Shared {
         Shared {
             plan,

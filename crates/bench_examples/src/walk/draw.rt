@@ -12,6 +12,7 @@ pub struct Draw {
 }
 
 impl Draw {
+    /// The first state, which is the seed.
     pub fn new(seed: u64) -> Draw {
         Draw { state: seed }
     }

@@ -3,6 +3,7 @@
 use memo_core::claims::Finish;
 use std::io;
 
+/// The answer to a line.
 #[derive(Clone, Copy)]
 pub struct Answer {
     pub word: &'static str,
@@ -33,6 +34,7 @@ pub fn finished(finish: &Finish) -> Answer {
     }
 }
 
+/// Prints an answer as a line.
 pub fn print_answer<R: Print>(rt: &R, answer: Answer) -> io::Result<()> {
     let word = answer.word;
     match answer.number {

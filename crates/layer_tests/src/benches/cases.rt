@@ -23,6 +23,7 @@ pub struct Words<'a> {
     pub second: u64,
 }
 
+/// The words of a line.
 pub fn words_of(line: &str) -> Words<'_> {
     let mut words = line.split(' ');
     Words {

@@ -17,6 +17,7 @@ const TRIES: u32 = 8;
 /// More jobs than a sheet has.
 const MOST_JOBS: u64 = 100;
 
+/// A bench of a sheet, and the jobs that it has given out.
 #[derive(Drop)]
 pub struct Play<K: StoreName> {
     pub bench: Bench<K, Sheet>,
@@ -50,6 +51,7 @@ fn copied<K: StoreName>(alloc: Global, done: &Done<K, Sheet>) -> Option<Done<K, 
 }
 
 impl<K: StoreName> Play<K> {
+    /// A bench of which no job was claimed.
     pub fn new(alloc: Global, bench: Bench<K, Sheet>) -> Self {
         Play {
             bench,
@@ -57,6 +59,7 @@ impl<K: StoreName> Play<K> {
         }
     }
 
+    /// Makes an edit, again where memory was refused.
     pub fn edit(&mut self, alloc: Global, change: Change) -> Answer {
         for _ in 0..TRIES {
             match self.bench.edit(alloc, change) {
@@ -147,6 +150,7 @@ impl<K: StoreName> Play<K> {
         (first, finished(&self.bench.finish(done)))
     }
 
+    /// Closes a claim.
     pub fn lose(&mut self, claim: u64) -> Answer {
         if self.bench.lose(claim) {
             told("lost")
@@ -195,6 +199,7 @@ impl<K: StoreName> Play<K> {
         }
     }
 
+    /// Whether each cell is settled.
     pub fn all_settled(&self) -> Answer {
         if self.bench.all_settled() {
             told("all settled")
