@@ -18,10 +18,10 @@ ghost use Rattle.live_watch.specs.Boards.{KnowsTexts};
 use crate::lines::model_name;
 use crate::watched::Watched;
 use bench_texts::{Edit, EditFault, NamedModel, Texts};
-use cat_syntax::{ModelText, read_model};
+use cat_syntax::{CatFault, ModelText, read_model};
 use desk::Accepted;
 use desk_rule::{Naming, Viewer};
-use litmus_ppc::{Name, Test, read_test};
+use litmus_ppc::{LitmusFault, Name, Test, read_test};
 use running_bench::{RunningDesk, RunningTexts};
 use session_views::laws::own_edits_are_known;
 use std::alloc::{AllocError, Global};
@@ -40,6 +40,8 @@ fn told_fault(fault: EditFault) -> Result<EditFault, AllocError>
 {
     match fault {
         EditFault::OutOfMemory(error) => Err(error),
+        EditFault::Test(LitmusFault::OutOfMemory(error)) => Err(error),
+        EditFault::Model(CatFault::OutOfMemory(error)) => Err(error),
         fault => Ok(fault),
     }
 }
