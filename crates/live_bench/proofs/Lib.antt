@@ -9,7 +9,6 @@ pub mod Given
 pub mod JobLists
 pub mod TaskLists
 pub mod Unreached
-pub mod Memos
 pub mod SameVerdicts
 pub mod Refusals
 pub mod OutputNames

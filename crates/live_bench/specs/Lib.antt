@@ -4,7 +4,6 @@ pub mod Stamps
 pub mod Jobs
 pub mod JobLists
 pub mod Unreached
-pub mod Memos
 pub mod Refusals
 pub mod OutputNames
 pub mod ToldOutputs

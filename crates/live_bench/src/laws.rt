@@ -9,14 +9,13 @@ ghost use Rattle.running_bench.specs.declared.stamped_texts.StampedTexts.{Stampe
 ghost use Rattle.running_bench.specs.StampedTexts.{IsThere, IsSound};
 ghost use Rattle.running_bench.specs.StampedCells.{from_scratch};
 ghost use Rattle.memo_core.specs.Work.{ReturnsLowerInRuns, WorkIsBounded, WorkUnsettlesNone, SettledIsDecided};
-ghost use Rattle.memo_core.specs.Laws.{SettledIsSolved, ValuesStayPresent, GivenStaysPresent};
+ghost use Rattle.memo_core.specs.Laws.{SettledIsSolved, MatchingIsSolved, ValuesStayPresent, GivenStaysPresent};
 ghost use Rattle.cells.specs.CellLaws.{SettledCellIsFromScratch, UnreachedCellStays, OnlyNeededIsGiven, NoneIsOutTwice, EditBoundsWork, QuietCellsAreSettled, ListsAreRuns, ListBoundsWork};
 ghost use Rattle.live_bench.specs.Live.{live_meaning, live_cells, live_refusing, live_last};
 ghost use Rattle.live_bench.specs.Stamps.{HasLowStamps, ChangedOutputIsNewer};
 ghost use Rattle.live_bench.specs.There.{HoldsAfterEvents, HasJustItsCells, ShowsRight};
 ghost use Rattle.live_bench.specs.Jobs.{JobsAreAccepted, ClaimsStayOut, UnsettledIsGiven, GivenIsBounded, EditBoundsGiven};
 ghost use Rattle.live_bench.specs.JobLists.{ListBoundsGiven, ListAcceptsJobs};
-ghost use Rattle.live_bench.specs.Memos.{MatchingIsSolved};
 ghost use Rattle.live_bench.specs.Refusals.{RefusedChangesNothing, RefusedEditChangesNothing};
 ghost use Rattle.live_bench.specs.OutputNames.{OutputsHaveTheirNames, OthersHaveOneOutput};
 ghost use Rattle.live_bench.specs.ToldOutputs.{ReturnsTellOutputs};

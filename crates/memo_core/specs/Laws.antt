@@ -41,6 +41,12 @@ MatchingIsMade {T} {E} {V} {G} means =
     (events : List (Event E V G)) (start end : Bench T V) → IsStart means.is_valid means.net start → Run means start events end
     → (n : Node) → Matches (means.net end.texts) end.memos n → IsMadeOfPresent means.makes (means.net end.texts) end.memos n
 
+-- and its inputs all have values, so it holds what is made of their present values as a settled node does
+abbrev pub MatchingIsSolved : {T E V G : Type 0} → Meaning T E V G → Type 0
+MatchingIsSolved {T} {E} {V} {G} means =
+    (events : List (Event E V G)) (start end : Bench T V) → IsStart means.is_valid means.net start → Run means start events end
+    → (n : Node) → Matches (means.net end.texts) end.memos n → IsSolved means.makes (means.net end.texts) end.memos n
+
 -- a return that is taken at a node with settled inputs settles that node, and unsettles none
 abbrev pub ReturnsSettle : (V G : Type 0) → Type 0
 ReturnsSettle V G =

@@ -16,7 +16,7 @@ use Rattle.memo_core.specs.Step.{State, Return, Accepts, Finishes, Loses}
 use Rattle.memo_core.specs.Run.{Bench, Event, Edit, Claim, NoClaim, Returned, Lose, Renew, Refused, IsKept, Meaning, Run, Step, state_in}
 use Rattle.memo_core.proofs.Runs.{matching_holds}
 use Rattle.memo_core.proofs.Theory.{memo_found}
-use Rattle.live_bench.specs.Memos.{MatchingIsSolved}
+use Rattle.memo_core.specs.Laws.{MatchingIsSolved}
 
 some_is : {A : Type 0} {a b : A} → Some a ≡ Some b → a ≡ b
 some_is e = cc
