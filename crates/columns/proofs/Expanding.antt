@@ -180,6 +180,12 @@ start_below at (x ∷ es) (suc r) h l = start_below x es r h.1 (omega (arith, l)
 pub last_end_is : {A : Type 0} (es : List ℕ) (vs old : List A) (n end : ℕ) → AreRuns es vs → expand 0 es vs ≡ old → n ≡ length es → 0 < n → end ≡ get_or es (n - 1) 0 → end ≡ length old
 last_end_is es vs old n end h is l p read = omega (arith, read, last_is 0 es (n - 1) (omega (arith, l, p)), length-runs es vs h, ap length is)
 
+-- where there is a run, there is a candidate
+pub some_there : {A : Type 0} (es : List ℕ) (vs old : List A) (n : ℕ) → AreRuns es vs → expand 0 es vs ≡ old → n ≡ length es → 0 < n → 0 < length old
+some_there es vs old n h is l p =
+    let low : start_of 0 es (n - 1) < get_or es (n - 1) 0 = start_below 0 es (n - 1) h.rising (omega (arith, l, p)) in
+    omega (arith, low, last_is 0 es (n - 1) (omega (arith, l, p)), length-runs es vs h, ap length is)
+
 pub last_value : {A : Type 0} (d : A) (es : List ℕ) (vs old : List A) (n : ℕ) → AreRuns es vs → expand 0 es vs ≡ old → n ≡ length es → 0 < n → get_or old (length old - 1) d ≡ get_or vs (n - 1) d
 last_value d es vs old n h is l p =
     let inside : n - 1 < length es = omega (arith, l, p) in

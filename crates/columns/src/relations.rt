@@ -90,6 +90,7 @@ impl RunColumn {
     /// column stays as it was.
     pub fn push_last(&mut self) -> Result<(), AllocError>
         ensures added { OnOk result (0 < length self.old → self.new ≡ self.old ++ value_at self.old (length self.old - 1) ∷ []) }
+        ensures none { OnOk result (self.old ≡ [] → self.new ≡ []) }
         ensures kept { OnErr result (self.new ≡ self.old) }
     {
         let count = self.runs.len();
