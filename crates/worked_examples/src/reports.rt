@@ -128,6 +128,8 @@ pub fn show<R: Print + AllocGlobal>(rt: &R) -> io::Result<()> {
     show_differences(rt, first, second)?;
     show_text(rt, counts_text(rt.alloc(), second)?)?;
     show_text(rt, counts_text(rt.alloc(), Shown::Open)?)?;
+    show_text(rt, counts_text(rt.alloc(), Shown::NoCell)?)?;
     show_text(rt, log_text(rt.alloc(), b"MP", first)?)?;
+    show_text(rt, log_text(rt.alloc(), b"MP", Shown::Open)?)?;
     show_text(rt, log_text(rt.alloc(), b"MP", Shown::NoCell)?)
 }
