@@ -11,7 +11,7 @@ use denote.Ref.{Bor}
 use Rattle.binding_graph.specs.declared.resolved.ResolvedItem.{ResolvedItem}
 use Rattle.binding_graph.specs.declared.resolved.Role.{Role}
 use Rattle.binding_graph.specs.declared.resolved.Role.TheVariants as roles
-use Rattle.binding_graph.specs.Reach.{AreReached}
+use Rattle.binding_graph.specs.Reach.{IsReached, AreReached}
 use Rattle.candidates.specs.declared.candidate.Space.{Space}
 use Rattle.cat_eval.specs.declared.column.Column.{Column}
 use Rattle.cat_eval.specs.Columns.{ColumnsOf}
@@ -21,8 +21,8 @@ use Rattle.verdict.specs.Kept.{Flag}
 use Rattle.memo_graph.specs.declared.cell.ItemAnswers.{ItemAnswers}
 use Rattle.memo_graph.specs.declared.keeping.LastUsers.{LastUsers}
 use Rattle.memo_graph.specs.Answers.{IsSaidBy, IsValued, AreSound}
-use Rattle.memo_graph.specs.Known.{column_in, column_of, AreFound, kept_of, flags_of, HasAllColumns, AreKeptIn, AreJudged, IsAnswered, AreKnownTo}
-use Rattle.memo_graph.specs.Keeping.{last_user, IsBelow, IsGone, KeepsAll, Notes, HasInput, AreLast, LetsGo, AreEnough, IsLeftOut, IsAnsweredBut, IsGroup, AreAlike, AreKeptTo}
+use Rattle.memo_graph.specs.Known.{column_in, column_of, AreFound, kept_of, flags_of, IsGroup, HasAllColumns, IsReachedGroup, HasNoOtherColumns, AreKeptIn, AreJudged, IsAnswered, AreKnownTo}
+use Rattle.memo_graph.specs.Keeping.{last_user, IsBelow, IsGone, KeepsAll, Notes, HasInput, AreLast, LetsGo, AreEnough, IsLeftOut, IsAnsweredBut, AreAlike, AreKeptTo}
 use Rattle.memo_graph.proofs.Knowing.{item_at, same_at, known_next, known_end, columns_end}
 
 -- ---- lists with one element changed
@@ -347,6 +347,25 @@ kept_next space items last indexes p at r old answered new all users ordered lt 
 
 pub kept_end : (space : Space) (items : List ResolvedItem) (last : LastUsers) (indexes : List ℕ) (p : ℕ) (a : ItemAnswers) → AreReached items indexes → length indexes ≤ p → AreKeptTo space items last indexes p a → AreJudged space (reverse items) (kept_of a) (flags_of a)
 kept_end space items last indexes p a all le to = rw (to.alike.kept, to.alike.flags) (known_end space items indexes p to.whole all le to.known)
+
+-- ---- items without columns
+
+no_columns : (role : Role) (inputs : List (Bor Column)) (space : Space) (cs : List Column) → (IsGroup role → ⊥) → ColumnsOf role inputs space cs → cs ≡ []
+no_columns (roles.Group recursive bodies) inputs space cs other h = absurd (other tt)
+no_columns (roles.Check check) inputs space cs other h = h
+no_columns roles.Silent inputs space cs other h = h
+
+pub no_others_next : (P : Input → Type 0) (space : Space) (items : List ResolvedItem) (at : ℕ) (r : ResolvedItem) (old answered new : ItemAnswers) → IsReached items at → at < length items → slice_get items at ≡ Some r → vec_len old.columns ≡ length items
+    → HasNoOtherColumns items old → IsAnswered space at r old answered → LetsGo P answered.columns new.columns → HasNoOtherColumns items new
+no_others_next P space items at r old answered new reached within is count none given gone =
+    λ j lt other d. no_column_left (get_or new.columns.items j d).items (gone.long j d ∙ ap length (before j lt other d (cases_eq j at)))
+  where
+    here : (IsReachedGroup items at → ⊥) → (d : Vec Column Global) → (get_or answered.columns.items at d).items ≡ []
+    here other d = no_columns r.role given.inputs space (get_or answered.columns.items at d).items (λ group. other (r, is, group, reached)) (given.here (omega (arith, within, count)) (λ e. none at within other e) d)
+
+    before : (j : ℕ) → j < length items → (IsReachedGroup items j → ⊥) → (d : Vec Column Global) → (j ≡ at) ⊎ (j ≡ at → ⊥) → (get_or answered.columns.items j d).items ≡ []
+    before j lt other d (inl e) = subst (λ k. (get_or answered.columns.items k d).items ≡ []) (sym e) (here (subst (λ k. IsReachedGroup items k → ⊥) e other) d)
+    before j lt other d (inr away) = ap (λ (v : Vec Column Global). v.items) (given.others j away d) ∙ none j lt other d
 
 -- where each name has users to the end
 all_there : (xs ys : List Column) → length xs ≡ length ys → ((k : ℕ) → slice_get xs k ≡ slice_get ys k) → xs ≡ ys

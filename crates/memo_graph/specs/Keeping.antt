@@ -3,8 +3,6 @@ use Rattle.std.specs.Prelude.{◌≡◌, ℕ, ◌+◌, ◌<◌, ◌≤◌, ◌�
 use Rattle.std.specs.declared.alloc.Global.{Global}
 use Rattle.binding_kinds.specs.declared.scope.Input.{Input}
 use Rattle.binding_graph.specs.declared.resolved.ResolvedItem.{ResolvedItem}
-use Rattle.binding_graph.specs.declared.resolved.Role.{Role}
-use Rattle.binding_graph.specs.declared.resolved.Role.TheVariants as roles
 use Rattle.candidates.specs.declared.candidate.Space.{Space}
 use Rattle.cat_eval.specs.declared.column.Column.{Column}
 use Rattle.cat_eval.specs.Wanted.{is_wanted}
@@ -62,12 +60,6 @@ IsLeftOut wanted at name = (name.item ≡ at) × (is_wanted wanted name.position
 -- what the item at that index gives, from what was known, is known too, but for columns of these names
 abbrev pub IsAnsweredBut : (Input → Type 0) → Space → ℕ → ResolvedItem → ItemAnswers → ItemAnswers → Type 0
 IsAnsweredBut P space at r old new = (whole : ItemAnswers) × IsAnswered space at r old whole × LetsGo P whole.columns new.columns × (kept_of new ≡ kept_of whole) × (flags_of new ≡ flags_of whole)
-
--- the item gives columns
-abbrev pub IsGroup : Role → Type 0
-IsGroup (roles.Group recursive bodies) = Unit {0}
-IsGroup (roles.Check check) = ⊥
-IsGroup roles.Silent = ⊥
 
 -- the first is what is known where nothing is let go, and the second has the same columns of names that items from that
 -- number on use

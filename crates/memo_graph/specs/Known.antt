@@ -5,6 +5,8 @@ use Rattle.std.specs.declared.alloc.Global.{Global}
 use denote.Ref.{Bor}
 use Rattle.binding_kinds.specs.declared.scope.Input.{Input}
 use Rattle.binding_graph.specs.declared.resolved.ResolvedItem.{ResolvedItem}
+use Rattle.binding_graph.specs.declared.resolved.Role.{Role}
+use Rattle.binding_graph.specs.declared.resolved.Role.TheVariants as roles
 use Rattle.binding_graph.specs.Reach.{IsReached}
 use Rattle.candidates.specs.Space.{shown_in}
 use Rattle.candidates.specs.declared.candidate.Space.{Space}
@@ -44,6 +46,22 @@ ColumnsAt a index P = (d : Vec Column Global) → P (slice_index_or a.columns.it
 -- the columns of each item that checks and flags reach are known
 abbrev pub HasAllColumns : Space → List ResolvedItem → ItemAnswers → Type 0
 HasAllColumns space items a = (j : ℕ) → j < length items → IsReached items j → ColumnsAt a j (IsValued space (reverse items) j)
+
+-- the item gives columns
+abbrev pub IsGroup : Role → Type 0
+IsGroup (roles.Group recursive bodies) = Unit {0}
+IsGroup (roles.Check check) = ⊥
+IsGroup roles.Silent = ⊥
+
+-- the item at that index is a group that checks and flags reach
+abbrev pub IsReachedGroup : List ResolvedItem → ℕ → Type 0
+IsReachedGroup items j =
+    (r : ResolvedItem) × (slice_get items j ≡ Some r) × IsGroup r.role × IsReached items j
+
+-- no other item has columns
+abbrev pub HasNoOtherColumns : List ResolvedItem → ItemAnswers → Type 0
+HasNoOtherColumns items a =
+    (j : ℕ) → j < length items → (IsReachedGroup items j → ⊥) → ColumnsAt a j (λ cs. cs ≡ [])
 
 -- on these candidates of a space all of these checks hold
 abbrev pub AreKeptIn : Space → List (List Bool) → List Bool → Type 0

@@ -12,9 +12,9 @@ ghost use Rattle.cat_eval.specs.Values.{AnswersOf};
 ghost use Rattle.verdict.specs.Evaluated.{IsEvaluatedAs};
 ghost use Rattle.verdict.specs.Kept.{of_raised, AreKeptBy};
 ghost use Rattle.memo_graph.specs.Answers.{AreSound};
-ghost use Rattle.memo_graph.specs.Known.{column_of, AreFound, IsAnswered, ColumnsAt, HasAllColumns, of_flags, kept_of, flags_of, AreJudged};
+ghost use Rattle.memo_graph.specs.Known.{column_of, AreFound, IsAnswered, ColumnsAt, IsGroup, HasAllColumns, HasNoOtherColumns, of_flags, kept_of, flags_of, AreJudged};
 ghost use Rattle.memo_graph.specs.FromScratch.{IsFromScratch};
-ghost use Rattle.memo_graph.specs.Keeping.{IsGone, IsGroup, IsLeftOut, IsAnsweredBut};
+ghost use Rattle.memo_graph.specs.Keeping.{IsGone, IsLeftOut, IsAnsweredBut};
 ghost use Rattle.memo_graph.specs.Cell.{IsSaid, IsCell, IsEvaluationBy, IsEvaluationOver, OfModel};
 ghost use Rattle.memo_graph.specs.Suites.{IsSpaceFor};
 
@@ -307,6 +307,8 @@ pub fn answers<'a>(
     ensures said { let items = resolved.now.items.items in AreSound items → IfOk result (λ a. AreJudged space.now (reverse items) (kept_of a) (flags_of a)) }
     ensures long { IfOk result (λ a. length (kept_of a) ≡ length (shown_in space.now)) }
     ensures columns { let items = resolved.now.items.items in AreSound items → IfOk result (HasAllColumns space.now items) }
+    ensures count { IfOk result (λ a. vec_len a.columns ≡ length resolved.now.items.items) }
+    ensures no_others { IfOk result (HasNoOtherColumns resolved.now.items.items) }
 {
     let mut evaluator = Evaluator::new(alloc);
     answers_by(alloc, &mut evaluator, space, resolved, Keeping::All)
@@ -326,6 +328,8 @@ fn answers_by<'a>(
     ensures said { let items = resolved.now.items.items in AreSound items → IfOk result (λ a. AreJudged space.now (reverse items) (kept_of a) (flags_of a)) }
     ensures long { IfOk result (λ a. length (kept_of a) ≡ length (shown_in space.now)) }
     ensures columns { let items = resolved.now.items.items in keeping ≡ Keeping.All → AreSound items → IfOk result (HasAllColumns space.now items) }
+    ensures count { IfOk result (λ a. vec_len a.columns ≡ length resolved.now.items.items) }
+    ensures no_others { IfOk result (HasNoOtherColumns resolved.now.items.items) }
 {
     let mut answers = no_answers(alloc, resolved.items.len(), all_kept(alloc, space)?)?;
     let indexes = used(alloc, resolved)?;
