@@ -38,7 +38,7 @@ impl<K: StoreName, T: CellTexts> Model for Bench<K, T> {
 
     ghost view = { λ b. plain_bench b.graph.texts b.graph.memos.entries b.graph.claims.entries b.graph.taken };
 
-    ghost invariant = { λ b. IsSoundBench (meaning T.net T.is_valid T.since T.makes T.keeps T.edited) b.graph.texts b.graph.memos.entries b.graph.claims.entries b.graph.taken };
+    ghost invariant = { λ b. IsSoundBench (meaning T.net T.is_valid T.since T.makes T.keeps T.edited T.last) b.graph.texts b.graph.memos.entries b.graph.claims.entries b.graph.taken };
 }
 
 impl<K: StoreName, T: CellTexts> Bench<K, T> {
@@ -80,11 +80,11 @@ impl<K: StoreName, T: CellTexts> Bench<K, T> {
     /// Makes an edit, and gives its number. A refusal, by a rule or for want of memory, leaves all as it was.
     pub fn edit(&mut self, alloc: Global, edit: T::Edit) -> Result<u64, T::Fault>
         ensures number { IfOk result (λ number. number ≡ self.old.taken + 1) }
-        ensures edited { OnOk result (Step (meaning T.net T.is_valid T.since T.makes T.keeps T.edited) self.old (Edited edit) self.new) }
+        ensures edited { OnOk result (Step (meaning T.net T.is_valid T.since T.makes T.keeps T.edited T.last) self.old (Edited edit) self.new) }
         ensures unspent { OnOk result (self.old.taken < LAST) }
         ensures fault { IfErr result (λ fault. T.refuses self.old.texts edit (leb LAST self.old.taken) fault) }
         ensures last { OnErr result (T.last self.new.texts ≡ T.last self.old.texts) }
-        ensures refused { OnErr result (Step (meaning T.net T.is_valid T.since T.makes T.keeps T.edited) self.old Refused self.new) }
+        ensures refused { OnErr result (Step (meaning T.net T.is_valid T.since T.makes T.keeps T.edited T.last) self.old Refused self.new) }
     {
         self.graph.edit(alloc, edit)
     }
@@ -99,14 +99,14 @@ impl<K: StoreName, T: CellTexts> Bench<K, T> {
     ) -> Result<Option<u64>, T::Fault>
         requires may_tell { (t : T) (p : T.Prepared) → T.prepares self.old.texts edit p t → W.may_tell witness.old t p (self.old.taken + 1) }
         ensures number { IfOk result (λ r. IfSome r (λ number. number ≡ self.old.taken + 1)) }
-        ensures edited { IfOk result (λ r. IfSome r (λ _. Step (meaning T.net T.is_valid T.since T.makes T.keeps T.edited) self.old (Edited edit) self.new)) }
+        ensures edited { IfOk result (λ r. IfSome r (λ _. Step (meaning T.net T.is_valid T.since T.makes T.keeps T.edited T.last) self.old (Edited edit) self.new)) }
         ensures told { IfOk result (λ r. IfSome r (λ number. IsTold T.prepares T.commits W.told self.old.texts edit number self.new.texts witness.old witness.new)) }
         ensures unspent { OnOk result (self.old.taken < LAST) }
         ensures held { IfOk result (λ r. IfNone r (W.held witness.old witness.new)) }
         ensures fault { IfErr result (λ fault. T.refuses self.old.texts edit (leb LAST self.old.taken) fault) }
         ensures unseen { OnErr result (witness.new ≡ witness.old) }
         ensures last { OnNone result (T.last self.new.texts ≡ T.last self.old.texts) }
-        ensures refused { OnNone result (Step (meaning T.net T.is_valid T.since T.makes T.keeps T.edited) self.old Refused self.new) }
+        ensures refused { OnNone result (Step (meaning T.net T.is_valid T.since T.makes T.keeps T.edited T.last) self.old Refused self.new) }
     {
         self.graph.edit_told(alloc, edit, witness)
     }
@@ -116,12 +116,12 @@ impl<K: StoreName, T: CellTexts> Bench<K, T> {
     /// spent, want of memory.
     pub fn claim(&mut self, alloc: Global) -> Result<Option<Job<K, T>>, ClaimFault>
         ensures texts { self.new.texts ≡ self.old.texts }
-        ensures given { IfOk result (λ r. IfSome r (λ j. Step (meaning T.net T.is_valid T.since T.makes T.keeps T.edited) self.old (Claimed j.claim j.node j.given j.keys j.values) self.new)) }
-        ensures none { IfOk result (λ r. IfNone r (Step (meaning T.net T.is_valid T.since T.makes T.keeps T.edited) self.old NoClaim self.new)) }
+        ensures given { IfOk result (λ r. IfSome r (λ j. Step (meaning T.net T.is_valid T.since T.makes T.keeps T.edited T.last) self.old (Claimed j.claim j.node j.given j.keys j.values) self.new)) }
+        ensures none { IfOk result (λ r. IfNone r (Step (meaning T.net T.is_valid T.since T.makes T.keeps T.edited T.last) self.old NoClaim self.new)) }
         ensures spent { LAST ≤ self.old.taken → result ≡ Err ClaimFault.Spent }
         ensures spent_only { result ≡ Err ClaimFault.Spent → LAST ≤ self.old.taken }
         ensures unspent { OnOk result (self.old.taken < LAST) }
-        ensures refused { OnErr result (Step (meaning T.net T.is_valid T.since T.makes T.keeps T.edited) self.old Refused self.new) }
+        ensures refused { OnErr result (Step (meaning T.net T.is_valid T.since T.makes T.keeps T.edited T.last) self.old Refused self.new) }
     {
         match self.graph.claim(alloc) {
             Ok(Some(job)) => Ok(Some(Job { job })),
@@ -132,21 +132,21 @@ impl<K: StoreName, T: CellTexts> Bench<K, T> {
 
     /// Takes a return, by the first case that holds. It takes no memory.
     pub fn finish(&mut self, done: Done<K, T>) -> Finish
-        ensures { Step (meaning T.net T.is_valid T.since T.makes T.keeps T.edited) self.old (Returned done result) self.new }
+        ensures { Step (meaning T.net T.is_valid T.since T.makes T.keeps T.edited T.last) self.old (Returned done result) self.new }
     {
         self.graph.finish(done.into_done())
     }
 
     /// Closes a claim, and says whether it was out. It takes no memory.
     pub fn lose(&mut self, claim: u64) -> bool
-        ensures { Step (meaning T.net T.is_valid T.since T.makes T.keeps T.edited) self.old (Lost claim result) self.new }
+        ensures { Step (meaning T.net T.is_valid T.since T.makes T.keeps T.edited T.last) self.old (Lost claim result) self.new }
     {
         self.graph.lose(claim)
     }
 
     /// Forgets all that was computed, and closes every claim. It takes no memory.
     pub fn renew(&mut self)
-        ensures { Step (meaning T.net T.is_valid T.since T.makes T.keeps T.edited) self.old Renewed self.new }
+        ensures { Step (meaning T.net T.is_valid T.since T.makes T.keeps T.edited T.last) self.old Renewed self.new }
     {
         self.graph.renew();
     }

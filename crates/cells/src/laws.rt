@@ -10,12 +10,12 @@ use crate::texts::CellTexts;
 /// After any list of edits, claims, returns, losses, renewals and refused calls, in any order, a cell that is settled carries
 /// what evaluating the present texts from nothing gives.
 pub fn headline<T: CellTexts>()
-    ensures { SettledCellIsFromScratch (meaning T.net T.is_valid T.since T.makes T.keeps T.edited) (cells T.verdict_of T.outcome_in T.from_scratch T.reaches) }
+    ensures { SettledCellIsFromScratch (meaning T.net T.is_valid T.since T.makes T.keeps T.edited T.last) (cells T.verdict_of T.outcome_in T.from_scratch T.reaches) }
 {}
 
 /// An edit that does not reach a settled cell leaves it settled with the same outcome.
 pub fn untouched<T: CellTexts>()
-    ensures { UnreachedCellStays (meaning T.net T.is_valid T.since T.makes T.keeps T.edited) (cells T.verdict_of T.outcome_in T.from_scratch T.reaches) }
+    ensures { UnreachedCellStays (meaning T.net T.is_valid T.since T.makes T.keeps T.edited T.last) (cells T.verdict_of T.outcome_in T.from_scratch T.reaches) }
 {}
 
 /// Only what some cell needs is given out, and no two claims that are out are of one node with the same inputs and stamps. An
@@ -24,13 +24,13 @@ pub fn untouched<T: CellTexts>()
 /// nodes: after an edit, no more than were open before it or stand on what it touches. Where no claim is given and none is
 /// out, every cell is settled.
 pub fn exact_work<T: CellTexts>()
-    ensures needed { OnlyNeededIsGiven (meaning T.net T.is_valid T.since T.makes T.keeps T.edited) (cells T.verdict_of T.outcome_in T.from_scratch T.reaches) }
-    ensures apart { NoneIsOutTwice (meaning T.net T.is_valid T.since T.makes T.keeps T.edited) }
-    ensures lowers { ReturnsLowerInRuns (meaning T.net T.is_valid T.since T.makes T.keeps T.edited) }
-    ensures bounded { WorkIsBounded (meaning T.net T.is_valid T.since T.makes T.keeps T.edited) }
-    ensures kept { WorkUnsettlesNone (meaning T.net T.is_valid T.since T.makes T.keeps T.edited) }
-    ensures edited { EditBoundsWork (meaning T.net T.is_valid T.since T.makes T.keeps T.edited) }
-    ensures quiet { QuietCellsAreSettled (meaning T.net T.is_valid T.since T.makes T.keeps T.edited) (cells T.verdict_of T.outcome_in T.from_scratch T.reaches) }
+    ensures needed { OnlyNeededIsGiven (meaning T.net T.is_valid T.since T.makes T.keeps T.edited T.last) (cells T.verdict_of T.outcome_in T.from_scratch T.reaches) }
+    ensures apart { NoneIsOutTwice (meaning T.net T.is_valid T.since T.makes T.keeps T.edited T.last) }
+    ensures lowers { ReturnsLowerInRuns (meaning T.net T.is_valid T.since T.makes T.keeps T.edited T.last) }
+    ensures bounded { WorkIsBounded (meaning T.net T.is_valid T.since T.makes T.keeps T.edited T.last) }
+    ensures kept { WorkUnsettlesNone (meaning T.net T.is_valid T.since T.makes T.keeps T.edited T.last) }
+    ensures edited { EditBoundsWork (meaning T.net T.is_valid T.since T.makes T.keeps T.edited T.last) }
+    ensures quiet { QuietCellsAreSettled (meaning T.net T.is_valid T.since T.makes T.keeps T.edited T.last) (cells T.verdict_of T.outcome_in T.from_scratch T.reaches) }
 {
     memo_core::laws::exact_work::<T>();
 }
@@ -38,8 +38,8 @@ pub fn exact_work<T: CellTexts>()
 /// What `run_events` does is such a run, so all of this holds of it. Of a list of claims, returns and losses no more returns
 /// are accepted than it settles used nodes.
 pub fn listed<T: CellTexts>()
-    ensures runs { ListsAreRuns (meaning T.net T.is_valid T.since T.makes T.keeps T.edited) T.refuses T.last }
-    ensures bounded { ListBoundsWork (meaning T.net T.is_valid T.since T.makes T.keeps T.edited) T.refuses T.last }
+    ensures runs { ListsAreRuns (meaning T.net T.is_valid T.since T.makes T.keeps T.edited T.last) T.refuses T.last }
+    ensures bounded { ListBoundsWork (meaning T.net T.is_valid T.since T.makes T.keeps T.edited T.last) T.refuses T.last }
 {
     memo_core::laws::exact_work::<T>();
 }

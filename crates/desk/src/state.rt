@@ -74,9 +74,9 @@ fn make_edit<J: Naming + StoreName, X: BoardTexts>(
     ensures after { X.are_after bench.new.texts ledger.new.all }
     ensures last { X.last_number ledger.new.all ≤ bench.new.taken }
     ensures published { ledger.new.published ≡ ledger.old.published }
-    ensures made { IfOk result (λ number. IsMade (meaning X.net X.is_valid X.since X.makes X.keeps X.edited) X.is_edit edit bench.old bench.new ledger.old.all ledger.new.all number) }
+    ensures made { IfOk result (λ number. IsMade (meaning X.net X.is_valid X.since X.makes X.keeps X.edited X.last) X.is_edit edit bench.old bench.new ledger.old.all ledger.new.all number) }
     ensures unspent { OnOk result (bench.old.taken < LAST) }
-    ensures err { OnErr result (Step (meaning X.net X.is_valid X.since X.makes X.keeps X.edited) bench.old Refused bench.new × (ledger.new ≡ ledger.old)) }
+    ensures err { OnErr result (Step (meaning X.net X.is_valid X.since X.makes X.keeps X.edited X.last) bench.old Refused bench.new × (ledger.new ≡ ledger.old)) }
 {
     match bench.edit_told(alloc, edit, ledger) {
         Ok(Some(number)) => Ok(number),
@@ -145,9 +145,9 @@ impl<J: Naming + StoreName, X: BoardTexts, R: Wait + Drop> DeskState<J, X, R> {
         ensures closed { (result ≡ Err DeskFault.Closed) ↔ (self.old.closed ≡ true) }
         ensures no_seat { (result ≡ Err DeskFault.NoSeat) ↔ ((self.old.closed ≡ false) × (length self.old.all < length me.old)) }
         ensures fault { IfErr result (IsRefusedBy (λ fault. IsPrefix me.old self.old.all × X.refuses self.old.bench.texts edit (leb LAST self.old.bench.taken) fault) X.is_want_of_memory (length self.old.all < length me.old)) }
-        ensures err { OnErr result (IsRefusedTurn (meaning X.net X.is_valid X.since X.makes X.keeps X.edited) self.old self.new × (me.new ≡ me.old)) }
+        ensures err { OnErr result (IsRefusedTurn (meaning X.net X.is_valid X.since X.makes X.keeps X.edited X.last) self.old self.new × (me.new ≡ me.old)) }
         ensures unspent { OnOk result (self.old.bench.taken < LAST) }
-        ensures turn { IfOk result (λ a. IsEditTurn (meaning X.net X.is_valid X.since X.makes X.keeps X.edited) X.is_edit X.is_settle edit self.old self.new (number_of a)) }
+        ensures turn { IfOk result (λ a. IsEditTurn (meaning X.net X.is_valid X.since X.makes X.keeps X.edited X.last) X.is_edit X.is_settle edit self.old self.new (number_of a)) }
         ensures published { IfOk result (λ a. Publishes self.old self.new me.old me.new a) }
         ensures told { IfOk result (λ a. Tells X.is_legal X.is_edit X.is_settle edit me.old me.new a) }
         ensures shown { OnOk result (IsShownOrOwed (λ bench ops. ArePosted X.net (cells_of X.verdict_of X.outcome_in X.from_scratch X.reaches) bench (X.cells (fold X.after X.none ops))) self.new) }
@@ -223,9 +223,9 @@ impl<J: Naming + StoreName, X: BoardTexts, R: Wait + Drop> DeskState<J, X, R> {
         ensures closed { (result ≡ Err DeskFault.Closed) ↔ (self.old.closed ≡ true) }
         ensures fault { IfErr result (IsClaimRefusedBy (LAST ≤ self.old.bench.taken)) }
         ensures spent { self.old.closed ≡ false → LAST ≤ self.old.bench.taken → result ≡ Err (DeskFault.Claim ClaimFault.Spent) }
-        ensures err { OnErr result (IsRefusedTurn (meaning X.net X.is_valid X.since X.makes X.keeps X.edited) self.old self.new) }
-        ensures given { IfOk result (λ r. IfSome r (λ j. Step (meaning X.net X.is_valid X.since X.makes X.keeps X.edited) self.old.bench (Claimed j.claim j.node j.given j.keys j.values) self.new.bench)) }
-        ensures none { IfOk result (λ r. IfNone r (Step (meaning X.net X.is_valid X.since X.makes X.keeps X.edited) self.old.bench NoClaim self.new.bench)) }
+        ensures err { OnErr result (IsRefusedTurn (meaning X.net X.is_valid X.since X.makes X.keeps X.edited X.last) self.old self.new) }
+        ensures given { IfOk result (λ r. IfSome r (λ j. Step (meaning X.net X.is_valid X.since X.makes X.keeps X.edited X.last) self.old.bench (Claimed j.claim j.node j.given j.keys j.values) self.new.bench)) }
+        ensures none { IfOk result (λ r. IfNone r (Step (meaning X.net X.is_valid X.since X.makes X.keeps X.edited X.last) self.old.bench NoClaim self.new.bench)) }
         ensures appends { OnOk result (Appends X.is_settle self.old.all self.old self.new) }
         ensures grows { OnOk result (IsPrefix self.old.published self.new.published) }
         ensures whole { OnOk result (ShowsAllOrAsBefore self.old self.new) }
@@ -256,7 +256,7 @@ impl<J: Naming + StoreName, X: BoardTexts, R: Wait + Drop> DeskState<J, X, R> {
         ensures closed { (result ≡ Err DeskFault.Closed) ↔ (self.old.closed ≡ true) }
         ensures only { OnErr result (self.old.closed ≡ true) }
         ensures err { OnErr result (self.new ≡ self.old) }
-        ensures step { IfOk result (λ r. Step (meaning X.net X.is_valid X.since X.makes X.keeps X.edited) self.old.bench (Returned done r.finish) self.new.bench) }
+        ensures step { IfOk result (λ r. Step (meaning X.net X.is_valid X.since X.makes X.keeps X.edited X.last) self.old.bench (Returned done r.finish) self.new.bench) }
         ensures appends { OnOk result (Appends X.is_settle self.old.all self.old self.new) }
         ensures grows { OnOk result (IsPrefix self.old.published self.new.published) }
         ensures posted { IfOk result (λ r. PublishesOr (λ bench ops. ArePosted X.net (cells_of X.verdict_of X.outcome_in X.from_scratch X.reaches) bench (X.cells (fold X.after X.none ops))) self.old self.new r.posted) }
@@ -276,7 +276,7 @@ impl<J: Naming + StoreName, X: BoardTexts, R: Wait + Drop> DeskState<J, X, R> {
         ensures closed { (result ≡ Err DeskFault.Closed) ↔ (self.old.closed ≡ true) }
         ensures only { OnErr result (self.old.closed ≡ true) }
         ensures err { OnErr result (self.new ≡ self.old) }
-        ensures step { IfOk result (λ r. Step (meaning X.net X.is_valid X.since X.makes X.keeps X.edited) self.old.bench (Lost claim r) self.new.bench) }
+        ensures step { IfOk result (λ r. Step (meaning X.net X.is_valid X.since X.makes X.keeps X.edited X.last) self.old.bench (Lost claim r) self.new.bench) }
         ensures appends { OnOk result (Appends X.is_settle self.old.all self.old self.new) }
         ensures grows { OnOk result (IsPrefix self.old.published self.new.published) }
         ensures whole { OnOk result (ShowsAllOrAsBefore self.old self.new) }
@@ -296,7 +296,7 @@ impl<J: Naming + StoreName, X: BoardTexts, R: Wait + Drop> DeskState<J, X, R> {
         ensures closed { (result ≡ Err DeskFault.Closed) ↔ (self.old.closed ≡ true) }
         ensures only { OnErr result (self.old.closed ≡ true) }
         ensures err { OnErr result (self.new ≡ self.old) }
-        ensures step { OnOk result (Step (meaning X.net X.is_valid X.since X.makes X.keeps X.edited) self.old.bench Renewed self.new.bench) }
+        ensures step { OnOk result (Step (meaning X.net X.is_valid X.since X.makes X.keeps X.edited X.last) self.old.bench Renewed self.new.bench) }
         ensures appends { OnOk result (Appends X.is_settle self.old.all self.old self.new) }
         ensures grows { OnOk result (IsPrefix self.old.published self.new.published) }
         ensures whole { OnOk result (ShowsAllOrAsBefore self.old self.new) }

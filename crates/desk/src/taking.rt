@@ -23,7 +23,7 @@ pub(crate) fn take<J: Naming, K: StoreName, X: BoardTexts>(
     done: Done<K, X>,
 ) -> (Finish, Option<Node>)
     requires posted { owed ≡ false → ArePosted X.net (cells_of X.verdict_of X.outcome_in X.from_scratch X.reaches) bench.old (X.cells (fold X.after X.none ledger.now.all)) }
-    ensures step { Step (meaning X.net X.is_valid X.since X.makes X.keeps X.edited) bench.old (Returned done result.0) bench.new }
+    ensures step { Step (meaning X.net X.is_valid X.since X.makes X.keeps X.edited X.last) bench.old (Returned done result.0) bench.new }
     ensures rest { IfSome result.1 (λ node. ArePostedBut X.net (cells_of X.verdict_of X.outcome_in X.from_scratch X.reaches) bench.new node (X.cells (fold X.after X.none ledger.now.all))) }
 {
     let node = done.node();

@@ -49,10 +49,10 @@ module _ (b c : LiveState) (nodes : net_of c.texts ≡ net_of b.texts) (memos : 
   shown_alike test model NoCell h = verdicts test model ∙ h
 
 pub refused_changes_nothing : RefusedChangesNothing
-refused_changes_nothing events start old new s run step last =
+refused_changes_nothing events start old new s run step =
     let sound = sound_after events start old s run in
     let since = step.texts.since old.texts (since_itself old.texts sound) in
-    let texts = since.same last in
+    let texts = since.same step.texts.last in
     let nodes = step.texts.net in
     let verdicts = same_verdicts old.texts new.texts sound since.sound texts (ap (λ (net : Net GivenContent). net.used) nodes) in
     record {
@@ -69,4 +69,4 @@ refused_changes_nothing events start old new s run step last =
 
 pub refused_edit_changes_nothing : RefusedEditChangesNothing
 refused_edit_changes_nothing events start old new e fault s run edited =
-    refused_changes_nothing events start old new s run edited.1 edited.2
+    refused_changes_nothing events start old new s run edited.1

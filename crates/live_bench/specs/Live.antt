@@ -17,9 +17,13 @@ use Rattle.running_bench.specs.StampedTexts.{IsSound, IsSince, net_of, verdict_o
 use Rattle.running_bench.specs.Edited.{IsEdited}
 use Rattle.running_bench.specs.StampedCells.{from_scratch, Reaches}
 
--- which texts are sound, what their nodes are, and what an edit makes of them
+-- the number of the last edit of the texts
+abbrev pub live_last : StampedTexts → ℕ
+live_last t = t.parts.last
+
+-- which texts are sound, what their nodes are, what an edit makes of them, and which was the last
 abbrev pub live_meaning : Meaning StampedTexts Edit NodeContent GivenContent
-live_meaning = meaning net_of IsSound IsSince makes (λ t n. keeps t.parts n) IsEdited
+live_meaning = meaning net_of IsSound IsSince makes (λ t n. keeps t.parts n) IsEdited live_last
 
 -- the verdict of a cell, the outcome in a value, what evaluating the present texts from nothing gives, and which edits reach a cell
 abbrev pub live_cells : Cells StampedTexts Edit NodeContent Outcome
@@ -28,7 +32,3 @@ live_cells = cells verdict_of outcome_in from_scratch Reaches
 -- why an edit is refused
 abbrev pub live_refusing : Refusing StampedTexts Edit EditFault
 live_refusing t e spent fault = Refuses (texts_of t.texts) spent (edit_of e) fault
-
--- the number of the last edit of the texts
-abbrev pub live_last : StampedTexts → ℕ
-live_last t = t.parts.last

@@ -29,12 +29,12 @@ pub record IsUnchanged (old new : LiveState) : Type 0 where
   pub taken : new.taken ≡ old.taken
   pub cells : ShowAlike old new
 
--- After any list of events, a call that is refused changes nothing where the last edit of the texts stays the one that it was.
+-- After any list of events, a call that is refused changes nothing.
 abbrev pub RefusedChangesNothing : Type 0
 RefusedChangesNothing =
     (events : List (Event Edit NodeContent GivenContent)) (start old new : LiveState)
-    → IsStart IsSound net_of start → Run live_meaning start events old → Step live_meaning old Refused new
-    → live_last new.texts ≡ live_last old.texts → IsUnchanged old new
+    → IsStart IsSound net_of start → Run live_meaning start events old
+    → Step live_meaning old Refused new → IsUnchanged old new
 
 -- So an edit that is refused changes nothing.
 abbrev pub RefusedEditChangesNothing : Type 0

@@ -125,8 +125,9 @@ pub fn unreached_edits_need_no_job()
     ensures { UnreachedNeedsNoJob }
 {}
 
-/// After any list of events, an edit that is refused changes nothing: not the tests and the models of the bench, not what is kept of
-/// computations, and each cell is shown as before. Nor does any other refused call that leaves the last edit the one that it was.
+/// After any list of events, a call that is refused changes nothing: not the tests and the models
+/// of the bench, not what is kept of computations, and each cell is shown as before. So an edit that
+/// is refused changes nothing.
 pub fn refused_edits_change_nothing()
     ensures calls { RefusedChangesNothing }
     ensures edits { RefusedEditChangesNothing }

@@ -29,7 +29,7 @@ module _ {K T V G E P F : Type 0} {k : NameGhosts K} {t : Ghosts T V G E P F} wh
 
   -- the call is refused: all is as it was, but that the texts may have more room
   abbrev pub IsRefused : Graph K T V G E P F k t → Graph K T V G E P F k t → Type 0
-  IsRefused old new = Refuses (meaning t.net t.is_valid t.since t.makes t.keeps t.edited) (bench_of old) (bench_of new)
+  IsRefused old new = Refuses (meaning t.net t.is_valid t.since t.makes t.keeps t.edited t.last) (bench_of old) (bench_of new)
 
   -- the texts are valid, and each memo was computed from values that its inputs have as long as their stamps are the present ones
   abbrev pub HasRightMemos : Graph K T V G E P F k t → Type 0

@@ -26,8 +26,17 @@ GivenStays {T} {G} is_valid since net =
     (t u : T) (n : Node) (g : G) → is_valid u → since t u → (net u).inputs n ≡ (net t).inputs n
     → Each (IsSamePart (net t) (net u)) ((net u).inputs n) → (net t).gives n g ≡ true → (net u).gives n g ≡ true
 
-abbrev pub meaning : {T E V G : Type 0} → (T → Net G) → (T → Type 0) → (T → T → Type 0) → Making V G → (T → Node → Bool) → (T → E → ℕ → T → Type 0) → Meaning T E V G
-meaning net is_valid since makes keeps edited = record { net = net; is_valid = is_valid; since = since; makes = makes; keeps = keeps; edited = edited }
+abbrev pub meaning : {T E V G : Type 0} → (T → Net G) → (T → Type 0) → (T → T → Type 0)
+    → Making V G → (T → Node → Bool) → (T → E → ℕ → T → Type 0) → (T → ℕ) → Meaning T E V G
+meaning net is_valid since makes keeps edited last = record {
+  net = net;
+  is_valid = is_valid;
+  since = since;
+  makes = makes;
+  keeps = keeps;
+  edited = edited;
+  last = last;
+}
 
 -- after any list of events, a settled node holds what is made of what its job is given now and of the present values of its present inputs
 abbrev pub SettledIsSolved : {T E V G : Type 0} → Meaning T E V G → (T → Node → Type 0) → Type 0
@@ -41,11 +50,14 @@ MatchingIsMade {T} {E} {V} {G} means =
     (events : List (Event E V G)) (start end : Bench T V) → IsStart means.is_valid means.net start → Run means start events end
     → (n : Node) → Matches (means.net end.texts) end.memos n → IsMadeOfPresent means.makes (means.net end.texts) end.memos n
 
--- and its inputs all have values, so it holds what is made of their present values as a settled node does
+-- and its inputs all have values, so it holds what is made of their present values, as a settled
+-- node does
 abbrev pub MatchingIsSolved : {T E V G : Type 0} → Meaning T E V G → Type 0
 MatchingIsSolved {T} {E} {V} {G} means =
-    (events : List (Event E V G)) (start end : Bench T V) → IsStart means.is_valid means.net start → Run means start events end
-    → (n : Node) → Matches (means.net end.texts) end.memos n → IsSolved means.makes (means.net end.texts) end.memos n
+    (events : List (Event E V G)) (start end : Bench T V) → IsStart means.is_valid means.net start
+    → Run means start events end
+    → (n : Node) → Matches (means.net end.texts) end.memos n
+    → IsSolved means.makes (means.net end.texts) end.memos n
 
 -- a return that is taken at a node with settled inputs settles that node, and unsettles none
 abbrev pub ReturnsSettle : (V G : Type 0) → Type 0

@@ -5,7 +5,7 @@ pub returns : goal.returns
 returns g c =
     let t = g.T.Texts in
     let laws = g.met.T.Texts in
-    let all = exact_laws (record { net = t.net; is_valid = t.is_valid; since = t.since; makes = t.makes; keeps = t.keeps; edited = t.edited })
+    let all = exact_laws (record { net = t.net; is_valid = t.is_valid; since = t.since; makes = t.makes; keeps = t.keeps; edited = t.edited; last = t.last })
     (record {
       valid_edited = λ x u e k v h. laws.valid_edited x u e k v h;
       since_same = λ x v. laws.since_same x v;

@@ -13,7 +13,7 @@ pub invariant_of-self-2 : goal.invariant_of-self-2
 invariant_of-self-2 g c =
     let inv = c.self.invariant in
     let e = c.in-Ok.ensures in
-    let means = meaning g.X.Texts.net g.X.Texts.is_valid g.X.Texts.since g.X.Texts.makes g.X.Texts.keeps g.X.Texts.edited in
+    let means = meaning g.X.Texts.net g.X.Texts.is_valid g.X.Texts.since g.X.Texts.makes g.X.Texts.keeps g.X.Texts.edited g.X.Texts.last in
     let of = cells_of g.X.CellTexts.verdict_of g.X.CellTexts.outcome_in g.X.CellTexts.from_scratch g.X.CellTexts.reaches in
     let old = c.self.inside.bench in
     let new = c.claim.new.self in
@@ -45,7 +45,7 @@ invariant_of-self g c =
 
 pub returns-in-Err-OutOfMemory-clause-err : goal.returns-in-Err-OutOfMemory-clause-err
 returns-in-Err-OutOfMemory-clause-err g c =
-    let means = meaning g.X.Texts.net g.X.Texts.is_valid g.X.Texts.since g.X.Texts.makes g.X.Texts.keeps g.X.Texts.edited in
+    let means = meaning g.X.Texts.net g.X.Texts.is_valid g.X.Texts.since g.X.Texts.makes g.X.Texts.keeps g.X.Texts.edited g.X.Texts.last in
     let s = c.self.inside in
     refused_since means s.bench c.claim.new.self s.ledger.all s.ledger.published s.seats s.closed _ _ c.args.self.now c.self.view_is c.in-Err-OutOfMemory.ensures.refused
 
@@ -61,7 +61,7 @@ invariant_of-self-in-Err-Spent g c =
 
 pub returns-in-Err-Spent-clause-err : goal.returns-in-Err-Spent-clause-err
 returns-in-Err-Spent-clause-err g c =
-    let means = meaning g.X.Texts.net g.X.Texts.is_valid g.X.Texts.since g.X.Texts.makes g.X.Texts.keeps g.X.Texts.edited in
+    let means = meaning g.X.Texts.net g.X.Texts.is_valid g.X.Texts.since g.X.Texts.makes g.X.Texts.keeps g.X.Texts.edited g.X.Texts.last in
     let s = c.self.inside in
     refused_since means s.bench c.claim.new.self s.ledger.all s.ledger.published s.seats s.closed _ _ c.args.self.now c.self.view_is c.in-Err-Spent.ensures.refused
 
@@ -70,14 +70,14 @@ returns-in-Err-Spent-clause-closed g c = other_closed _ _ (not_claim _) (sym (ap
 
 pub returns-clause-given : goal.returns-clause-given
 returns-clause-given g c =
-    let means = meaning g.X.Texts.net g.X.Texts.is_valid g.X.Texts.since g.X.Texts.makes g.X.Texts.keeps g.X.Texts.edited in
+    let means = meaning g.X.Texts.net g.X.Texts.is_valid g.X.Texts.since g.X.Texts.makes g.X.Texts.keeps g.X.Texts.edited g.X.Texts.last in
     let s = c.self.inside in
     let after = subst (λ (n : Bench _ _). IfSome c.in-Ok.job (λ j. Step means s.bench (Claim j.claim j.node j.given j.keys j.values) n)) (sym c.try_again.ensures.bench) c.in-Ok.ensures.given in
     subst (λ (b : Bench _ _). IfSome c.in-Ok.job (λ j. Step means b (Claim j.claim j.node j.given j.keys j.values) c.try_again.new.self.bench)) (ap (λ (h : Held _ _ _). h.bench) c.self.view_is) after
 
 pub returns-clause-none : goal.returns-clause-none
 returns-clause-none g c =
-    let means = meaning g.X.Texts.net g.X.Texts.is_valid g.X.Texts.since g.X.Texts.makes g.X.Texts.keeps g.X.Texts.edited in
+    let means = meaning g.X.Texts.net g.X.Texts.is_valid g.X.Texts.since g.X.Texts.makes g.X.Texts.keeps g.X.Texts.edited g.X.Texts.last in
     let s = c.self.inside in
     let after = subst (λ (n : Bench _ _). IfNone c.in-Ok.job (Step means s.bench NoClaim n)) (sym c.try_again.ensures.bench) c.in-Ok.ensures.none in
     subst (λ (b : Bench _ _). IfNone c.in-Ok.job (Step means b NoClaim c.try_again.new.self.bench)) (ap (λ (h : Held _ _ _). h.bench) c.self.view_is) after
