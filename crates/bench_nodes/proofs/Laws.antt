@@ -242,6 +242,39 @@ user_there t n Group test of h i = user_listed t n Group test of h i
 user_there t n Check test of h i = user_listed t n Check test of h i
 user_there t n Verdict test of h i = user_listed t n Verdict test of h i
 
--- the users of a node hold each used node that stands on it
+-- a user is the node of a slot, of the same test
+own_slot : (s : Slot) (ss : List Slot) → has_slot (s ∷ ss) s.kind s.of ≡ true
+own_slot s ss = either_of (is_slot s.kind s.of s) (has_slot ss s.kind s.of) (and_from (kind_number s.kind == kind_number s.kind) (s.of == s.of) (eq-eqb (kind_number s.kind) (kind_number s.kind) refl) (eq-eqb s.of s.of refl))
+  where
+    either_of : (a b : Bool) → a ≡ true → a || b ≡ true
+    either_of true b h = refl
+    either_of false b h = cc
+
+user_is : (ss : List Slot) (kind : Kind) (of test : ℕ) (u : Node) → Has (users_at ss kind of test) u → (u.test ≡ test) × (has_slot ss u.kind u.of ≡ true)
+user_is [] kind of test u h = absurd h
+user_is (s ∷ ss) kind of test u h = elim (cases_Bool (uses kind of s.inputs.items)) [
+  | inl e ↦ (let g : Has (node_of test s ∷ users_at ss kind of test) u = rw e at h in elim g [
+    | inl is ↦ (sym (ap (λ (m : Node). m.test) is), subst (λ (m : Node). has_slot (s ∷ ss) m.kind m.of ≡ true) is (own_slot s ss))
+    | inr l ↦ later (user_is ss kind of test u l)
+  ])
+  | inr f ↦ later (user_is ss kind of test u (rw f at h))
+]
+  where
+    or_true : (a : Bool) → a || true ≡ true
+    or_true true = refl
+    or_true false = refl
+
+    later : (u.test ≡ test) × (has_slot ss u.kind u.of ≡ true) → (u.test ≡ test) × (has_slot (s ∷ ss) u.kind u.of ≡ true)
+    later p = (p.0, rw p.1 (or_true (is_slot u.kind u.of s)))
+
+user_used : (t : NodeTable) (n u : Node) → Has (used t) n → Has (users t n) u → Has (used t) u
+user_used t n u h l =
+    let p = user_is t.slots.items n.kind n.of n.test u l in
+    used_by t u (subst (λ (x : ℕ). has_test t.tests.items x ≡ true) (sym p.0) (used_test t n h)) p.1
+
+-- the users of a node hold each used node that stands on it, and those of a used node are used
 pub users_are_among : {G : Type 0} (t : NodeTable) (gives : Node → G → Bool) → AreUsers (net_of t gives) (users t)
-users_are_among t gives n u h i = user_there t n u.kind u.test u.of (used_slot t u h) i
+users_are_among t gives = record {
+  listed = λ n u h i. user_there t n u.kind u.test u.of (used_slot t u h) i;
+  are_used = λ n u h l. user_used t n u h l;
+}

@@ -6,6 +6,7 @@ use Rattle.memo_core.specs.declared.keys.Kind.TheVariants.{Space, Group, Check, 
 use Rattle.memo_core.specs.declared.keys.Node.{Node}
 use Rattle.memo_core.specs.Graph.{input_nodes, stamp_in, lookup}
 use Rattle.memo_core.specs.Right.{HasValue, IsSound, PartsGoOn, IsSamePart}
+use Rattle.memo_core.specs.Laws.{AreUsers}
 use Rattle.memo_core.specs.Step.{Has}
 use Rattle.layer_tests.specs.declared.benches.rows.Row.{Row}
 use Rattle.layer_tests.specs.declared.benches.sheet.Sheet.{Sheet}
@@ -95,8 +96,20 @@ among_cells rs u n h i = elim h [
   | inr c ↦ c
 ]
 
-pub users_known : (rs : List Row) (n u : Node) → Has (tens ∷ cells_of rs) u → Has (input_nodes (inputs_of u.kind u.test)) n → Has (users_of n.kind rs) u
+users_known : (rs : List Row) (n u : Node) → Has (tens ∷ cells_of rs) u → Has (input_nodes (inputs_of u.kind u.test)) n → Has (users_of n.kind rs) u
 users_known rs n u h i = subst (λ (m : Node). Has (users_of m.kind rs) u) (from_tens u.kind u.test n i) (among_cells rs u n h i)
+
+users_used : (k : Kind) (rs : List Row) (u : Node) → Has (users_of k rs) u → Has (tens ∷ cells_of rs) u
+users_used Space rs u h = inr h
+users_used Group rs u h = absurd h
+users_used Check rs u h = absurd h
+users_used Verdict rs u h = absurd h
+
+pub users_listed : (s : Sheet) → AreUsers (net_of s) (λ n. users_of n.kind s.rows.items)
+users_listed s = record {
+  listed = λ n u h i. users_known s.rows.items n u h i;
+  are_used = λ n u h l. users_used n.kind s.rows.items u l;
+}
 
 falls_by : (k : Kind) (t : ℕ) → Each (λ m. rank_of m.kind < rank_of k) (input_nodes (inputs_of k t))
 falls_by Space t = tt

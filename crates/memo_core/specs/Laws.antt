@@ -12,9 +12,11 @@ use Rattle.memo_core.specs.Run.{Bench, Event, Meaning, Run, IsStart, IsFreshFrom
 abbrev pub IsUsedClosed : {G : Type 0} → Net G → Type 0
 IsUsedClosed net = (n : Node) → Has net.used n → Each (Has net.used) (input_nodes (net.inputs n))
 
--- each used node that has an output of another among its inputs is listed as its user
-abbrev pub AreUsers : {G : Type 0} → Net G → (Node → List Node) → Type 0
-AreUsers net users = (n u : Node) → Has net.used u → Has (input_nodes (net.inputs u)) n → Has (users n) u
+-- each used node that has an output of another among its inputs is listed as its user, and only used
+-- nodes are listed as users of a used node
+pub record AreUsers {G : Type 0} (net : Net G) (users : Node → List Node) : Type 0 where
+  pub listed : (n u : Node) → Has net.used u → Has (input_nodes (net.inputs u)) n → Has (users n) u
+  pub are_used : (n u : Node) → Has net.used n → Has (users n) u → Has net.used u
 
 -- the rank falls from a node to its inputs, so no node stands on itself
 abbrev pub Falls : {G : Type 0} → Net G → (Node → ℕ) → Type 0

@@ -33,7 +33,8 @@ pub fn inputs_are_used()
     ensures { (s : State) → IsValid s → IsUsedClosed (net_in s) }
 {}
 
-/// The users of a node hold each used node that has an output of it among its inputs.
+/// The users of a node hold each used node that has an output of it among its inputs. Those of a
+/// used node are used.
 pub fn users_are_listed()
     ensures { (s : State) → AreUsers (net_in s) (users s.parts.table) }
 {}

@@ -56,7 +56,7 @@ impl Texts for Sheet {
 
     ghost use Rattle.std.specs.Prelude.{◌≡◌, ◌==◌, ◌<◌, ◌+◌, length, vec_len, vec_capacity};
     ghost use Rattle.layer_tests.specs.Sheet.{net_of, makes, is_there, users_of, rank_of, keeps_memo, IsValid, IsSince, IsChanged, IsRefused, IsPrepared};
-    ghost use Rattle.layer_tests.specs.Laws.{numbers_exact, sheet_sound, since_same, since_changed, given_again, changes_valid, prepared_changes, all_there, inputs_used, users_known, ranks_fall, changes_go_on};
+    ghost use Rattle.layer_tests.specs.Laws.{numbers_exact, sheet_sound, since_same, since_changed, given_again, changes_valid, prepared_changes, all_there, inputs_used, users_listed, ranks_fall, changes_go_on};
 
     ghost is_valid = { IsValid };
 
@@ -277,7 +277,7 @@ impl Texts for Sheet {
 
     ghost used_closed = { λ s _ n. inputs_used s.rows.items n };
 
-    ghost users_are = { λ s _ n u. users_known s.rows.items n u };
+    ghost users_are = { λ s _. users_listed s };
 
     ghost falls = { λ s _. ranks_fall s };
 

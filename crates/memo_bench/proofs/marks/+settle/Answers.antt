@@ -18,7 +18,7 @@ loop-i-init g t c =
     record {
       same = rw c.mark.ensures.marks (as_memos-with_mark_at c.args.node ks);
       fewer = rw c.mark.ensures.marks (unmarked_count-less c.args.node ks (present_inputs net (as_memos ks) (net.inputs c.args.node)) r.1 r.0);
-      marks = λ valid rest p. rw c.mark.ensures.marks (marked_on net ks c.args.node (g.T.Texts.users c.args.texts.now) (λ u has on. g.met.T.Texts.users_are c.args.texts.now valid c.args.node u has on) now rest p);
+      marks = λ valid rest p. rw c.mark.ensures.marks (marked_on net ks c.args.node (g.T.Texts.users c.args.texts.now) (λ u has on. (g.met.T.Texts.users_are c.args.texts.now valid).listed c.args.node u has on) now rest p);
       room = c.mark.ensures.room;
     }
 
