@@ -41,7 +41,7 @@ loop-at-preserved c =
       over = c.answer_next.ensures.over;
       long = ap length kept ∙ answered_long c.args.space.now index r c.loop-at.answers whole one c.loop-at.invariant.long;
       count = gone.count ∙ one.count ∙ c.loop-at.invariant.count;
-      no_others = no_others_next (IsGone last (index + 1)) c.args.space.now items index r c.loop-at.answers whole _ reached.1 reached.0 (slice_get_read items (length items) index r refl reached.0 is) c.loop-at.invariant.count c.loop-at.invariant.no_others one gone;
+      no_others = no_others_next (IsGone last (index + 1)) c.args.space.now items index r c.loop-at.answers whole c.answer_next.new.answers reached.1 reached.0 (slice_get_read items (length items) index r refl reached.0 is) c.loop-at.invariant.count c.loop-at.invariant.no_others one gone;
     }
 
 pub returns-clause-said : goal.returns-clause-said
