@@ -1,1 +1,3 @@
 pub mod Replaying
+pub mod RunEvents
+pub mod RunThreads
