@@ -22,6 +22,7 @@ pub breaks_same : (word : CheckWord) (R S : ℕ → ℕ → Type 0) → Same R S
 breaks_same words.Acyclic R S same (shown.Cycle events) h = record {
   cycle = cycle_map R S (λ a b. (same a b).0) events.items h.cycle;
   least = λ others c. h.least others (cycle_map S R (λ a b. (same a b).1) others c);
+  first = λ others c long. h.first others (cycle_map S R (λ a b. (same a b).1) others c) long;
 }
 breaks_same words.Acyclic R S same (shown.Reflexive a) h = h
 breaks_same words.Acyclic R S same (shown.Pair a b) h = h

@@ -1,7 +1,8 @@
 //! Why a check refuses a candidate: a shortest cycle, an event related to itself, a pair, a member. Read
-//! specs/Witnesses first: `IsExplained` says what is found, over the meaning of the check's expression.
+//! specs/Witnesses first: `IsExplained` says what is found, over the meaning of the check's expression. Law: `laws`.
 #![tactic(auto)]
 
+pub mod laws;
 mod pair;
 mod value;
 mod witness;

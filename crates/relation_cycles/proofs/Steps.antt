@@ -8,7 +8,7 @@ use Rattle.bit_relations.specs.Relation.{Relation, Has, IsRegular, IsRelation, r
 use Rattle.std.specs.List.{Contains}
 use Rattle.bit_relations.proofs.Laws.{grows}
 use Rattle.bit_relations.proofs.Paths.{Path-append}
-use Rattle.relation_cycles.specs.Cycles.{IsPathFrom, IsShortestPath, IsCycle, IsCycleFrom, IsShortestCycle, IsShortestThrough, IsReachableIn, AreLevels, IsWhole}
+use Rattle.relation_cycles.specs.Cycles.{IsPathFrom, IsShortestPath, IsCycle, IsCycleFrom, IsShortestCycle, IsShortestThrough, IsReachableIn, AreLevels, IsWhole, IsNoLater, IsFirstWithin, IsFirstReflexive}
 
 pub IsReachableIn-more : (R : ℕ → ℕ → Type 0) (k a b : ℕ) → IsReachableIn R k a b → IsReachableIn R (k + 1) a b
 IsReachableIn-more R k a b w = let lt : length w.through < k = w.short in record { through = w.through; short = omega arith; path = w.path }
@@ -39,13 +39,54 @@ pub record IsGrowing (r level : Relation) (levels : List Relation) : Type 0 wher
   pub some : 0 < length levels
   pub last : (k : ℕ) → k + 1 ≡ length levels → IsRelation level r.count (IsReachableIn (Has r) k)
 
--- an event in the middle is still to come
+-- an event in the middle is still to come, and there is none so far
 pub record IsAhead (R S : ℕ → ℕ → Type 0) (a b n event : ℕ) : Type 0 where
   pub middle : ℕ
   pub inside : middle < n
   pub left : R a middle
   pub right : S middle b
   pub ahead : event ≤ middle
+  pub none : (c : ℕ) → c < event → R a c → S c b → ⊥
+
+-- ---- which list comes first
+
+pub no_later_front : (xs ys : List ℕ) → IsNoLater xs (xs ++ ys)
+no_later_front [] ys = tt
+no_later_front (x ∷ xs) ys = inr (refl, no_later_front xs ys)
+
+-- a smaller event behind the same ones
+smaller_behind : (xs : List ℕ) (a b : ℕ) (ys zs : List ℕ) → a < b → IsNoLater (xs ++ a ∷ ys) (xs ++ b ∷ zs)
+smaller_behind [] a b ys zs lt = inl lt
+smaller_behind (x ∷ xs) a b ys zs lt = inr (refl, smaller_behind xs a b ys zs lt)
+
+-- of two lists of one length each comes no later than the other
+pub same_place : (xs ys : List ℕ) → length xs ≡ length ys → IsNoLater xs ys → IsNoLater ys xs → xs ≡ ys
+same_place [] [] long p q = refl
+same_place [] (y ∷ ys) long p q = absurd q
+same_place (x ∷ xs) [] long p q = absurd p
+same_place (x ∷ xs) (y ∷ ys) long (inl lt) (inl gt) = absurd (omega (arith, lt, gt))
+same_place (x ∷ xs) (y ∷ ys) long (inl lt) (inr q) = absurd (omega (arith, lt, q.0))
+same_place (x ∷ xs) (y ∷ ys) long (inr p) (inl gt) = absurd (omega (arith, gt, p.0))
+same_place (x ∷ xs) (y ∷ ys) long (inr p) (inr q) =
+    let rest : xs ≡ ys = same_place xs ys (omega (arith, long)) p.1 q.1 in
+    ap (λ (z : ℕ). z ∷ xs) p.0 ∙ ap (λ (zs : List ℕ). y ∷ zs) rest
+
+pub one_cycle : (R : ℕ → ℕ → Type 0) (xs ys : List ℕ) → IsShortestCycle R xs → IsShortestCycle R ys → xs ≡ ys
+one_cycle R xs ys p q =
+    let less : length xs ≤ length ys = p.least ys q.cycle in
+    let more : length ys ≤ length xs = q.least xs p.cycle in
+    same_place xs ys (omega arith) (p.first ys q.cycle (omega arith)) (q.first xs p.cycle (omega arith))
+
+-- however the events go on, they come before the others
+abbrev pub ComesBefore : List ℕ → List ℕ → Type 0
+ComesBefore events others = (more : List ℕ) → IsNoLater (events ++ more) others
+
+-- the others go on from these events, in less than so many steps
+pub record GoesOn (R : ℕ → ℕ → Type 0) (events : List ℕ) (at left to : ℕ) (others : List ℕ) : Type 0 where
+  pub rest : List ℕ
+  pub parts : others ≡ events ++ rest
+  pub short : length rest < left
+  pub path : Path R at rest to
 
 -- what stands in the list leads from the event to the present one, from which so many steps lead to the other
 pub record IsTraced (R : ℕ → ℕ → Type 0) (event to steps : ℕ) (events : List ℕ) (at left : ℕ) : Type 0 where
@@ -54,6 +95,15 @@ pub record IsTraced (R : ℕ → ℕ → Type 0) (event to steps : ℕ) (events 
   pub tail : List ℕ
   pub begins : events ≡ event ∷ tail
   pub leads : (rest : List ℕ) → Path R at rest to → Path R event (tail ++ rest) to
+  pub first : (others : List ℕ) → IsPathFrom R event to others → length others ≤ steps → ComesBefore events others ⊎ GoesOn R events at left to others
+
+-- the event alone
+pub begun : (R : ℕ → ℕ → Type 0) (event to steps : ℕ) → IsReachableIn R steps event to → IsTraced R event to steps (event ∷ []) event steps
+begun R event to steps w = record { ahead = w; short = omega arith; tail = []; begins = refl; leads = λ rest p. p; first = λ others p lt. inr (started others p lt) }
+  where
+    started : (others : List ℕ) → IsPathFrom R event to others → length others ≤ steps → GoesOn R (event ∷ []) event steps to others
+    started [] p lt = absurd p
+    started (x ∷ xs) p lt = record { rest = xs; parts = ap (λ (y : ℕ). y ∷ xs) p.0; short = omega (arith, lt); path = subst (λ (y : ℕ). Path R y xs to) p.0 p.1 }
 
 -- a level and the step after it
 pub next_is : (r level product next : Relation) → IsRelation product r.count (Composed (Has r) (Has level)) → IsRelation next product.count (Union (Has product) (Has r)) → (k : ℕ) → IsRelation level r.count (IsReachableIn (Has r) k) → IsRelation next r.count (IsReachableIn (Has r) (k + 1))
@@ -155,8 +205,31 @@ module _ (R : ℕ → ℕ → Type 0) (event to steps : ℕ) (events : List ℕ)
           | inr on ↦ on
         ]
 
-  pub traced : (next : ℕ) → R at next → IsReachableIn R (left - 1) next to → IsTraced R event to steps (events ++ next ∷ []) next (left - 1)
-  traced next r ahead = record {
+  module _ (other : R at to → ⊥) (next : ℕ) (none : (c : ℕ) → c < next → R at c → IsReachableIn R (left - 1) c to → ⊥) where
+    -- those that go on by a greater event come later
+    goes_on : (others : List ℕ) → GoesOn R events at left to others → ComesBefore (events ++ next ∷ []) others ⊎ GoesOn R (events ++ next ∷ []) next (left - 1) to others
+    goes_on others on = go on.rest on.parts on.short on.path
+      where
+        go : (rest : List ℕ) → others ≡ events ++ rest → length rest < left → Path R at rest to → ComesBefore (events ++ next ∷ []) others ⊎ GoesOn R (events ++ next ∷ []) next (left - 1) to others
+        go [] parts short path = absurd (other path)
+        go (c ∷ cs) parts short path =
+            let reach : IsReachableIn R (left - 1) c to = record { through = cs; short = omega (arith, short); path = path.1 } in
+            elim (cases_lt c next) [
+              | inl lt ↦ absurd (none c lt path.0 reach)
+              | inr le ↦ elim (cases_lt next c) [
+                | inl gt ↦ inl (λ more. subst (λ (xs : List ℕ). IsNoLater ((events ++ next ∷ []) ++ more) xs) (sym parts) (rw append_assoc (smaller_behind events next c more cs gt)))
+                | inr ge ↦ let same : c ≡ next = omega arith in
+                    inr (record {
+                      rest = cs;
+                      parts = parts ∙ ap (λ (y : ℕ). events ++ y ∷ cs) same ∙ sym (append_assoc events (next ∷ []) cs);
+                      short = omega (arith, short);
+                      path = subst (λ (y : ℕ). Path R y cs to) same path.1;
+                    })
+              ]
+            ]
+
+  pub traced : (next : ℕ) → R at next → IsReachableIn R (left - 1) next to → (R at to → ⊥) → ((c : ℕ) → c < next → R at c → IsReachableIn R (left - 1) c to → ⊥) → IsTraced R event to steps (events ++ next ∷ []) next (left - 1)
+  traced next r ahead other none = record {
     ahead = ahead;
     short =
         let e : length (events ++ next ∷ []) ≡ length events + 1 = length-append events (next ∷ []) in
@@ -166,10 +239,20 @@ module _ (R : ℕ → ℕ → Type 0) (event to steps : ℕ) (events : List ℕ)
     tail = t.tail ++ next ∷ [];
     begins = ap (λ (xs : List ℕ). xs ++ next ∷ []) t.begins;
     leads = λ rest p. rw append_assoc (t.leads (next ∷ rest) (r, p));
+    first = λ others p lt. elim (t.first others p lt) [
+      | inl before ↦ inl (λ more. rw append_assoc (before (next ∷ more)))
+      | inr on ↦ goes_on other next none others on
+    ];
   }
 
   pub closes : R at to → IsPathFrom R event to events
   closes r = rw t.begins (refl, subst (λ (xs : List ℕ). Path R event xs to) (append-nil t.tail) (t.leads [] r))
+
+  pub comes_first : IsFirstWithin R event to steps events
+  comes_first others p lt = elim (t.first others p lt) [
+    | inl before ↦ subst (λ (xs : List ℕ). IsNoLater xs others) (append-nil events) (before [])
+    | inr on ↦ subst (λ (xs : List ℕ). IsNoLater events xs) (sym on.parts) (no_later_front events on.rest)
+  ]
 
 -- a list with an event has a front and a back
 record IsCut (xs : List ℕ) (a : ℕ) : Type 0 where
@@ -193,8 +276,8 @@ rotated : (R : ℕ → ℕ → Type 0) (front : List ℕ) (a : ℕ) (back : List
 rotated R [] a back p = rw append-nil p
 rotated R (x ∷ xs) a back p = let parts = Path-split R x xs a back x p in Path-append R a back x xs a parts.1 parts.0
 
-pub shortest_through : (R : ℕ → ℕ → Type 0) (event steps : ℕ) (events : List ℕ) → IsCycleFrom R event events → length events ≤ steps → ((k : ℕ) → k < steps → IsReachableIn R k event event → ⊥) → IsShortestThrough R event events
-shortest_through R event steps events cycle short none = record { cycle = cycle; least = least }
+pub shortest_through : (R : ℕ → ℕ → Type 0) (event steps : ℕ) (events : List ℕ) → IsCycleFrom R event events → length events ≤ steps → IsFirstWithin R event event steps events → ((k : ℕ) → k < steps → IsReachableIn R k event event → ⊥) → IsShortestThrough R event events
+shortest_through R event steps events cycle short first none = record { cycle = cycle; least = least; first = λ others other same. first others other (omega (arith, same, short)) }
   where
     least : (others : List ℕ) → IsCycle R others → Contains others event → length events ≤ length others
     least others other at =
@@ -207,8 +290,8 @@ shortest_through R event steps events cycle short none = record { cycle = cycle;
           | inl gt ↦ absurd (none (length others) (omega arith) (record { through = parts.back ++ parts.front; short = omega arith; path = rotated R parts.front event parts.back (subst (λ (xs : List ℕ). IsCycle R xs) parts.parts other) }))
         ]
 
-pub shortest_path : (R : ℕ → ℕ → Type 0) (from to steps : ℕ) (events : List ℕ) → IsPathFrom R from to events → length events ≤ steps → ((k : ℕ) → k < steps → IsReachableIn R k from to → ⊥) → IsShortestPath R from to events
-shortest_path R from to steps events path short none = record { path = path; least = least }
+pub shortest_path : (R : ℕ → ℕ → Type 0) (from to steps : ℕ) (events : List ℕ) → IsPathFrom R from to events → length events ≤ steps → IsFirstWithin R from to steps events → ((k : ℕ) → k < steps → IsReachableIn R k from to → ⊥) → IsShortestPath R from to events
+shortest_path R from to steps events path short first none = record { path = path; least = least; first = λ others other same. first others other (omega (arith, same, short)) }
   where
     least : (others : List ℕ) → IsPathFrom R from to others → length events ≤ length others
     least [] other = absurd other
@@ -217,8 +300,17 @@ shortest_path R from to steps events path short none = record { path = path; lea
       | inl gt ↦ absurd (none (length (x ∷ xs)) (omega arith) (record { through = xs; short = omega arith; path = subst (λ (y : ℕ). Path R y xs to) other.0 other.1 }))
     ]
 
-pub shortest : (R : ℕ → ℕ → Type 0) (event steps : ℕ) (events : List ℕ) → IsCycleFrom R event events → length events ≤ steps → ((k : ℕ) → k < steps → (a : ℕ) → IsReachableIn R k a a → ⊥) → IsShortestCycle R events
-shortest R event steps events cycle short none = record { cycle = is_cycle events cycle; least = least }
+-- no cycle has fewer steps, and no smaller event lies on one of as many
+pub record IsLeastStart (R : ℕ → ℕ → Type 0) (event steps : ℕ) : Type 0 where
+  pub none : (k : ℕ) → k < steps → (a : ℕ) → IsReachableIn R k a a → ⊥
+  pub before : (a : ℕ) → a < event → IsReachableIn R steps a a → ⊥
+
+-- the least event that the level relates to itself
+pub least_start : (R : ℕ → ℕ → Type 0) (n : ℕ) (level : Relation) (event steps : ℕ) → IsRelation level n (IsReachableIn R steps) → ((k : ℕ) → k < steps → (a : ℕ) → IsReachableIn R k a a → ⊥) → IsFirstReflexive (Has level) event → IsLeastStart R event steps
+least_start R n level event steps are none first = record { none = none; before = λ a lt w. first.least a lt ((are.pairs a a).1 w) }
+
+pub shortest : (R : ℕ → ℕ → Type 0) (event steps : ℕ) (events : List ℕ) → IsCycleFrom R event events → length events ≤ steps → IsFirstWithin R event event steps events → IsLeastStart R event steps → IsShortestCycle R events
+shortest R event steps events cycle short within start = record { cycle = is_cycle events cycle; least = least; first = first }
   where
     is_cycle : (xs : List ℕ) → IsCycleFrom R event xs → IsCycle R xs
     is_cycle [] c = c
@@ -228,5 +320,19 @@ shortest R event steps events cycle short none = record { cycle = is_cycle event
     least [] other = absurd other
     least (x ∷ xs) other = elim (cases_lt (length (x ∷ xs)) (length events)) [
       | inr le ↦ le
-      | inl gt ↦ absurd (none (length (x ∷ xs)) (omega arith) x (record { through = xs; short = omega arith; path = other }))
+      | inl gt ↦ absurd (start.none (length (x ∷ xs)) (omega arith) x (record { through = xs; short = omega arith; path = other }))
+    ]
+
+    smaller : (xs : List ℕ) (y : ℕ) (ys : List ℕ) → IsCycleFrom R event xs → event < y → IsNoLater xs (y ∷ ys)
+    smaller [] y ys c lt = tt
+    smaller (x ∷ xs) y ys c lt = inl (subst (λ (z : ℕ). z < y) (sym c.0) lt)
+
+    first : (others : List ℕ) → IsCycle R others → length others ≡ length events → IsNoLater events others
+    first [] other same = absurd other
+    first (x ∷ xs) other same = elim (cases_lt x event) [
+      | inl lt ↦ absurd (start.before x lt (record { through = xs; short = omega (arith, same, short); path = other }))
+      | inr le ↦ elim (cases_lt event x) [
+        | inl gt ↦ smaller events x xs cycle gt
+        | inr ge ↦ let e : x ≡ event = omega arith in within (x ∷ xs) (e, subst (λ (y : ℕ). Path R x xs y) e other) (omega (arith, same, short))
+      ]
     ]

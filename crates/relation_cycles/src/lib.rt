@@ -1,12 +1,14 @@
 //! Why a relation fails a check: a shortest cycle or path, an event related to itself, a pair.
 //!
-//! Paths are searched breadth first over rows of bits, from all events at once. Definitions: specs/Cycles.
+//! Paths are searched breadth first over rows of bits, from all events at once. Definitions: specs/Cycles. Law: `laws`.
 #![tactic(auto)]
 
 ghost use Rattle.std.specs.Prelude.{◌≡◌, ℕ, ◌<◌, ◌≤◌, ◌+◌, length, IfOk, MatchOption};
 ghost use Rattle.bit_relations.specs.Pairs.{Composed, Plus, IsAcyclic, IsEmpty, IsIrreflexive};
 ghost use Rattle.bit_relations.specs.Relation.{Has, IsRegular, IsRelation};
-ghost use Rattle.relation_cycles.specs.Cycles.{IsPathFrom, IsShortestPath, IsShortestCycle, IsShortestThrough, IsReachableIn, AreLevels, IsWhole, IsFirstReflexive, IsLeastPair};
+ghost use Rattle.relation_cycles.specs.Cycles.{IsPathFrom, IsShortestPath, IsShortestCycle, IsShortestThrough, IsReachableIn, AreLevels, IsWhole, IsFirstReflexive, IsFirstWithin, IsLeastPair};
+
+pub mod laws;
 
 use bit_relations::Rel;
 use std::alloc::{AllocError, Global};
@@ -67,7 +69,7 @@ fn levels_of(alloc: Global, relation: &Rel) -> Result<Vec<Rel>, AllocError>
     }
 }
 
-/// An event that one relation leads to from an event, and from which another leads to a second event.
+/// The least event that one relation leads to from an event, and from which another leads to a second event.
 fn middle(left: &Rel, right: &Rel, from: usize, to: usize) -> usize
     requires from { from < left.now.count }
     requires to { to < left.now.count }
@@ -76,6 +78,7 @@ fn middle(left: &Rel, right: &Rel, from: usize, to: usize) -> usize
     requires some { Composed (Has left.now) (Has right.now) from to }
     ensures left { Has left.now from result }
     ensures right { Has right.now result to }
+    ensures least { (event : ℕ) → event < result → Has left.now from event → Has right.now event to → ⊥ }
 {
     let mut event = 0;
     while !(left.contains(from, event) && right.contains(event, to)) {
@@ -84,7 +87,7 @@ fn middle(left: &Rel, right: &Rel, from: usize, to: usize) -> usize
     event
 }
 
-/// The events where the steps of a path begin, of at most so many steps.
+/// The events where the steps of a path begin, of at most so many steps: the first such path, event by event.
 fn path_within(
     alloc: Global,
     relation: &Rel,
@@ -100,6 +103,7 @@ fn path_within(
     requires inside { to < relation.now.count }
     ensures path { IfOk result (λ v. IsPathFrom (Has relation.now) from to v.items) }
     ensures short { IfOk result (λ v. length v.items ≤ steps) }
+    ensures first { IfOk result (λ v. IsFirstWithin (Has relation.now) from to steps v.items) }
 {
     let mut path = Vec::new(alloc);
     path.push(from)?;
@@ -113,7 +117,7 @@ fn path_within(
     Ok(path)
 }
 
-/// A shortest path from one event to another, as the events where its steps begin.
+/// A shortest path from one event to another, as the events where its steps begin: the first of them, event by event.
 pub fn shortest_path(
     alloc: Global,
     relation: &Rel,
@@ -135,7 +139,7 @@ pub fn shortest_path(
     Ok(None)
 }
 
-/// A shortest cycle of those through an event, which it begins with.
+/// A shortest cycle of those through an event, which it begins with: the first of them, event by event.
 pub fn cycle_through(
     alloc: Global,
     relation: &Rel,
@@ -155,7 +159,7 @@ pub fn cycle_through(
     Ok(None)
 }
 
-/// A shortest cycle: what `acyclic` finds fault with.
+/// A shortest cycle, the first of them, event by event: what `acyclic` finds fault with.
 pub fn shortest_cycle(alloc: Global, relation: &Rel) -> Result<Option<Vec<usize>>, AllocError>
     ensures { IfOk result (λ found. MatchOption found (IsAcyclic (Has relation.now)) (λ v. IsShortestCycle (Has relation.now) v.items)) }
 {
