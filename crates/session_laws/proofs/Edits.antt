@@ -21,7 +21,7 @@ use Rattle.text_meanings.proofs.Meanings.{one_test, one_init, one_thread, one_co
 abbrev pub AreFew : List Content → Type 0
 AreFew cs = AllByRecursion (λ (c : Content). length c.threads < 18446744073709551616) cs
 
-few_at : (cs : List Content) (i : ℕ) → AreFew cs → slice_index (map (λ (c : Content). length c.threads) cs) i < 18446744073709551616
+pub few_at : (cs : List Content) (i : ℕ) → AreFew cs → slice_index (map (λ (c : Content). length c.threads) cs) i < 18446744073709551616
 few_at [] i h = omega arith
 few_at (c ∷ cs) zero h = h.0
 few_at (c ∷ cs) (suc i) h = few_at cs i h.1

@@ -1,17 +1,19 @@
--- Commands of which none is refused have one output.
-use Rattle.std.proofs.Common.{◌≡◌, ℕ, List, [], ◌∷◌, ◌++◌, Bool, true, false, ◌||◌, refl, sym, ap, ◌∙◌, subst}
+-- Commands have one output.
+use Rattle.std.proofs.Common.{◌≡◌, ℕ, List, [], ◌∷◌, ◌++◌, Bool, false, ◌||◌, refl, sym, ap, ◌∙◌, subst}
 use Rattle.std.proofs.lemmas.List.{append_assoc, append-nil}
-use Rattle.std.proofs.lemmas.Bool.{or_parts}
 use Rattle.session_script.specs.declared.command.Command.{Command}
 use Rattle.session_script.specs.declared.command.Command.TheVariants as commands
 use Rattle.bench_texts.specs.BenchTexts.{BenchTexts}
 use Rattle.bench_texts.specs.Edits.{Edit}
-use Rattle.session_edits.specs.Answer.{Said}
+use Rattle.bench_texts.specs.declared.fault.EditFault.{EditFault}
+use Rattle.session_edits.specs.Answer.{Said, denied}
+use Rattle.session_edits.specs.Faults.{fault_line}
 use Rattle.session_edits.specs.Edits.{IsEdited, IsAccepted, IsRefused}
 use Rattle.session_edits.specs.Requests.{Asked, Editing, Asking, asked_in}
 use Rattle.session_answers.specs.Sessions.{IsAsked, IsAnswered, IsOutput, Nothing, OneMore, no_texts}
 use Rattle.session_laws.specs.Laws.{HasOneOutput, BeginsAlike}
 use Rattle.session_laws.proofs.Edits.{AreFew, few_made, one_made}
+use Rattle.session_laws.proofs.Refusals.{one_refusal, not_both}
 use Rattle.session_laws.proofs.Replies.{one_reply}
 
 -- ---- one command
@@ -21,21 +23,20 @@ record AreOne (a b : Said) (after later : BenchTexts) : Type 0 where
   answer : a ≡ b
   texts : after ≡ later
 
-is_denied : (a b : Said) → a ≡ b → b.refused ≡ true → a.refused ≡ false → ⊥
-is_denied a b e t f = let h : true ≡ false = sym t ∙ (sym (ap (λ (s : Said). s.refused) e) ∙ f) in absurd cc
+one_edited : (t : BenchTexts) (e : Edit) (a b : Said) (after later : BenchTexts) → AreFew t.tests → IsEdited t e a after → IsEdited t e b later → AreOne a b after later
+one_edited t e a b after later few (IsAccepted h x) (IsAccepted k y) = record { answer = x ∙ sym y; texts = one_made t e after later few h.makes k.makes }
+one_edited t e a b after later few (IsAccepted h x) (IsRefused fault is k y z) = absurd (not_both t few e after fault is h k)
+one_edited t e a b after later few (IsRefused fault is k y z) (IsAccepted h x) = absurd (not_both t few e later fault is h k)
+one_edited t e a b after later few (IsRefused fault is h x w) (IsRefused other so k y z) =
+    record { answer = x ∙ ap (λ (f : EditFault). denied (fault_line f)) (one_refusal t few e fault other is so h k) ∙ sym y; texts = w ∙ sym z }
 
-one_edited : (t : BenchTexts) (e : Edit) (a b : Said) (after later : BenchTexts) → AreFew t.tests → a.refused ≡ false → b.refused ≡ false → IsEdited t e a after → IsEdited t e b later → AreOne a b after later
-one_edited t e a b after later few f g (IsAccepted h x) (IsAccepted k y) = record { answer = x ∙ sym y; texts = one_made t e after later few h.makes k.makes }
-one_edited t e a b after later few f g (IsAccepted h x) (IsRefused fault is k y z) = absurd (is_denied b _ y refl g)
-one_edited t e a b after later few f g (IsRefused fault is k y z) h = absurd (is_denied a _ y refl f)
+one_asked : (t : BenchTexts) (q : Asked) (a b : Said) (after later : BenchTexts) → AreFew t.tests → IsAsked t q a after → IsAsked t q b later → AreOne a b after later
+one_asked t (Editing e) a b after later few h k = one_edited t e a b after later few h k
+one_asked t (Asking q) a b after later few h k = record { answer = one_reply t q a b h.0 k.0; texts = h.1 ∙ sym k.1 }
 
-one_asked : (t : BenchTexts) (q : Asked) (a b : Said) (after later : BenchTexts) → AreFew t.tests → a.refused ≡ false → b.refused ≡ false → IsAsked t q a after → IsAsked t q b later → AreOne a b after later
-one_asked t (Editing e) a b after later few f g h k = one_edited t e a b after later few f g h k
-one_asked t (Asking q) a b after later few f g h k = record { answer = one_reply t q a b h.0 k.0; texts = h.1 ∙ sym k.1 }
-
-one_answered : (t : BenchTexts) (c : Command) (a b : Said) (after later : BenchTexts) → AreFew t.tests → a.refused ≡ false → b.refused ≡ false → IsAnswered t c a after → IsAnswered t c b later → AreOne a b after later
-one_answered t (commands.Refused rule) a b after later few f g h k = record { answer = h.0 ∙ sym k.0; texts = h.1 ∙ sym k.1 }
-one_answered t (commands.Asked request text) a b after later few f g h k = one_asked t (asked_in request text) a b after later few f g h k
+one_answered : (t : BenchTexts) (c : Command) (a b : Said) (after later : BenchTexts) → AreFew t.tests → IsAnswered t c a after → IsAnswered t c b later → AreOne a b after later
+one_answered t (commands.Refused rule) a b after later few h k = record { answer = h.0 ∙ sym k.0; texts = h.1 ∙ sym k.1 }
+one_answered t (commands.Asked request text) a b after later few h k = one_asked t (asked_in request text) a b after later few h k
 
 few_edited : (t : BenchTexts) (e : Edit) (a : Said) (after : BenchTexts) → AreFew t.tests → IsEdited t e a after → AreFew after.tests
 few_edited t e a after few (IsAccepted h x) = few_made t e after h.all_there few h.makes
@@ -75,38 +76,42 @@ last_one (x ∷ front) (y ∷ other) c d e =
 
 -- ---- outputs
 
-record IsOne (a b : List ℕ) (t u : BenchTexts) : Type 0 where
+record IsOne (a b : List ℕ) (p q : Bool) (t u : BenchTexts) : Type 0 where
   text : a ≡ b
+  refused : p ≡ q
   texts : t ≡ u
 
-one_more : (front other : List Command) (c d : Command) (a b : List ℕ) (p q : Bool) (t u : BenchTexts) (s z : Said) (after later : BenchTexts) → front ≡ other → c ≡ d → AreFew t.tests → (IsOne a b t u)
-    → s.refused ≡ false → z.refused ≡ false → IsAnswered t c s after → IsAnswered u d z later → IsOne (a ++ s.text) (b ++ z.text) after later
-one_more front other c d a b p q t u s z after later fronts ends few same f g h k =
+one_more : (c d : Command) (a b : List ℕ) (p q : Bool) (t u : BenchTexts) (s z : Said) (after later : BenchTexts) → c ≡ d → AreFew t.tests → IsOne a b p q t u
+    → IsAnswered t c s after → IsAnswered u d z later → IsOne (a ++ s.text) (b ++ z.text) (p || s.refused) (q || z.refused) after later
+one_more c d a b p q t u s z after later ends few same h k =
     let moved : IsAnswered t c z later = subst (λ (e : Command). IsAnswered t e z later) (sym ends) (subst (λ (v : BenchTexts). IsAnswered v d z later) (sym same.texts) k) in
-    let one = one_answered t c s z after later few f g h moved in
-    record { text = ap (λ (l : List ℕ). l ++ s.text) same.text ∙ ap (λ (x : Said). b ++ x.text) one.answer; texts = one.texts }
+    let one = one_answered t c s z after later few h moved in
+    record {
+      text = ap (λ (l : List ℕ). l ++ s.text) same.text ∙ ap (λ (x : Said). b ++ x.text) one.answer;
+      refused = ap (λ (r : Bool). r || s.refused) same.refused ∙ ap (λ (x : Said). q || x.refused) one.answer;
+      texts = one.texts;
+    }
 
-one_output : (cs : List Command) (a : List ℕ) (p : Bool) (t : BenchTexts) → IsOutput cs a p t → (ds : List Command) (b : List ℕ) (q : Bool) (u : BenchTexts) → IsOutput ds b q u → cs ≡ ds → p ≡ false → q ≡ false → IsOne a b t u
-one_output cs a p t Nothing ds b q u Nothing e f g = record { text = refl; texts = refl }
-one_output cs a p t Nothing ds b q u (OneMore other text2 refused2 texts2 d said2 later h2 answer2) e f g = absurd (no_command other d e)
-one_output cs a p t (OneMore front text1 refused1 texts1 c said1 after h1 answer1) ds b q u Nothing e f g = absurd (no_command front c (sym e))
-one_output cs a p t (OneMore front text1 refused1 texts1 c said1 after h1 answer1) ds b q u (OneMore other text2 refused2 texts2 d said2 later h2 answer2) e f g =
+one_output : (cs : List Command) (a : List ℕ) (p : Bool) (t : BenchTexts) → IsOutput cs a p t → (ds : List Command) (b : List ℕ) (q : Bool) (u : BenchTexts) → IsOutput ds b q u → cs ≡ ds → IsOne a b p q t u
+one_output cs a p t Nothing ds b q u Nothing e = record { text = refl; refused = refl; texts = refl }
+one_output cs a p t Nothing ds b q u (OneMore other text2 refused2 texts2 d said2 later h2 answer2) e = absurd (no_command other d e)
+one_output cs a p t (OneMore front text1 refused1 texts1 c said1 after h1 answer1) ds b q u Nothing e = absurd (no_command front c (sym e))
+one_output cs a p t (OneMore front text1 refused1 texts1 c said1 after h1 answer1) ds b q u (OneMore other text2 refused2 texts2 d said2 later h2 answer2) e =
     let l = last_one front other c d e in
-    let m = or_parts refused1 said1.refused f in
-    let n = or_parts refused2 said2.refused g in
-    let same = one_output front text1 refused1 texts1 h1 other text2 refused2 texts2 h2 l.fronts m.0 n.0 in
-    one_more front other c d text1 text2 refused1 refused2 texts1 texts2 said1 said2 after later l.fronts l.ends (few_output front text1 refused1 texts1 h1) same m.1 n.1 answer1 answer2
+    let same = one_output front text1 refused1 texts1 h1 other text2 refused2 texts2 h2 l.fronts in
+    one_more c d text1 text2 refused1 refused2 texts1 texts2 said1 said2 after later l.ends (few_output front text1 refused1 texts1 h1) same answer1 answer2
 
 pub one_output_said : (cs : List Command) → HasOneOutput cs
-one_output_said cs a b t u h g = let r = one_output cs a false t h cs b false u g refl refl refl in (r.text, r.texts)
+one_output_said cs a b p q t u h g = let r = one_output cs a p t h cs b q u g refl in (r.text, r.refused, r.texts)
 
 -- ---- first commands
 
 -- the output of the first commands, in front of that of all
 record IsFrontOf (first : List Command) (whole : List ℕ) : Type 0 where
   text : List ℕ
+  refused : Bool
   texts : BenchTexts
-  output : IsOutput first text false texts
+  output : IsOutput first text refused texts
   rest : List ℕ
   split : whole ≡ text ++ rest
 
@@ -123,23 +128,24 @@ cut_last (f ∷ first) others (g ∷ front) c x e =
     let r = cut_last first others front c x rest in
     (r.0, λ i. heads i ∷ r.1 i)
 
-front_output : (cs : List Command) (whole : List ℕ) (p : Bool) (t : BenchTexts) → IsOutput cs whole p t → (first others : List Command) → cs ≡ first ++ others → p ≡ false → IsFrontOf first whole
-front_output cs whole p t Nothing [] others e f = record { text = []; texts = no_texts; output = Nothing; rest = []; split = refl }
-front_output cs whole p t Nothing (x ∷ first) others e f = absurd (let h : [] ≡ x ∷ (first ++ others) = e in cc)
-front_output cs whole p t (OneMore front text refused texts c said after h answer) first [] e f = record {
+front_output : (cs : List Command) (whole : List ℕ) (p : Bool) (t : BenchTexts) → IsOutput cs whole p t → (first others : List Command) → cs ≡ first ++ others → IsFrontOf first whole
+front_output cs whole p t Nothing [] others e = record { text = []; refused = false; texts = no_texts; output = Nothing; rest = []; split = refl }
+front_output cs whole p t Nothing (x ∷ first) others e = absurd (let h : [] ≡ x ∷ (first ++ others) = e in cc)
+front_output cs whole p t (OneMore front text refused texts c said after h answer) first [] e = record {
   text = text ++ said.text;
+  refused = refused || said.refused;
   texts = after;
-  output = subst (λ (b : Bool). IsOutput first (text ++ said.text) b after) f (subst (λ (l : List Command). IsOutput l (text ++ said.text) (refused || said.refused) after) (e ∙ append-nil first) (OneMore front text refused texts c said after h answer));
+  output = subst (λ (l : List Command). IsOutput l (text ++ said.text) (refused || said.refused) after) (e ∙ append-nil first) (OneMore front text refused texts c said after h answer);
   rest = [];
   split = sym (append-nil (text ++ said.text));
 }
-front_output cs whole p t (OneMore front text refused texts c said after h answer) first (x ∷ others) e f =
+front_output cs whole p t (OneMore front text refused texts c said after h answer) first (x ∷ others) e =
     let cut = cut_last first others front c x (sym e) in
-    let r = front_output front text refused texts h first cut.0 cut.1 (or_parts refused said.refused f).0 in
-    record { text = r.text; texts = r.texts; output = r.output; rest = r.rest ++ said.text; split = ap (λ (l : List ℕ). l ++ said.text) r.split ∙ append_assoc r.text r.rest said.text }
+    let r = front_output front text refused texts h first cut.0 cut.1 in
+    record { text = r.text; refused = r.refused; texts = r.texts; output = r.output; rest = r.rest ++ said.text; split = ap (λ (l : List ℕ). l ++ said.text) r.split ∙ append_assoc r.text r.rest said.text }
 
 pub begins_alike : (first others : List Command) → BeginsAlike first others
-begins_alike first others text whole t u h g =
-    let r = front_output (first ++ others) whole false u g first others refl refl in
-    let same = one_output first text false t h first r.text false r.texts r.output refl refl refl in
+begins_alike first others text whole refused also t u h g =
+    let r = front_output (first ++ others) whole also u g first others refl in
+    let same = one_output first text refused t h first r.text r.refused r.texts r.output refl in
     (r.rest, r.split ∙ ap (λ (l : List ℕ). l ++ r.rest) (sym same.text))

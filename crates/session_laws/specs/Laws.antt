@@ -1,5 +1,5 @@
 -- Laws of what a session says, each the contract of a call of this crate. Read `Cells` and `Questions` of session_answers first.
-use Rattle.std.specs.Prelude.{◌≡◌, ℕ, List, ◌++◌, false}
+use Rattle.std.specs.Prelude.{◌≡◌, ℕ, List, ◌++◌, Bool}
 use Rattle.text_values.specs.TestValue.{Content}
 use Rattle.verdict.specs.declared.answer.Outcome.{Outcome}
 use Rattle.bench_texts.specs.BenchTexts.{BenchTexts, PlainModel}
@@ -18,12 +18,14 @@ HasOneOutcome test model = (o p : Outcome) → IsOutcome test model o → IsOutc
 abbrev pub HasOneReply : BenchTexts → Question → Type 0
 HasOneReply texts question = (said other : Said) → IsReply texts question said → IsReply texts question other → said ≡ other
 
--- two outputs of these commands, where no command is refused, are one, and so are the texts after them
+-- two outputs of these commands are one, and so are whether a command is refused and the texts after them
 abbrev pub HasOneOutput : List Command → Type 0
 HasOneOutput commands =
-    (text other : List ℕ) (t u : BenchTexts) → IsOutput commands text false t → IsOutput commands other false u → (text ≡ other) × (t ≡ u)
+    (text other : List ℕ) (refused also : Bool) (t u : BenchTexts) → IsOutput commands text refused t → IsOutput commands other also u
+    → (text ≡ other) × (refused ≡ also) × (t ≡ u)
 
--- where no command is refused, each output of all of them begins with each of the first
+-- each output of all of them begins with each of the first
 abbrev pub BeginsAlike : (first others : List Command) → Type 0
 BeginsAlike first others =
-    (text whole : List ℕ) (t u : BenchTexts) → IsOutput first text false t → IsOutput (first ++ others) whole false u → (rest : List ℕ) × (whole ≡ text ++ rest)
+    (text whole : List ℕ) (refused also : Bool) (t u : BenchTexts) → IsOutput first text refused t → IsOutput (first ++ others) whole also u
+    → (rest : List ℕ) × (whole ≡ text ++ rest)

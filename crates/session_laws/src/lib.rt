@@ -1,5 +1,5 @@
-//! Laws of what a session says: over the same texts a question has one answer, and commands of which none is refused have one
-//! output. Read specs/Laws first, after `Sessions` of `session_answers/specs`.
+//! Laws of what a session says: over the same texts a question has one answer, and commands have one output, also where some
+//! are refused. Read specs/Laws first, after `Sessions` of `session_answers/specs`.
 #![tactic(auto)]
 
 ghost use Rattle.std.specs.Prelude.{List};
@@ -19,12 +19,12 @@ pub fn replies_are_one()
     ensures { (texts : BenchTexts) (question : Question) → HasOneReply texts question }
 {}
 
-/// Commands of which none is refused have one output, byte for byte, and lead to the same texts.
+/// Commands have one output, byte for byte, with the same refusals, and lead to the same texts.
 pub fn outputs_are_one()
     ensures { (commands : List Command) → HasOneOutput commands }
 {}
 
-/// Where none is refused, what is written of the first commands is a front of what is written of all.
+/// What is written of the first commands is a front of what is written of all.
 pub fn outputs_begin_alike()
     ensures { (first others : List Command) → BeginsAlike first others }
 {}
