@@ -13,6 +13,7 @@ pub mod SameVerdicts
 pub mod Refusals
 pub mod OutputNames
 pub mod ToldOutputs
+pub mod NamedOutputs
 pub mod OneOutput
 pub mod CellLists
 pub mod ReachedCells

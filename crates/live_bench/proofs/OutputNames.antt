@@ -14,7 +14,7 @@ use Rattle.model_slots.specs.Tables.{ModelReading}
 use Rattle.bench_texts.specs.declared.model.NamedModel.{NamedModel}
 use Rattle.bench_texts.specs.declared.reading.Reading.{Reading}
 use Rattle.bench_texts.specs.declared.reading.Reading.TheVariants as readings
-use Rattle.stamped_parts.specs.Built.{AreHeld, IsModelIn}
+use Rattle.stamped_parts.specs.Built.{IsHeld, AreHeld, IsModelIn}
 use Rattle.stamped_parts.specs.Contents.{State, histories}
 use Rattle.stamped_parts.proofs.BuiltSlots.{held_history_is}
 use Rattle.stamped_parts.proofs.Histories.{content_named}
@@ -97,19 +97,22 @@ items_held : (s : State) (id : ℕ) (numbers : List ℕ) (reading : Reading) (it
 items_held s id numbers (readings.Sound resolved used) items h e = subst (λ (is : List ResolvedItem). AreHeld s numbers is) (items_some e) h.1
 items_held s id numbers (readings.Faulty fault) items h e = absurd (none-some items e)
 
-item_named : (t : StampedTexts) → IsSound t → (item : ℕ) (does : RoleContent) → IsItemOf t item does → AreNamed (histories (state_of t) item) does
-item_named t sound item does is =
+-- it is known what the item does
+pub item_held : (t : StampedTexts) → IsSound t → (item : ℕ) (does : RoleContent) → IsItemOf t item does → IsHeld (state_of t) item does
+item_held t sound item does is =
     let s = state_of t in
     let parts = sound.parts_are in
     let model = is.model in
     let read = model_in (IsModelIn s) t.parts.table.models.items t.texts.models.items model parts.each_model (parts.built).models_in is.held in
     let held = items_held s (read.0).id model.numbers.items model.reading is.items read.1 is.read is.index is.item is.found in
     let role : RoleContent = role_content (is.item).role in
-    let number : ℕ = number_at model.numbers.items is.index in
-    let named = content_named t.parts.table.items.items t.parts.roles.items number role held.0 held.1 in
-    let here = subst (λ (h : List SeenName). AreNamed h role) (sym (held_history_is s number role held.0 held.1)) named in
-    subst (λ (r : RoleContent). AreNamed (histories s item) r) (sym is.does_is)
-    (subst (λ (n : ℕ). AreNamed (histories s n) role) (sym is.number_is) here)
+    subst (λ (r : RoleContent). IsHeld s item r) (sym is.does_is) (subst (λ (n : ℕ). IsHeld s n role) (sym is.number_is) held)
+
+item_named : (t : StampedTexts) → IsSound t → (item : ℕ) (does : RoleContent) → IsItemOf t item does → AreNamed (histories (state_of t) item) does
+item_named t sound item does is =
+    let s = state_of t in
+    let held = item_held t sound item does is in
+    subst (λ (h : List SeenName). AreNamed h does) (sym (held_history_is s item does held.0 held.1)) (content_named t.parts.table.items.items t.parts.roles.items item does held.0 held.1)
 
 pub outputs_have_their_names : (t : StampedTexts) → IsSound t → OutputsHaveTheirNames t
 outputs_have_their_names t sound test item index number does is output =

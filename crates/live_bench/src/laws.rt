@@ -18,7 +18,7 @@ ghost use Rattle.live_bench.specs.Jobs.{JobsAreAccepted, ClaimsStayOut, Unsettle
 ghost use Rattle.live_bench.specs.JobLists.{ListBoundsGiven, ListAcceptsJobs};
 ghost use Rattle.live_bench.specs.Refusals.{RefusedChangesNothing, RefusedEditChangesNothing};
 ghost use Rattle.live_bench.specs.OutputNames.{OutputsHaveTheirNames, OthersHaveOneOutput};
-ghost use Rattle.live_bench.specs.ToldOutputs.{ReturnsTellOutputs};
+ghost use Rattle.live_bench.specs.ToldOutputs.{ReturnsTellOutputs, ReturnsNameOutputs};
 ghost use Rattle.live_bench.specs.Unreached.{UnreachedNeedsNoJob};
 ghost use Rattle.live_bench.specs.Openings.{with_edit, KeepsUnreached, OpensReached, StaysSettled};
 
@@ -135,11 +135,13 @@ pub fn refused_edits_change_nothing()
 
 /// The numbers that a return tells are those of outputs of what its node is given. Of an item they tell the names: of a group the
 /// name that it binds first is that of the output that comes first, and so on. The only output of a check, of a flag, of a space or of
-/// a verdict goes by 0.
+/// a verdict goes by 0. So where a return is of the node of an item that the texts hold, its job was given what that item does, and
+/// each number that it tells is that of one of the item's outputs, by the name that the item gives it.
 pub fn outputs_have_their_names()
     ensures items { (t : StampedRecord) → IsSound t → OutputsHaveTheirNames t }
     ensures others { (t : StampedRecord) → OthersHaveOneOutput t }
     ensures told { ReturnsTellOutputs }
+    ensures named { ReturnsNameOutputs }
 {}
 
 /// In a history of a running bench that ends in an edit, a cell whose slice is one before the edit and after it is shown after

@@ -1,7 +1,8 @@
 use Rattle.live_bench.proofs.OutputNames.{outputs_have_their_names}
 use Rattle.live_bench.proofs.OneOutput.{others_have_one_output}
 use Rattle.live_bench.proofs.ToldOutputs.{returns_tell_outputs}
+use Rattle.live_bench.proofs.NamedOutputs.{returns_name_outputs}
 use Rattle.live_bench.proofs.laws.outputs_have_their_names.Goals as goal
 
 pub returns : goal.returns
-returns c = record { items = outputs_have_their_names; others = others_have_one_output; told = returns_tell_outputs }
+returns c = record { items = outputs_have_their_names; others = others_have_one_output; told = returns_tell_outputs; named = returns_name_outputs }
