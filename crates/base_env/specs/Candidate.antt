@@ -22,25 +22,33 @@ SharedIn c n name = Below n (Fixed name n c)
 
 -- each set is that of its name
 abbrev pub AreSets : List Named → ℕ → Combination → Type 0
-AreSets xs n c = (i : ℕ) → i < length xs → (d : Named) → IsEvents (get_or xs i d).set n (SetIn c n (get_or xs i d).name)
+AreSets xs n c =
+    (i : ℕ) → i < length xs → (d : Named)
+    → IsEvents (get_or xs i d).set n (SetIn c n (get_or xs i d).name)
 
 -- each relation is that of its name
 abbrev pub AreShared : List Shared → ℕ → Combination → Type 0
-AreShared xs n c = (i : ℕ) → i < length xs → (d : Shared) → IsRelation (get_or xs i d).relation n (SharedIn c n (get_or xs i d).name)
+AreShared xs n c =
+    (i : ℕ) → i < length xs → (d : Shared)
+    → IsRelation (get_or xs i d).relation n (SharedIn c n (get_or xs i d).name)
 
 -- what does not depend on the candidate is that of the combination
 pub record IsEntered (known : Known) (c : Combination) : Type 0 where
   pub count : known.count ≡ length c.events.items
-  pub sets : (name : Predefined) → Contains (set_names known.sets) name → (a : ℕ) → EventsOf known name a ↔ SetIn c known.count name a
-  pub shared : (name : Predefined) → Contains (shared_names known.shared) name → (a b : ℕ) → SharedPairs known name a b ↔ SharedIn c known.count name a b
+  pub sets : (name : Predefined) → Contains (set_names known.sets) name → (a : ℕ)
+      → EventsOf known name a ↔ SetIn c known.count name a
+  pub shared : (name : Predefined) → Contains (shared_names known.shared) name → (a b : ℕ)
+      → SharedPairs known name a b ↔ SharedIn c known.count name a b
 
 -- the loads read so
 abbrev pub IsReading : Known → Combination → List ℕ → Type 0
-IsReading known c sources = IsRelation known.reads_from known.count (Below known.count (ReadsFrom c.events.items sources))
+IsReading known c sources =
+    IsRelation known.reads_from known.count (Below known.count (ReadsFrom c.events.items sources))
 
 -- the stores are ordered so
 abbrev pub IsOrdered : Known → Combination → List ℕ → Type 0
-IsOrdered known c order = IsRelation known.coherence known.count (Below known.count (Coherence c.events.items order))
+IsOrdered known c order =
+    IsRelation known.coherence known.count (Below known.count (Coherence c.events.items order))
 
 -- ---- the relations of one candidate, in which the loads read and the stores are ordered so
 
@@ -58,13 +66,20 @@ abbrev pub RelationIn : Predefined → ℕ → Combination → List ℕ → List
 RelationIn names.ReadsFrom n c sources order = ReadsIn c n sources
 RelationIn names.Coherence n c sources order = OrderIn c n order
 RelationIn names.FromReads n c sources order = FromReadsIn c n sources order
-RelationIn names.ReadsFromExternal n c sources order = Inter (SharedIn c n names.External) (ReadsIn c n sources)
-RelationIn names.ReadsFromInternal n c sources order = Inter (SharedIn c n names.Internal) (ReadsIn c n sources)
-RelationIn names.CoherenceExternal n c sources order = Inter (SharedIn c n names.External) (OrderIn c n order)
-RelationIn names.CoherenceInternal n c sources order = Inter (SharedIn c n names.Internal) (OrderIn c n order)
-RelationIn names.FromReadsExternal n c sources order = Inter (SharedIn c n names.External) (FromReadsIn c n sources order)
-RelationIn names.FromReadsInternal n c sources order = Inter (SharedIn c n names.Internal) (FromReadsIn c n sources order)
-RelationIn names.Communication n c sources order = Union (Union (ReadsIn c n sources) (OrderIn c n order)) (FromReadsIn c n sources order)
+RelationIn names.ReadsFromExternal n c sources order =
+    Inter (SharedIn c n names.External) (ReadsIn c n sources)
+RelationIn names.ReadsFromInternal n c sources order =
+    Inter (SharedIn c n names.Internal) (ReadsIn c n sources)
+RelationIn names.CoherenceExternal n c sources order =
+    Inter (SharedIn c n names.External) (OrderIn c n order)
+RelationIn names.CoherenceInternal n c sources order =
+    Inter (SharedIn c n names.Internal) (OrderIn c n order)
+RelationIn names.FromReadsExternal n c sources order =
+    Inter (SharedIn c n names.External) (FromReadsIn c n sources order)
+RelationIn names.FromReadsInternal n c sources order =
+    Inter (SharedIn c n names.Internal) (FromReadsIn c n sources order)
+RelationIn names.Communication n c sources order =
+    Union (Union (ReadsIn c n sources) (OrderIn c n order)) (FromReadsIn c n sources order)
 RelationIn name n c sources order = SharedIn c n name
 
 -- the relation, of those that all candidates of a combination share, that a relation is made of
@@ -93,4 +108,5 @@ Gives known name = IsThere (shared_names known.shared) (shared_for name)
 
 -- what the relations among these names need is held
 abbrev pub AreCovered : List Predefined → List Predefined → Type 0
-AreCovered names ns = (name : Predefined) → Contains ns name → is_set name ≡ false → IsThere names (shared_for name)
+AreCovered names ns =
+    (name : Predefined) → Contains ns name → is_set name ≡ false → IsThere names (shared_for name)

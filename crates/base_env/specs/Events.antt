@@ -1,4 +1,5 @@
--- Events of a candidate, by their numbers, and how two of them may be linked whatever the loads read.
+-- Events of a candidate, by their numbers, and how two of them may be linked whatever the loads
+-- read.
 use Rattle.std.specs.Prelude.{ℕ, ◌≡◌, ◌<◌, ◌≤◌, ◌+◌, List, [], ◌∷◌, take, Option, Some, None, slice_get, Contains}
 use Rattle.text_values.specs.declared.instruction.Fence as kinds
 use Rattle.text_values.specs.declared.predefined.Predefined.{Predefined}
@@ -55,7 +56,9 @@ abbrev pub At : List Event → (Event → Type 0) → ℕ → Type 0
 At events S a = (e : Event) × (slice_get events a ≡ Some e) × S e
 
 abbrev pub Both : List Event → (Event → Event → Type 0) → ℕ → ℕ → Type 0
-Both events R a b = (e : Event) × (f : Event) × (slice_get events a ≡ Some e) × (slice_get events b ≡ Some f) × R e f
+Both events R a b =
+    (e : Event) × (f : Event) × (slice_get events a ≡ Some e) × (slice_get events b ≡ Some f)
+    × R e f
 
 abbrev pub ProgramOrder : List Event → ℕ → ℕ → Type 0
 ProgramOrder events a b = (a < b) × Both events IsSameThread a b
@@ -69,7 +72,8 @@ Internal events = Both events IsSameThread
 -- accesses of one thread in program order with a fence of this kind between them
 abbrev pub Fenced : List Event → kinds.Fence → ℕ → ℕ → Type 0
 Fenced events kind a b =
-    At events IsAccess a × At events IsAccess b × ((c : ℕ) × ProgramOrder events a c × At events (IsFence kind) c × ProgramOrder events c b)
+    At events IsAccess a × At events IsAccess b
+    × ((c : ℕ) × ProgramOrder events a c × At events (IsFence kind) c × ProgramOrder events c b)
 
 -- the pair stands in the list
 abbrev pub Listed : List (ℕ × ℕ) → ℕ → ℕ → Type 0
@@ -88,7 +92,9 @@ Linked names.Internal a e b f = IsSameThread e f
 Linked _ a e b f = ⊥
 
 abbrev pub Links : List Event → Predefined → ℕ → ℕ → Type 0
-Links events name a b = (e : Event) × (f : Event) × (slice_get events a ≡ Some e) × (slice_get events b ≡ Some f) × Linked name a e b f
+Links events name a b =
+    (e : Event) × (f : Event) × (slice_get events a ≡ Some e) × (slice_get events b ≡ Some f)
+    × Linked name a e b f
 
 -- the pairs that end below n
 abbrev pub Before : ℕ → (ℕ → ℕ → Type 0) → ℕ → ℕ → Type 0
@@ -108,7 +114,8 @@ reads_in (e ∷ es) = added_read e.action (reads_in es)
 
 -- the load reads the store, by a list that has for each load in event order the number of its store
 abbrev pub ReadsFrom : List Event → List ℕ → ℕ → ℕ → Type 0
-ReadsFrom events sources a b = At events IsRead b × (slice_get sources (reads_in (take b events)) ≡ Some a)
+ReadsFrom events sources a b =
+    At events IsRead b × (slice_get sources (reads_in (take b events)) ≡ Some a)
 
 -- the pair of the load and the store at an index of the list
 abbrev pub Source : List ℕ → ℕ → ℕ → ℕ → ℕ → Type 0
@@ -116,14 +123,17 @@ Source sources next load a b = (b ≡ load) × (slice_get sources next ≡ Some 
 
 -- the two stores are of one location and stand in the list in this order, the first at this index
 abbrev pub CoherenceFrom : List Event → List ℕ → ℕ → ℕ → ℕ → Type 0
-CoherenceFrom events order i a b = (j : ℕ) × (i < j) × (slice_get order i ≡ Some a) × (slice_get order j ≡ Some b) × SameLocation events a b
+CoherenceFrom events order i a b =
+    (j : ℕ) × (i < j) × (slice_get order i ≡ Some a) × (slice_get order j ≡ Some b)
+    × SameLocation events a b
 
 abbrev pub Coherence : List Event → List ℕ → ℕ → ℕ → Type 0
 Coherence events order a b = (i : ℕ) × CoherenceFrom events order i a b
 
 -- a fence of this kind stands behind the event in its thread, below an end
 abbrev pub FenceBelow : List Event → kinds.Fence → ℕ → ℕ → Type 0
-FenceBelow events kind from end = (c : ℕ) × (c < end) × ProgramOrder events from c × At events (IsFence kind) c
+FenceBelow events kind from end =
+    (c : ℕ) × (c < end) × ProgramOrder events from c × At events (IsFence kind) c
 
 -- the pairs with loads below an end
 abbrev pub ReadsTo : List Event → List ℕ → ℕ → ℕ → ℕ → Type 0
@@ -135,13 +145,18 @@ CoherenceTo events order end a b = (i : ℕ) × (i < end) × CoherenceFrom event
 
 -- the pairs with the first store at this index and the second below an end of the list
 abbrev pub CoherenceFromTo : List Event → List ℕ → ℕ → ℕ → ℕ → ℕ → Type 0
-CoherenceFromTo events order i end a b = (j : ℕ) × (j < end) × (i < j) × (slice_get order i ≡ Some a) × (slice_get order j ≡ Some b) × SameLocation events a b
+CoherenceFromTo events order i end a b =
+    (j : ℕ) × (j < end) × (i < j) × (slice_get order i ≡ Some a) × (slice_get order j ≡ Some b)
+    × SameLocation events a b
 
 -- the event at this index of the list is an access of the location
 abbrev pub StandsAt : List Event → List ℕ → ℕ → ℕ → Type 0
-StandsAt events order i l = (s : ℕ) × (slice_get order i ≡ Some s) × At events (λ e. location_of e.action ≡ Some l) s
+StandsAt events order i l =
+    (s : ℕ) × (slice_get order i ≡ Some s) × At events (λ e. location_of e.action ≡ Some l) s
 
 -- at each index below an end stands an access, none of a lower location than an earlier one
 abbrev pub AreRising : List Event → List ℕ → ℕ → Type 0
 AreRising events order end =
-    ((i : ℕ) → i < end → (l : ℕ) × StandsAt events order i l) × ((i j l m : ℕ) → i < j → j < end → StandsAt events order i l → StandsAt events order j m → l ≤ m)
+    ((i : ℕ) → i < end → (l : ℕ) × StandsAt events order i l)
+    × ((i j l m : ℕ) → i < j → j < end → StandsAt events order i l → StandsAt events order j m
+    → l ≤ m)

@@ -7,8 +7,8 @@ use Rattle.text_values.specs.declared.predefined.Predefined.TheVariants as names
 use Rattle.base_env.specs.declared.names.Named.{Named}
 use Rattle.base_env.specs.declared.names.Shared.{Shared}
 
--- the number of events, the sets and the relations that all candidates of the combination share, by name, and the
--- relations of the present candidate
+-- the number of events, the sets and the relations that all candidates of the combination share, by
+-- name, and the relations of the present candidate
 pub record Known : Type 0 where
   pub count : ℕ
   pub sets : List Named
@@ -21,12 +21,16 @@ pub record Known : Type 0 where
 -- the events of the first set of this name, if it is one of n events
 abbrev pub EventsUnder : List Named → Predefined → ℕ → ℕ → Type 0
 EventsUnder [] name n a = ⊥
-EventsUnder (x ∷ xs) name n a = ((x.name ≡ name) × (x.set.count ≡ n) × IsMember x.set a) ⊎ ((x.name ≡ name → ⊥) × EventsUnder xs name n a)
+EventsUnder (x ∷ xs) name n a =
+    ((x.name ≡ name) × (x.set.count ≡ n) × IsMember x.set a)
+    ⊎ ((x.name ≡ name → ⊥) × EventsUnder xs name n a)
 
 -- the pairs of the first relation of this name, if it is one of n events
 abbrev pub PairsUnder : List Shared → Predefined → ℕ → ℕ → ℕ → Type 0
 PairsUnder [] name n a b = ⊥
-PairsUnder (x ∷ xs) name n a b = ((x.name ≡ name) × (x.relation.count ≡ n) × Has x.relation a b) ⊎ ((x.name ≡ name → ⊥) × PairsUnder xs name n a b)
+PairsUnder (x ∷ xs) name n a b =
+    ((x.name ≡ name) × (x.relation.count ≡ n) × Has x.relation a b)
+    ⊎ ((x.name ≡ name → ⊥) × PairsUnder xs name n a b)
 
 -- the events of a set that was found, if it is one of n events
 abbrev pub EventsFound : Option Events → ℕ → ℕ → Type 0
@@ -47,13 +51,20 @@ PairsOf known names.Identity = Identity known.count
 PairsOf known names.ReadsFrom = Has known.reads_from
 PairsOf known names.Coherence = Has known.coherence
 PairsOf known names.FromReads = Has known.from_reads
-PairsOf known names.ReadsFromExternal = Inter (SharedPairs known names.External) (Has known.reads_from)
-PairsOf known names.ReadsFromInternal = Inter (SharedPairs known names.Internal) (Has known.reads_from)
-PairsOf known names.CoherenceExternal = Inter (SharedPairs known names.External) (Has known.coherence)
-PairsOf known names.CoherenceInternal = Inter (SharedPairs known names.Internal) (Has known.coherence)
-PairsOf known names.FromReadsExternal = Inter (SharedPairs known names.External) (Has known.from_reads)
-PairsOf known names.FromReadsInternal = Inter (SharedPairs known names.Internal) (Has known.from_reads)
-PairsOf known names.Communication = Union (Union (Has known.reads_from) (Has known.coherence)) (Has known.from_reads)
+PairsOf known names.ReadsFromExternal =
+    Inter (SharedPairs known names.External) (Has known.reads_from)
+PairsOf known names.ReadsFromInternal =
+    Inter (SharedPairs known names.Internal) (Has known.reads_from)
+PairsOf known names.CoherenceExternal =
+    Inter (SharedPairs known names.External) (Has known.coherence)
+PairsOf known names.CoherenceInternal =
+    Inter (SharedPairs known names.Internal) (Has known.coherence)
+PairsOf known names.FromReadsExternal =
+    Inter (SharedPairs known names.External) (Has known.from_reads)
+PairsOf known names.FromReadsInternal =
+    Inter (SharedPairs known names.Internal) (Has known.from_reads)
+PairsOf known names.Communication =
+    Union (Union (Has known.reads_from) (Has known.coherence)) (Has known.from_reads)
 PairsOf known names.Loads = SharedPairs known names.Loads
 PairsOf known names.Stores = SharedPairs known names.Stores
 PairsOf known names.Accesses = SharedPairs known names.Accesses
@@ -84,7 +95,8 @@ set_names xs = map (λ x. x.name) xs
 abbrev pub shared_names : List Shared → List Predefined
 shared_names xs = map (λ x. x.name) xs
 
--- the four relations are over n events; the second is the first turned round, and the last follows from them
+-- the four relations are over n events; the second is the first turned round, and the last follows
+-- from them
 pub record AreKnown (n : ℕ) (reads_from read_by coherence from_reads : Relation) : Type 0 where
   pub few : n ≤ 128
   pub reads : reads_from.count ≡ n
@@ -96,4 +108,5 @@ pub record AreKnown (n : ℕ) (reads_from read_by coherence from_reads : Relatio
 
 -- the four relations of what is known are so
 abbrev pub IsConsistent : Known → Type 0
-IsConsistent known = AreKnown known.count known.reads_from known.read_by known.coherence known.from_reads
+IsConsistent known =
+    AreKnown known.count known.reads_from known.read_by known.coherence known.from_reads

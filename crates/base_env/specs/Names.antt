@@ -22,12 +22,14 @@ IsIn names.EieioFences e = IsFence Eieio e
 IsIn names.IsyncFences e = IsFence Isync e
 IsIn _ e = ⊥
 
--- the pairs of a relation that does not depend on what the loads read, nor on the orders of the stores, over n events
+-- the pairs of a relation that does not depend on what the loads read, nor on the orders of the
+-- stores, over n events
 abbrev pub Fixed : Predefined → ℕ → Combination → ℕ → ℕ → Type 0
 Fixed names.Identity n c = Identity n
 Fixed names.ProgramOrder n c = of.ProgramOrder c.events.items
 Fixed names.SameLocation n c = of.SameLocation c.events.items
-Fixed names.ProgramOrderSameLocation n c = Inter (of.ProgramOrder c.events.items) (of.SameLocation c.events.items)
+Fixed names.ProgramOrderSameLocation n c =
+    Inter (of.ProgramOrder c.events.items) (of.SameLocation c.events.items)
 Fixed names.Internal n c = of.Internal c.events.items
 Fixed names.External n c = Complement n (of.Internal c.events.items)
 Fixed names.AddressDependency n c = Listed c.dependencies.addr_pairs.items

@@ -18,9 +18,11 @@ CoherenceSince events order from a b = (i : ℕ) × (from ≤ i) × CoherenceFro
 
 -- those with a first store below an end
 abbrev pub CoherenceBetween : List Event → List ℕ → ℕ → ℕ → ℕ → ℕ → Type 0
-CoherenceBetween events order from end a b = (i : ℕ) × (from ≤ i) × (i < end) × CoherenceFrom events order i a b
+CoherenceBetween events order from end a b =
+    (i : ℕ) × (from ≤ i) × (i < end) × CoherenceFrom events order i a b
 
--- both orders begin alike below the start, the same events below n stand behind, and none of these stands before
+-- both orders begin alike below the start, the same events below n stand behind, and none of these
+-- stands before
 pub record IsTail (previous order : List ℕ) (n start : ℕ) (stores : Events) : Type 0 where
   pub alike : (i : ℕ) → i < start → slice_get previous i ≡ slice_get order i
   pub now : IsEvents stores n (λ a. (a < n) × StandsFrom order start a)

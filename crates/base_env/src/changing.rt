@@ -10,7 +10,8 @@ use run_combinations::Event;
 
 /// Adds the pair of the load and the store at an index of the list of stores that are read.
 fn put_source(target: &mut Rel, sources: &[u8], next: usize, load: usize)
-    ensures { IsRelation target.new target.old.count (Union (Has target.old) (Below target.old.count (Source sources.now next load))) }
+    ensures { IsRelation target.new target.old.count (Union (Has target.old)
+        (Below target.old.count (Source sources.now next load))) }
 {
     let count = target.count();
     if next < sources.len() {
@@ -78,7 +79,8 @@ fn is_rising(events: &[Event], order: &[u8]) -> bool
 pub fn put_later(coherence: &mut Rel, events: &[Event], order: &[u8], index: usize, rising: bool)
     requires inside { index < length order.now }
     requires rising { IsTrue rising → AreRising events.now order.now (length order.now) }
-    ensures { IsRelation coherence.new coherence.old.count (Union (Has coherence.old) (Below coherence.old.count (CoherenceFrom events.now order.now index))) }
+    ensures { IsRelation coherence.new coherence.old.count (Union (Has coherence.old)
+        (Below coherence.old.count (CoherenceFrom events.now order.now index))) }
 {
     let _count = coherence.count();
     let Some(location) = location_at(events, order, index) else {

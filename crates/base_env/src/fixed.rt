@@ -11,7 +11,8 @@ use text_values::{Fence, Predefined};
 
 /// Adds a pair of events, if the relation can have it.
 pub fn put(target: &mut Rel, from: usize, to: usize)
-    ensures { IsRelation target.new target.old.count (Union (Has target.old) (Below target.old.count (λ a b. (a ≡ from) × (b ≡ to)))) }
+    ensures { IsRelation target.new target.old.count (Union (Has target.old)
+        (Below target.old.count (λ a b. (a ≡ from) × (b ≡ to)))) }
 {
     let count = target.count();
     if from < count && to < count {
@@ -21,7 +22,8 @@ pub fn put(target: &mut Rel, from: usize, to: usize)
 
 /// Adds pairs of events, as far as the relation can have them.
 fn put_pairs(target: &mut Rel, pairs: &[(usize, usize)])
-    ensures { IsRelation target.new target.old.count (Union (Has target.old) (Below target.old.count (Listed pairs.now))) }
+    ensures { IsRelation target.new target.old.count (Union (Has target.old)
+        (Below target.old.count (Listed pairs.now))) }
 {
     let count = target.count();
     for (from, to) in pairs {
@@ -88,7 +90,8 @@ fn is_linked(name: Predefined, from: usize, first: &Event, to: usize, second: &E
 fn put_linked_from(target: &mut Rel, name: Predefined, events: &[Event], from: usize)
     requires all { target.old.count ≤ length events.now }
     requires inside { from < target.old.count }
-    ensures { IsRelation target.new target.old.count (Union (Has target.old) (RowTo (Links events.now name) from target.old.count)) }
+    ensures { IsRelation target.new target.old.count (Union (Has target.old)
+        (RowTo (Links events.now name) from target.old.count)) }
 {
     let first = events[from];
     for to in 0..target.count() {
@@ -101,7 +104,8 @@ fn put_linked_from(target: &mut Rel, name: Predefined, events: &[Event], from: u
 /// Adds the pairs of events that are linked.
 fn put_linked(target: &mut Rel, name: Predefined, events: &[Event])
     requires all { target.old.count ≤ length events.now }
-    ensures { IsRelation target.new target.old.count (Union (Has target.old) (Below target.old.count (Links events.now name))) }
+    ensures { IsRelation target.new target.old.count (Union (Has target.old)
+        (Below target.old.count (Links events.now name))) }
 {
     for from in 0..target.count() {
         put_linked_from(target, name, events, from);
@@ -144,7 +148,8 @@ fn meets_fence(is_fenced: bool, follows: bool, event: &Event, kind: Fence) -> bo
 fn put_fenced_from(target: &mut Rel, events: &[Event], kind: Fence, from: usize)
     requires all { target.old.count ≤ length events.now }
     requires inside { from < target.old.count }
-    ensures { IsRelation target.new target.old.count (Union (Has target.old) (RowTo (Fenced events.now kind) from target.old.count)) }
+    ensures { IsRelation target.new target.old.count (Union (Has target.old)
+        (RowTo (Fenced events.now kind) from target.old.count)) }
 {
     let count = target.count();
     let first = events[from];
@@ -165,7 +170,8 @@ fn put_fenced_from(target: &mut Rel, events: &[Event], kind: Fence, from: usize)
 /// Adds the pairs of accesses with a fence of this kind between them in program order.
 fn put_fenced(target: &mut Rel, events: &[Event], kind: Fence)
     requires all { target.old.count ≤ length events.now }
-    ensures { IsRelation target.new target.old.count (Union (Has target.old) (Below target.old.count (Fenced events.now kind))) }
+    ensures { IsRelation target.new target.old.count (Union (Has target.old)
+        (Below target.old.count (Fenced events.now kind))) }
 {
     for from in 0..target.count() {
         put_fenced_from(target, events, kind, from);

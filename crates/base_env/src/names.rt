@@ -51,7 +51,15 @@ impl Model for Base {
 
     ghost Value = { Known };
 
-    ghost view = { λ b. record { count = b.count; sets = b.sets.items; shared = b.shared.items; reads_from = b.reads_from; read_by = b.read_by; coherence = b.coherence; from_reads = b.from_reads } };
+    ghost view = { λ b. record {
+      count = b.count;
+      sets = b.sets.items;
+      shared = b.shared.items;
+      reads_from = b.reads_from;
+      read_by = b.read_by;
+      coherence = b.coherence;
+      from_reads = b.from_reads;
+    } };
 
     ghost invariant = { λ b. AreKnown b.count b.reads_from b.read_by b.coherence b.from_reads };
 }
@@ -108,7 +116,8 @@ fn is_there(shared: &[Shared], name: Predefined) -> bool
 /// Makes room for a relation of this name, if there is none.
 fn make_room(shared: &mut Vec<Shared>, name: Predefined) -> Result<(), AllocError>
     ensures there { OnOk result (Contains (shared_names shared.new.items) name) }
-    ensures kept { OnOk result ((other : _) → Contains (shared_names shared.old.items) other → Contains (shared_names shared.new.items) other) }
+    ensures kept { OnOk result ((other : _) → Contains (shared_names shared.old.items) other
+        → Contains (shared_names shared.new.items) other) }
 {
     if is_there(shared, name) {
         return Ok(());
@@ -179,7 +188,9 @@ fn find_set(sets: &[Named], name: Predefined) -> Option<EventSet>
 
 /// The relation of this name.
 fn find_shared(shared: &[Shared], name: Predefined) -> Option<&Rel>
-    ensures { MatchOption result ((n a b : ℕ) → PairsUnder shared.now name n a b → ⊥) (λ r. (n a b : ℕ) → ((r.now.count ≡ n) × Has r.now a b) ↔ PairsUnder shared.now name n a b) }
+    ensures { MatchOption result ((n a b : ℕ) → PairsUnder shared.now name n a b → ⊥)
+        (λ r. (n a b : ℕ)
+        → ((r.now.count ≡ n) × Has r.now a b) ↔ PairsUnder shared.now name n a b) }
 {
     for one in shared {
         if one.name == name {
@@ -194,8 +205,10 @@ impl Base {
     /// and `order`. Errors: want of memory.
     pub fn new(alloc: Global, combination: &Combination) -> Result<Base, AllocError>
         ensures entered { IfOk result (λ base. IsEntered base combination.now) }
-        ensures sets { IfOk result (λ base. (name : _) → IsTrue (is_set name) → Contains (set_names base.sets) name) }
-        ensures relations { IfOk result (λ base. (name : _) → is_set name ≡ false → Gives base name) }
+        ensures sets { IfOk result (λ base. (name : _) → IsTrue (is_set name)
+            → Contains (set_names base.sets) name) }
+        ensures relations { IfOk result
+            (λ base. (name : _) → is_set name ≡ false → Gives base name) }
     {
         let mut base = Base::of_names(alloc, &PREDEFINED)?;
         base.enter(combination);
@@ -207,7 +220,8 @@ impl Base {
     pub fn of_names(alloc: Global, names: &[Predefined]) -> Result<Base, AllocError>
         ensures known { IfOk result (λ base. IsConsistent base) }
         ensures sets { IfOk result (λ base. set_names base.sets ≡ filter is_set names.now) }
-        ensures relations { IfOk result (λ base. (name : _) → Contains names.now name → is_set name ≡ false → Gives base name) }
+        ensures relations { IfOk result (λ base. (name : _) → Contains names.now name
+            → is_set name ≡ false → Gives base name) }
     {
         Ok(Base {
             count: 0,
@@ -235,12 +249,13 @@ impl Base {
         }
     }
 
-    /// Goes over to some of the predefined names, before the next `enter`. Only these may be asked for: sets and
-    /// relations of other names may be empty. Errors: want of memory.
+    /// Goes over to some of the predefined names, before the next `enter`. Only these may be asked
+    /// for: sets and relations of other names may be empty. Errors: want of memory.
     pub fn hold(&mut self, alloc: Global, names: &[Predefined]) -> Result<(), AllocError>
         ensures known { IsConsistent self.new }
         ensures sets { OnOk result (set_names self.new.sets ≡ filter is_set names.now) }
-        ensures relations { OnOk result ((name : _) → Contains names.now name → is_set name ≡ false → Gives self.new name) }
+        ensures relations { OnOk result ((name : _) → Contains names.now name → is_set name ≡ false
+            → Gives self.new name) }
     {
         let _count = self.count();
         self.sets = sets_of(alloc, names)?;
@@ -307,11 +322,12 @@ impl Base {
         self.from_reads.set_composed(&self.read_by, &self.coherence);
     }
 
-    /// Goes over to the candidates of the combination with this order of the stores, from those with a previous one: only
-    /// what differs is written.
+    /// Goes over to the candidates of the combination with this order of the stores, from those
+    /// with a previous one: only what differs is written.
     pub fn order_after(&mut self, combination: &Combination, previous: &[u8], order: &[u8])
         ensures known { IsConsistent self.new }
-        ensures ordered { IsOrdered self.old combination.now previous.now → IsOrdered self.new combination.now order.now }
+        ensures ordered { IsOrdered self.old combination.now previous.now
+            → IsOrdered self.new combination.now order.now }
         ensures count { self.new.count ≡ self.old.count }
         ensures sets { self.new.sets ≡ self.old.sets }
         ensures shared { self.new.shared ≡ self.old.shared }
@@ -341,7 +357,8 @@ impl Base {
     /// The set of a name; a name that is no set gives the empty one.
     pub fn set(&self, name: Predefined) -> EventSet
         ensures held { IsEvents result self.now.count (EventsOf self.now name) }
-        ensures meant { (c : _) → IsEntered self.now c → Contains (set_names self.now.sets) name → IsEvents result self.now.count (SetIn c self.now.count name) }
+        ensures meant { (c : _) → IsEntered self.now c → Contains (set_names self.now.sets) name
+            → IsEvents result self.now.count (SetIn c self.now.count name) }
     {
         self.set_named(name)
     }
@@ -359,7 +376,8 @@ impl Base {
     /// Makes `target` the part of a relation that is in a shared one.
     fn write_part(&self, relation: &Rel, shared: Predefined, target: &mut Rel)
         requires { relation.now.count ≡ self.now.count }
-        ensures { IsRelation target.new self.now.count (Inter (SharedPairs self.now shared) (Has relation.now)) }
+        ensures { IsRelation target.new self.now.count
+            (Inter (SharedPairs self.now shared) (Has relation.now)) }
     {
         self.write_shared(shared, target);
         target.inter_with(relation);
@@ -404,7 +422,10 @@ impl Base {
     /// it the empty one.
     pub fn write_relation(&self, name: Predefined, target: &mut Rel)
         ensures held { IsRelation target.new self.now.count (PairsOf self.now name) }
-        ensures meant { (c : _) → (sources order : _) → IsEntered self.now c → IsReading self.now c sources → IsOrdered self.now c order → Gives self.now name → IsRelation target.new self.now.count (RelationIn name self.now.count c sources order) }
+        ensures meant { (c : _) → (sources order : _) → IsEntered self.now c
+            → IsReading self.now c sources → IsOrdered self.now c order → Gives self.now name
+            → IsRelation target.new self.now.count
+            (RelationIn name self.now.count c sources order) }
     {
         self.write_named(name, self.count(), target);
     }

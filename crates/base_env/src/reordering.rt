@@ -27,7 +27,8 @@ fn alike_len(one: &[u8], other: &[u8]) -> usize
 
 /// Adds an event, if the set can have it.
 fn add(events: &mut EventSet, event: usize)
-    ensures { IsEvents events.new events.old.count (λ a. IsMember events.old a ⊎ ((a < events.old.count) × (a ≡ event))) }
+    ensures { IsEvents events.new events.old.count (λ a. IsMember events.old a
+        ⊎ ((a < events.old.count) × (a ≡ event))) }
 {
     if event < events.count() {
         events.insert(event);
@@ -55,7 +56,8 @@ fn standing_from(order: &[u8], from: usize, count: usize) -> EventSet
 
 /// Whether an event that stands in an order below an index is in the set.
 fn has_any(events: &EventSet, order: &[u8], end: usize) -> bool
-    ensures { result ≡ false → (i a : ℕ) → i < end → slice_get order.now i ≡ Some a → IsMember events.now a → ⊥ }
+    ensures { result ≡ false → (i a : ℕ) → i < end → slice_get order.now i ≡ Some a
+        → IsMember events.now a → ⊥ }
 {
     for index in 0..end.min(order.len()) {
         if holds(events, usize::from(order[index])) {
@@ -65,8 +67,8 @@ fn has_any(events: &EventSet, order: &[u8], end: usize) -> bool
     false
 }
 
-/// From where on the orders differ, where `stores` become those that stand there in both: they are few, and none of
-/// them stands before.
+/// From where on the orders differ, where `stores` become those that stand there in both: they are
+/// few, and none of them stands before.
 fn tail_of(previous: &[u8], order: &[u8], count: usize, stores: &mut EventSet) -> Option<usize>
     requires { count ≤ 128 }
     ensures { IfSome result (λ start. IsTail previous.now order.now count start stores.new) }
@@ -86,7 +88,8 @@ fn tail_of(previous: &[u8], order: &[u8], count: usize, stores: &mut EventSet) -
 /// Takes the pairs away whose stores are both in a set.
 fn drop_among(coherence: &mut Rel, spare: &mut Rel, stores: &EventSet)
     requires { stores.now.count ≡ coherence.old.count }
-    ensures { IsRelation coherence.new coherence.old.count (Minus (Has coherence.old) (Product (IsMember stores.now) (IsMember stores.now))) }
+    ensures { IsRelation coherence.new coherence.old.count (Minus (Has coherence.old)
+        (Product (IsMember stores.now) (IsMember stores.now))) }
 {
     spare.set_product(stores, stores);
     coherence.minus_with(spare);
@@ -94,7 +97,8 @@ fn drop_among(coherence: &mut Rel, spare: &mut Rel, stores: &EventSet)
 
 /// Adds the pairs whose first store stands in an order at an index from one on.
 fn put_from(coherence: &mut Rel, events: &[Event], order: &[u8], from: usize)
-    ensures { IsRelation coherence.new coherence.old.count (Union (Has coherence.old) (Below coherence.old.count (CoherenceSince events.now order.now from))) }
+    ensures { IsRelation coherence.new coherence.old.count (Union (Has coherence.old)
+        (Below coherence.old.count (CoherenceSince events.now order.now from))) }
 {
     let _count = coherence.count();
     for index in from..order.len() {
@@ -113,7 +117,12 @@ fn write_tail(
 )
     requires { stores.now.count ≡ coherence.old.count }
     ensures regular { (coherence.new.count ≡ coherence.old.count) × IsRegular coherence.new }
-    ensures next { (previous : List ℕ) → IsTail previous order.now coherence.old.count start stores.now → IsRelation coherence.old coherence.old.count (Below coherence.old.count (Coherence events.now previous)) → IsRelation coherence.new coherence.old.count (Below coherence.old.count (Coherence events.now order.now)) }
+    ensures next { (previous : List ℕ)
+        → IsTail previous order.now coherence.old.count start stores.now
+        → IsRelation coherence.old coherence.old.count
+        (Below coherence.old.count (Coherence events.now previous))
+        → IsRelation coherence.new coherence.old.count
+        (Below coherence.old.count (Coherence events.now order.now)) }
 {
     drop_among(coherence, spare, stores);
     put_from(coherence, events, order, start);
@@ -128,7 +137,10 @@ pub fn write_next_order(
     order: &[u8],
 )
     ensures regular { (coherence.new.count ≡ coherence.old.count) × IsRegular coherence.new }
-    ensures next { IsRelation coherence.old coherence.old.count (Below coherence.old.count (Coherence events.now previous.now)) → IsRelation coherence.new coherence.old.count (Below coherence.old.count (Coherence events.now order.now)) }
+    ensures next { IsRelation coherence.old coherence.old.count (Below coherence.old.count
+        (Coherence events.now previous.now))
+        → IsRelation coherence.new coherence.old.count
+        (Below coherence.old.count (Coherence events.now order.now)) }
 {
     let count = coherence.count();
     let mut stores = EventSet::empty(count);

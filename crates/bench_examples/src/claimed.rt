@@ -31,7 +31,8 @@ impl<B: PlayedBench> ClaimedBench<B> {
         }
     }
 
-    /// Claims a job and keeps it: the number of its claim, if there is work. Errors: no room to keep it.
+    /// Claims a job and keeps it: the number of its claim, if there is work. Errors: no room to
+    /// keep it.
     pub fn claim(&mut self, alloc: Global) -> Result<Result<Option<u64>, ClaimFault>, AllocError> {
         match self.bench.claim(alloc) {
             Ok(Some(job)) => {
@@ -64,7 +65,8 @@ impl<B: PlayedBench> ClaimedBench<B> {
         }
     }
 
-    /// Returns what the job of a claim makes, as often as it is asked to. None for a claim of no job that is kept.
+    /// Returns what the job of a claim makes, as often as it is asked to. None for a claim of no
+    /// job that is kept.
     pub fn offer<W: Wait>(
         &mut self,
         rt: &W,

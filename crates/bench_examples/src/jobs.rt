@@ -43,7 +43,8 @@ fn keep<P: PlayedJob>(
     Ok(copy)
 }
 
-/// What the job of a claim made, once more each time: it is run when it is first asked for. None for a claim that was not given.
+/// What the job of a claim made, once more each time: it is run when it is first asked for. None
+/// for a claim that was not given.
 pub fn made<W: Wait, P: PlayedJob>(
     rt: &W,
     alloc: Global,

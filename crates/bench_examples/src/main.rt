@@ -1,6 +1,7 @@
-//! Examples of the bench, one thread and many: lists of edits, claims, returns and reads with the answers that were written by
-//! hand, a walk by events that are drawn, and desks whose author, workers and viewers are threads of their own. Then what stands
-//! over it: sessions, and the watching of files, each part behind a line that names it.
+//! Examples of the bench, one thread and many: lists of edits, claims, returns and reads with the
+//! answers that were written by hand, a walk by events that are drawn, and desks whose author,
+//! workers and viewers are threads of their own. Then what stands over it: sessions, and the
+//! watching of files, each part behind a line that names it.
 #![tactic(auto)]
 
 mod benches;

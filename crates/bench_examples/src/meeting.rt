@@ -1,4 +1,5 @@
-//! Workers that must work at once: each of the first claims is held until others have begun or have ended.
+//! Workers that must work at once: each of the first claims is held until others have begun or have
+//! ended.
 
 pub mod gate;
 
@@ -106,7 +107,8 @@ fn put<D: PlayedDesk, W: Wait>(
     Ok(matches!(desk.edit(rt, viewer, edit), Ok(Accepted::Now(_))))
 }
 
-/// Makes the edits and waits until each cell is settled. False if one of them is not published at once, or the desk refuses.
+/// Makes the edits and waits until each cell is settled. False if one of them is not published at
+/// once, or the desk refuses.
 fn settle<D: PlayedDesk, W: Wait>(
     rt: &W,
     alloc: Global,
@@ -174,7 +176,8 @@ where
     }
 }
 
-/// Two workers, of which the first waits until the second has ended a job; and 32 that wait until all have begun one.
+/// Two workers, of which the first waits until the second has ended a job; and 32 that wait until
+/// all have begun one.
 pub fn show<R>(rt: &R) -> io::Result<()>
 where
     R: Print + AllocGlobal + Clock + Wait + Threads + Copy + Send + Sync + Drop,

@@ -1,5 +1,5 @@
-//! What the examples ask of jobs, benches and desks of tests and models. Their types, with the names of stores and histories,
-//! stand here and where a bench or a desk is made, and nowhere else.
+//! What the examples ask of jobs, benches and desks of tests and models. Their types, with the
+//! names of stores and histories, stand here and where a bench or a desk is made, and nowhere else.
 
 use crate::stress::watch::{Shared, watch};
 use bench_texts::{Edit, EditFault};

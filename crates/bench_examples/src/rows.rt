@@ -1,4 +1,5 @@
-//! Lists of edits, claims, returns and reads, one a line: each is played at a bench or at a desk, and printed with its answer.
+//! Lists of edits, claims, returns and reads, one a line: each is played at a bench or at a desk,
+//! and printed with its answer.
 
 mod bench_play;
 mod desk_play;

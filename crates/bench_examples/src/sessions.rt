@@ -1,5 +1,6 @@
-//! Sessions of a running desk: scripts with a known answer, two workers that must work at once, a script that does not end,
-//! and scripts that are drawn from a fixed seed. Each part begins with a line that names it.
+//! Sessions of a running desk: scripts with a known answer, two workers that must work at once, a
+//! script that does not end, and scripts that are drawn from a fixed seed. Each part begins with a
+//! line that names it.
 
 ghost use Rattle.std.specs.Prelude.{None};
 
@@ -95,7 +96,8 @@ where
     )
 }
 
-/// A listener hears how far the table is before the first jobs, that it ended, and of the one model.
+/// A listener hears how far the table is before the first jobs, that it ended, and of the one
+/// model.
 fn show_hearing<R>(rt: &R) -> io::Result<()>
 where
     R: AllocGlobal + Print + Threads + Wait + Copy + Drop + Send + Sync + 'static,

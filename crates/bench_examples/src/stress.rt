@@ -1,6 +1,7 @@
-//! An author, workers and viewers in threads of their own. The author makes edits that are drawn from a fixed seed, takes jobs,
-//! and loses them, returns them late or returns them twice. Each viewer compares every cell that it sees with the evaluation from
-//! nothing of the texts after as many edits as it sees. What is printed is the same whatever the schedule.
+//! An author, workers and viewers in threads of their own. The author makes edits that are drawn
+//! from a fixed seed, takes jobs, and loses them, returns them late or returns them twice. Each
+//! viewer compares every cell that it sees with the evaluation from nothing of the texts after as
+//! many edits as it sees. What is printed is the same whatever the schedule.
 
 ghost use Rattle.std.specs.Thread.{IsSend};
 
@@ -30,8 +31,8 @@ const WORKERS: u32 = 4;
 
 const VIEWERS: u64 = 8;
 
-/// Starts the viewers, each in a thread of its own, and plays the author. A viewer that does not start is a fault. The desk is named
-/// twice, as what threads share and as the author's.
+/// Starts the viewers, each in a thread of its own, and plays the author. A viewer that does not
+/// start is a fault. The desk is named twice, as what threads share and as the author's.
 fn play_beside<R, S, D>(rt: &R, seen: &S, desk: &D, viewer: D::Viewer, shared: &Shared)
 where
     R: AllocGlobal + Clock + Wait + Threads + Sync,

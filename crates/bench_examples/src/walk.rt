@@ -1,5 +1,6 @@
-//! A walk over a bench by events that are drawn from a fixed seed: edits, claims, returns that come late and again, losses and
-//! renewals. After each event every settled cell is compared with the evaluation of the present texts from nothing.
+//! A walk over a bench by events that are drawn from a fixed seed: edits, claims, returns that come
+//! late and again, losses and renewals. After each event every settled cell is compared with the
+//! evaluation of the present texts from nothing.
 
 pub mod draw;
 pub mod mirror;

@@ -1,7 +1,8 @@
-//! Watches a model and three tests whose versions stand in the table `versions.txt`: a line for each, with the path and the
-//! file that holds the version. The lines of `later.txt` name the paths that have a later version, as standard input does for
-//! the program. What is written is compared with what it is with 1, 2, 4 and 32 workers; then a read and a write fail. At last
-//! what people are told of the versions of the table `told.txt`.
+//! Watches a model and three tests whose versions stand in the table `versions.txt`: a line for
+//! each, with the path and the file that holds the version. The lines of `later.txt` name the paths
+//! that have a later version, as standard input does for the program. What is written is compared
+//! with what it is with 1, 2, 4 and 32 workers; then a read and a write fail. At last what people
+//! are told of the versions of the table `told.txt`.
 
 ghost use Rattle.std.specs.Prelude.{None};
 

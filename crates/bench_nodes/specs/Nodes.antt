@@ -28,7 +28,10 @@ fault_stamp (m ∷ ms) id = if m.id == id then m.stamp else fault_stamp ms id
 -- the stamp of a part of a test
 abbrev pub stamp_in : TestRow → ℕ → ℕ
 stamp_in t part =
-    if part == 2 then t.condition else (if part == 3 then t.observed else (if part == 4 then t.locations else (if part == 5 then t.init else get_or t.threads.items (part - 6) 0)))
+    if part == 2 then t.condition
+    else (if part == 3 then t.observed
+    else (if part == 4 then t.locations
+    else (if part == 5 then t.init else get_or t.threads.items (part - 6) 0)))
 
 abbrev pub test_stamp : List TestRow → ℕ → ℕ → ℕ
 test_stamp [] part id = 0
@@ -36,7 +39,9 @@ test_stamp (t ∷ ts) part id = if t.id == id then stamp_in t part else test_sta
 
 -- items have their part 0, models 1, tests the others
 abbrev pub part_stamp : NodeTable → ℕ → ℕ → ℕ
-part_stamp t part of = if part == 0 then item_stamp t.items.items of else (if part == 1 then fault_stamp t.models.items of else test_stamp t.tests.items part of)
+part_stamp t part of =
+    if part == 0 then item_stamp t.items.items of
+    else (if part == 1 then fault_stamp t.models.items of else test_stamp t.tests.items part of)
 
 -- ---- used nodes
 
@@ -110,7 +115,9 @@ inputs t n = inputs_of t n.kind n.test n.of
 -- the nodes of a test that have an output of its node of this kind among their inputs
 abbrev pub users_at : List Slot → Kind → ℕ → ℕ → List Node
 users_at [] kind of test = []
-users_at (s ∷ ss) kind of test = if uses kind of s.inputs.items then node_of test s ∷ users_at ss kind of test else users_at ss kind of test
+users_at (s ∷ ss) kind of test =
+    if uses kind of s.inputs.items then node_of test s ∷ users_at ss kind of test
+    else users_at ss kind of test
 
 -- the nodes that stand on a node
 abbrev pub users : NodeTable → Node → List Node

@@ -17,7 +17,8 @@ IsBehind before (slots.Value kind of name) = has_slot before kind of ≡ true
 -- each slot uses those before it alone, the latest first
 abbrev pub AreOrderedAfter : List Slot → List Slot → Type 0
 AreOrderedAfter before [] = ⊤
-AreOrderedAfter before (s ∷ ss) = Each (IsBehind before) s.inputs.items × AreOrderedAfter (s ∷ before) ss
+AreOrderedAfter before (s ∷ ss) =
+    Each (IsBehind before) s.inputs.items × AreOrderedAfter (s ∷ before) ss
 
 abbrev pub IsOrdered : NodeTable → Type 0
 IsOrdered t = AreOrderedAfter [] t.slots.items

@@ -33,7 +33,8 @@ name_of s = record { kind = s.kind; of = s.of }
 -- the slots that use the outputs of the nodes of this kind and number
 abbrev pub user_names : List Slot → Kind → ℕ → List SlotName
 user_names [] kind of = []
-user_names (s ∷ ss) kind of = if uses kind of s.inputs.items then name_of s ∷ user_names ss kind of else user_names ss kind of
+user_names (s ∷ ss) kind of =
+    if uses kind of s.inputs.items then name_of s ∷ user_names ss kind of else user_names ss kind of
 
 -- those of each of these slots
 abbrev pub user_lists : List Slot → List Slot → List (List SlotName)
@@ -47,10 +48,12 @@ put_at zero name (l ∷ ls) = (l ++ name ∷ []) ∷ ls
 put_at (suc at) name (l ∷ ls) = l ∷ put_at at name ls
 
 -- the lists of these slots, with a user of these inputs
-abbrev pub with_user : SlotName → List SlotKey → List Slot → List (List SlotName) → List (List SlotName)
+abbrev pub with_user : SlotName → List SlotKey → List Slot → List (List SlotName)
+    → List (List SlotName)
 with_user name keys [] ls = ls
 with_user name keys (s ∷ ss) [] = []
-with_user name keys (s ∷ ss) (l ∷ ls) = (if uses s.kind s.of keys then l ++ name ∷ [] else l) ∷ with_user name keys ss ls
+with_user name keys (s ∷ ss) (l ∷ ls) =
+    (if uses s.kind s.of keys then l ++ name ∷ [] else l) ∷ with_user name keys ss ls
 
 abbrev pub names_in : Vec SlotName Global → List SlotName
 names_in v = v.items

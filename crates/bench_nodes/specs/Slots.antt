@@ -18,7 +18,8 @@ abbrev pub is_output_of : Kind → ℕ → SlotKey → Bool
 is_output_of kind of (slots.Test part) = false
 is_output_of kind of (slots.Item number) = false
 is_output_of kind of (slots.Fault id) = false
-is_output_of kind of (slots.Value other from name) = (kind_number kind == kind_number other) && (of == from)
+is_output_of kind of (slots.Value other from name) =
+    (kind_number kind == kind_number other) && (of == from)
 
 -- one of these inputs is
 abbrev pub uses : Kind → ℕ → List SlotKey → Bool

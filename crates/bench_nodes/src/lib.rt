@@ -1,5 +1,6 @@
-//! The nodes of the bench by numbers alone: the stamps of the parts of its tests and models, the nodes that each test
-//! has, and the keys of their inputs. Read `specs/Nodes` first: what a table says; then `specs/Order`, what it owes.
+//! The nodes of the bench by numbers alone: the stamps of the parts of its tests and models, the
+//! nodes that each test has, and the keys of their inputs. Read `specs/Nodes` first: what a table
+//! says; then `specs/Order`, what it owes.
 #![tactic(auto)]
 
 mod find;

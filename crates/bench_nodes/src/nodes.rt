@@ -94,7 +94,8 @@ fn space_key(table: &NodeTable, id: u64, i: usize) -> Key
 fn node_in(slots: &[Slot], tests: &[TestRow], test: usize, slot: usize) -> Node
     requires test { test < length tests.now }
     requires slot { slot < length slots.now }
-    ensures { slice_get (used_in slots.now tests.now) (test * length slots.now + slot) ≡ Some result }
+    ensures { slice_get (used_in slots.now tests.now) (test * length slots.now + slot)
+        ≡ Some result }
 {
     node_of(tests[test].id, &slots[slot])
 }
@@ -148,7 +149,8 @@ impl NodeTable {
         has_test(self, id)
     }
 
-    /// The inputs of the nodes of this kind of the item or model of that number, without their test.
+    /// The inputs of the nodes of this kind of the item or model of that number, without their
+    /// test.
     pub fn slot_keys(&self, kind: Kind, of: u64) -> &[SlotKey]
         ensures { result.now ≡ slot_keys self.now.slots.items kind of }
     {
@@ -184,7 +186,8 @@ impl NodeTable {
     pub fn input_at(&self, node: Node, i: usize) -> Key
         requires { i < length (inputs self.now node) }
         ensures at { slice_get (inputs self.now node) i ≡ Some result }
-        ensures rest { drop i (inputs self.now node) ≡ result ∷ drop (i + 1) (inputs self.now node) }
+        ensures rest { drop i (inputs self.now node)
+            ≡ result ∷ drop (i + 1) (inputs self.now node) }
     {
         self.input(node, i)
     }

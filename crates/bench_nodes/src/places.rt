@@ -1,4 +1,5 @@
-//! Where the slots of a table stand, and which slots use them: what is looked up in place of a search.
+//! Where the slots of a table stand, and which slots use them: what is looked up in place of a
+//! search.
 
 ghost use Rattle.std.specs.Prelude.{◌≡◌, ◌||◌, ◌++◌, ◌∷◌, not, true, false, List, [], IfOk, IfSome, Some, map, slice_get, option_map};
 ghost use Rattle.bench_nodes.specs.Slots.{is_slot};
@@ -56,7 +57,8 @@ fn spot(kind: Kind, of: u64, count: usize) -> Option<usize> {
 
 /// The index of a slot of that kind and number, if it is guessed.
 pub(crate) fn guessed(guesses: &[usize], slots: &[Slot], kind: Kind, of: u64) -> Option<usize>
-    ensures { IfSome result (λ at. option_map (is_slot kind of) (slice_get slots.now at) ≡ Some true) }
+    ensures { IfSome result (λ at. option_map (is_slot kind of) (slice_get slots.now at)
+        ≡ Some true) }
 {
     let spot = spot(kind, of, guesses.len())?;
     let at = *guesses.get(spot)?;
@@ -142,7 +144,8 @@ fn no_lists(alloc: Global, slots: &[Slot]) -> Result<Vec<Vec<SlotName>>, AllocEr
 
 // Adds a user of the slot at an index.
 fn put_at(lists: &mut Vec<Vec<SlotName>>, at: usize, name: SlotName) -> Result<(), AllocError>
-    ensures { IfOk result (λ _. map names_in lists.new.items ≡ put_at at name (map names_in lists.old.items)) }
+    ensures { IfOk result (λ _. map names_in lists.new.items
+        ≡ put_at at name (map names_in lists.old.items)) }
 {
     if at < lists.len() {
         lists[at].push(name)?;
@@ -150,8 +153,8 @@ fn put_at(lists: &mut Vec<Vec<SlotName>>, at: usize, name: SlotName) -> Result<(
     Ok(())
 }
 
-// Adds a user of the slot whose output one of its inputs is, behind those inputs. Answers whether that slot was guessed, if
-// there is one.
+// Adds a user of the slot whose output one of its inputs is, behind those inputs. Answers whether
+// that slot was guessed, if there is one.
 fn put_key(
     lists: &mut Vec<Vec<SlotName>>,
     guesses: &[usize],
@@ -161,7 +164,10 @@ fn put_key(
     name: SlotName,
 ) -> Result<bool, AllocError>
     requires { are_apart slots.now ≡ true }
-    ensures { IfOk result (λ found. found ≡ true → (all : List (List NameOfSlot)) → map names_in lists.old.items ≡ with_user name before.now slots.now all → map names_in lists.new.items ≡ with_user name (before.now ++ key ∷ []) slots.now all) }
+    ensures { IfOk result (λ found. found ≡ true → (all : List (List NameOfSlot))
+        → map names_in lists.old.items ≡ with_user name before.now slots.now all
+        → map names_in lists.new.items
+        ≡ with_user name (before.now ++ key ∷ []) slots.now all) }
 {
     let SlotKey::Value(kind, of, _) = key else {
         return Ok(true);
@@ -178,7 +184,8 @@ fn put_key(
     }
 }
 
-// Adds a user of the slots whose outputs its inputs are. Answers whether each of these slots was guessed.
+// Adds a user of the slots whose outputs its inputs are. Answers whether each of these slots was
+// guessed.
 fn put_user(
     lists: &mut Vec<Vec<SlotName>>,
     guesses: &[usize],
@@ -186,7 +193,10 @@ fn put_user(
     user: &Slot,
 ) -> Result<bool, AllocError>
     requires { are_apart slots.now ≡ true }
-    ensures { IfOk result (λ found. found ≡ true → map names_in lists.new.items ≡ with_user (name_of user.now) user.now.inputs.items slots.now (map names_in lists.old.items)) }
+    ensures { IfOk result (λ found. found ≡ true
+        → map names_in lists.new.items
+        ≡ with_user (name_of user.now) user.now.inputs.items slots.now
+        (map names_in lists.old.items)) }
 {
     let inputs = user.inputs.as_slice();
     let name = SlotName {
@@ -208,7 +218,8 @@ fn guessed_lists(
     slots: &[Slot],
 ) -> Result<Option<Vec<Vec<SlotName>>>, AllocError>
     requires { are_apart slots.now ≡ true }
-    ensures { IfOk result (λ found. IfSome found (λ v. map names_in v.items ≡ user_lists slots.now slots.now)) }
+    ensures { IfOk result (λ found.
+        IfSome found (λ v. map names_in v.items ≡ user_lists slots.now slots.now)) }
 {
     let mut lists = no_lists(alloc, slots)?;
     for slot in slots {
@@ -235,7 +246,8 @@ impl SlotPlaces {
     /// The places of slots. Errors: want of memory.
     pub fn of(alloc: Global, slots: &[Slot]) -> Result<SlotPlaces, AllocError>
         ensures apart { IfOk result (λ p. (not p.are_listed || are_apart slots.now) ≡ true) }
-        ensures listed { IfOk result (λ p. lists_in p.are_listed p.users.items ≡ lists_if p.are_listed slots.now) }
+        ensures listed { IfOk result (λ p. lists_in p.are_listed p.users.items
+            ≡ lists_if p.are_listed slots.now) }
     {
         if slots.len() > MOST_LISTED || !are_apart(slots) {
             return Ok(SlotPlaces::new(alloc));

@@ -72,7 +72,8 @@ pub enum SlotKey {
     Item(u64),
     /// The fault of the model of that number.
     Fault(u64),
-    /// An output of the test's node of this kind, of an item or model of that number: the output's name comes last.
+    /// An output of the test's node of this kind, of an item or model of that number: the output's
+    /// name comes last.
     Value(Kind, u64, u64),
 }
 
@@ -105,7 +106,8 @@ pub struct NodeTable {
     ghost few_slots: { vec_len slots ≤ 65536 },
     ghost rising: { (not is_rising || are_rising tests.items) ≡ true },
     ghost apart: { (not places.are_listed || are_apart slots.items) ≡ true },
-    ghost listed: { lists_in places.are_listed places.users.items ≡ lists_if places.are_listed slots.items },
+    ghost listed: { lists_in places.are_listed places.users.items
+        ≡ lists_if places.are_listed slots.items },
 }
 
 impl Drop for NodeTable {

@@ -67,7 +67,8 @@ fn find_user(slots: &[Slot], node: Node, i: usize) -> Node
 
 // The slots that use the slot of a node, where they are listed and its place is guessed.
 fn listed_users(table: &NodeTable, node: Node) -> Option<&[SlotName]>
-    ensures { IfSome result (λ names. users_at table.now.slots.items node.kind node.of node.test ≡ map (named node.test) names.now) }
+    ensures { IfSome result (λ names. users_at table.now.slots.items node.kind node.of node.test
+        ≡ map (named node.test) names.now) }
 {
     if !table.places.are_listed {
         return None;
@@ -101,7 +102,8 @@ fn named(test: u64, name: SlotName) -> Node
 /// A node that stands on a node, by its index from 0.
 pub(crate) fn user_node(table: &NodeTable, node: Node, i: usize) -> Node
     requires { i < length (users_at table.now.slots.items node.kind node.of node.test) }
-    ensures { slice_get (users_at table.now.slots.items node.kind node.of node.test) i ≡ Some result }
+    ensures { slice_get (users_at table.now.slots.items node.kind node.of node.test) i
+        ≡ Some result }
 {
     match listed_users(table, node) {
         Some(names) => named(node.test, names[i]),

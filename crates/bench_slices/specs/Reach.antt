@@ -1,5 +1,5 @@
--- Which cells an edit reaches. Read Slices first. Tests and models go by their indexes before the edit: one that the
--- edit adds has the index behind the last.
+-- Which cells an edit reaches. Read Slices first. Tests and models go by their indexes before the
+-- edit: one that the edit adds has the index behind the last.
 use Rattle.std.specs.Prelude.{◌≡◌, ℕ, ◌==◌, ◌⊎◌, List, Option, Some, None, Bool, ◌&&◌, IsTrue, slice_get, if◌then◌else◌}
 use Rattle.text_values.specs.declared.test.Test.{Test}
 use Rattle.text_values.specs.TestValue.{content_of}
@@ -43,6 +43,9 @@ is_of (made.DropTest at) i j = i == at
 is_of (made.PutModel at model next) i j = j == at
 is_of (made.DropModel at) i j = j == at
 
--- The edit puts or drops the test or the model as a whole, or the slice of the cell before it and after it differs.
+-- The edit puts or drops the test or the model as a whole, or the slice of the cell before it and
+-- after it differs.
 abbrev pub Reaches : Texts → Prepared → (i j : ℕ) → Type 0
-Reaches t p i j = IsTrue (p.whole && is_of p.replacement i j) ⊎ ¬ (slice_before t i j ≡ slice_after t p.replacement i j)
+Reaches t p i j =
+    IsTrue (p.whole && is_of p.replacement i j)
+    ⊎ ¬ (slice_before t i j ≡ slice_after t p.replacement i j)

@@ -23,18 +23,23 @@ pub record Uses : Type 0 where
   pub names : List BoundName
   pub functions : List (Option ℕ)
 
--- Under a model with a fault: the fault and the condition. Else: the test, and of the items that checks and flags reach
--- the numbers, what they say and what they use, in the order of the text.
+-- Under a model with a fault: the fault and the condition. Else: the test, and of the items that
+-- checks and flags reach the numbers, what they say and what they use, in the order of the text.
 pub data Slice : Type 0 where
   OfFault : (fault : ModelFault) (quantifier : Quantifier) (condition : Formula) → Slice
-  OfItems : (test : Content) (numbers : List (Option ℕ)) (clauses : List (Option Clause)) (uses : List (Option Uses)) → Slice
+  OfItems : (test : Content) (numbers : List (Option ℕ)) (clauses : List (Option Clause))
+      (uses : List (Option Uses)) → Slice
 
 -- where items have these numbers, in their order
 abbrev pub bound_name : List ℕ → Input → BoundName
 bound_name numbers i = record { item = slice_get numbers i.item; position = i.position }
 
 abbrev pub uses_of : List ℕ → ResolvedItem → Uses
-uses_of numbers r = record { names = map (bound_name numbers) r.inputs.items; functions = map (slice_get numbers) r.functions.items }
+uses_of numbers r =
+    record {
+      names = map (bound_name numbers) r.inputs.items;
+      functions = map (slice_get numbers) r.functions.items;
+    }
 
 -- what the item at an index says
 abbrev pub clause_at : List Item → ℕ → Option Clause
@@ -44,13 +49,17 @@ clause_at items k = option_map clause_of (slice_get items k)
 abbrev pub uses_at : List ℕ → List ResolvedItem → ℕ → Option Uses
 uses_at numbers resolved k = option_map (uses_of numbers) (slice_get resolved k)
 
--- the slice of a test under items with these numbers, resolved so, of which checks and flags reach those at these indexes
+-- the slice of a test under items with these numbers, resolved so, of which checks and flags reach
+-- those at these indexes
 abbrev pub slice_of : Content → List ℕ → List Item → List ResolvedItem → List ℕ → Slice
-slice_of c numbers items resolved used = OfItems c (map (slice_get numbers) used) (map (clause_at items) used) (map (uses_at numbers resolved) used)
+slice_of c numbers items resolved used =
+    OfItems c (map (slice_get numbers) used) (map (clause_at items) used)
+    (map (uses_at numbers resolved) used)
 
 abbrev pub slice_by : Content → NamedModel → Reading → Slice
 slice_by c m (readings.Faulty fault) = OfFault fault c.quantifier c.condition
-slice_by c m (readings.Sound resolved used) = slice_of c m.numbers.items m.text.items.items (arc_value resolved).items.items used.items
+slice_by c m (readings.Sound resolved used) =
+    slice_of c m.numbers.items m.text.items.items (arc_value resolved).items.items used.items
 
 -- the slice of a test under a model
 abbrev pub slice : Content → NamedModel → Slice

@@ -37,7 +37,11 @@ pub fn is_same_test(first: &Test, second: &Test) -> bool
 
 // Whether two tests have one slice under models without fault.
 fn is_same_reached(test: &Test, first: &Reached, other: &Test, second: &Reached) -> bool
-    ensures { IsTrue result ↔ (slice_of (content_of test.now) first.now.numbers.now first.now.items.now first.now.resolved.now first.now.used.now ≡ slice_of (content_of other.now) second.now.numbers.now second.now.items.now second.now.resolved.now second.now.used.now) }
+    ensures { IsTrue result
+        ↔ (slice_of (content_of test.now) first.now.numbers.now first.now.items.now
+        first.now.resolved.now first.now.used.now
+        ≡ slice_of (content_of other.now) second.now.numbers.now second.now.items.now
+        second.now.resolved.now second.now.used.now) }
 {
     is_same_test(test, other)
         && are_same_numbers(first.numbers, first.used, second.numbers, second.used)
@@ -45,9 +49,11 @@ fn is_same_reached(test: &Test, first: &Reached, other: &Test, second: &Reached)
         && are_same_uses(first, second)
 }
 
-/// Whether the verdict of a test under a model depends on the same as that of another test under another model.
+/// Whether the verdict of a test under a model depends on the same as that of another test under
+/// another model.
 pub fn is_same_slice(test: &Test, model: &NamedModel, other: &Test, under: &NamedModel) -> bool
-    ensures { IsTrue result ↔ (slice (content_of test.now) model.now ≡ slice (content_of other.now) under.now) }
+    ensures { IsTrue result
+        ↔ (slice (content_of test.now) model.now ≡ slice (content_of other.now) under.now) }
 {
     match (model.reading(), under.reading()) {
         (Reading::Faulty(a), Reading::Faulty(b)) => {

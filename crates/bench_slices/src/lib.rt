@@ -1,6 +1,6 @@
-//! What the verdict of a cell depends on, and when it is the same for two cells. Read specs/Slices: `slice` is the
-//! definition, which `is_same_slice` decides without memory. Then read specs/Reach: which cells an edit reaches, by
-//! `reaches`.
+//! What the verdict of a cell depends on, and when it is the same for two cells. Read specs/Slices:
+//! `slice` is the definition, which `is_same_slice` decides without memory. Then read specs/Reach:
+//! which cells an edit reaches, by `reaches`.
 #![tactic(auto)]
 
 mod cells;

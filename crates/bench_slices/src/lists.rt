@@ -24,7 +24,8 @@ pub(crate) fn are_same_numbers(
     second: &[u64],
     others: &[usize],
 ) -> bool
-    ensures { IsTrue result ↔ (map (slice_get first.now) indexes.now ≡ map (slice_get second.now) others.now) }
+    ensures { IsTrue result
+        ↔ (map (slice_get first.now) indexes.now ≡ map (slice_get second.now) others.now) }
 {
     if indexes.len() != others.len() {
         return false;
@@ -55,7 +56,8 @@ pub(crate) fn are_same_items(
     second: &[Item],
     others: &[usize],
 ) -> bool
-    ensures { IsTrue result ↔ (map (clause_at first.now) indexes.now ≡ map (clause_at second.now) others.now) }
+    ensures { IsTrue result
+        ↔ (map (clause_at first.now) indexes.now ≡ map (clause_at second.now) others.now) }
 {
     if indexes.len() != others.len() {
         return false;

@@ -74,7 +74,11 @@ struct Cell<'a> {
 
 // Whether two cells have one slice, or neither is there.
 fn is_same_cell(first: &Cell, second: &Cell) -> bool
-    ensures { IsTrue result ↔ (cell_slice (option_map (λ t. t.now) first.now.test) (option_map (λ m. m.now) first.now.model) ≡ cell_slice (option_map (λ t. t.now) second.now.test) (option_map (λ m. m.now) second.now.model)) }
+    ensures { IsTrue result
+        ↔ (cell_slice (option_map (λ t. t.now) first.now.test)
+        (option_map (λ m. m.now) first.now.model)
+        ≡ cell_slice (option_map (λ t. t.now) second.now.test)
+        (option_map (λ m. m.now) second.now.model)) }
 {
     match (first.test, first.model, second.test, second.model) {
         (Some(test), Some(model), Some(other), Some(under)) => {
@@ -88,7 +92,8 @@ fn is_same_cell(first: &Cell, second: &Cell) -> bool
 
 // Whether the slice of a cell is the same before the edit and after it.
 fn keeps_slice(texts: &Texts, replacement: &Replacement, test: usize, model: usize) -> bool
-    ensures { IsTrue result ↔ (slice_before texts.now test model ≡ slice_after texts.now replacement.now test model) }
+    ensures { IsTrue result
+        ↔ (slice_before texts.now test model ≡ slice_after texts.now replacement.now test model) }
 {
     let before = Cell {
         test: texts.tests().get(test),
@@ -101,11 +106,13 @@ fn keeps_slice(texts: &Texts, replacement: &Replacement, test: usize, model: usi
     is_same_cell(&before, &after)
 }
 
-/// Whether an edit that was prepared on these texts reaches the cell of a test and a model, by their indexes before the
-/// edit: one that the edit adds has the index behind the last.
+/// Whether an edit that was prepared on these texts reaches the cell of a test and a model, by
+/// their indexes before the edit: one that the edit adds has the index behind the last.
 pub fn reaches(texts: &Texts, prepared: &Prepared, test: usize, model: usize) -> bool
     ensures reached { IsTrue result ↔ Reaches texts.now prepared.now test model }
-    ensures kept { result ≡ false → slice_before texts.now test model ≡ slice_after texts.now prepared.now.replacement test model }
+    ensures kept { result ≡ false
+        → slice_before texts.now test model
+        ≡ slice_after texts.now prepared.now.replacement test model }
 {
     let replacement = prepared.replacement();
     if !is_of(replacement, test, model) {

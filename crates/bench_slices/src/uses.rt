@@ -14,7 +14,8 @@ fn is_same_name(first: &[u64], input: &Input, second: &[u64], other: &Input) -> 
 }
 
 fn are_same_names(first: &[u64], inputs: &[Input], second: &[u64], others: &[Input]) -> bool
-    ensures { IsTrue result ↔ (map (bound_name first.now) inputs.now ≡ map (bound_name second.now) others.now) }
+    ensures { IsTrue result
+        ↔ (map (bound_name first.now) inputs.now ≡ map (bound_name second.now) others.now) }
 {
     if inputs.len() != others.len() {
         return false;
@@ -39,8 +40,8 @@ fn is_same_item_use(
         && are_same_numbers(first, &item.functions, second, &other.functions)
 }
 
-/// A model without fault: its items with their numbers, what they are resolved to, and which of them checks and flags
-/// reach.
+/// A model without fault: its items with their numbers, what they are resolved to, and which of
+/// them checks and flags reach.
 #[derive(Clone, Copy)]
 pub(crate) struct Reached<'a> {
     pub(crate) numbers: &'a [u64],
@@ -50,7 +51,9 @@ pub(crate) struct Reached<'a> {
 }
 
 fn is_same_use(first: &Reached, index: usize, second: &Reached, other: usize) -> bool
-    ensures { IsTrue result ↔ (uses_at first.now.numbers.now first.now.resolved.now index ≡ uses_at second.now.numbers.now second.now.resolved.now other) }
+    ensures { IsTrue result
+        ↔ (uses_at first.now.numbers.now first.now.resolved.now index
+        ≡ uses_at second.now.numbers.now second.now.resolved.now other) }
 {
     match (first.resolved.get(index), second.resolved.get(other)) {
         (Some(a), Some(b)) => is_same_item_use(first.numbers, a, second.numbers, b),
@@ -62,7 +65,10 @@ fn is_same_use(first: &Reached, index: usize, second: &Reached, other: usize) ->
 
 // Whether the reached items use the same.
 pub(crate) fn are_same_uses(first: &Reached, second: &Reached) -> bool
-    ensures { IsTrue result ↔ (map (uses_at first.now.numbers.now first.now.resolved.now) first.now.used.now ≡ map (uses_at second.now.numbers.now second.now.resolved.now) second.now.used.now) }
+    ensures { IsTrue result
+        ↔ (map (uses_at first.now.numbers.now first.now.resolved.now) first.now.used.now
+        ≡ map (uses_at second.now.numbers.now second.now.resolved.now)
+        second.now.used.now) }
 {
     if first.used.len() != second.used.len() {
         return false;

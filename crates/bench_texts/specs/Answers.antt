@@ -23,7 +23,9 @@ Answers t spent e (Err fault) = Refuses t spent e fault
 
 -- the change, unless the texts that it makes are over a limit
 abbrev pub IsLimited : BenchTexts → Bool → Change → BenchTexts → Result Change EditFault → Type 0
-IsLimited t spent change new r = MatchResult r (λ c. (c ≡ change) × (limit_fault t spent new ≡ None)) (λ f. limit_fault t spent new ≡ Some f)
+IsLimited t spent change new r =
+    MatchResult r (λ c. (c ≡ change) × (limit_fault t spent new ≡ None))
+    (λ f. limit_fault t spent new ≡ Some f)
 
 -- what is answered where a reader refuses, or is refused memory
 abbrev pub test_fault_of : LitmusFault → EditFault

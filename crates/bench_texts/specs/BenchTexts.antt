@@ -1,4 +1,5 @@
--- What the bench holds, without where it lies in memory. Read this file first, then Limits, then Edits.
+-- What the bench holds, without where it lies in memory. Read this file first, then Limits, then
+-- Edits.
 use Rattle.std.specs.Prelude.{ℕ, zero, suc, ◌+◌, ◌==◌, List, [], ◌∷◌, ◌++◌, take, drop, bytes_eq}
 use Rattle.std.specs.List.{position_or_len}
 use Rattle.text_values.specs.declared.test.InitEntry.{InitEntry}
@@ -52,17 +53,49 @@ changed_at (suc i) f (x ∷ xs) = x ∷ changed_at i f xs
 -- ---- tests and models with one part changed
 
 abbrev pub with_init : List InitEntry → Content → Content
-with_init init c = record { name = c.name; init = init; threads = c.threads; observed = c.observed; quantifier = c.quantifier; condition = c.condition }
+with_init init c =
+    record {
+      name = c.name;
+      init = init;
+      threads = c.threads;
+      observed = c.observed;
+      quantifier = c.quantifier;
+      condition = c.condition;
+    }
 
 -- the thread of that number, from 0 on, is another
 abbrev pub with_thread : ℕ → List Step → Content → Content
-with_thread k steps c = record { name = c.name; init = c.init; threads = put_at k steps c.threads; observed = c.observed; quantifier = c.quantifier; condition = c.condition }
+with_thread k steps c =
+    record {
+      name = c.name;
+      init = c.init;
+      threads = put_at k steps c.threads;
+      observed = c.observed;
+      quantifier = c.quantifier;
+      condition = c.condition;
+    }
 
 abbrev pub with_condition : Quantifier × Formula → Content → Content
-with_condition q c = record { name = c.name; init = c.init; threads = c.threads; observed = c.observed; quantifier = q.0; condition = q.1 }
+with_condition q c =
+    record {
+      name = c.name;
+      init = c.init;
+      threads = c.threads;
+      observed = c.observed;
+      quantifier = q.0;
+      condition = q.1;
+    }
 
 abbrev pub with_observed : List Place → Content → Content
-with_observed places c = record { name = c.name; init = c.init; threads = c.threads; observed = places; quantifier = c.quantifier; condition = c.condition }
+with_observed places c =
+    record {
+      name = c.name;
+      init = c.init;
+      threads = c.threads;
+      observed = places;
+      quantifier = c.quantifier;
+      condition = c.condition;
+    }
 
 abbrev pub with_items : (List NumberedItem → List NumberedItem) → PlainModel → PlainModel
 with_items f m = record { name = m.name; items = f m.items }

@@ -17,32 +17,48 @@ abbrev pub texts_after : Change → BenchTexts → BenchTexts
 texts_after (changes.PutTest at test) t = with_tests (put_at at (content_of test)) t
 texts_after (changes.DropTest at) t = with_tests (λ ts. remove ts at) t
 texts_after (changes.SetInit at init) t = with_tests (changed_at at (with_init init.items)) t
-texts_after (changes.SetThread at thread other) t = with_tests (changed_at at (with_thread thread (steps_of other))) t
-texts_after (changes.SetCond at c) t = with_tests (changed_at at (with_condition (c.quantifier, formula_of c.proposition))) t
-texts_after (changes.SetObserved at observed) t = with_tests (changed_at at (with_observed observed.items)) t
+texts_after (changes.SetThread at thread other) t =
+    with_tests (changed_at at (with_thread thread (steps_of other))) t
+texts_after (changes.SetCond at c) t =
+    with_tests (changed_at at (with_condition (c.quantifier, formula_of c.proposition))) t
+texts_after (changes.SetObserved at observed) t =
+    with_tests (changed_at at (with_observed observed.items)) t
 texts_after (changes.PutModel at model next) t = with_models (put_at at (model_of model)) next t
 texts_after (changes.DropModel at) t = with_models (λ ms. remove ms at) t.next t
 texts_after (changes.SetItem at index number item) t =
-    with_models (changed_at at (with_items (put_at index (record { number = number; clause = clause_of item })))) t.next t
+    with_models
+    (changed_at at (with_items (put_at index
+    (record { number = number; clause = clause_of item })))) t.next t
 texts_after (changes.InsertItem at index item) t =
-    with_models (changed_at at (with_items (λ is. insert is index (record { number = t.next; clause = clause_of item })))) (t.next + 1) t
-texts_after (changes.RemoveItem at index) t = with_models (changed_at at (with_items (λ is. remove is index))) t.next t
+    with_models
+    (changed_at at (with_items (λ is.
+    insert is index (record { number = t.next; clause = clause_of item }))))
+    (t.next + 1) t
+texts_after (changes.RemoveItem at index) t =
+    with_models (changed_at at (with_items (λ is. remove is index))) t.next t
 
--- What it changes is there, there is room for one more where it adds one, and a model that it puts is read.
+-- What it changes is there, there is room for one more where it adds one, and a model that it puts
+-- is read.
 abbrev pub IsReady : Texts → Change → Type 0
-IsReady t (changes.PutTest at test) = (at ≤ vec_len t.tests) × (at ≡ vec_len t.tests → vec_len t.tests < vec_capacity t.tests)
+IsReady t (changes.PutTest at test) =
+    (at ≤ vec_len t.tests) × (at ≡ vec_len t.tests → vec_len t.tests < vec_capacity t.tests)
 IsReady t (changes.DropTest at) = at < vec_len t.tests
 IsReady t (changes.SetInit at init) = at < vec_len t.tests
-IsReady t (changes.SetThread at thread other) = (at < vec_len t.tests) × HoldsAt (λ c. thread < length c.threads) (texts_of t).tests at
+IsReady t (changes.SetThread at thread other) =
+    (at < vec_len t.tests) × HoldsAt (λ c. thread < length c.threads) (texts_of t).tests at
 IsReady t (changes.SetCond at c) = at < vec_len t.tests
 IsReady t (changes.SetObserved at observed) = at < vec_len t.tests
 IsReady t (changes.PutModel at model next) =
-    (at ≤ vec_len t.models) × (at ≡ vec_len t.models → vec_len t.models < vec_capacity t.models) × IsRead model
+    (at ≤ vec_len t.models) × (at ≡ vec_len t.models → vec_len t.models < vec_capacity t.models)
+    × IsRead model
 IsReady t (changes.DropModel at) = at < vec_len t.models
-IsReady t (changes.SetItem at index number item) = (at < vec_len t.models) × HoldsAt (λ m. index < length m.items) (texts_of t).models at
+IsReady t (changes.SetItem at index number item) =
+    (at < vec_len t.models) × HoldsAt (λ m. index < length m.items) (texts_of t).models at
 IsReady t (changes.InsertItem at index item) =
-    (at < vec_len t.models) × HoldsAt (λ m. index ≤ length m.items) (texts_of t).models at × HoldsAt (λ m. length m.items < 256) (texts_of t).models at × (t.next + 1 < 2 ^ 64)
-IsReady t (changes.RemoveItem at index) = (at < vec_len t.models) × HoldsAt (λ m. index < length m.items) (texts_of t).models at
+    (at < vec_len t.models) × HoldsAt (λ m. index ≤ length m.items) (texts_of t).models at
+    × HoldsAt (λ m. length m.items < 256) (texts_of t).models at × (t.next + 1 < 2 ^ 64)
+IsReady t (changes.RemoveItem at index) =
+    (at < vec_len t.models) × HoldsAt (λ m. index < length m.items) (texts_of t).models at
 
 -- the test or the model that it changes is put or dropped
 abbrev pub IsPutFor : Change → Replacement → Type 0

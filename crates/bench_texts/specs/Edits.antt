@@ -89,7 +89,8 @@ has_item t model number = nat_lt (index_in t model number) (length (model_items 
 
 -- an item is inserted before the one of that number, and at the end where that is 0
 abbrev pub index_before : BenchTexts → List ℕ → ℕ → ℕ
-index_before t model before = if before == 0 then length (model_items t model) else index_in t model before
+index_before t model before =
+    if before == 0 then length (model_items t model) else index_in t model before
 
 -- ---- what an edit names that is not there
 
@@ -102,37 +103,68 @@ abbrev pub missing : BenchTexts → Edit → Option EditFault
 missing t (PutTest text) = None
 missing t (DropTest test) = unless (has_test t test) faults.NoTest None
 missing t (SetInit test text) = unless (has_test t test) faults.NoTest None
-missing t (SetThread test thread text) = unless (has_test t test) faults.NoTest (unless (nat_lt thread (thread_count t test)) faults.NoThread None)
+missing t (SetThread test thread text) =
+    unless (has_test t test) faults.NoTest (unless (nat_lt thread (thread_count t test))
+    faults.NoThread None)
 missing t (SetCond test text) = unless (has_test t test) faults.NoTest None
 missing t (SetLocations test text) = unless (has_test t test) faults.NoTest None
 missing t (PutModel model text) = unless (is_model_name model) faults.NoModel None
 missing t (DropModel model) = unless (has_model t model) faults.NoModel None
-missing t (SetItem model item text) = unless (has_model t model) faults.NoModel (unless (has_item t model item) faults.NoItem None)
-missing t (InsertItem model before text) = unless (has_model t model) faults.NoModel (unless (before == 0 || has_item t model before) faults.NoItem None)
-missing t (RemoveItem model item) = unless (has_model t model) faults.NoModel (unless (has_item t model item) faults.NoItem None)
+missing t (SetItem model item text) =
+    unless (has_model t model) faults.NoModel (unless (has_item t model item) faults.NoItem None)
+missing t (InsertItem model before text) =
+    unless (has_model t model) faults.NoModel (unless (before == 0 || has_item t model before)
+    faults.NoItem None)
+missing t (RemoveItem model item) =
+    unless (has_model t model) faults.NoModel (unless (has_item t model item) faults.NoItem None)
 
 -- ---- what an edit makes of the texts, where all that it names is there
 
 abbrev pub Makes : BenchTexts → Edit → BenchTexts → Type 0
-Makes t (PutTest text) new = (c : Content) × ReadsTest text c × (new ≡ with_tests (put_at (test_index c.name t.tests) c) t)
+Makes t (PutTest text) new =
+    (c : Content) × ReadsTest text c × (new ≡ with_tests (put_at (test_index c.name t.tests) c) t)
 Makes t (DropTest test) new = new ≡ with_tests (λ ts. remove ts (test_index test t.tests)) t
 Makes t (SetInit test text) new =
-    (v : List InitEntry) × ReadsInit (thread_count t test) text v × (new ≡ with_tests (changed_at (test_index test t.tests) (with_init v)) t)
+    (v : List InitEntry) × ReadsInit (thread_count t test) text v
+    × (new ≡ with_tests (changed_at (test_index test t.tests) (with_init v)) t)
 Makes t (SetThread test thread text) new =
-    (v : List Step) × ReadsThread text v × (new ≡ with_tests (changed_at (test_index test t.tests) (with_thread thread v)) t)
+    (v : List Step) × ReadsThread text v
+    × (new ≡ with_tests (changed_at (test_index test t.tests) (with_thread thread v)) t)
 Makes t (SetCond test text) new =
-    (v : Quantifier × Formula) × ReadsCondition (thread_count t test) text v × (new ≡ with_tests (changed_at (test_index test t.tests) (with_condition v)) t)
+    (v : Quantifier × Formula) × ReadsCondition (thread_count t test) text v
+    × (new ≡ with_tests (changed_at (test_index test t.tests) (with_condition v)) t)
 Makes t (SetLocations test text) new =
-    (v : List Place) × ReadsLocations (thread_count t test) text v × (new ≡ with_tests (changed_at (test_index test t.tests) (with_observed v)) t)
+    (v : List Place) × ReadsLocations (thread_count t test) text v
+    × (new ≡ with_tests (changed_at (test_index test t.tests) (with_observed v)) t)
 Makes t (PutModel model text) new =
-    (cs : List Clause) × Reads forms.Model text cs × (new ≡ with_models (put_at (model_index model t.models) (record { name = model; items = numbered_items t.next cs })) (t.next + length cs) t)
-Makes t (DropModel model) new = new ≡ with_models (λ ms. remove ms (model_index model t.models)) t.next t
+    (cs : List Clause) × Reads forms.Model text cs
+    × (new
+    ≡ with_models
+    (put_at (model_index model t.models)
+    (record { name = model; items = numbered_items t.next cs }))
+    (t.next + length cs) t)
+Makes t (DropModel model) new =
+    new ≡ with_models (λ ms. remove ms (model_index model t.models)) t.next t
 Makes t (SetItem model item text) new =
-    (c : Clause) × Reads forms.Item text (c ∷ []) × (new ≡ with_models (changed_at (model_index model t.models) (with_items (put_at (index_in t model item) (record { number = item; clause = c })))) t.next t)
+    (c : Clause) × Reads forms.Item text (c ∷ [])
+    × (new
+    ≡ with_models
+    (changed_at (model_index model t.models) (with_items (put_at
+    (index_in t model item) (record { number = item; clause = c }))))
+    t.next t)
 Makes t (InsertItem model before text) new =
-    (c : Clause) × Reads forms.Item text (c ∷ []) × (length (model_items t model) + 1 ≤ 256) × (new ≡ with_models (changed_at (model_index model t.models) (with_items (λ is. insert is (index_before t model before) (record { number = t.next; clause = c })))) (t.next + 1) t)
+    (c : Clause) × Reads forms.Item text (c ∷ []) × (length (model_items t model) + 1 ≤ 256)
+    × (new
+    ≡ with_models
+    (changed_at (model_index model t.models) (with_items (λ is. insert is
+    (index_before t model before)
+    (record { number = t.next; clause = c }))))
+    (t.next + 1) t)
 Makes t (RemoveItem model item) new =
-    new ≡ with_models (changed_at (model_index model t.models) (with_items (λ is. remove is (index_in t model item)))) t.next t
+    new
+    ≡ with_models
+    (changed_at (model_index model t.models)
+    (with_items (λ is. remove is (index_in t model item)))) t.next t
 
 -- ---- why its text is refused
 
@@ -140,12 +172,15 @@ abbrev pub IsTestRefused : BenchTexts → Edit → LitmusRule → ℕ → Type 0
 IsTestRefused t (PutTest text) rule offset = IsTestFault text rule offset
 IsTestRefused t (SetInit test text) rule offset = IsInitFault (thread_count t test) text rule offset
 IsTestRefused t (SetThread test thread text) rule offset = IsThreadFault text rule offset
-IsTestRefused t (SetCond test text) rule offset = IsConditionFault (thread_count t test) text rule offset
-IsTestRefused t (SetLocations test text) rule offset = IsLocationsFault (thread_count t test) text rule offset
+IsTestRefused t (SetCond test text) rule offset =
+    IsConditionFault (thread_count t test) text rule offset
+IsTestRefused t (SetLocations test text) rule offset =
+    IsLocationsFault (thread_count t test) text rule offset
 IsTestRefused t _ rule offset = ⊥
 
 -- the text reads as an item, of which the model has 256
-pub record IsOneTooMany (t : BenchTexts) (model text : List ℕ) (rule : CatRule) (offset : ℕ) : Type 0 where
+pub record IsOneTooMany (t : BenchTexts) (model text : List ℕ) (rule : CatRule) (offset : ℕ)
+    : Type 0 where
   pub item : Clause
   pub reads : Reads forms.Item text (item ∷ [])
   pub many : 256 ≤ length (model_items t model)
@@ -155,7 +190,8 @@ pub record IsOneTooMany (t : BenchTexts) (model text : List ℕ) (rule : CatRule
 abbrev pub IsModelRefused : BenchTexts → Edit → CatRule → ℕ → Type 0
 IsModelRefused t (PutModel model text) rule offset = FaultAt forms.Model text rule offset
 IsModelRefused t (SetItem model item text) rule offset = FaultAt forms.Item text rule offset
-IsModelRefused t (InsertItem model before text) rule offset = FaultAt forms.Item text rule offset ⊎ IsOneTooMany t model text rule offset
+IsModelRefused t (InsertItem model before text) rule offset =
+    FaultAt forms.Item text rule offset ⊎ IsOneTooMany t model text rule offset
 IsModelRefused t _ rule offset = ⊥
 
 abbrev pub IsLitmusRefusal : BenchTexts → Edit → LitmusFault → Type 0
@@ -170,7 +206,9 @@ IsCatRefusal t e (cat.OutOfMemory f) = ⊥
 
 -- the numbers of edits are spent, or those of items
 abbrev pub limit_fault : BenchTexts → Bool → BenchTexts → Option EditFault
-limit_fault t spent new = if is_full new then Some faults.Full else (if spent || is_spent t then Some faults.Spent else None)
+limit_fault t spent new =
+    if is_full new then Some faults.Full
+    else (if spent || is_spent t then Some faults.Spent else None)
 
 pub record IsOverLimit (t : BenchTexts) (spent : Bool) (e : Edit) (fault : EditFault) : Type 0 where
   pub new : BenchTexts

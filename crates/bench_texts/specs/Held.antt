@@ -10,7 +10,12 @@ abbrev pub model_of : NamedModel → PlainModel
 model_of m = record { name = m.name; items = items_of m.numbers.items m.text.items.items }
 
 abbrev pub texts_of : Texts → BenchTexts
-texts_of t = record { tests = map content_of t.tests.items; models = map model_of t.models.items; next = t.next }
+texts_of t =
+    record {
+      tests = map content_of t.tests.items;
+      models = map model_of t.models.items;
+      next = t.next;
+    }
 
 -- a model holds what its items are resolved to, or their first fault
 abbrev pub IsRead : NamedModel → Type 0

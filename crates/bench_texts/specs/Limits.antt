@@ -20,8 +20,8 @@ items_outputs items = sum_by (λ i. clause_outputs i.clause) items
 abbrev pub models_outputs : List PlainModel → ℕ
 models_outputs models = sum_by (λ m. items_outputs m.items + 1) models
 
--- Over 512 tests, 16 models or 524,288 outputs: so many tests and models, and outputs of each test. A test has one
--- output for its executions, and those of the models.
+-- Over 512 tests, 16 models or 524,288 outputs: so many tests and models, and outputs of each test.
+-- A test has one output for its executions, and those of the models.
 abbrev pub are_over : ℕ → ℕ → ℕ → Bool
 are_over tests models each = nat_lt 512 tests || nat_lt 16 models || nat_lt 524288 (tests * each)
 
@@ -34,4 +34,6 @@ is_spent t = nat_lt (2 ^ 63) t.next
 
 -- a name that a model may have: 1 to 64 printable ASCII bytes, none of them a space
 abbrev pub is_model_name : List ℕ → Bool
-is_model_name name = nat_lt 0 (length name) && nat_le (length name) 64 && list_all (λ b. nat_lt 32 b && nat_lt b 127) name
+is_model_name name =
+    nat_lt 0 (length name) && nat_le (length name) 64
+    && list_all (λ b. nat_lt 32 b && nat_lt b 127) name

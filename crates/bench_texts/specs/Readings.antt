@@ -25,5 +25,8 @@ pub record AreSound (items : List Item) (resolved : List ResolvedItem) : Type 0 
 
 -- the items resolved, with the indexes of those that checks and flags reach, or their first fault
 abbrev pub IsReading : List Item → Reading → Type 0
-IsReading items (readings.Sound resolved used) = AreSound items (arc_value resolved).items.items × AreReached (arc_value resolved).items.items used.items
-IsReading items (readings.Faulty fault) = FirstFault [] predefined_names 0 (map clause_of items) fault
+IsReading items (readings.Sound resolved used) =
+    AreSound items (arc_value resolved).items.items
+    × AreReached (arc_value resolved).items.items used.items
+IsReading items (readings.Faulty fault) =
+    FirstFault [] predefined_names 0 (map clause_of items) fault

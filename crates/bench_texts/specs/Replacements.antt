@@ -32,12 +32,15 @@ models_with (made.DropTest at) ms = ms
 models_with (made.PutModel at model next) ms = put_at at model ms
 models_with (made.DropModel at) ms = remove ms at
 
--- The index is there, there is room for one more where one is added, and a model that is put is read.
+-- The index is there, there is room for one more where one is added, and a model that is put is
+-- read.
 abbrev pub IsReplaceable : Texts → Replacement → Type 0
-IsReplaceable t (made.PutTest at test) = (at ≤ vec_len t.tests) × (at ≡ vec_len t.tests → vec_len t.tests < vec_capacity t.tests)
+IsReplaceable t (made.PutTest at test) =
+    (at ≤ vec_len t.tests) × (at ≡ vec_len t.tests → vec_len t.tests < vec_capacity t.tests)
 IsReplaceable t (made.DropTest at) = at < vec_len t.tests
 IsReplaceable t (made.PutModel at model next) =
-    (at ≤ vec_len t.models) × (at ≡ vec_len t.models → vec_len t.models < vec_capacity t.models) × IsRead model
+    (at ≤ vec_len t.models) × (at ≡ vec_len t.models → vec_len t.models < vec_capacity t.models)
+    × IsRead model
 IsReplaceable t (made.DropModel at) = at < vec_len t.models
 
 -- ---- what each edit puts or drops
@@ -54,10 +57,12 @@ IsModelPut i _ = ⊥
 
 -- the test that the text reads as is put at the index of its name
 abbrev pub IsTextPut : BenchTexts → List ℕ → Replacement → Type 0
-IsTextPut t text (made.PutTest at test) = (at ≡ test_index test.name t.tests) × ReadsTest text (content_of test)
+IsTextPut t text (made.PutTest at test) =
+    (at ≡ test_index test.name t.tests) × ReadsTest text (content_of test)
 IsTextPut t text _ = ⊥
 
--- The edit puts or drops what it names: the test or the model of its name. One that is not there yet is put behind the last.
+-- The edit puts or drops what it names: the test or the model of its name. One that is not there
+-- yet is put behind the last.
 abbrev pub IsPutBy : BenchTexts → Edit → Replacement → Type 0
 IsPutBy t (PutTest text) r = IsTextPut t text r
 IsPutBy t (DropTest test) r = r ≡ made.DropTest (test_index test t.tests)

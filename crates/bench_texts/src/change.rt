@@ -36,7 +36,8 @@ pub enum Change {
         at: usize,
         observed: Vec<Place>,
     },
-    /// A model takes an index, which may be that behind the last, and the next item is given a number.
+    /// A model takes an index, which may be that behind the last, and the next item is given a
+    /// number.
     PutModel {
         at: usize,
         model: NamedModel,

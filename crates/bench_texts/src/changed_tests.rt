@@ -39,7 +39,8 @@ pub(crate) fn test_with_thread(
     other: Thread,
 ) -> Result<Test, AllocError>
     requires { thread < length (content_of test.now).threads }
-    ensures { IfOk result (λ t. content_of t ≡ with_thread thread (steps_of other) (content_of test.now)) }
+    ensures { IfOk result (λ t. content_of t
+        ≡ with_thread thread (steps_of other) (content_of test.now)) }
 {
     let mut copy = copied_test(alloc, test)?;
     replace_thread(&mut copy, thread, other);
@@ -52,7 +53,9 @@ pub(crate) fn test_with_condition(
     test: &Test,
     condition: Condition,
 ) -> Result<Test, AllocError>
-    ensures { IfOk result (λ t. content_of t ≡ with_condition (condition.quantifier, formula_of condition.proposition) (content_of test.now)) }
+    ensures { IfOk result (λ t. content_of t
+        ≡ with_condition (condition.quantifier, formula_of condition.proposition)
+        (content_of test.now)) }
 {
     let mut copy = copied_test(alloc, test)?;
     drop(replace(&mut copy.condition, condition));

@@ -22,8 +22,10 @@ impl Texts {
         requires { IsReplaceable self.old prepared.replacement }
         ensures texts { texts_of self.new ≡ texts_with prepared.replacement (texts_of self.old) }
         // What is put stands there as it was prepared, and the others stay what they are.
-        ensures tests { self.new.tests.items ≡ tests_with prepared.replacement self.old.tests.items }
-        ensures models { self.new.models.items ≡ models_with prepared.replacement self.old.models.items }
+        ensures tests { self.new.tests.items
+            ≡ tests_with prepared.replacement self.old.tests.items }
+        ensures models { self.new.models.items
+            ≡ models_with prepared.replacement self.old.models.items }
         // Each model holds what its items are resolved to.
         ensures read { AreRead self.old → AreRead self.new }
     {
@@ -37,8 +39,10 @@ impl Texts {
 
     fn put_test(&mut self, at: usize, test: Test)
         requires index { at ≤ vec_len self.old.tests }
-        requires room { at ≡ vec_len self.old.tests → vec_len self.old.tests < vec_capacity self.old.tests }
-        ensures texts { texts_of self.new ≡ with_tests (put_at at (content_of test)) (texts_of self.old) }
+        requires room { at ≡ vec_len self.old.tests
+            → vec_len self.old.tests < vec_capacity self.old.tests }
+        ensures texts { texts_of self.new
+            ≡ with_tests (put_at at (content_of test)) (texts_of self.old) }
         ensures tests { self.new.tests.items ≡ put_at at test self.old.tests.items }
         ensures models { self.new.models ≡ self.old.models }
     {
@@ -51,9 +55,11 @@ impl Texts {
 
     fn put_model(&mut self, at: usize, model: NamedModel, next: u64)
         requires index { at ≤ vec_len self.old.models }
-        requires room { at ≡ vec_len self.old.models → vec_len self.old.models < vec_capacity self.old.models }
+        requires room { at ≡ vec_len self.old.models
+            → vec_len self.old.models < vec_capacity self.old.models }
         requires read { IsRead model }
-        ensures texts { texts_of self.new ≡ with_models (put_at at (model_of model)) next (texts_of self.old) }
+        ensures texts { texts_of self.new
+            ≡ with_models (put_at at (model_of model)) next (texts_of self.old) }
         ensures models { self.new.models.items ≡ put_at at model self.old.models.items }
         ensures tests { self.new.tests ≡ self.old.tests }
         ensures read { AreRead self.old → AreRead self.new }

@@ -2,8 +2,8 @@
 
 ghost use Rattle.std.specs.Prelude.{◌≡◌};
 
-/// An edit of the bench: a whole replacement of a named part. Tests and models go by their names, threads by their
-/// number from 0 on, items by their number on the bench.
+/// An edit of the bench: a whole replacement of a named part. Tests and models go by their names,
+/// threads by their number from 0 on, items by their number on the bench.
 #[derive(Debug)]
 pub enum Edit {
     /// The test of this text, in the place of the one of its name, or as the last.
@@ -35,8 +35,8 @@ pub enum Edit {
         test: Vec<u8>,
         text: Vec<u8>,
     },
-    /// The model of this name and text, in the place of the one of its name, or as the last: each item gets a number
-    /// that no item had.
+    /// The model of this name and text, in the place of the one of its name, or as the last: each
+    /// item gets a number that no item had.
     PutModel {
         model: Vec<u8>,
         text: Vec<u8>,

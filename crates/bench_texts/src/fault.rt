@@ -41,8 +41,8 @@ pub enum EditFault {
 }
 
 impl EditFault {
-    /// The number that a refusal by the bench is printed with, from 1 to 6. The refusal of a text has its own, and
-    /// want of memory has none.
+    /// The number that a refusal by the bench is printed with, from 1 to 6. The refusal of a text
+    /// has its own, and want of memory has none.
     pub fn number(&self) -> Option<u8>
         ensures { result ≡ number_of self.now }
     {

@@ -1,5 +1,6 @@
-//! The texts of the bench: tests and models in order, and the edits that change them, by `prepare` and then `commit`.
-//! Read specs/BenchTexts first, then Limits and Edits: `Applies` says what an edit makes, `Refuses` when it is refused.
+//! The texts of the bench: tests and models in order, and the edits that change them, by `prepare`
+//! and then `commit`. Read specs/BenchTexts first, then Limits and Edits: `Applies` says what an
+//! edit makes, `Refuses` when it is refused.
 #![tactic(auto)]
 
 mod change;

@@ -18,16 +18,19 @@ pub const MAX_MODELS: usize = 16;
 /// The most outputs of all tests.
 pub const MAX_OUTPUTS: usize = 524_288;
 
-// Whether so many tests have too many outputs: those of the models are given up to the greatest `usize`.
+// Whether so many tests have too many outputs: those of the models are given up to the greatest
+// `usize`.
 fn are_many(tests: usize, of_models: usize) -> bool
-    ensures { (exact : ℕ) → of_models ≡ min exact (2 ^ 64 - 1) → result ≡ nat_lt 524288 (tests * (1 + exact)) }
+    ensures { (exact : ℕ) → of_models ≡ min exact (2 ^ 64 - 1)
+        → result ≡ nat_lt 524288 (tests * (1 + exact)) }
 {
     tests.saturating_mul(of_models.saturating_add(1)) > MAX_OUTPUTS
 }
 
 // Whether these are over a limit.
 fn are_over(tests: usize, models: usize, of_models: usize) -> bool
-    ensures { (exact : ℕ) → of_models ≡ min exact (2 ^ 64 - 1) → result ≡ are_over tests models (1 + exact) }
+    ensures { (exact : ℕ) → of_models ≡ min exact (2 ^ 64 - 1)
+        → result ≡ are_over tests models (1 + exact) }
 {
     tests > MAX_TESTS || models > MAX_MODELS || are_many(tests, of_models)
 }
@@ -55,7 +58,9 @@ impl Texts {
         of_models: usize,
         spent: bool,
     ) -> Option<EditFault>
-        ensures { (new : BenchTexts) → length new.tests ≡ tests → length new.models ≡ models → of_models ≡ min (models_outputs new.models) (2 ^ 64 - 1) → result ≡ limit_fault (texts_of self.now) spent new }
+        ensures { (new : BenchTexts) → length new.tests ≡ tests → length new.models ≡ models
+            → of_models ≡ min (models_outputs new.models) (2 ^ 64 - 1)
+            → result ≡ limit_fault (texts_of self.now) spent new }
     {
         if are_over(tests, models, of_models) {
             Some(EditFault::Full)
@@ -66,7 +71,8 @@ impl Texts {
         }
     }
 
-    // The change, unless texts of so many tests and models, with these outputs of the models, are over a limit.
+    // The change, unless texts of so many tests and models, with these outputs of the models, are
+    // over a limit.
     pub(crate) fn limited(
         &self,
         change: Change,
@@ -75,7 +81,9 @@ impl Texts {
         of_models: usize,
         spent: bool,
     ) -> Result<Change, EditFault>
-        ensures { (new : BenchTexts) → length new.tests ≡ tests → length new.models ≡ models → of_models ≡ min (models_outputs new.models) (2 ^ 64 - 1) → IsLimited (texts_of self.now) spent change new result }
+        ensures { (new : BenchTexts) → length new.tests ≡ tests → length new.models ≡ models
+            → of_models ≡ min (models_outputs new.models) (2 ^ 64 - 1)
+            → IsLimited (texts_of self.now) spent change new result }
     {
         match self.limit_fault(tests, models, of_models, spent) {
             Some(fault) => {
@@ -86,9 +94,12 @@ impl Texts {
         }
     }
 
-    // The change, which changes neither how many tests and models there are nor the models' outputs.
+    // The change, which changes neither how many tests and models there are nor the models'
+    // outputs.
     pub(crate) fn limited_alike(&self, change: Change, spent: bool) -> Result<Change, EditFault>
-        ensures { (new : BenchTexts) → length new.tests ≡ length (texts_of self.now).tests → new.models ≡ (texts_of self.now).models → IsLimited (texts_of self.now) spent change new result }
+        ensures { (new : BenchTexts) → length new.tests ≡ length (texts_of self.now).tests
+            → new.models ≡ (texts_of self.now).models
+            → IsLimited (texts_of self.now) spent change new result }
     {
         self.limited(
             change,

@@ -50,7 +50,10 @@ impl NamedModel {
         first: u64,
     ) -> Result<NamedModel, AllocError>
         requires { first + vec_len text.items < 2 ^ 64 }
-        ensures value { IfOk result (λ m. model_of m ≡ record { name = name.now; items = numbered_items first (clauses_of text.items.items) }) }
+        ensures value { IfOk result (λ m. model_of m ≡ record {
+          name = name.now;
+          items = numbered_items first (clauses_of text.items.items);
+        }) }
         ensures read { IfOk result IsRead }
     {
         let name = Name::new(alloc, name)?;
@@ -66,7 +69,8 @@ impl NamedModel {
         numbers: Vec<u64>,
     ) -> Result<NamedModel, AllocError>
         requires { vec_len numbers ≡ vec_len text.items }
-        ensures value { IfOk result (λ m. model_of m ≡ record { name = name; items = items_of numbers.items text.items.items }) }
+        ensures value { IfOk result (λ m. model_of m
+            ≡ record { name = name; items = items_of numbers.items text.items.items }) }
         ensures read { IfOk result IsRead }
     {
         let reading = read_items(alloc, &text)?;
@@ -127,10 +131,15 @@ impl NamedModel {
         count_items(&self.text.items)
     }
 
-    /// The outputs of its items but the one of an index, or the greatest `usize` where these are more.
+    /// The outputs of its items but the one of an index, or the greatest `usize` where these are
+    /// more.
     pub fn outputs_without(&self, index: usize) -> usize
         requires { index < length (model_of self.now).items }
-        ensures { result ≡ min (items_outputs (take index (model_of self.now).items) + items_outputs (drop (index + 1) (model_of self.now).items)) (2 ^ 64 - 1) }
+        ensures { result
+            ≡ min
+            (items_outputs (take index (model_of self.now).items)
+            + items_outputs (drop (index + 1) (model_of self.now).items))
+            (2 ^ 64 - 1) }
     {
         let items = self.text.items.as_slice();
         let (front, _) = items.split_at(index);
@@ -147,7 +156,9 @@ impl NamedModel {
         item: Item,
     ) -> Result<NamedModel, AllocError>
         requires { index < length (model_of self.now).items }
-        ensures value { IfOk result (λ m. model_of m ≡ with_items (put_at index (record { number = number; clause = clause_of item })) (model_of self.now)) }
+        ensures value { IfOk result (λ m. model_of m
+            ≡ with_items (put_at index (record { number = number; clause = clause_of item }))
+            (model_of self.now)) }
         ensures read { IfOk result IsRead }
     {
         let text = text_with(alloc, &self.text, index, item)?;
@@ -165,7 +176,10 @@ impl NamedModel {
         item: Item,
     ) -> Result<NamedModel, AllocError>
         requires { index ≤ length (model_of self.now).items }
-        ensures value { IfOk result (λ m. model_of m ≡ with_items (λ is. insert is index (record { number = number; clause = clause_of item })) (model_of self.now)) }
+        ensures value { IfOk result (λ m. model_of m
+            ≡ with_items
+            (λ is. insert is index (record { number = number; clause = clause_of item }))
+            (model_of self.now)) }
         ensures read { IfOk result IsRead }
     {
         let text = text_with_one_more(alloc, &self.text, index, item)?;
@@ -177,7 +191,8 @@ impl NamedModel {
     /// This model without one item. Errors: want of memory.
     pub(crate) fn with_removed(&self, alloc: Global, index: usize) -> Result<NamedModel, AllocError>
         requires { index < length (model_of self.now).items }
-        ensures value { IfOk result (λ m. model_of m ≡ with_items (λ is. remove is index) (model_of self.now)) }
+        ensures value { IfOk result (λ m. model_of m
+            ≡ with_items (λ is. remove is index) (model_of self.now)) }
         ensures read { IfOk result IsRead }
     {
         let text = text_without(alloc, &self.text, index)?;
@@ -195,7 +210,8 @@ fn text_with(
     item: Item,
 ) -> Result<ModelText, AllocError>
     requires { index < vec_len text.now.items }
-    ensures clauses { IfOk result (λ t. clauses_of t.items.items ≡ slice_set (clauses_of text.now.items.items) index (clause_of item)) }
+    ensures clauses { IfOk result (λ t. clauses_of t.items.items
+        ≡ slice_set (clauses_of text.now.items.items) index (clause_of item)) }
     ensures count { IfOk result (λ t. vec_len t.items ≡ vec_len text.now.items) }
 {
     match copied_items(alloc, &text.items, 0) {
@@ -218,7 +234,8 @@ fn text_with_one_more(
     item: Item,
 ) -> Result<ModelText, AllocError>
     requires { index ≤ vec_len text.now.items }
-    ensures clauses { IfOk result (λ t. clauses_of t.items.items ≡ insert (clauses_of text.now.items.items) index (clause_of item)) }
+    ensures clauses { IfOk result (λ t. clauses_of t.items.items
+        ≡ insert (clauses_of text.now.items.items) index (clause_of item)) }
     ensures count { IfOk result (λ t. vec_len t.items ≡ vec_len text.now.items + 1) }
 {
     match copied_items(alloc, &text.items, 1) {
@@ -237,7 +254,8 @@ fn text_with_one_more(
 // A copy of the items without one. Errors: want of memory.
 fn text_without(alloc: Global, text: &ModelText, index: usize) -> Result<ModelText, AllocError>
     requires { index < vec_len text.now.items }
-    ensures clauses { IfOk result (λ t. clauses_of t.items.items ≡ remove (clauses_of text.now.items.items) index) }
+    ensures clauses { IfOk result (λ t. clauses_of t.items.items
+        ≡ remove (clauses_of text.now.items.items) index) }
     ensures count { IfOk result (λ t. vec_len t.items + 1 ≡ vec_len text.now.items) }
 {
     let mut items = copied_items(alloc, &text.items, 0)?;

@@ -37,7 +37,10 @@ impl Texts {
 
     // The index of a test that is there.
     fn find_test(&self, name: &[u8]) -> Result<usize, EditFault>
-        ensures { MatchResult result (λ i. (i ≡ test_index name.now (texts_of self.now).tests) × (has_test (texts_of self.now) name.now ≡ true) × (i < vec_len self.now.tests)) (λ f. (f ≡ NoTest) × (has_test (texts_of self.now) name.now ≡ false)) }
+        ensures { MatchResult result
+            (λ i. (i ≡ test_index name.now (texts_of self.now).tests)
+            × (has_test (texts_of self.now) name.now ≡ true) × (i < vec_len self.now.tests))
+            (λ f. (f ≡ NoTest) × (has_test (texts_of self.now) name.now ≡ false)) }
     {
         let at = self.test_index(name);
         if at < self.tests.len() {
@@ -96,7 +99,8 @@ impl Texts {
         text: &[u8],
         spent: bool,
     ) -> Result<Change, EditFault>
-        ensures answer { Answers (texts_of self.now) spent (SetThread test.now thread text.now) result }
+        ensures answer { Answers (texts_of self.now) spent (SetThread test.now thread text.now)
+            result }
         ensures ready { IfOk result (IsReady self.now) }
     {
         let at = self.find_test(test)?;
@@ -174,8 +178,10 @@ impl Texts {
 
     // The place of a test that was read.
     fn place_test(&self, test: Test, spent: bool) -> Result<Change, EditFault>
-        ensures answer { (text : List ℕ) → ReadsTest text (content_of test) → Answers (texts_of self.now) spent (PutTest text) result }
-        ensures change { IfOk result (λ c. c ≡ changes.PutTest (test_index test.name (texts_of self.now).tests) test) }
+        ensures answer { (text : List ℕ) → ReadsTest text (content_of test)
+            → Answers (texts_of self.now) spent (PutTest text) result }
+        ensures change { IfOk result (λ c. c
+            ≡ changes.PutTest (test_index test.name (texts_of self.now).tests) test) }
         ensures within { test_index test.name (texts_of self.now).tests ≤ vec_len self.now.tests }
     {
         let at = self.test_index(test.name.as_bytes());

@@ -15,8 +15,9 @@ use crate::texts::Texts;
 use std::alloc::Global;
 
 impl Texts {
-    /// Checks an edit, and takes all the memory that `commit` needs for it; `spent` says whether the numbers of
-    /// edits are spent. The texts are as before. Errors: the first reason to refuse the edit, or want of memory.
+    /// Checks an edit, and takes all the memory that `commit` needs for it; `spent` says whether
+    /// the numbers of edits are spent. The texts are as before. Errors: the first reason to refuse
+    /// the edit, or want of memory.
     pub fn prepare(
         &mut self,
         alloc: Global,
@@ -24,11 +25,15 @@ impl Texts {
         spent: bool,
     ) -> Result<Prepared, EditFault>
         // It is accepted, and these are the texts that `commit` makes, or it is refused.
-        ensures answer { MatchResult result (λ p. Applies (texts_of self.old) spent (edit_of edit.now) (texts_with p.replacement (texts_of self.old))) (Refuses (texts_of self.old) spent (edit_of edit.now)) }
+        ensures answer { MatchResult result
+            (λ p. Applies (texts_of self.old) spent (edit_of edit.now)
+            (texts_with p.replacement (texts_of self.old)))
+            (Refuses (texts_of self.old) spent (edit_of edit.now)) }
         // `commit` can be called.
         ensures ready { IfOk result (λ p. IsReplaceable self.new p.replacement) }
         // The edit puts or drops the test or the model that it names.
-        ensures target { IfOk result (λ p. IsPutBy (texts_of self.old) (edit_of edit.now) p.replacement) }
+        ensures target { IfOk result (λ p.
+            IsPutBy (texts_of self.old) (edit_of edit.now) p.replacement) }
         // It is known whether the edit puts or drops a whole test or model.
         ensures whole { IfOk result (λ p. p.whole ≡ is_whole (edit_of edit.now)) }
         // No text is changed: each test and each model is the one that it was.

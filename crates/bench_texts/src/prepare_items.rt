@@ -26,7 +26,11 @@ impl Texts {
     fn find_item(&self, model: &[u8], at: usize, number: u64) -> Result<usize, EditFault>
         requires found { at ≡ model_index model.now (texts_of self.now).models }
         requires there { at < vec_len self.now.models }
-        ensures { MatchResult result (λ i. (i ≡ index_in (texts_of self.now) model.now number) × (has_item (texts_of self.now) model.now number ≡ true) × HoldsAt (λ m. i < length m.items) (texts_of self.now).models at) (λ f. (f ≡ NoItem) × (has_item (texts_of self.now) model.now number ≡ false)) }
+        ensures { MatchResult result
+            (λ i. (i ≡ index_in (texts_of self.now) model.now number)
+            × (has_item (texts_of self.now) model.now number ≡ true)
+            × HoldsAt (λ m. i < length m.items) (texts_of self.now).models at)
+            (λ f. (f ≡ NoItem) × (has_item (texts_of self.now) model.now number ≡ false)) }
     {
         let model = &self.models[at];
         let index = model.item_index(number);
@@ -41,7 +45,12 @@ impl Texts {
     fn find_before(&self, model: &[u8], at: usize, before: u64) -> Result<usize, EditFault>
         requires found { at ≡ model_index model.now (texts_of self.now).models }
         requires there { at < vec_len self.now.models }
-        ensures { MatchResult result (λ i. (i ≡ index_before (texts_of self.now) model.now before) × ((before == 0 || has_item (texts_of self.now) model.now before) ≡ true) × HoldsAt (λ m. i ≤ length m.items) (texts_of self.now).models at) (λ f. (f ≡ NoItem) × ((before == 0 || has_item (texts_of self.now) model.now before) ≡ false)) }
+        ensures { MatchResult result
+            (λ i. (i ≡ index_before (texts_of self.now) model.now before)
+            × ((before == 0 || has_item (texts_of self.now) model.now before) ≡ true)
+            × HoldsAt (λ m. i ≤ length m.items) (texts_of self.now).models at)
+            (λ f. (f ≡ NoItem)
+            × ((before == 0 || has_item (texts_of self.now) model.now before) ≡ false)) }
     {
         if before == 0 {
             Ok(self.models[at].len())
@@ -50,10 +59,16 @@ impl Texts {
         }
     }
 
-    // The outputs of the models where the items of one have these, or the greatest `usize` where these are more.
+    // The outputs of the models where the items of one have these, or the greatest `usize` where
+    // these are more.
     fn outputs_with(&self, at: usize, of_items: usize) -> usize
         requires { at < vec_len self.now.models }
-        ensures { (exact : ℕ) → of_items ≡ min exact (2 ^ 64 - 1) → result ≡ min (models_outputs (take at (texts_of self.now).models) + models_outputs (drop (at + 1) (texts_of self.now).models) + (exact + 1)) (2 ^ 64 - 1) }
+        ensures { (exact : ℕ) → of_items ≡ min exact (2 ^ 64 - 1)
+            → result
+            ≡ min
+            (models_outputs (take at (texts_of self.now).models)
+            + models_outputs (drop (at + 1) (texts_of self.now).models) + (exact + 1))
+            (2 ^ 64 - 1) }
     {
         self.outputs_around(at)
             .saturating_add(of_items.saturating_add(1))
@@ -67,7 +82,8 @@ impl Texts {
         text: &[u8],
         spent: bool,
     ) -> Result<Change, EditFault>
-        ensures answer { Answers (texts_of self.now) spent (SetItem model.now number text.now) result }
+        ensures answer { Answers (texts_of self.now) spent (SetItem model.now number text.now)
+            result }
         ensures ready { IfOk result (IsReady self.now) }
     {
         let at = self.find_model(model)?;
@@ -101,7 +117,8 @@ impl Texts {
         text: &[u8],
         spent: bool,
     ) -> Result<Change, EditFault>
-        ensures answer { Answers (texts_of self.now) spent (InsertItem model.now before text.now) result }
+        ensures answer { Answers (texts_of self.now) spent (InsertItem model.now before text.now)
+            result }
         ensures ready { IfOk result (IsReady self.now) }
     {
         let at = self.find_model(model)?;

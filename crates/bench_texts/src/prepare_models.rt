@@ -58,7 +58,10 @@ impl Texts {
 
     // The index of a model that is there.
     pub(crate) fn find_model(&self, name: &[u8]) -> Result<usize, EditFault>
-        ensures { MatchResult result (λ i. (i ≡ model_index name.now (texts_of self.now).models) × (has_model (texts_of self.now) name.now ≡ true) × (i < vec_len self.now.models)) (λ f. (f ≡ NoModel) × (has_model (texts_of self.now) name.now ≡ false)) }
+        ensures { MatchResult result
+            (λ i. (i ≡ model_index name.now (texts_of self.now).models)
+            × (has_model (texts_of self.now) name.now ≡ true) × (i < vec_len self.now.models))
+            (λ f. (f ≡ NoModel) × (has_model (texts_of self.now) name.now ≡ false)) }
     {
         let at = self.model_index(name);
         if at < self.models.len() {
@@ -68,10 +71,15 @@ impl Texts {
         }
     }
 
-    // The outputs of the models but the one of an index, or the greatest `usize` where these are more.
+    // The outputs of the models but the one of an index, or the greatest `usize` where these are
+    // more.
     pub(crate) fn outputs_around(&self, at: usize) -> usize
         requires { at < vec_len self.now.models }
-        ensures { result ≡ min (models_outputs (take at (texts_of self.now).models) + models_outputs (drop (at + 1) (texts_of self.now).models)) (2 ^ 64 - 1) }
+        ensures { result
+            ≡ min
+            (models_outputs (take at (texts_of self.now).models)
+            + models_outputs (drop (at + 1) (texts_of self.now).models))
+            (2 ^ 64 - 1) }
     {
         let models = self.models.as_slice();
         let (front, _) = models.split_at(at);
@@ -94,10 +102,20 @@ impl Texts {
         )
     }
 
-    // The outputs of the models with one of these items at an index, or the greatest `usize` where these are more.
+    // The outputs of the models with one of these items at an index, or the greatest `usize` where
+    // these are more.
     fn outputs_put(&self, at: usize, items: &[Item]) -> usize
         requires { at ≤ vec_len self.now.models }
-        ensures { (name : List ℕ) (first : ℕ) → result ≡ min (models_outputs (put_at at (record { name = name; items = numbered_items first (clauses_of items.now) }) (texts_of self.now).models)) (2 ^ 64 - 1) }
+        ensures { (name : List ℕ) (first : ℕ)
+            → result
+            ≡ min
+            (models_outputs (put_at at
+            (record {
+              name = name;
+              items = numbered_items first (clauses_of items.now);
+            })
+            (texts_of self.now).models))
+            (2 ^ 64 - 1) }
     {
         let of_model = count_items(items).saturating_add(1);
         if at < self.models.len() {
@@ -110,7 +128,15 @@ impl Texts {
     // Why the texts with a model of these items at an index are refused.
     fn put_fault(&self, at: usize, items: &[Item], spent: bool) -> Option<EditFault>
         requires { at ≤ vec_len self.now.models }
-        ensures { (name : List ℕ) (next : ℕ) → result ≡ limit_fault (texts_of self.now) spent (with_models (put_at at (record { name = name; items = numbered_items (texts_of self.now).next (clauses_of items.now) })) next (texts_of self.now)) }
+        ensures { (name : List ℕ) (next : ℕ)
+            → result
+            ≡ limit_fault (texts_of self.now) spent (with_models
+            (put_at at (record {
+              name = name;
+              items = numbered_items (texts_of self.now).next
+                  (clauses_of items.now);
+            })) next
+            (texts_of self.now)) }
     {
         let models = self.models.len().max(at + 1);
         self.limit_fault(self.tests.len(), models, self.outputs_put(at, items), spent)
@@ -126,7 +152,15 @@ impl Texts {
     ) -> Result<Change, AllocError>
         requires index { at ≤ vec_len self.old.models }
         requires next { self.old.next ≤ 2 ^ 63 }
-        ensures change { IfOk result (λ c. texts_after c (texts_of self.old) ≡ with_models (put_at at (record { name = name.now; items = numbered_items (texts_of self.old).next (clauses_of text.items.items) })) ((texts_of self.old).next + length (clauses_of text.items.items)) (texts_of self.old)) }
+        ensures change { IfOk result (λ c. texts_after c (texts_of self.old)
+            ≡ with_models
+            (put_at at (record {
+              name = name.now;
+              items = numbered_items (texts_of self.old).next
+                  (clauses_of text.items.items);
+            }))
+            ((texts_of self.old).next + length (clauses_of text.items.items))
+            (texts_of self.old)) }
         ensures target { IfOk result (λ c. (r : Replacement) → IsPutFor c r → IsModelPut at r) }
         ensures ready { IfOk result (IsReady self.new) }
         ensures kept { texts_of self.new ≡ texts_of self.old }

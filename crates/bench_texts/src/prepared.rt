@@ -8,7 +8,8 @@ use crate::replacement::Replacement;
 use std::alloc::{AllocError, Global};
 use std::mem::drop;
 
-/// An edit that was prepared: what it puts in the place of what, and the printed items of the model that is put.
+/// An edit that was prepared: what it puts in the place of what, and the printed items of the model
+/// that is put.
 #[derive(Drop)]
 pub struct Prepared {
     replacement: Replacement,
@@ -49,7 +50,8 @@ impl Prepared {
         &self.replacement
     }
 
-    /// Whether the edit puts or drops its test or its model as a whole, where else it changes a part of it.
+    /// Whether the edit puts or drops its test or its model as a whole, where else it changes a
+    /// part of it.
     pub fn is_whole(&self) -> bool
         ensures { result ≡ self.now.whole }
     {

@@ -13,7 +13,9 @@ use text_values::{Item, put_bytes, put_decimal};
 
 // Appends the line of an item.
 fn put_line(alloc: Global, text: &mut Vec<u8>, number: u64, item: &Item) -> Result<(), AllocError>
-    ensures { OnOk result (text.new.items ≡ text.old.items ++ (numbered_line (record { number = number; clause = clause_of item.now }) ++ 10 ∷ [])) }
+    ensures { OnOk result (text.new.items
+        ≡ text.old.items ++ (numbered_line
+        (record { number = number; clause = clause_of item.now }) ++ 10 ∷ [])) }
 {
     put_decimal(text, number)?;
     put_bytes(text, b" ")?;
@@ -24,8 +26,8 @@ fn put_line(alloc: Global, text: &mut Vec<u8>, number: u64, item: &Item) -> Resu
 impl NamedModel {
     ghost use Rattle.bench_texts.specs.Held.{model_of};
 
-    /// The printed items in their order, each on a line of its own: its number, a space, the item. Errors: want of
-    /// memory.
+    /// The printed items in their order, each on a line of its own: its number, a space, the item.
+    /// Errors: want of memory.
     pub fn print_items(&self, alloc: Global) -> Result<Vec<u8>, AllocError>
         ensures { IfOk result (λ v. v.items ≡ printed_items (model_of self.now).items) }
     {

@@ -11,15 +11,16 @@ use crate::texts::Texts;
 use std::alloc::{AllocError, Global};
 
 impl Texts {
-    /// What a change puts in the place of what: a whole new test where it changes a part of one, and a whole new model
-    /// where it changes an item of one. Errors: want of memory.
+    /// What a change puts in the place of what: a whole new test where it changes a part of one,
+    /// and a whole new model where it changes an item of one. Errors: want of memory.
     pub(crate) fn replacement_of(
         &self,
         alloc: Global,
         change: Change,
     ) -> Result<Replacement, AllocError>
         requires { IsReady self.now change }
-        ensures texts { IfOk result (λ r. texts_with r (texts_of self.now) ≡ texts_after change (texts_of self.now)) }
+        ensures texts { IfOk result (λ r. texts_with r (texts_of self.now)
+            ≡ texts_after change (texts_of self.now)) }
         ensures ready { IfOk result (IsReplaceable self.now) }
         ensures target { IfOk result (IsPutFor change) }
     {

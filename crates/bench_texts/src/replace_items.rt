@@ -21,7 +21,8 @@ impl Texts {
         item: Item,
     ) -> Result<Replacement, AllocError>
         requires { IsReady self.now (changes.SetItem at index number item) }
-        ensures texts { IfOk result (λ r. texts_with r (texts_of self.now) ≡ texts_after (changes.SetItem at index number item) (texts_of self.now)) }
+        ensures texts { IfOk result (λ r. texts_with r (texts_of self.now)
+            ≡ texts_after (changes.SetItem at index number item) (texts_of self.now)) }
         ensures ready { IfOk result (IsReplaceable self.now) }
         ensures target { IfOk result (IsModelPut at) }
     {
@@ -38,7 +39,8 @@ impl Texts {
         item: Item,
     ) -> Result<Replacement, AllocError>
         requires { IsReady self.now (changes.InsertItem at index item) }
-        ensures texts { IfOk result (λ r. texts_with r (texts_of self.now) ≡ texts_after (changes.InsertItem at index item) (texts_of self.now)) }
+        ensures texts { IfOk result (λ r. texts_with r (texts_of self.now)
+            ≡ texts_after (changes.InsertItem at index item) (texts_of self.now)) }
         ensures ready { IfOk result (IsReplaceable self.now) }
         ensures target { IfOk result (IsModelPut at) }
     {
@@ -54,7 +56,8 @@ impl Texts {
         index: usize,
     ) -> Result<Replacement, AllocError>
         requires { IsReady self.now (changes.RemoveItem at index) }
-        ensures texts { IfOk result (λ r. texts_with r (texts_of self.now) ≡ texts_after (changes.RemoveItem at index) (texts_of self.now)) }
+        ensures texts { IfOk result (λ r. texts_with r (texts_of self.now)
+            ≡ texts_after (changes.RemoveItem at index) (texts_of self.now)) }
         ensures ready { IfOk result (IsReplaceable self.now) }
         ensures target { IfOk result (IsModelPut at) }
     {

@@ -22,7 +22,8 @@ impl Texts {
         init: Vec<InitEntry>,
     ) -> Result<Replacement, AllocError>
         requires { IsReady self.now (changes.SetInit at init) }
-        ensures texts { IfOk result (λ r. texts_with r (texts_of self.now) ≡ texts_after (changes.SetInit at init) (texts_of self.now)) }
+        ensures texts { IfOk result (λ r. texts_with r (texts_of self.now)
+            ≡ texts_after (changes.SetInit at init) (texts_of self.now)) }
         ensures ready { IfOk result (IsReplaceable self.now) }
         ensures target { IfOk result (IsTestPut at) }
     {
@@ -38,7 +39,8 @@ impl Texts {
         other: Thread,
     ) -> Result<Replacement, AllocError>
         requires { IsReady self.now (changes.SetThread at thread other) }
-        ensures texts { IfOk result (λ r. texts_with r (texts_of self.now) ≡ texts_after (changes.SetThread at thread other) (texts_of self.now)) }
+        ensures texts { IfOk result (λ r. texts_with r (texts_of self.now)
+            ≡ texts_after (changes.SetThread at thread other) (texts_of self.now)) }
         ensures ready { IfOk result (IsReplaceable self.now) }
         ensures target { IfOk result (IsTestPut at) }
     {
@@ -53,7 +55,8 @@ impl Texts {
         condition: Condition,
     ) -> Result<Replacement, AllocError>
         requires { IsReady self.now (changes.SetCond at condition) }
-        ensures texts { IfOk result (λ r. texts_with r (texts_of self.now) ≡ texts_after (changes.SetCond at condition) (texts_of self.now)) }
+        ensures texts { IfOk result (λ r. texts_with r (texts_of self.now)
+            ≡ texts_after (changes.SetCond at condition) (texts_of self.now)) }
         ensures ready { IfOk result (IsReplaceable self.now) }
         ensures target { IfOk result (IsTestPut at) }
     {
@@ -68,7 +71,8 @@ impl Texts {
         observed: Vec<Place>,
     ) -> Result<Replacement, AllocError>
         requires { IsReady self.now (changes.SetObserved at observed) }
-        ensures texts { IfOk result (λ r. texts_with r (texts_of self.now) ≡ texts_after (changes.SetObserved at observed) (texts_of self.now)) }
+        ensures texts { IfOk result (λ r. texts_with r (texts_of self.now)
+            ≡ texts_after (changes.SetObserved at observed) (texts_of self.now)) }
         ensures ready { IfOk result (IsReplaceable self.now) }
         ensures target { IfOk result (IsTestPut at) }
     {

@@ -13,10 +13,38 @@ no_jobs = record { stored = 0; same = 0; stale = 0; unknown = 0; refused = 0 }
 
 -- the counts with one more return, by what it came to
 abbrev pub noted : Finish → Tally → Tally
-noted Unknown t = record { stored = t.stored; same = t.same; stale = t.stale; unknown = sum_of t.unknown 1; refused = t.refused }
-noted (Stale stamp) t = record { stored = t.stored; same = t.same; stale = sum_of t.stale 1; unknown = t.unknown; refused = t.refused }
-noted Same t = record { stored = t.stored; same = sum_of t.same 1; stale = t.stale; unknown = t.unknown; refused = t.refused }
-noted (Stored names) t = record { stored = sum_of t.stored 1; same = t.same; stale = t.stale; unknown = t.unknown; refused = t.refused }
+noted Unknown t =
+    record {
+      stored = t.stored;
+      same = t.same;
+      stale = t.stale;
+      unknown = sum_of t.unknown 1;
+      refused = t.refused;
+    }
+noted (Stale stamp) t =
+    record {
+      stored = t.stored;
+      same = t.same;
+      stale = sum_of t.stale 1;
+      unknown = t.unknown;
+      refused = t.refused;
+    }
+noted Same t =
+    record {
+      stored = t.stored;
+      same = sum_of t.same 1;
+      stale = t.stale;
+      unknown = t.unknown;
+      refused = t.refused;
+    }
+noted (Stored names) t =
+    record {
+      stored = sum_of t.stored 1;
+      same = t.same;
+      stale = t.stale;
+      unknown = t.unknown;
+      refused = t.refused;
+    }
 
 -- the counts of both
 abbrev pub added : Tally → Tally → Tally

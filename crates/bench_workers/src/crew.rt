@@ -17,8 +17,8 @@ use std::thread;
 use std::thread::{JoinHandle, Threads};
 use value_store::StoreName;
 
-/// Workers at a desk, each in a thread of its own. They work until the desk is closed; `dismiss` closes it and joins them.
-/// Contracts see it as the number of its workers.
+/// Workers at a desk, each in a thread of its own. They work until the desk is closed; `dismiss`
+/// closes it and joins them. Contracts see it as the number of its workers.
 pub struct Crew<J: Naming + StoreName, X: BoardTexts, R: Wait + Drop>
 where
     Plate<J, X>: Absorb<Entry<J, X>, State = [X::Op; 0]>,
@@ -129,8 +129,8 @@ where
     Ok(())
 }
 
-/// Starts so many workers at a desk, at most `MOST_WORKERS`. Errors: the start of a worker was refused; then the desk is closed,
-/// and the workers that were started are joined.
+/// Starts so many workers at a desk, at most `MOST_WORKERS`. Errors: the start of a worker was
+/// refused; then the desk is closed, and the workers that were started are joined.
 pub fn hire_crew<J, X, R, G, W>(
     rt: &W,
     alloc: Global,

@@ -2,7 +2,8 @@
 
 use std::sync::Wait;
 
-/// Is told when a worker begins a job and when it ends it. It is called with no lock of the desk held, and may wait.
+/// Is told when a worker begins a job and when it ends it. It is called with no lock of the desk
+/// held, and may wait.
 pub trait Gate {
     /// The job of this claim was given out.
     fn begin<R: Wait>(&self, rt: &R, claim: u64);

@@ -1,5 +1,5 @@
-//! Threads that work at a desk: each takes a job, runs it with no lock held, and returns it. `with_workers` runs a body beside
-//! them and joins them all; a crew stays until it is dismissed.
+//! Threads that work at a desk: each takes a job, runs it with no lock held, and returns it.
+//! `with_workers` runs a body beside them and joins them all; a crew stays until it is dismissed.
 #![tactic(auto)]
 
 mod crew;

@@ -48,7 +48,13 @@ impl Tally {
 
     /// Counts a refusal.
     pub fn note_refusal(&mut self)
-        ensures { self.new ≡ record { stored = self.old.stored; same = self.old.same; stale = self.old.stale; unknown = self.old.unknown; refused = min (self.old.refused + 1) (2 ^ 64 - 1) } }
+        ensures { self.new ≡ record {
+          stored = self.old.stored;
+          same = self.old.same;
+          stale = self.old.stale;
+          unknown = self.old.unknown;
+          refused = min (self.old.refused + 1) (2 ^ 64 - 1);
+        } }
     {
         self.refused = self.refused.saturating_add(1);
     }

@@ -112,8 +112,9 @@ fn turn<J: Naming + StoreName, X: BoardTexts, R: Wait + Drop, G: Gate, W: Wait>(
     }
 }
 
-/// Takes jobs of a desk and runs them until the desk is closed. A job that is refused memory is lost. The worker closes the
-/// desk where the store is full, no number is left for a claim, or memory was refused 16 times in a row.
+/// Takes jobs of a desk and runs them until the desk is closed. A job that is refused memory is
+/// lost. The worker closes the desk where the store is full, no number is left for a claim, or
+/// memory was refused 16 times in a row.
 pub fn work<J: Naming + StoreName, X: BoardTexts, R: Wait + Drop, G: Gate, W: Wait>(
     rt: &W,
     alloc: Global,

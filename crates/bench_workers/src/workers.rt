@@ -67,8 +67,9 @@ impl<'a, J: Naming + StoreName, X: BoardTexts, R: Wait + Drop, G: Gate> Hands
     }
 }
 
-// Runs a body beside so many of these, and sends them home. None where the start of one was refused; then the body does not run.
-// It knows nothing of desks, so that its closure is proved for few types.
+// Runs a body beside so many of these, and sends them home. None where the start of one was
+// refused; then the body does not run. It knows nothing of desks, so that its closure is proved for
+// few types.
 fn run_beside<W, H, T, F>(rt: &W, hands: &H, count: u32, body: F) -> Option<T>
 where
     W: Threads + Wait + Sync,
@@ -99,8 +100,9 @@ where
     )
 }
 
-/// Runs a body beside so many workers, at most `MOST_WORKERS`, closes the desk and joins them all. Errors: the start of a worker was refused; then
-/// the body does not run, the desk is closed, and the workers that were started are joined.
+/// Runs a body beside so many workers, at most `MOST_WORKERS`, closes the desk and joins them all.
+/// Errors: the start of a worker was refused; then the body does not run, the desk is closed, and
+/// the workers that were started are joined.
 pub fn with_workers<J, X, R, G, W, T, F>(
     rt: &W,
     alloc: Global,

@@ -1,4 +1,5 @@
--- The lists in postfix order that are kept of expressions with the functions that they apply put in.
+-- The lists in postfix order that are kept of expressions with the functions that they apply put
+-- in.
 use Rattle.std.specs.Prelude.{◌≡◌, ℕ, ◌<◌, ◌⊎◌, List, [], ◌∷◌, ◌++◌, length, true, false, get_or}
 use Rattle.text_values.specs.ModelValue.{Term, Atom, AllEvents, EmptyRelation, EmptySet, Join, Mark, Not, On, Apply}
 use Rattle.binding_kinds.specs.declared.function.Piece.{Piece}
@@ -49,5 +50,6 @@ pub record IsTemplate (t : Template) (whole : List Piece) : Type 0 where
 
 -- the template has grown by the list, unless something in it is too large
 pub record IsGrown (old new : Template) (more : List Piece) (Large : Type 0) : Type 0 where
-  pub fits : new.is_oversized ≡ false → (old.is_oversized ≡ false) × (new.pieces.items ≡ old.pieces.items ++ more)
+  pub fits : new.is_oversized ≡ false
+      → (old.is_oversized ≡ false) × (new.pieces.items ≡ old.pieces.items ++ more)
   pub large : new.is_oversized ≡ true → (old.is_oversized ≡ true) ⊎ Large

@@ -34,8 +34,12 @@ pub fn function_of(
     arity: usize,
     read: ReadBody,
 ) -> Result<Function, AllocError>
-    ensures given { IfOk result (λ f. (f.item ≡ item) × (f.arity ≡ arity) × (f.values ≡ read.values) × (f.functions ≡ read.functions)) }
-    ensures kept { (ss : List Sense) (names : List Naming) (ps : List (List ℕ)) (t : Term) → arity ≡ length ps → arity ≤ 8 → IsTemplate read.template (pieces_in ss names ps t) → IsBodyPart ss names ps (3 ^ arity) false t read.part → IfOk result (λ f. IsKept f (sense_of_function ss names ps t)) }
+    ensures given { IfOk result (λ f. (f.item ≡ item) × (f.arity ≡ arity) × (f.values ≡ read.values)
+        × (f.functions ≡ read.functions)) }
+    ensures kept { (ss : List Sense) (names : List Naming) (ps : List (List ℕ)) (t : Term)
+        → arity ≡ length ps → arity ≤ 8 → IsTemplate read.template (pieces_in ss names ps t)
+        → IsBodyPart ss names ps (3 ^ arity) false t read.part
+        → IfOk result (λ f. IsKept f (sense_of_function ss names ps t)) }
 {
     let ReadBody {
         template,

@@ -34,8 +34,8 @@ pub struct Columns {
 /// What is found of a part of the body of a function, by the names in it.
 #[derive(Drop)]
 pub struct BodyPart {
-    /// Its first fault, in the order of the text: a name that is unbound, or with another number
-    /// of arguments than it takes. Kinds, sizes and complements count where the function is applied.
+    /// Its first fault, in the order of the text: a name that is unbound, or with another number of
+    /// arguments than it takes. Kinds, sizes and complements count where the function is applied.
     pub fault: Option<ModelFault>,
     /// Whether each parameter stands under a complement or right of a difference in it.
     pub under: [bool; MAX_PARAMETERS],
@@ -59,7 +59,8 @@ fn either_of_each(
     first: [bool; MAX_PARAMETERS],
     later: [bool; MAX_PARAMETERS],
 ) -> [bool; MAX_PARAMETERS]
-    ensures { (index : ℕ) → index < 8 → get_or result index false ≡ (get_or first index false || get_or later index false) }
+    ensures { (index : ℕ) → index < 8
+        → get_or result index false ≡ (get_or first index false || get_or later index false) }
 {
     let mut both = first;
     for index in 0..MAX_PARAMETERS {
@@ -100,7 +101,9 @@ impl BodyPart {
 
     /// A parameter, by its index, which stands under a complement or not. Errors: want of memory.
     pub fn parameter(columns: Columns, under: bool, index: usize) -> Result<BodyPart, AllocError>
-        ensures { (ss : List Sense) (names : List Naming) (ps : List (List ℕ)) (x : List ℕ) → parameter_of (reverse ps) x ≡ Some index → IfOk result (IsBodyPart ss names ps columns.rows under (Atom x)) }
+        ensures { (ss : List Sense) (names : List Naming) (ps : List (List ℕ)) (x : List ℕ)
+            → parameter_of (reverse ps) x ≡ Some index
+            → IfOk result (IsBodyPart ss names ps columns.rows under (Atom x)) }
     {
         Ok(BodyPart {
             fault: None,
@@ -111,7 +114,9 @@ impl BodyPart {
 
     /// A name without arguments that is no parameter, by what was found. Errors: want of memory.
     pub fn other(columns: Columns, one: Option<Found>) -> Result<BodyPart, AllocError>
-        ensures { (ss : List Sense) (names : List Naming) (ps : List (List ℕ)) (under : Bool) (x : List ℕ) → parameter_of (reverse ps) x ≡ None → found names x ≡ one → IfOk result (IsBodyPart ss names ps columns.rows under (Atom x)) }
+        ensures { (ss : List Sense) (names : List Naming) (ps : List (List ℕ)) (under : Bool)
+            (x : List ℕ) → parameter_of (reverse ps) x ≡ None → found names x ≡ one
+            → IfOk result (IsBodyPart ss names ps columns.rows under (Atom x)) }
     {
         let judged = judged_name(0, false, one);
         Ok(BodyPart {
@@ -124,7 +129,12 @@ impl BodyPart {
     /// An application of a name that is no function of so many, which is at fault. Errors: want of
     /// memory.
     pub fn refused(columns: Columns, fault: ModelFault) -> Result<BodyPart, AllocError>
-        ensures { (ss : List Sense) (names : List Naming) (ps : List (List ℕ)) (under : Bool) (x : List ℕ) (xs : List Expression) → sense_seen ss names ps (length xs) x ≡ None → of_applied (parameter_of (reverse ps) x) (sense_of ss (length xs) (found names x)) ≡ Some fault → IfOk result (IsBodyPart ss names ps columns.rows under (Apply x (gathered (map term_of xs)))) }
+        ensures { (ss : List Sense) (names : List Naming) (ps : List (List ℕ)) (under : Bool)
+            (x : List ℕ) (xs : List Expression) → sense_seen ss names ps (length xs) x ≡ None
+            → of_applied (parameter_of (reverse ps) x) (sense_of ss (length xs) (found names x))
+            ≡ Some fault
+            → IfOk result (IsBodyPart ss names ps columns.rows under
+            (Apply x (gathered (map term_of xs)))) }
     {
         Ok(BodyPart {
             fault: Some(fault),
@@ -140,7 +150,10 @@ impl BodyPart {
         left: BodyPart,
         right: BodyPart,
     ) -> Result<BodyPart, AllocError>
-        ensures { (ss : List Sense) (names : List Naming) (ps : List (List ℕ)) (rows : ℕ) (under : Bool) (a b : Term) → IsBodyPart ss names ps rows under a left → IsBodyPart ss names ps rows (is_turned op under) b right → IfOk result (IsBodyPart ss names ps rows under (Join op a b)) }
+        ensures { (ss : List Sense) (names : List Naming) (ps : List (List ℕ)) (rows : ℕ)
+            (under : Bool) (a b : Term) → IsBodyPart ss names ps rows under a left
+            → IsBodyPart ss names ps rows (is_turned op under) b right
+            → IfOk result (IsBodyPart ss names ps rows under (Join op a b)) }
     {
         Ok(BodyPart {
             fault: or_else(left.fault, right.fault),
@@ -151,7 +164,9 @@ impl BodyPart {
 
     /// What a postfix operator makes of a part. Errors: want of memory.
     pub fn postfix(self, alloc: Global) -> Result<BodyPart, AllocError>
-        ensures { (ss : List Sense) (names : List Naming) (ps : List (List ℕ)) (rows : ℕ) (under : Bool) (op : Postfix) (a : Term) → IsBodyPart ss names ps rows under a self → IfOk result (IsBodyPart ss names ps rows under (Mark op a)) }
+        ensures { (ss : List Sense) (names : List Naming) (ps : List (List ℕ)) (rows : ℕ)
+            (under : Bool) (op : Postfix) (a : Term) → IsBodyPart ss names ps rows under a self
+            → IfOk result (IsBodyPart ss names ps rows under (Mark op a)) }
     {
         Ok(BodyPart {
             fault: self.fault,
@@ -162,7 +177,9 @@ impl BodyPart {
 
     /// The identity on a part. Errors: want of memory.
     pub fn identity(self, alloc: Global) -> Result<BodyPart, AllocError>
-        ensures { (ss : List Sense) (names : List Naming) (ps : List (List ℕ)) (rows : ℕ) (under : Bool) (a : Term) → IsBodyPart ss names ps rows under a self → IfOk result (IsBodyPart ss names ps rows under (On a)) }
+        ensures { (ss : List Sense) (names : List Naming) (ps : List (List ℕ)) (rows : ℕ)
+            (under : Bool) (a : Term) → IsBodyPart ss names ps rows under a self
+            → IfOk result (IsBodyPart ss names ps rows under (On a)) }
     {
         Ok(BodyPart {
             fault: self.fault,
@@ -175,7 +192,9 @@ impl BodyPart {
 impl BodyArguments {
     /// No argument yet. Errors: want of memory.
     pub fn none(columns: Columns) -> Result<BodyArguments, AllocError>
-        ensures { (ss : List Sense) (names : List Naming) (ps : List (List ℕ)) (under : Bool) (turned : ℕ → Bool) → IfOk result (AreBodyParts ss names ps columns.rows under turned []) }
+        ensures { (ss : List Sense) (names : List Naming) (ps : List (List ℕ)) (under : Bool)
+            (turned : ℕ → Bool)
+            → IfOk result (AreBodyParts ss names ps columns.rows under turned []) }
     {
         Ok(BodyArguments {
             fault: None,
@@ -191,7 +210,12 @@ impl BodyArguments {
         index: usize,
         one: BodyPart,
     ) -> Result<BodyArguments, AllocError>
-        ensures { (ss : List Sense) (names : List Naming) (ps : List (List ℕ)) (rows : ℕ) (under : Bool) (turned : ℕ → Bool) (xs : List Expression) (e : Expression) → length xs ≡ index → index < 8 → IsBodyPart ss names ps rows (under || turned index) (term_of e) one → AreBodyParts ss names ps rows under turned xs self → IfOk result (AreBodyParts ss names ps rows under turned (xs ++ e ∷ [])) }
+        ensures { (ss : List Sense) (names : List Naming) (ps : List (List ℕ)) (rows : ℕ)
+            (under : Bool) (turned : ℕ → Bool) (xs : List Expression) (e : Expression)
+            → length xs ≡ index → index < 8
+            → IsBodyPart ss names ps rows (under || turned index) (term_of e) one
+            → AreBodyParts ss names ps rows under turned xs self
+            → IfOk result (AreBodyParts ss names ps rows under turned (xs ++ e ∷ [])) }
     {
         Ok(BodyArguments {
             fault: or_else(self.fault, one.fault),
@@ -202,7 +226,14 @@ impl BodyArguments {
 
     /// The application of the function to them. Errors: want of memory.
     pub fn applied(self, alloc: Global, function: &Function) -> Result<BodyPart, AllocError>
-        ensures { (ss : List Sense) (names : List Naming) (ps : List (List ℕ)) (rows : ℕ) (under : Bool) (x : List ℕ) (xs : List Expression) (s : Sense) → IsKept function.now s → length xs ≡ s.arity → sense_seen ss names ps (length xs) x ≡ Some s → of_applied (parameter_of (reverse ps) x) (sense_of ss (length xs) (found names x)) ≡ None → AreBodyParts ss names ps rows under s.is_under xs self → IfOk result (IsBodyPart ss names ps rows under (Apply x (gathered (map term_of xs)))) }
+        ensures { (ss : List Sense) (names : List Naming) (ps : List (List ℕ)) (rows : ℕ)
+            (under : Bool) (x : List ℕ) (xs : List Expression) (s : Sense)
+            → IsKept function.now s → length xs ≡ s.arity
+            → sense_seen ss names ps (length xs) x ≡ Some s
+            → of_applied (parameter_of (reverse ps) x) (sense_of ss (length xs) (found names x))
+            ≡ None → AreBodyParts ss names ps rows under s.is_under xs self
+            → IfOk result (IsBodyPart ss names ps rows under
+            (Apply x (gathered (map term_of xs)))) }
     {
         Ok(BodyPart {
             fault: self.fault,

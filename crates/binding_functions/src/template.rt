@@ -48,8 +48,8 @@ impl Template {
         Ok(())
     }
 
-    /// Appends a name without arguments that is no parameter and was looked for. One that is unbound,
-    /// or a function, stands as the empty relation. Errors: want of memory.
+    /// Appends a name without arguments that is no parameter and was looked for. One that is
+    /// unbound, or a function, stands as the empty relation. Errors: want of memory.
     pub fn put_name(&mut self, found: Option<Found>) -> Result<(), AllocError>
         ensures { OnOk result (IsGrown self.old self.new (postfix (named_formula None found)) ⊥) }
     {
@@ -65,7 +65,8 @@ impl Template {
 
     /// Appends an argument.
     fn put_argument(&mut self, argument: &Template) -> Result<(), AllocError>
-        ensures { (whole : List Piece) → IsTemplate argument.now whole → OnOk result (IsGrown self.old self.new whole (4096 < length whole)) }
+        ensures { (whole : List Piece) → IsTemplate argument.now whole
+            → OnOk result (IsGrown self.old self.new whole (4096 < length whole)) }
     {
         if argument.is_oversized {
             self.is_oversized = true;
@@ -77,7 +78,9 @@ impl Template {
 
     /// Appends a part of the body of a function, where a parameter stands for its argument.
     fn put_part(&mut self, piece: Piece, arguments: &[Template]) -> Result<(), AllocError>
-        ensures { (wholes : List (List Piece)) → AllZip IsTemplate arguments.now wholes → OnOk result (IsGrown self.old self.new (piece_with wholes piece) (4096 < length (piece_with wholes piece))) }
+        ensures { (wholes : List (List Piece)) → AllZip IsTemplate arguments.now wholes
+            → OnOk result (IsGrown self.old self.new (piece_with wholes piece)
+            (4096 < length (piece_with wholes piece))) }
     {
         match piece {
             Piece::Parameter(index) => match arguments.get(index) {
@@ -98,7 +101,8 @@ impl Template {
     /// Marks what has grown by more than an application may have since that length.
     fn bound(&mut self, start: usize)
         ensures pieces { self.new.pieces ≡ self.old.pieces }
-        ensures is_oversized { self.new.is_oversized ≡ (self.old.is_oversized || nat_lt (4096 + start) (length self.old.pieces.items)) }
+        ensures is_oversized { self.new.is_oversized
+            ≡ (self.old.is_oversized || nat_lt (4096 + start) (length self.old.pieces.items)) }
     {
         let most = start.saturating_add(MAX_SIZE);
         self.is_oversized = self.is_oversized || most < self.pieces.len();
@@ -106,7 +110,9 @@ impl Template {
 
     /// Appends the body of a function with the arguments in the places of the parameters.
     fn put_body(&mut self, body: &[Piece], arguments: &[Template]) -> Result<(), AllocError>
-        ensures { (wholes : List (List Piece)) → AllZip IsTemplate arguments.now wholes → OnOk result (IsGrown self.old self.new (pieces_with wholes body.now) (4096 < length (pieces_with wholes body.now))) }
+        ensures { (wholes : List (List Piece)) → AllZip IsTemplate arguments.now wholes
+            → OnOk result (IsGrown self.old self.new (pieces_with wholes body.now)
+            (4096 < length (pieces_with wholes body.now))) }
     {
         let start = self.pieces.len();
         for piece in body {
@@ -125,7 +131,10 @@ impl Template {
         function: &Function,
         arguments: &[Template],
     ) -> Result<(), AllocError>
-        ensures { (s : Sense) (wholes : List (List Piece)) → IsKept function.now s → AllZip IsTemplate arguments.now wholes → OnOk result (IsGrown self.old self.new (pieces_with wholes (postfix s.formula)) (4096 < length (pieces_with wholes (postfix s.formula)))) }
+        ensures { (s : Sense) (wholes : List (List Piece)) → IsKept function.now s
+            → AllZip IsTemplate arguments.now wholes
+            → OnOk result (IsGrown self.old self.new (pieces_with wholes (postfix s.formula))
+            (4096 < length (pieces_with wholes (postfix s.formula)))) }
     {
         if function.is_oversized {
             self.is_oversized = true;

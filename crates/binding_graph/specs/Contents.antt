@@ -19,7 +19,8 @@ pub record BodyContent : Type 0 where
 
 pub data RoleContent : Type 0 where
   Group : (recursive : Bool) (bodies : List BodyContent) → RoleContent
-  Check : (negated : Bool) (word : CheckWord) (code : CodeContent) (flag : Option (List ℕ)) → RoleContent
+  Check : (negated : Bool) (word : CheckWord) (code : CodeContent) (flag : Option (List ℕ))
+      → RoleContent
   Silent : RoleContent
 
 abbrev pub code_content : Code → CodeContent

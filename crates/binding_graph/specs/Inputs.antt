@@ -1,5 +1,5 @@
--- The names of other items that expressions use, the latest first: a name's index is the number of those behind it,
--- so it stays the same as more are used.
+-- The names of other items that expressions use, the latest first: a name's index is the number of
+-- those behind it, so it stays the same as more are used.
 use Rattle.std.specs.Prelude.{◌≡◌, ℕ, ◌==◌, nat_le, List, [], ◌∷◌, length, map, reverse, if◌then◌else◌, Option, Some, None, is_some, get_or}
 use Rattle.binding_kinds.specs.declared.scope.Input.{Input}
 use Rattle.binding_kinds.specs.declared.scope.Used.{Used}

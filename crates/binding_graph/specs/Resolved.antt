@@ -17,24 +17,30 @@ use Rattle.binding_graph.specs.Inputs.{inputs_of}
 use Rattle.binding_graph.specs.Usages.{Usage, with_values, with_functions, with_all_values, with_all_functions, usages_after}
 use Rattle.binding_graph.specs.Meaning.{IsCode}
 
--- The bodies are those of the bindings, each with its steps. Places among the inputs are counted as the inputs are
--- first used, in the order of the text.
-abbrev pub AreBodies : List Sense → List Usage → List Naming → ℕ → List Used → List Bound → List Body → Type 0
+-- The bodies are those of the bindings, each with its steps. Places among the inputs are counted as
+-- the inputs are first used, in the order of the text.
+abbrev pub AreBodies : List Sense → List Usage → List Naming → ℕ → List Used → List Bound
+    → List Body → Type 0
 AreBodies ss us names from vs [] [] = Unit {0}
 AreBodies ss us names from vs [] (r ∷ rs) = ⊥
 AreBodies ss us names from vs (b ∷ bs) [] = ⊥
 AreBodies ss us names from vs (b ∷ bs) (r ∷ rs) =
     let used = with_values us names [] from b.body vs in
-    (r.name ≡ b.name) × IsCode ss names used from b.body r.code × AreBodies ss us names from used bs rs
+    (r.name ≡ b.name) × IsCode ss names used from b.body r.code
+    × AreBodies ss us names from used bs rs
 
-abbrev pub IsGroupRole : List Sense → List Usage → List Naming → ℕ → Bool → List Bound → Role → Type 0
-IsGroupRole ss us names from recursive bs (roles.Group r bodies) = (r ≡ recursive) × AreBodies ss us names from [] bs bodies.items
+abbrev pub IsGroupRole : List Sense → List Usage → List Naming → ℕ → Bool → List Bound → Role
+    → Type 0
+IsGroupRole ss us names from recursive bs (roles.Group r bodies) =
+    (r ≡ recursive) × AreBodies ss us names from [] bs bodies.items
 IsGroupRole ss us names from recursive bs (roles.Check c) = ⊥
 IsGroupRole ss us names from recursive bs roles.Silent = ⊥
 
-abbrev pub IsCheckRole : List Sense → List Usage → List Naming → ℕ → CheckWord → Term → Role → Type 0
+abbrev pub IsCheckRole : List Sense → List Usage → List Naming → ℕ → CheckWord → Term → Role
+    → Type 0
 IsCheckRole ss us names from w e (roles.Group r bodies) = ⊥
-IsCheckRole ss us names from w e (roles.Check c) = (c.word ≡ w) × IsCode ss names (with_values us names [] from e []) from e c.code
+IsCheckRole ss us names from w e (roles.Check c) =
+    (c.word ≡ w) × IsCode ss names (with_values us names [] from e []) from e c.code
 IsCheckRole ss us names from w e roles.Silent = ⊥
 
 -- it uses these names, and applies these functions, the latest first
@@ -42,20 +48,29 @@ pub record HasUses (r : ResolvedItem) (vs : List Used) (fs : List ℕ) : Type 0 
   pub inputs : r.inputs.items ≡ inputs_of vs
   pub functions : r.functions.items ≡ reverse fs
 
--- an item, whose bodies see those names, where the names of the item itself have the slot `from` and those behind it
-abbrev pub IsGroup : List Sense → List Usage → List Naming → ℕ → Bool → List Bound → ResolvedItem → Type 0
+-- an item, whose bodies see those names, where the names of the item itself have the slot `from`
+-- and those behind it
+abbrev pub IsGroup : List Sense → List Usage → List Naming → ℕ → Bool → List Bound → ResolvedItem
+    → Type 0
 IsGroup ss us names from recursive bs r =
-    IsGroupRole ss us names from recursive bs r.role × HasUses r (with_all_values us names from bs []) (with_all_functions us names bs [])
+    IsGroupRole ss us names from recursive bs r.role
+    × HasUses r (with_all_values us names from bs []) (with_all_functions us names bs [])
 
-abbrev pub IsCheck : List Sense → List Usage → List Naming → ℕ → CheckWord → Term → ResolvedItem → Type 0
-IsCheck ss us names from w e r = IsCheckRole ss us names from w e r.role × HasUses r (with_values us names [] from e []) (with_functions us names [] e [])
+abbrev pub IsCheck : List Sense → List Usage → List Naming → ℕ → CheckWord → Term → ResolvedItem
+    → Type 0
+IsCheck ss us names from w e r =
+    IsCheckRole ss us names from w e r.role
+    × HasUses r (with_values us names [] from e []) (with_functions us names [] e [])
 
 -- what a function's body uses and applies, which sees the names before the item
 abbrev pub IsFunction : List Usage → List Naming → ℕ → List (List ℕ) → Term → ResolvedItem → Type 0
-IsFunction us names from ps body r = (r.role ≡ roles.Silent) × HasUses r (with_values us names ps from body []) (with_functions us names ps body [])
+IsFunction us names from ps body r =
+    (r.role ≡ roles.Silent)
+    × HasUses r (with_values us names ps from body []) (with_functions us names ps body [])
 
 -- The bodies of a recursive group see its names, and other bodies the names before the item.
-abbrev pub IsResolvedIn : List Sense → List Usage → List Naming → List Naming → ℕ → Clause → ResolvedItem → Type 0
+abbrev pub IsResolvedIn : List Sense → List Usage → List Naming → List Naming → ℕ → Clause
+    → ResolvedItem → Type 0
 IsResolvedIn ss us names own from (Group true bs) r = IsGroup ss us own from true bs r
 IsResolvedIn ss us names own from (Group false bs) r = IsGroup ss us names from false bs r
 IsResolvedIn ss us names own from (Check w e) r = IsCheck ss us names from w e r
@@ -63,13 +78,15 @@ IsResolvedIn ss us names own from Mute r = (r.role ≡ roles.Silent) × HasUses 
 IsResolvedIn ss us names own from (Defined n ps b) r = IsFunction us names from ps b r
 
 -- each item after those names, of which the first has the number `at`, is resolved
-abbrev pub AreResolved : List Sense → List Usage → List Naming → ℕ → List Clause → List ResolvedItem → Type 0
+abbrev pub AreResolved : List Sense → List Usage → List Naming → ℕ → List Clause → List ResolvedItem
+    → Type 0
 AreResolved ss us names at [] [] = Unit {0}
 AreResolved ss us names at [] (r ∷ rs) = ⊥
 AreResolved ss us names at (c ∷ cs) [] = ⊥
 AreResolved ss us names at (c ∷ cs) (r ∷ rs) =
     IsResolvedIn ss us names (extended ss names at c) (length names) c r
-    × AreResolved (senses_after ss names c) (usages_after us names at c) (extended ss names at c) (at + 1) cs rs
+    × AreResolved (senses_after ss names c) (usages_after us names at c) (extended ss names at c)
+    (at + 1) cs rs
 
 -- this is a check or a flag: negated or not, and with that name where it is a flag
 abbrev pub IsLabelled : Bool → Option (List ℕ) → Role → Type 0

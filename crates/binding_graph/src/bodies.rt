@@ -38,10 +38,24 @@ fn read_code(
     term: &Expression,
     work: &mut Workspace,
 ) -> Result<Reading, AllocError>
-    ensures judged { let names = reverse (map entry_of sight.now.entries.now) in (senses : List Sense) → AreKept sight.now.functions.now senses → sight.now.parameters.now ≡ [] → IfOk result (λ r. IsVerdict senses names sight.now.from false (term_of term.now) r.judged) }
+    ensures judged { let names = reverse (map entry_of sight.now.entries.now) in
+        (senses : List Sense) → AreKept sight.now.functions.now senses
+        → sight.now.parameters.now ≡ []
+        → IfOk result (λ r.
+        IsVerdict senses names sight.now.from false (term_of term.now) r.judged) }
     ensures kind { IfOk result (λ r. r.code.kind ≡ r.judged.kind) }
-    ensures code { let names = reverse (map entry_of sight.now.entries.now) in (senses : List Sense) → AreKept sight.now.functions.now senses → AreSound senses → sight.now.parameters.now ≡ [] → IsIndexed work.old.uses.indexes.items work.old.uses.values.items → IsFit senses names (term_of term.now) → IfOk result (λ r. IsCode senses names (reverse work.new.uses.values.items) sight.now.from (term_of term.now) r.code) }
-    ensures uses { let us = map usage_of sight.now.functions.now in let names = reverse (map entry_of sight.now.entries.now) in let ps = sight.now.parameters.now in OnOk result (AreNoted (with_values us names ps sight.now.from (term_of term.now)) (with_functions us names ps (term_of term.now)) work.old.uses work.new.uses) }
+    ensures code { let names = reverse (map entry_of sight.now.entries.now) in
+        (senses : List Sense) → AreKept sight.now.functions.now senses → AreSound senses
+        → sight.now.parameters.now ≡ []
+        → IsIndexed work.old.uses.indexes.items work.old.uses.values.items
+        → IsFit senses names (term_of term.now)
+        → IfOk result (λ r. IsCode senses names (reverse work.new.uses.values.items) sight.now.from
+        (term_of term.now) r.code) }
+    ensures uses { let us = map usage_of sight.now.functions.now in
+        let names = reverse (map entry_of sight.now.entries.now) in
+        let ps = sight.now.parameters.now in
+        OnOk result (AreNoted (with_values us names ps sight.now.from (term_of term.now))
+        (with_functions us names ps (term_of term.now)) work.old.uses work.new.uses) }
 {
     work.template.clear();
     let judged = read_term(
@@ -68,7 +82,8 @@ fn push_body(
     name: &Name,
     code: Code,
 ) -> Result<(), AllocError>
-    ensures { OnOk result (bodies.new.items ≡ bodies.old.items ++ (record { name = name.now; code = code }) ∷ []) }
+    ensures { OnOk result (bodies.new.items
+        ≡ bodies.old.items ++ (record { name = name.now; code = code }) ∷ []) }
 {
     bodies.push(Body {
         name: name.copied(alloc)?,
@@ -85,10 +100,29 @@ pub fn read_bodies(
     group: &[Binding],
     work: &mut Workspace,
 ) -> Result<Result<Vec<Body>, ModelFault>, AllocError>
-    ensures fault { let names = reverse (map entry_of sight.now.entries.now) in (senses : List Sense) → AreKept sight.now.functions.now senses → sight.now.parameters.now ≡ [] → IfOk result (λ r. fault_of r ≡ first_in senses names sight.now.from recursive [] (map bound_of group.now)) }
-    ensures named { let names = reverse (map entry_of sight.now.entries.now) in (senses : List Sense) → AreKept sight.now.functions.now senses → sight.now.parameters.now ≡ [] → IfOk result (λ r. IfOk r (λ v. AreNamed senses names (map bound_of group.now) v.items)) }
-    ensures bodies { let us = map usage_of sight.now.functions.now in let names = reverse (map entry_of sight.now.entries.now) in (senses : List Sense) → AreKept sight.now.functions.now senses → AreSound senses → AreKnown names → sight.now.parameters.now ≡ [] → IsIndexed work.old.uses.indexes.items work.old.uses.values.items → IfOk result (λ r. IfOk r (λ v. AreBodies senses us names sight.now.from (reverse work.old.uses.values.items) (map bound_of group.now) v.items)) }
-    ensures uses { let us = map usage_of sight.now.functions.now in let names = reverse (map entry_of sight.now.entries.now) in sight.now.parameters.now ≡ [] → IfOk result (λ r. IfOk r (λ v. AreNoted (with_all_values us names sight.now.from (map bound_of group.now)) (with_all_functions us names (map bound_of group.now)) work.old.uses work.new.uses)) }
+    ensures fault { let names = reverse (map entry_of sight.now.entries.now) in
+        (senses : List Sense) → AreKept sight.now.functions.now senses
+        → sight.now.parameters.now ≡ []
+        → IfOk result (λ r. fault_of r
+        ≡ first_in senses names sight.now.from recursive [] (map bound_of group.now)) }
+    ensures named { let names = reverse (map entry_of sight.now.entries.now) in
+        (senses : List Sense) → AreKept sight.now.functions.now senses
+        → sight.now.parameters.now ≡ []
+        → IfOk result (λ r. IfOk r (λ v. AreNamed senses names (map bound_of group.now) v.items)) }
+    ensures bodies { let us = map usage_of sight.now.functions.now in
+        let names = reverse (map entry_of sight.now.entries.now) in
+        (senses : List Sense) → AreKept sight.now.functions.now senses → AreSound senses
+        → AreKnown names → sight.now.parameters.now ≡ []
+        → IsIndexed work.old.uses.indexes.items work.old.uses.values.items
+        → IfOk result (λ r. IfOk r (λ v. AreBodies senses us names sight.now.from
+        (reverse work.old.uses.values.items) (map bound_of group.now) v.items)) }
+    ensures uses { let us = map usage_of sight.now.functions.now in
+        let names = reverse (map entry_of sight.now.entries.now) in
+        sight.now.parameters.now ≡ []
+        → IfOk result (λ r. IfOk r (λ v. AreNoted
+        (with_all_values us names sight.now.from (map bound_of group.now))
+        (with_all_functions us names (map bound_of group.now)) work.old.uses
+        work.new.uses)) }
 {
     let mut bodies = Vec::with_capacity(alloc, group.len())?;
     for (index, binding) in group.iter().enumerate() {
@@ -109,7 +143,11 @@ pub fn group_item(
     bodies: Vec<Body>,
     uses: &Uses,
 ) -> Result<ResolvedItem, AllocError>
-    ensures { (senses : List Sense) (us : List Usage) (names : List Naming) (from : ℕ) (bounds : List Bound) → AreBodies senses us names from [] bounds bodies.items → reverse uses.now.values.items ≡ with_all_values us names from bounds [] → reverse uses.now.functions.items ≡ with_all_functions us names bounds [] → IfOk result (IsGroup senses us names from recursive bounds) }
+    ensures { (senses : List Sense) (us : List Usage) (names : List Naming) (from : ℕ)
+        (bounds : List Bound) → AreBodies senses us names from [] bounds bodies.items
+        → reverse uses.now.values.items ≡ with_all_values us names from bounds []
+        → reverse uses.now.functions.items ≡ with_all_functions us names bounds []
+        → IfOk result (IsGroup senses us names from recursive bounds) }
 {
     let (inputs, functions) = copied_lists(alloc, &uses.values, &uses.functions)?;
     Ok(ResolvedItem {
@@ -121,7 +159,8 @@ pub fn group_item(
 
 /// The first fault of a check or a flag whose body is judged so.
 fn check_fault(check: &Check, body: Judged) -> Option<ModelFault>
-    ensures { result ≡ or_else (unless (takes_body check.now.word body.kind) ModelFault.Kind) body.fault }
+    ensures { result
+        ≡ or_else (unless (takes_body check.now.word body.kind) ModelFault.Kind) body.fault }
 {
     let here = unless(takes_body(check.word, body.kind), ModelFault::Kind);
     or_else(here, body.fault)
@@ -135,8 +174,21 @@ pub fn read_check(
     flag: Option<Name>,
     work: &mut Workspace,
 ) -> Result<Result<ResolvedItem, ModelFault>, AllocError>
-    ensures fault { let names = reverse (map entry_of sight.now.entries.now) in (senses : List Sense) → AreKept sight.now.functions.now senses → sight.now.parameters.now ≡ [] → IfOk result (λ r. fault_of r ≡ or_else (unless (takes_body check.now.word (kind_in senses names (term_of check.now.body))) ModelFault.Kind) (first_within senses names sight.now.from false (term_of check.now.body))) }
-    ensures item { let us = map usage_of sight.now.functions.now in let names = reverse (map entry_of sight.now.entries.now) in (senses : List Sense) → AreKept sight.now.functions.now senses → AreSound senses → AreKnown names → sight.now.parameters.now ≡ [] → IfOk result (λ r. IfOk r (λ x. IsCheck senses us names sight.now.from check.now.word (term_of check.now.body) x)) }
+    ensures fault { let names = reverse (map entry_of sight.now.entries.now) in
+        (senses : List Sense) → AreKept sight.now.functions.now senses
+        → sight.now.parameters.now ≡ []
+        → IfOk result (λ r. fault_of r
+        ≡ or_else
+        (unless
+        (takes_body check.now.word (kind_in senses names (term_of check.now.body)))
+        ModelFault.Kind)
+        (first_within senses names sight.now.from false (term_of check.now.body))) }
+    ensures item { let us = map usage_of sight.now.functions.now in
+        let names = reverse (map entry_of sight.now.entries.now) in
+        (senses : List Sense) → AreKept sight.now.functions.now senses → AreSound senses
+        → AreKnown names → sight.now.parameters.now ≡ []
+        → IfOk result (λ r. IfOk r (λ x. IsCheck senses us names sight.now.from check.now.word
+        (term_of check.now.body) x)) }
     ensures label { IfOk result (λ r. IfOk r (λ x. IsLabelled check.now.negated flag x.role)) }
 {
     work.uses.clear();

@@ -26,7 +26,8 @@ pub fn declare_own(
     item: usize,
     group: &[Binding],
 ) -> Result<(), AllocError>
-    ensures { OnOk result (reverse (map entry_of entries.new.items) ≡ with_own (reverse (map entry_of entries.old.items)) item 0 (map bound_of group.now)) }
+    ensures { OnOk result (reverse (map entry_of entries.new.items)
+        ≡ with_own (reverse (map entry_of entries.old.items)) item 0 (map bound_of group.now)) }
 {
     for (position, binding) in group.iter().enumerate() {
         entries.push(Entry {
@@ -47,7 +48,10 @@ pub fn declare_all(
     item: usize,
     bodies: &[Body],
 ) -> Result<(), AllocError>
-    ensures { (senses : List Sense) (outer : List Naming) (bounds : List Bound) → AreNamed senses outer bounds bodies.now → OnOk result (reverse (map entry_of entries.new.items) ≡ with_all senses outer (reverse (map entry_of entries.old.items)) item 0 bounds) }
+    ensures { (senses : List Sense) (outer : List Naming) (bounds : List Bound)
+        → AreNamed senses outer bounds bodies.now
+        → OnOk result (reverse (map entry_of entries.new.items)
+        ≡ with_all senses outer (reverse (map entry_of entries.old.items)) item 0 bounds) }
 {
     for (position, body) in bodies.iter().enumerate() {
         entries.push(Entry {
@@ -66,8 +70,16 @@ fn add_function(
     name: &Name,
     function: Function,
 ) -> Result<(), AllocError>
-    ensures functions { OnOk result (scope.new.functions.items ≡ scope.old.functions.items ++ function ∷ []) }
-    ensures entries { OnOk result (scope.new.entries.items ≡ scope.old.entries.items ++ (record { name = name.now; kind = Kind.OfAny; binder = Binder.Applicable (length scope.old.functions.items) }) ∷ []) }
+    ensures functions { OnOk result (scope.new.functions.items
+        ≡ scope.old.functions.items ++ function ∷ []) }
+    ensures entries { OnOk result (scope.new.entries.items
+        ≡ scope.old.entries.items
+        ++ (record {
+          name = name.now;
+          kind = Kind.OfAny;
+          binder = Binder.Applicable (length scope.old.functions.items);
+        })
+        ∷ []) }
 {
     let binder = Binder::Applicable(scope.functions.len());
     scope.functions.push(function)?;
@@ -88,10 +100,26 @@ pub fn declare_function(
     parameters: &[Name],
     body: &Expression,
 ) -> Result<Option<ModelFault>, AllocError>
-    ensures fault { (senses : List Sense) → AreKept scope.old.functions.items senses → IfOk result (λ f. f ≡ or_else (of_parameters [] parameters.now) (first_of_body senses (reverse (map entry_of scope.old.entries.items)) parameters.now (term_of body.now))) }
-    ensures names { (senses : List Sense) → AreKept scope.old.functions.items senses → IfOk result (λ f. f ≡ None → reverse (map entry_of scope.new.entries.items) ≡ extended senses (reverse (map entry_of scope.old.entries.items)) index (Defined name.now parameters.now (term_of body.now))) }
-    ensures functions { (senses : List Sense) → AreKept scope.old.functions.items senses → IfOk result (λ f. f ≡ None → AreKept scope.new.functions.items (senses_after senses (reverse (map entry_of scope.old.entries.items)) (Defined name.now parameters.now (term_of body.now)))) }
-    ensures usages { IfOk result (λ f. f ≡ None → map usage_of scope.new.functions.items ≡ usages_after (map usage_of scope.old.functions.items) (reverse (map entry_of scope.old.entries.items)) index (Defined name.now parameters.now (term_of body.now))) }
+    ensures fault { (senses : List Sense) → AreKept scope.old.functions.items senses
+        → IfOk result (λ f. f
+        ≡ or_else (of_parameters [] parameters.now) (first_of_body senses
+        (reverse (map entry_of scope.old.entries.items)) parameters.now
+        (term_of body.now))) }
+    ensures names { (senses : List Sense) → AreKept scope.old.functions.items senses
+        → IfOk result (λ f. f ≡ None
+        → reverse (map entry_of scope.new.entries.items)
+        ≡ extended senses (reverse (map entry_of scope.old.entries.items)) index
+        (Defined name.now parameters.now (term_of body.now))) }
+    ensures functions { (senses : List Sense) → AreKept scope.old.functions.items senses
+        → IfOk result (λ f. f ≡ None
+        → AreKept scope.new.functions.items (senses_after senses
+        (reverse (map entry_of scope.old.entries.items))
+        (Defined name.now parameters.now (term_of body.now)))) }
+    ensures usages { IfOk result (λ f. f ≡ None
+        → map usage_of scope.new.functions.items
+        ≡ usages_after (map usage_of scope.old.functions.items)
+        (reverse (map entry_of scope.old.entries.items)) index
+        (Defined name.now parameters.now (term_of body.now))) }
 {
     let fault = parameter_fault(parameters);
     if fault.is_some() {

@@ -33,9 +33,20 @@ pub fn read_whole(
     item: usize,
     body: &Expression,
 ) -> Result<ReadFunction, AllocError>
-    ensures fault { let names = reverse (map entry_of sight.now.entries.now) in (senses : List Sense) → AreKept sight.now.functions.now senses → IfOk result (λ r. r.fault ≡ first_of_body senses names sight.now.parameters.now (term_of body.now)) }
-    ensures usage { let us = map usage_of sight.now.functions.now in let names = reverse (map entry_of sight.now.entries.now) in sight.now.from ≡ length names → IfOk result (λ r. usage_of r.function ≡ usage_of_function us names item sight.now.parameters.now (term_of body.now)) }
-    ensures kept { let names = reverse (map entry_of sight.now.entries.now) in (senses : List Sense) → AreKept sight.now.functions.now senses → length sight.now.parameters.now ≤ 8 → IfOk result (λ r. IsKept r.function (sense_of_function senses names sight.now.parameters.now (term_of body.now))) }
+    ensures fault { let names = reverse (map entry_of sight.now.entries.now) in
+        (senses : List Sense) → AreKept sight.now.functions.now senses
+        → IfOk result (λ r. r.fault
+        ≡ first_of_body senses names sight.now.parameters.now (term_of body.now)) }
+    ensures usage { let us = map usage_of sight.now.functions.now in
+        let names = reverse (map entry_of sight.now.entries.now) in
+        sight.now.from ≡ length names
+        → IfOk result (λ r. usage_of r.function
+        ≡ usage_of_function us names item sight.now.parameters.now (term_of body.now)) }
+    ensures kept { let names = reverse (map entry_of sight.now.entries.now) in
+        (senses : List Sense) → AreKept sight.now.functions.now senses
+        → length sight.now.parameters.now ≤ 8
+        → IfOk result (λ r. IsKept r.function (sense_of_function senses names
+        sight.now.parameters.now (term_of body.now))) }
 {
     let mut template = Template::new(alloc);
     let mut uses = Uses::new(alloc);
@@ -65,8 +76,16 @@ pub fn read_function(
     item: usize,
     body: &Expression,
 ) -> Result<Function, AllocError>
-    ensures usage { let us = map usage_of sight.now.functions.now in let names = reverse (map entry_of sight.now.entries.now) in sight.now.from ≡ length names → IfOk result (λ f. usage_of f ≡ usage_of_function us names item sight.now.parameters.now (term_of body.now)) }
-    ensures kept { let names = reverse (map entry_of sight.now.entries.now) in (senses : List Sense) → AreKept sight.now.functions.now senses → length sight.now.parameters.now ≤ 8 → IfOk result (λ f. IsKept f (sense_of_function senses names sight.now.parameters.now (term_of body.now))) }
+    ensures usage { let us = map usage_of sight.now.functions.now in
+        let names = reverse (map entry_of sight.now.entries.now) in
+        sight.now.from ≡ length names
+        → IfOk result (λ f. usage_of f
+        ≡ usage_of_function us names item sight.now.parameters.now (term_of body.now)) }
+    ensures kept { let names = reverse (map entry_of sight.now.entries.now) in
+        (senses : List Sense) → AreKept sight.now.functions.now senses
+        → length sight.now.parameters.now ≤ 8
+        → IfOk result (λ f. IsKept f (sense_of_function senses names sight.now.parameters.now
+        (term_of body.now))) }
 {
     Ok(read_whole(alloc, sight, item, body)?.function)
 }

@@ -41,8 +41,22 @@ impl Given {
         function: &Function,
         template: &mut Template,
     ) -> Result<BodyPart, AllocError>
-        ensures part { (ss : List Sense) (names : List Naming) (ps : List (List ℕ)) (rows : ℕ) (under : Bool) (x : List ℕ) (xs : List Expression) (s : Sense) → IsKept function.now s → length xs ≡ s.arity → sense_seen ss names ps (length xs) x ≡ Some s → of_applied (parameter_of (reverse ps) x) (sense_of ss (length xs) (found names x)) ≡ None → AreBodyParts ss names ps rows under s.is_under xs self.body → IfOk result (IsBodyPart ss names ps rows under (Apply x (gathered (map term_of xs)))) }
-        ensures template { (ss : List Sense) (names : List Naming) (ps : List (List ℕ)) (x : List ℕ) (xs : List Expression) (s : Sense) → IsKept function.now s → sense_seen ss names ps (length xs) x ≡ Some s → AllZip IsTemplate self.templates.items (map (λ e. pieces_in ss names ps (term_of e)) xs) → OnOk result (IsGrown template.old template.new (pieces_in ss names ps (Apply x (gathered (map term_of xs)))) (HasLarge ss names ps (Apply x (gathered (map term_of xs))))) }
+        ensures part { (ss : List Sense) (names : List Naming) (ps : List (List ℕ)) (rows : ℕ)
+            (under : Bool) (x : List ℕ) (xs : List Expression) (s : Sense)
+            → IsKept function.now s → length xs ≡ s.arity
+            → sense_seen ss names ps (length xs) x ≡ Some s
+            → of_applied (parameter_of (reverse ps) x) (sense_of ss (length xs) (found names x))
+            ≡ None → AreBodyParts ss names ps rows under s.is_under xs self.body
+            → IfOk result (IsBodyPart ss names ps rows under
+            (Apply x (gathered (map term_of xs)))) }
+        ensures template { (ss : List Sense) (names : List Naming) (ps : List (List ℕ)) (x : List ℕ)
+            (xs : List Expression) (s : Sense) → IsKept function.now s
+            → sense_seen ss names ps (length xs) x ≡ Some s
+            → AllZip IsTemplate self.templates.items
+            (map (λ e. pieces_in ss names ps (term_of e)) xs)
+            → OnOk result (IsGrown template.old template.new
+            (pieces_in ss names ps (Apply x (gathered (map term_of xs))))
+            (HasLarge ss names ps (Apply x (gathered (map term_of xs))))) }
     {
         let Given { body, templates } = self;
         template.put_function(function, &templates)?;
@@ -73,9 +87,18 @@ fn inside_name(
     template: &mut Template,
     uses: &mut Uses,
 ) -> Result<BodyPart, AllocError>
-    ensures part { let names = reverse (map entry_of sight.now.entries.now) in (senses : List Sense) → IfOk result (IsBodyPart senses names sight.now.parameters.now columns.rows under (Atom name.now)) }
-    ensures template { OnOk result (IsGrown template.old template.new (postfix (named_formula (parameter_of (reverse sight.now.parameters.now) name.now) (found (reverse (map entry_of sight.now.entries.now)) name.now))) ⊥) }
-    ensures uses { OnOk result (AreNoted (λ vs. with_meaning vs sight.now.from (parameter_of (reverse sight.now.parameters.now) name.now) (found (reverse (map entry_of sight.now.entries.now)) name.now)) (λ fs. fs) uses.old uses.new) }
+    ensures part { let names = reverse (map entry_of sight.now.entries.now) in
+        (senses : List Sense)
+        → IfOk result (IsBodyPart senses names sight.now.parameters.now columns.rows under
+        (Atom name.now)) }
+    ensures template { OnOk result (IsGrown template.old template.new
+        (postfix (named_formula (parameter_of (reverse sight.now.parameters.now) name.now)
+        (found (reverse (map entry_of sight.now.entries.now)) name.now))) ⊥) }
+    ensures uses { OnOk result (AreNoted
+        (λ vs. with_meaning vs sight.now.from
+        (parameter_of (reverse sight.now.parameters.now) name.now)
+        (found (reverse (map entry_of sight.now.entries.now)) name.now))
+        (λ fs. fs) uses.old uses.new) }
 {
     match note_name(sight, name, template, uses)? {
         Named::Parameter(index) => BodyPart::parameter(columns, under, index),
@@ -93,9 +116,23 @@ fn inside_arguments(
     arguments: &[Expression],
     uses: &mut Uses,
 ) -> Result<Given, AllocError>
-    ensures body { let names = reverse (map entry_of sight.now.entries.now) in (senses : List Sense) (s : Sense) → AreKept sight.now.functions.now senses → IsKept function.now s → length arguments.now ≡ s.arity → IfOk result (λ g. AreBodyParts senses names sight.now.parameters.now columns.rows under s.is_under arguments.now g.body) }
-    ensures templates { let names = reverse (map entry_of sight.now.entries.now) in (senses : List Sense) → AreKept sight.now.functions.now senses → IfOk result (λ g. AllZip IsTemplate g.templates.items (map (λ e. pieces_in senses names sight.now.parameters.now (term_of e)) arguments.now)) }
-    ensures uses { let us = map usage_of sight.now.functions.now in let names = reverse (map entry_of sight.now.entries.now) in let ps = sight.now.parameters.now in OnOk result (AreNoted (with_values_among us names ps sight.now.from (gathered (map term_of arguments.now))) (with_functions_among us names ps (gathered (map term_of arguments.now))) uses.old uses.new) }
+    ensures body { let names = reverse (map entry_of sight.now.entries.now) in
+        (senses : List Sense) (s : Sense) → AreKept sight.now.functions.now senses
+        → IsKept function.now s → length arguments.now ≡ s.arity
+        → IfOk result (λ g. AreBodyParts senses names sight.now.parameters.now columns.rows under
+        s.is_under arguments.now g.body) }
+    ensures templates { let names = reverse (map entry_of sight.now.entries.now) in
+        (senses : List Sense) → AreKept sight.now.functions.now senses
+        → IfOk result (λ g. AllZip IsTemplate g.templates.items (map
+        (λ e. pieces_in senses names sight.now.parameters.now (term_of e))
+        arguments.now)) }
+    ensures uses { let us = map usage_of sight.now.functions.now in
+        let names = reverse (map entry_of sight.now.entries.now) in
+        let ps = sight.now.parameters.now in
+        OnOk result (AreNoted
+        (with_values_among us names ps sight.now.from (gathered (map term_of arguments.now)))
+        (with_functions_among us names ps (gathered (map term_of arguments.now))) uses.old
+        uses.new) }
 {
     let mut body = BodyArguments::none(columns)?;
     let mut templates = Vec::new(columns.alloc);
@@ -120,9 +157,25 @@ fn inside_applied(
     template: &mut Template,
     uses: &mut Uses,
 ) -> Result<BodyPart, AllocError>
-    ensures part { let names = reverse (map entry_of sight.now.entries.now) in (senses : List Sense) → AreKept sight.now.functions.now senses → IfOk result (IsBodyPart senses names sight.now.parameters.now columns.rows under (Apply name.now (gathered (map term_of arguments.now)))) }
-    ensures template { let names = reverse (map entry_of sight.now.entries.now) in (senses : List Sense) → AreKept sight.now.functions.now senses → OnOk result (IsGrown template.old template.new (pieces_in senses names sight.now.parameters.now (Apply name.now (gathered (map term_of arguments.now)))) (HasLarge senses names sight.now.parameters.now (Apply name.now (gathered (map term_of arguments.now))))) }
-    ensures uses { let us = map usage_of sight.now.functions.now in let names = reverse (map entry_of sight.now.entries.now) in let ps = sight.now.parameters.now in OnOk result (AreNoted (with_values us names ps sight.now.from (Apply name.now (gathered (map term_of arguments.now)))) (with_functions us names ps (Apply name.now (gathered (map term_of arguments.now)))) uses.old uses.new) }
+    ensures part { let names = reverse (map entry_of sight.now.entries.now) in
+        (senses : List Sense) → AreKept sight.now.functions.now senses
+        → IfOk result (IsBodyPart senses names sight.now.parameters.now columns.rows under
+        (Apply name.now (gathered (map term_of arguments.now)))) }
+    ensures template { let names = reverse (map entry_of sight.now.entries.now) in
+        (senses : List Sense) → AreKept sight.now.functions.now senses
+        → OnOk result (IsGrown template.old template.new
+        (pieces_in senses names sight.now.parameters.now
+        (Apply name.now (gathered (map term_of arguments.now))))
+        (HasLarge senses names sight.now.parameters.now
+        (Apply name.now (gathered (map term_of arguments.now))))) }
+    ensures uses { let us = map usage_of sight.now.functions.now in
+        let names = reverse (map entry_of sight.now.entries.now) in
+        let ps = sight.now.parameters.now in
+        OnOk result (AreNoted
+        (with_values us names ps sight.now.from
+        (Apply name.now (gathered (map term_of arguments.now))))
+        (with_functions us names ps (Apply name.now (gathered (map term_of arguments.now))))
+        uses.old uses.new) }
 {
     match applied(sight, name, arguments.len()) {
         Err(fault) => {
@@ -151,9 +204,20 @@ pub fn read_inside(
     template: &mut Template,
     uses: &mut Uses,
 ) -> Result<BodyPart, AllocError>
-    ensures part { let names = reverse (map entry_of sight.now.entries.now) in (senses : List Sense) → AreKept sight.now.functions.now senses → IfOk result (IsBodyPart senses names sight.now.parameters.now columns.rows under (term_of term.now)) }
-    ensures template { let names = reverse (map entry_of sight.now.entries.now) in (senses : List Sense) → AreKept sight.now.functions.now senses → OnOk result (IsGrown template.old template.new (pieces_in senses names sight.now.parameters.now (term_of term.now)) (HasLarge senses names sight.now.parameters.now (term_of term.now))) }
-    ensures uses { let us = map usage_of sight.now.functions.now in let names = reverse (map entry_of sight.now.entries.now) in let ps = sight.now.parameters.now in OnOk result (AreNoted (with_values us names ps sight.now.from (term_of term.now)) (with_functions us names ps (term_of term.now)) uses.old uses.new) }
+    ensures part { let names = reverse (map entry_of sight.now.entries.now) in
+        (senses : List Sense) → AreKept sight.now.functions.now senses
+        → IfOk result (IsBodyPart senses names sight.now.parameters.now columns.rows under
+        (term_of term.now)) }
+    ensures template { let names = reverse (map entry_of sight.now.entries.now) in
+        (senses : List Sense) → AreKept sight.now.functions.now senses
+        → OnOk result (IsGrown template.old template.new
+        (pieces_in senses names sight.now.parameters.now (term_of term.now))
+        (HasLarge senses names sight.now.parameters.now (term_of term.now))) }
+    ensures uses { let us = map usage_of sight.now.functions.now in
+        let names = reverse (map entry_of sight.now.entries.now) in
+        let ps = sight.now.parameters.now in
+        OnOk result (AreNoted (with_values us names ps sight.now.from (term_of term.now))
+        (with_functions us names ps (term_of term.now)) uses.old uses.new) }
 {
     match term {
         Expression::Named(name) => inside_name(columns, sight, under, name, template, uses),

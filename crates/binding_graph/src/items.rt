@@ -30,8 +30,13 @@ use text_values::{Binding, Expression, Item, ModelText, Name, PREDEFINED};
 /// by index, or want of memory.
 pub fn resolve(alloc: Global, text: &ModelText) -> Result<Resolved, ResolveFault>
     ensures whole { IfOk result (λ r. vec_len r.items ≡ vec_len text.now.items) }
-    ensures fault { let names = reverse (map naming_of PREDEFINED) in let clauses = map clause_of text.now.items.items in MatchResult result (λ _. HasNoFault [] names 0 clauses) (λ e. IfRefused e (λ k. FirstFault [] names 0 clauses k)) }
-    ensures items { let names = reverse (map naming_of PREDEFINED) in let clauses = map clause_of text.now.items.items in IfOk result (λ r. AreResolved [] [] names 0 clauses r.items.items) }
+    ensures fault { let names = reverse (map naming_of PREDEFINED) in
+        let clauses = map clause_of text.now.items.items in
+        MatchResult result (λ _. HasNoFault [] names 0 clauses)
+        (λ e. IfRefused e (λ k. FirstFault [] names 0 clauses k)) }
+    ensures items { let names = reverse (map naming_of PREDEFINED) in
+        let clauses = map clause_of text.now.items.items in
+        IfOk result (λ r. AreResolved [] [] names 0 clauses r.items.items) }
     ensures labels { IfOk result (λ r. AreLabelled text.now.items.items r.items.items) }
 {
     match resolve_all(alloc, &text.items) {
@@ -46,9 +51,13 @@ fn resolve_all(
     alloc: Global,
     items: &[Item],
 ) -> Result<Result<Vec<ResolvedItem>, ModelFault>, AllocError>
-    ensures fault { let names = reverse (map naming_of PREDEFINED) in IfOk result (λ r. MatchResult r (λ _. HasNoFault [] names 0 (map clause_of items.now)) (λ k. FirstFault [] names 0 (map clause_of items.now) k)) }
+    ensures fault { let names = reverse (map naming_of PREDEFINED) in
+        IfOk result (λ r. MatchResult r (λ _. HasNoFault [] names 0 (map clause_of items.now))
+        (λ k. FirstFault [] names 0 (map clause_of items.now) k)) }
     ensures whole { IfOk result (λ r. IfOk r (λ v. vec_len v ≡ length items.now)) }
-    ensures items { let names = reverse (map naming_of PREDEFINED) in IfOk result (λ r. IfOk r (λ v. AreResolved [] [] names 0 (map clause_of items.now) v.items)) }
+    ensures items { let names = reverse (map naming_of PREDEFINED) in
+        IfOk result (λ r.
+        IfOk r (λ v. AreResolved [] [] names 0 (map clause_of items.now) v.items)) }
     ensures labels { IfOk result (λ r. IfOk r (λ v. AreLabelled items.now v.items)) }
 {
     let mut scope = Scope::new(alloc)?;
@@ -62,9 +71,17 @@ fn find_items(
     work: &mut Workspace,
     items: &[Item],
 ) -> Result<(Vec<ResolvedItem>, Option<ModelFault>), AllocError>
-    ensures fault { (senses : List Sense) → AreKept scope.old.functions.items senses → IfOk result (λ r. r.1 ≡ first senses (reverse (map entry_of scope.old.entries.items)) 0 (map clause_of items.now)) }
+    ensures fault { (senses : List Sense) → AreKept scope.old.functions.items senses
+        → IfOk result (λ r. r.1
+        ≡ first senses (reverse (map entry_of scope.old.entries.items)) 0
+        (map clause_of items.now)) }
     ensures whole { IfOk result (λ r. r.1 ≡ None → vec_len r.0 ≡ length items.now) }
-    ensures items { let names = reverse (map entry_of scope.old.entries.items) in (senses : List Sense) → AreKept scope.old.functions.items senses → AreSound senses → AreKnown names → IfOk result (λ r. r.1 ≡ None → AreResolved senses (map usage_of scope.old.functions.items) names 0 (map clause_of items.now) r.0.items) }
+    ensures items { let names = reverse (map entry_of scope.old.entries.items) in
+        (senses : List Sense) → AreKept scope.old.functions.items senses → AreSound senses
+        → AreKnown names
+        → IfOk result (λ r. r.1 ≡ None
+        → AreResolved senses (map usage_of scope.old.functions.items) names 0
+        (map clause_of items.now) r.0.items) }
     ensures labels { IfOk result (λ r. r.1 ≡ None → AreLabelled items.now r.0.items) }
 {
     let mut resolved = Vec::with_capacity(alloc, items.len())?;
@@ -83,9 +100,18 @@ pub fn resolve_items(
     scope: &mut Scope,
     items: &[Item],
 ) -> Result<Result<Vec<ResolvedItem>, ModelFault>, AllocError>
-    ensures fault { (senses : List Sense) → AreKept scope.old.functions.items senses → IfOk result (λ r. MatchResult r (λ _. HasNoFault senses (reverse (map entry_of scope.old.entries.items)) 0 (map clause_of items.now)) (λ k. FirstFault senses (reverse (map entry_of scope.old.entries.items)) 0 (map clause_of items.now) k)) }
+    ensures fault { (senses : List Sense) → AreKept scope.old.functions.items senses
+        → IfOk result (λ r. MatchResult r
+        (λ _. HasNoFault senses (reverse (map entry_of scope.old.entries.items)) 0
+        (map clause_of items.now))
+        (λ k. FirstFault senses (reverse (map entry_of scope.old.entries.items)) 0
+        (map clause_of items.now) k)) }
     ensures whole { IfOk result (λ r. IfOk r (λ v. vec_len v ≡ length items.now)) }
-    ensures items { let names = reverse (map entry_of scope.old.entries.items) in (senses : List Sense) → AreKept scope.old.functions.items senses → AreSound senses → AreKnown names → IfOk result (λ r. IfOk r (λ v. AreResolved senses (map usage_of scope.old.functions.items) names 0 (map clause_of items.now) v.items)) }
+    ensures items { let names = reverse (map entry_of scope.old.entries.items) in
+        (senses : List Sense) → AreKept scope.old.functions.items senses → AreSound senses
+        → AreKnown names
+        → IfOk result (λ r. IfOk r (λ v. AreResolved senses (map usage_of scope.old.functions.items)
+        names 0 (map clause_of items.now) v.items)) }
     ensures labels { IfOk result (λ r. IfOk r (λ v. AreLabelled items.now v.items)) }
 {
     let mut work = Workspace::new(alloc);
@@ -112,11 +138,28 @@ fn read_item(
     index: usize,
     item: &Item,
 ) -> Result<Result<ResolvedItem, ModelFault>, AllocError>
-    ensures fault { let names = reverse (map entry_of scope.old.entries.items) in (senses : List Sense) → AreKept scope.old.functions.items senses → IfOk result (λ r. fault_of r ≡ first_of_item senses names index (clause_of item.now)) }
-    ensures names { let names = reverse (map entry_of scope.old.entries.items) in (senses : List Sense) → AreKept scope.old.functions.items senses → IfOk result (λ r. IfOk r (λ x. reverse (map entry_of scope.new.entries.items) ≡ extended senses names index (clause_of item.now))) }
-    ensures functions { let names = reverse (map entry_of scope.old.entries.items) in (senses : List Sense) → AreKept scope.old.functions.items senses → IfOk result (λ r. IfOk r (λ x. AreKept scope.new.functions.items (senses_after senses names (clause_of item.now)))) }
-    ensures usages { let names = reverse (map entry_of scope.old.entries.items) in IfOk result (λ r. IfOk r (λ x. map usage_of scope.new.functions.items ≡ usages_after (map usage_of scope.old.functions.items) names index (clause_of item.now))) }
-    ensures resolved { let us = map usage_of scope.old.functions.items in let names = reverse (map entry_of scope.old.entries.items) in (senses : List Sense) → AreKept scope.old.functions.items senses → AreSound senses → AreKnown names → IfOk result (λ r. IfOk r (λ x. IsResolvedIn senses us names (extended senses names index (clause_of item.now)) (length names) (clause_of item.now) x)) }
+    ensures fault { let names = reverse (map entry_of scope.old.entries.items) in
+        (senses : List Sense) → AreKept scope.old.functions.items senses
+        → IfOk result (λ r. fault_of r ≡ first_of_item senses names index (clause_of item.now)) }
+    ensures names { let names = reverse (map entry_of scope.old.entries.items) in
+        (senses : List Sense) → AreKept scope.old.functions.items senses
+        → IfOk result (λ r. IfOk r (λ x. reverse (map entry_of scope.new.entries.items)
+        ≡ extended senses names index (clause_of item.now))) }
+    ensures functions { let names = reverse (map entry_of scope.old.entries.items) in
+        (senses : List Sense) → AreKept scope.old.functions.items senses
+        → IfOk result (λ r. IfOk r (λ x. AreKept scope.new.functions.items
+        (senses_after senses names (clause_of item.now)))) }
+    ensures usages { let names = reverse (map entry_of scope.old.entries.items) in
+        IfOk result (λ r. IfOk r (λ x. map usage_of scope.new.functions.items
+        ≡ usages_after (map usage_of scope.old.functions.items) names index
+        (clause_of item.now))) }
+    ensures resolved { let us = map usage_of scope.old.functions.items in
+        let names = reverse (map entry_of scope.old.entries.items) in
+        (senses : List Sense) → AreKept scope.old.functions.items senses → AreSound senses
+        → AreKnown names
+        → IfOk result (λ r. IfOk r (λ x. IsResolvedIn senses us names
+        (extended senses names index (clause_of item.now)) (length names)
+        (clause_of item.now) x)) }
     ensures label { IfOk result (λ r. IfOk r (λ x. IsLabelledAs item.now x)) }
 {
     match item {
@@ -180,10 +223,22 @@ fn read_plain(
     index: usize,
     group: &[Binding],
 ) -> Result<Result<ResolvedItem, ModelFault>, AllocError>
-    ensures fault { let names = reverse (map entry_of scope.old.entries.items) in (senses : List Sense) → AreKept scope.old.functions.items senses → IfOk result (λ r. fault_of r ≡ first_of_item senses names index (Group false (map bound_of group.now))) }
-    ensures names { let names = reverse (map entry_of scope.old.entries.items) in (senses : List Sense) → AreKept scope.old.functions.items senses → IfOk result (λ r. IfOk r (λ x. reverse (map entry_of scope.new.entries.items) ≡ with_all senses names names index 0 (map bound_of group.now))) }
+    ensures fault { let names = reverse (map entry_of scope.old.entries.items) in
+        (senses : List Sense) → AreKept scope.old.functions.items senses
+        → IfOk result (λ r. fault_of r
+        ≡ first_of_item senses names index (Group false (map bound_of group.now))) }
+    ensures names { let names = reverse (map entry_of scope.old.entries.items) in
+        (senses : List Sense) → AreKept scope.old.functions.items senses
+        → IfOk result (λ r. IfOk r (λ x. reverse (map entry_of scope.new.entries.items)
+        ≡ with_all senses names names index 0 (map bound_of group.now))) }
     ensures functions { OnOk result (scope.new.functions.items ≡ scope.old.functions.items) }
-    ensures item { let us = map usage_of scope.old.functions.items in let names = reverse (map entry_of scope.old.entries.items) in (senses : List Sense) → AreKept scope.old.functions.items senses → AreSound senses → AreKnown names → IfOk result (λ r. IfOk r (λ x. IsResolvedIn senses us names (extended senses names index (Group false (map bound_of group.now))) (length names) (Group false (map bound_of group.now)) x)) }
+    ensures item { let us = map usage_of scope.old.functions.items in
+        let names = reverse (map entry_of scope.old.entries.items) in
+        (senses : List Sense) → AreKept scope.old.functions.items senses → AreSound senses
+        → AreKnown names
+        → IfOk result (λ r. IfOk r (λ x. IsResolvedIn senses us names
+        (extended senses names index (Group false (map bound_of group.now)))
+        (length names) (Group false (map bound_of group.now)) x)) }
 {
     let sight = sight_of(scope, scope.entries.len());
     work.uses.clear();
@@ -204,10 +259,21 @@ fn read_recursive(
     index: usize,
     group: &[Binding],
 ) -> Result<Result<ResolvedItem, ModelFault>, AllocError>
-    ensures fault { let names = reverse (map entry_of scope.old.entries.items) in (senses : List Sense) → AreKept scope.old.functions.items senses → IfOk result (λ r. fault_of r ≡ first_of_item senses names index (Group true (map bound_of group.now))) }
-    ensures names { let names = reverse (map entry_of scope.old.entries.items) in OnOk result (reverse (map entry_of scope.new.entries.items) ≡ with_own names index 0 (map bound_of group.now)) }
+    ensures fault { let names = reverse (map entry_of scope.old.entries.items) in
+        (senses : List Sense) → AreKept scope.old.functions.items senses
+        → IfOk result (λ r. fault_of r
+        ≡ first_of_item senses names index (Group true (map bound_of group.now))) }
+    ensures names { let names = reverse (map entry_of scope.old.entries.items) in
+        OnOk result (reverse (map entry_of scope.new.entries.items)
+        ≡ with_own names index 0 (map bound_of group.now)) }
     ensures functions { OnOk result (scope.new.functions.items ≡ scope.old.functions.items) }
-    ensures item { let us = map usage_of scope.old.functions.items in let names = reverse (map entry_of scope.old.entries.items) in (senses : List Sense) → AreKept scope.old.functions.items senses → AreSound senses → AreKnown names → IfOk result (λ r. IfOk r (λ x. IsResolvedIn senses us names (extended senses names index (Group true (map bound_of group.now))) (length names) (Group true (map bound_of group.now)) x)) }
+    ensures item { let us = map usage_of scope.old.functions.items in
+        let names = reverse (map entry_of scope.old.entries.items) in
+        (senses : List Sense) → AreKept scope.old.functions.items senses → AreSound senses
+        → AreKnown names
+        → IfOk result (λ r. IfOk r (λ x. IsResolvedIn senses us names
+        (extended senses names index (Group true (map bound_of group.now)))
+        (length names) (Group true (map bound_of group.now)) x)) }
 {
     let from = scope.entries.len();
     declare_own(alloc, &mut scope.entries, index, group)?;
@@ -228,11 +294,32 @@ fn read_defined(
     parameters: &[Name],
     body: &Expression,
 ) -> Result<Result<ResolvedItem, ModelFault>, AllocError>
-    ensures fault { let names = reverse (map entry_of scope.old.entries.items) in (senses : List Sense) → AreKept scope.old.functions.items senses → IfOk result (λ r. fault_of r ≡ first_of_item senses names index (Defined name.now parameters.now (term_of body.now))) }
-    ensures names { let names = reverse (map entry_of scope.old.entries.items) in (senses : List Sense) → AreKept scope.old.functions.items senses → IfOk result (λ r. IfOk r (λ x. reverse (map entry_of scope.new.entries.items) ≡ extended senses names index (Defined name.now parameters.now (term_of body.now)))) }
-    ensures functions { let names = reverse (map entry_of scope.old.entries.items) in (senses : List Sense) → AreKept scope.old.functions.items senses → IfOk result (λ r. IfOk r (λ x. AreKept scope.new.functions.items (senses_after senses names (Defined name.now parameters.now (term_of body.now))))) }
-    ensures usages { let names = reverse (map entry_of scope.old.entries.items) in IfOk result (λ r. IfOk r (λ x. map usage_of scope.new.functions.items ≡ usages_after (map usage_of scope.old.functions.items) names index (Defined name.now parameters.now (term_of body.now)))) }
-    ensures resolved { let us = map usage_of scope.old.functions.items in let names = reverse (map entry_of scope.old.entries.items) in (senses : List Sense) → IfOk result (λ r. IfOk r (λ x. IsResolvedIn senses us names (extended senses names index (Defined name.now parameters.now (term_of body.now))) (length names) (Defined name.now parameters.now (term_of body.now)) x)) }
+    ensures fault { let names = reverse (map entry_of scope.old.entries.items) in
+        (senses : List Sense) → AreKept scope.old.functions.items senses
+        → IfOk result (λ r. fault_of r
+        ≡ first_of_item senses names index
+        (Defined name.now parameters.now (term_of body.now))) }
+    ensures names { let names = reverse (map entry_of scope.old.entries.items) in
+        (senses : List Sense) → AreKept scope.old.functions.items senses
+        → IfOk result (λ r. IfOk r (λ x. reverse (map entry_of scope.new.entries.items)
+        ≡ extended senses names index
+        (Defined name.now parameters.now (term_of body.now)))) }
+    ensures functions { let names = reverse (map entry_of scope.old.entries.items) in
+        (senses : List Sense) → AreKept scope.old.functions.items senses
+        → IfOk result (λ r. IfOk r (λ x. AreKept scope.new.functions.items (senses_after senses
+        names (Defined name.now parameters.now (term_of body.now))))) }
+    ensures usages { let names = reverse (map entry_of scope.old.entries.items) in
+        IfOk result (λ r. IfOk r (λ x. map usage_of scope.new.functions.items
+        ≡ usages_after (map usage_of scope.old.functions.items) names index
+        (Defined name.now parameters.now (term_of body.now)))) }
+    ensures resolved { let us = map usage_of scope.old.functions.items in
+        let names = reverse (map entry_of scope.old.entries.items) in
+        (senses : List Sense)
+        → IfOk result (λ r. IfOk r (λ x. IsResolvedIn senses us names
+        (extended senses names index
+        (Defined name.now parameters.now (term_of body.now)))
+        (length names)
+        (Defined name.now parameters.now (term_of body.now)) x)) }
 {
     match declare_function(alloc, scope, index, name, parameters, body)? {
         Some(fault) => Ok(Err(fault)),
@@ -243,8 +330,12 @@ fn read_defined(
 /// What the latest function uses.
 fn lower_function(alloc: Global, scope: &Scope) -> Result<ResolvedItem, AllocError>
     ensures role { IfOk result (λ r. r.role ≡ Role.Silent) }
-    ensures inputs { (us : List Usage) (u : Usage) → map usage_of scope.now.functions.items ≡ us ++ u ∷ [] → IfOk result (λ r. r.inputs.items ≡ map (λ v. v.input) u.values) }
-    ensures functions { (us : List Usage) (u : Usage) → map usage_of scope.now.functions.items ≡ us ++ u ∷ [] → IfOk result (λ r. r.functions.items ≡ u.functions) }
+    ensures inputs { (us : List Usage) (u : Usage)
+        → map usage_of scope.now.functions.items ≡ us ++ u ∷ []
+        → IfOk result (λ r. r.inputs.items ≡ map (λ v. v.input) u.values) }
+    ensures functions { (us : List Usage) (u : Usage)
+        → map usage_of scope.now.functions.items ≡ us ++ u ∷ []
+        → IfOk result (λ r. r.functions.items ≡ u.functions) }
 {
     match scope.functions.last() {
         None => Ok(silent(alloc)),

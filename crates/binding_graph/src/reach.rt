@@ -10,7 +10,8 @@ use std::alloc::{AllocError, Global};
 /// The names of other items that the item at that index uses, each once, in the order of first
 /// use: none where no item stands there.
 pub fn inputs_of(resolved: &Resolved, item: usize) -> &[Input]
-    ensures inputs { (other : ResolvedItem) → item < vec_len resolved.now.items → result.now ≡ (get_or resolved.now.items.items item other).inputs.items }
+    ensures inputs { (other : ResolvedItem) → item < vec_len resolved.now.items
+        → result.now ≡ (get_or resolved.now.items.items item other).inputs.items }
     ensures none { vec_len resolved.now.items ≤ item → result.now ≡ [] }
 {
     if item >= resolved.items.len() {
@@ -31,7 +32,8 @@ fn is_check(item: &ResolvedItem) -> bool
 
 // Marks an item, which then waits, unless it is marked.
 fn mark(marks: &mut Vec<bool>, waiting: &mut Vec<usize>, item: usize) -> Result<(), AllocError>
-    ensures { OnOk result (Marks (λ k. item ≡ k) marks.old.items marks.new.items waiting.old.items waiting.new.items) }
+    ensures { OnOk result (Marks (λ k. item ≡ k) marks.old.items marks.new.items waiting.old.items
+        waiting.new.items) }
 {
     if item < marks.len() && !marks[item] {
         marks[item] = true;
@@ -45,7 +47,8 @@ fn mark_inputs(
     waiting: &mut Vec<usize>,
     inputs: &[Input],
 ) -> Result<(), AllocError>
-    ensures { OnOk result (Marks (Contains (map (λ i. i.item) inputs.now)) marks.old.items marks.new.items waiting.old.items waiting.new.items) }
+    ensures { OnOk result (Marks (Contains (map (λ i. i.item) inputs.now)) marks.old.items
+        marks.new.items waiting.old.items waiting.new.items) }
 {
     for input in inputs {
         mark(marks, waiting, input.item)?;
@@ -58,7 +61,8 @@ fn mark_functions(
     waiting: &mut Vec<usize>,
     functions: &[usize],
 ) -> Result<(), AllocError>
-    ensures { OnOk result (Marks (Contains functions.now) marks.old.items marks.new.items waiting.old.items waiting.new.items) }
+    ensures { OnOk result (Marks (Contains functions.now) marks.old.items marks.new.items
+        waiting.old.items waiting.new.items) }
 {
     for function in functions {
         mark(marks, waiting, *function)?;
@@ -73,7 +77,8 @@ fn mark_used(
     items: &[ResolvedItem],
     index: usize,
 ) -> Result<(), AllocError>
-    ensures { OnOk result (Marks (UsesAt items.now index) marks.old.items marks.new.items waiting.old.items waiting.new.items) }
+    ensures { OnOk result (Marks (UsesAt items.now index) marks.old.items marks.new.items
+        waiting.old.items waiting.new.items) }
 {
     if let Some(item) = items.get(index) {
         mark_inputs(marks, waiting, &item.inputs)?;
@@ -88,7 +93,8 @@ fn mark_checks(
     waiting: &mut Vec<usize>,
     items: &[ResolvedItem],
 ) -> Result<(), AllocError>
-    ensures { OnOk result (Marks (IsCheckAt items.now) marks.old.items marks.new.items waiting.old.items waiting.new.items) }
+    ensures { OnOk result (Marks (IsCheckAt items.now) marks.old.items marks.new.items
+        waiting.old.items waiting.new.items) }
 {
     for (index, item) in items.iter().enumerate() {
         if is_check(item) {
@@ -104,7 +110,8 @@ fn spread(
     waiting: &mut Vec<usize>,
     items: &[ResolvedItem],
 ) -> Result<(), AllocError>
-    ensures { OnOk result (AreSpread items.now marks.old.items waiting.old.items → AreSpread items.now marks.new.items []) }
+    ensures { OnOk result (AreSpread items.now marks.old.items waiting.old.items
+        → AreSpread items.now marks.new.items []) }
 {
     while let Some(index) = waiting.pop() {
         mark_used(marks, waiting, items, index)?;

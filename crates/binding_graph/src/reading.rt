@@ -53,7 +53,13 @@ fn put_application(
     template: &mut Template,
 ) -> Result<Judged, AllocError>
     ensures judged { IfOk result (λ j. j ≡ judged) }
-    ensures template { (ss : List Sense) (names : List Naming) (ps : List (List ℕ)) (x : List ℕ) (xs : List Expression) (s : Sense) → IsKept function.now s → sense_seen ss names ps (length xs) x ≡ Some s → AllZip IsTemplate arguments.items (map (λ e. pieces_in ss names ps (term_of e)) xs) → OnOk result (IsGrown template.old template.new (pieces_in ss names ps (Apply x (gathered (map term_of xs)))) (HasLarge ss names ps (Apply x (gathered (map term_of xs))))) }
+    ensures template { (ss : List Sense) (names : List Naming) (ps : List (List ℕ)) (x : List ℕ)
+        (xs : List Expression) (s : Sense) → IsKept function.now s
+        → sense_seen ss names ps (length xs) x ≡ Some s
+        → AllZip IsTemplate arguments.items (map (λ e. pieces_in ss names ps (term_of e)) xs)
+        → OnOk result (IsGrown template.old template.new
+        (pieces_in ss names ps (Apply x (gathered (map term_of xs))))
+        (HasLarge ss names ps (Apply x (gathered (map term_of xs))))) }
 {
     template.put_function(function, &arguments)?;
     Ok(judged)
@@ -76,9 +82,17 @@ pub fn note_name(
     template: &mut Template,
     uses: &mut Uses,
 ) -> Result<Named, AllocError>
-    ensures named { IfOk result (λ n. n ≡ named_of (parameter_of (reverse sight.now.parameters.now) name.now) (found (reverse (map entry_of sight.now.entries.now)) name.now)) }
-    ensures template { OnOk result (IsGrown template.old template.new (postfix (named_formula (parameter_of (reverse sight.now.parameters.now) name.now) (found (reverse (map entry_of sight.now.entries.now)) name.now))) ⊥) }
-    ensures uses { OnOk result (AreNoted (λ vs. with_meaning vs sight.now.from (parameter_of (reverse sight.now.parameters.now) name.now) (found (reverse (map entry_of sight.now.entries.now)) name.now)) (λ fs. fs) uses.old uses.new) }
+    ensures named { IfOk result (λ n. n
+        ≡ named_of (parameter_of (reverse sight.now.parameters.now) name.now)
+        (found (reverse (map entry_of sight.now.entries.now)) name.now)) }
+    ensures template { OnOk result (IsGrown template.old template.new
+        (postfix (named_formula (parameter_of (reverse sight.now.parameters.now) name.now)
+        (found (reverse (map entry_of sight.now.entries.now)) name.now))) ⊥) }
+    ensures uses { OnOk result (AreNoted
+        (λ vs. with_meaning vs sight.now.from
+        (parameter_of (reverse sight.now.parameters.now) name.now)
+        (found (reverse (map entry_of sight.now.entries.now)) name.now))
+        (λ fs. fs) uses.old uses.new) }
 {
     match sight.named(name) {
         Named::Parameter(index) => {
@@ -101,9 +115,18 @@ fn read_name(
     template: &mut Template,
     uses: &mut Uses,
 ) -> Result<Judged, AllocError>
-    ensures judged { let o = found (reverse (map entry_of sight.now.entries.now)) name.now in sight.now.parameters.now ≡ [] → IfOk result (λ j. (j.kind ≡ kind_found o) × (j.size ≡ 1) × (j.fault ≡ of_name sight.now.from under o)) }
-    ensures template { OnOk result (IsGrown template.old template.new (postfix (named_formula (parameter_of (reverse sight.now.parameters.now) name.now) (found (reverse (map entry_of sight.now.entries.now)) name.now))) ⊥) }
-    ensures uses { OnOk result (AreNoted (λ vs. with_meaning vs sight.now.from (parameter_of (reverse sight.now.parameters.now) name.now) (found (reverse (map entry_of sight.now.entries.now)) name.now)) (λ fs. fs) uses.old uses.new) }
+    ensures judged { let o = found (reverse (map entry_of sight.now.entries.now)) name.now in
+        sight.now.parameters.now ≡ []
+        → IfOk result (λ j. (j.kind ≡ kind_found o) × (j.size ≡ 1)
+        × (j.fault ≡ of_name sight.now.from under o)) }
+    ensures template { OnOk result (IsGrown template.old template.new
+        (postfix (named_formula (parameter_of (reverse sight.now.parameters.now) name.now)
+        (found (reverse (map entry_of sight.now.entries.now)) name.now))) ⊥) }
+    ensures uses { OnOk result (AreNoted
+        (λ vs. with_meaning vs sight.now.from
+        (parameter_of (reverse sight.now.parameters.now) name.now)
+        (found (reverse (map entry_of sight.now.entries.now)) name.now))
+        (λ fs. fs) uses.old uses.new) }
 {
     match note_name(sight, name, template, uses)? {
         Named::Parameter(_) => Ok(judged_sign(Kind::OfAny)),
@@ -114,9 +137,26 @@ fn read_name(
 /// The function that a name with so many arguments stands for. Errors: `Unbound` where nothing
 /// binds the name, `Arity` where it is no function of so many.
 pub fn applied<'a>(sight: &Sight<'a>, name: &Name, count: usize) -> Result<&'a Function, ModelFault>
-    ensures usage { let us = map usage_of sight.now.functions.now in let names = reverse (map entry_of sight.now.entries.now) in MatchResult result (λ f. usage_seen us names sight.now.parameters.now count name.now ≡ Some (usage_of f.now)) (λ k. usage_seen us names sight.now.parameters.now count name.now ≡ None) }
-    ensures sense { let names = reverse (map entry_of sight.now.entries.now) in (senses : List Sense) → AreKept sight.now.functions.now senses → MatchResult result (λ f. (s : Sense) × (sense_seen senses names sight.now.parameters.now count name.now ≡ Some s) × (s.arity ≡ count) × IsKept f.now s) (λ k. (sense_seen senses names sight.now.parameters.now count name.now ≡ None) × (sight.now.parameters.now ≡ [] → sense_of senses count (found names name.now) ≡ Err k)) }
-    ensures fault { let names = reverse (map entry_of sight.now.entries.now) in let p = parameter_of (reverse sight.now.parameters.now) name.now in (senses : List Sense) → AreKept sight.now.functions.now senses → MatchResult result (λ f. of_applied p (sense_of senses count (found names name.now)) ≡ None) (λ k. of_applied p (sense_of senses count (found names name.now)) ≡ Some k) }
+    ensures usage { let us = map usage_of sight.now.functions.now in
+        let names = reverse (map entry_of sight.now.entries.now) in
+        MatchResult result
+        (λ f. usage_seen us names sight.now.parameters.now count name.now ≡ Some (usage_of f.now))
+        (λ k. usage_seen us names sight.now.parameters.now count name.now ≡ None) }
+    ensures sense { let names = reverse (map entry_of sight.now.entries.now) in
+        (senses : List Sense) → AreKept sight.now.functions.now senses
+        → MatchResult result
+        (λ f. (s : Sense)
+        × (sense_seen senses names sight.now.parameters.now count name.now ≡ Some s)
+        × (s.arity ≡ count) × IsKept f.now s)
+        (λ k. (sense_seen senses names sight.now.parameters.now count name.now ≡ None)
+        × (sight.now.parameters.now ≡ []
+        → sense_of senses count (found names name.now) ≡ Err k)) }
+    ensures fault { let names = reverse (map entry_of sight.now.entries.now) in
+        let p = parameter_of (reverse sight.now.parameters.now) name.now in
+        (senses : List Sense) → AreKept sight.now.functions.now senses
+        → MatchResult result
+        (λ f. of_applied p (sense_of senses count (found names name.now)) ≡ None)
+        (λ k. of_applied p (sense_of senses count (found names name.now)) ≡ Some k) }
 {
     match sight.function(name, count) {
         Err(fault) => Err(fault),
@@ -136,7 +176,13 @@ pub fn read_unapplied(
     arguments: &[Expression],
     uses: &mut Uses,
 ) -> Result<(), AllocError>
-    ensures { let us = map usage_of sight.now.functions.now in let names = reverse (map entry_of sight.now.entries.now) in let ps = sight.now.parameters.now in OnOk result (AreNoted (with_values_among us names ps sight.now.from (gathered (map term_of arguments.now))) (with_functions_among us names ps (gathered (map term_of arguments.now))) uses.old uses.new) }
+    ensures { let us = map usage_of sight.now.functions.now in
+        let names = reverse (map entry_of sight.now.entries.now) in
+        let ps = sight.now.parameters.now in
+        OnOk result (AreNoted
+        (with_values_among us names ps sight.now.from (gathered (map term_of arguments.now)))
+        (with_functions_among us names ps (gathered (map term_of arguments.now))) uses.old
+        uses.new) }
 {
     for argument in arguments {
         let mut unused = Template::new(alloc);
@@ -155,9 +201,23 @@ fn read_arguments(
     arguments: &[Expression],
     uses: &mut Uses,
 ) -> Result<Given, AllocError>
-    ensures judged { let names = reverse (map entry_of sight.now.entries.now) in (senses : List Sense) (s : Sense) → AreKept sight.now.functions.now senses → sight.now.parameters.now ≡ [] → IsKept function.now s → length arguments.now ≡ s.arity → IfOk result (λ g. AreJudged senses names sight.now.from under function.now s (gathered (map term_of arguments.now)) g.known) }
-    ensures templates { let names = reverse (map entry_of sight.now.entries.now) in (senses : List Sense) → AreKept sight.now.functions.now senses → IfOk result (λ g. AllZip IsTemplate g.templates.items (map (λ e. pieces_in senses names sight.now.parameters.now (term_of e)) arguments.now)) }
-    ensures uses { let us = map usage_of sight.now.functions.now in let names = reverse (map entry_of sight.now.entries.now) in let ps = sight.now.parameters.now in OnOk result (AreNoted (with_values_among us names ps sight.now.from (gathered (map term_of arguments.now))) (with_functions_among us names ps (gathered (map term_of arguments.now))) uses.old uses.new) }
+    ensures judged { let names = reverse (map entry_of sight.now.entries.now) in
+        (senses : List Sense) (s : Sense) → AreKept sight.now.functions.now senses
+        → sight.now.parameters.now ≡ [] → IsKept function.now s → length arguments.now ≡ s.arity
+        → IfOk result (λ g. AreJudged senses names sight.now.from under function.now s
+        (gathered (map term_of arguments.now)) g.known) }
+    ensures templates { let names = reverse (map entry_of sight.now.entries.now) in
+        (senses : List Sense) → AreKept sight.now.functions.now senses
+        → IfOk result (λ g. AllZip IsTemplate g.templates.items (map
+        (λ e. pieces_in senses names sight.now.parameters.now (term_of e))
+        arguments.now)) }
+    ensures uses { let us = map usage_of sight.now.functions.now in
+        let names = reverse (map entry_of sight.now.entries.now) in
+        let ps = sight.now.parameters.now in
+        OnOk result (AreNoted
+        (with_values_among us names ps sight.now.from (gathered (map term_of arguments.now)))
+        (with_functions_among us names ps (gathered (map term_of arguments.now))) uses.old
+        uses.new) }
 {
     let mut known = Arguments::of(function);
     let mut templates = Vec::new(alloc);
@@ -182,9 +242,26 @@ fn read_applied(
     template: &mut Template,
     uses: &mut Uses,
 ) -> Result<Judged, AllocError>
-    ensures judged { let names = reverse (map entry_of sight.now.entries.now) in (senses : List Sense) → AreKept sight.now.functions.now senses → sight.now.parameters.now ≡ [] → IfOk result (IsVerdict senses names sight.now.from under (Apply name.now (gathered (map term_of arguments.now)))) }
-    ensures template { let names = reverse (map entry_of sight.now.entries.now) in (senses : List Sense) → AreKept sight.now.functions.now senses → OnOk result (IsGrown template.old template.new (pieces_in senses names sight.now.parameters.now (Apply name.now (gathered (map term_of arguments.now)))) (HasLarge senses names sight.now.parameters.now (Apply name.now (gathered (map term_of arguments.now))))) }
-    ensures uses { let us = map usage_of sight.now.functions.now in let names = reverse (map entry_of sight.now.entries.now) in let ps = sight.now.parameters.now in OnOk result (AreNoted (with_values us names ps sight.now.from (Apply name.now (gathered (map term_of arguments.now)))) (with_functions us names ps (Apply name.now (gathered (map term_of arguments.now)))) uses.old uses.new) }
+    ensures judged { let names = reverse (map entry_of sight.now.entries.now) in
+        (senses : List Sense) → AreKept sight.now.functions.now senses
+        → sight.now.parameters.now ≡ []
+        → IfOk result (IsVerdict senses names sight.now.from under
+        (Apply name.now (gathered (map term_of arguments.now)))) }
+    ensures template { let names = reverse (map entry_of sight.now.entries.now) in
+        (senses : List Sense) → AreKept sight.now.functions.now senses
+        → OnOk result (IsGrown template.old template.new
+        (pieces_in senses names sight.now.parameters.now
+        (Apply name.now (gathered (map term_of arguments.now))))
+        (HasLarge senses names sight.now.parameters.now
+        (Apply name.now (gathered (map term_of arguments.now))))) }
+    ensures uses { let us = map usage_of sight.now.functions.now in
+        let names = reverse (map entry_of sight.now.entries.now) in
+        let ps = sight.now.parameters.now in
+        OnOk result (AreNoted
+        (with_values us names ps sight.now.from
+        (Apply name.now (gathered (map term_of arguments.now))))
+        (with_functions us names ps (Apply name.now (gathered (map term_of arguments.now))))
+        uses.old uses.new) }
 {
     match applied(sight, name, arguments.len()) {
         Err(fault) => {
@@ -215,9 +292,20 @@ pub fn read_term(
     template: &mut Template,
     uses: &mut Uses,
 ) -> Result<Judged, AllocError>
-    ensures judged { let names = reverse (map entry_of sight.now.entries.now) in (senses : List Sense) → AreKept sight.now.functions.now senses → sight.now.parameters.now ≡ [] → IfOk result (IsVerdict senses names sight.now.from under (term_of term.now)) }
-    ensures template { let names = reverse (map entry_of sight.now.entries.now) in (senses : List Sense) → AreKept sight.now.functions.now senses → OnOk result (IsGrown template.old template.new (pieces_in senses names sight.now.parameters.now (term_of term.now)) (HasLarge senses names sight.now.parameters.now (term_of term.now))) }
-    ensures uses { let us = map usage_of sight.now.functions.now in let names = reverse (map entry_of sight.now.entries.now) in let ps = sight.now.parameters.now in OnOk result (AreNoted (with_values us names ps sight.now.from (term_of term.now)) (with_functions us names ps (term_of term.now)) uses.old uses.new) }
+    ensures judged { let names = reverse (map entry_of sight.now.entries.now) in
+        (senses : List Sense) → AreKept sight.now.functions.now senses
+        → sight.now.parameters.now ≡ []
+        → IfOk result (IsVerdict senses names sight.now.from under (term_of term.now)) }
+    ensures template { let names = reverse (map entry_of sight.now.entries.now) in
+        (senses : List Sense) → AreKept sight.now.functions.now senses
+        → OnOk result (IsGrown template.old template.new
+        (pieces_in senses names sight.now.parameters.now (term_of term.now))
+        (HasLarge senses names sight.now.parameters.now (term_of term.now))) }
+    ensures uses { let us = map usage_of sight.now.functions.now in
+        let names = reverse (map entry_of sight.now.entries.now) in
+        let ps = sight.now.parameters.now in
+        OnOk result (AreNoted (with_values us names ps sight.now.from (term_of term.now))
+        (with_functions us names ps (term_of term.now)) uses.old uses.new) }
 {
     match term {
         Expression::Named(name) => read_name(sight, under, name, template, uses),

@@ -24,7 +24,8 @@ pub struct Uses {
 /// Makes a table so long that it has that index.
 #[tactic(auto, using(crate::proofs::Indexed::widened))]
 fn widen<T: Copy>(table: &mut Vec<T>, index: usize, none: T) -> Result<(), AllocError>
-    ensures same { OnOk result ((i : ℕ) → get_or table.new.items i none ≡ get_or table.old.items i none) }
+    ensures same { OnOk result ((i : ℕ)
+        → get_or table.new.items i none ≡ get_or table.old.items i none) }
     ensures long { OnOk result (index < vec_len table.new) }
 {
     if index < table.len() {
@@ -77,7 +78,8 @@ impl Uses {
 
     /// The index of the slot among those used, or 0.
     pub fn index_of(&self, slot: usize) -> usize
-        ensures { IsIndexed self.now.indexes.items self.now.values.items → result ≡ unwrap_or (index_of (reverse self.now.values.items) slot) 0 }
+        ensures { IsIndexed self.now.indexes.items self.now.values.items
+            → result ≡ unwrap_or (index_of (reverse self.now.values.items) slot) 0 }
     {
         match self.place_at(slot) {
             Some(index) => index,
@@ -88,8 +90,11 @@ impl Uses {
     /// A name is used, which counts where another item binds it: the names of the item itself
     /// have the slot `from` and those behind it.
     fn add_value(&mut self, from: usize, found: Found) -> Result<(), AllocError>
-        ensures values { IsIndexed self.old.indexes.items self.old.values.items → OnOk result (reverse self.new.values.items ≡ with_found (reverse self.old.values.items) from found) }
-        ensures indexed { IsIndexed self.old.indexes.items self.old.values.items → OnOk result (IsIndexed self.new.indexes.items self.new.values.items) }
+        ensures values { IsIndexed self.old.indexes.items self.old.values.items
+            → OnOk result (reverse self.new.values.items
+            ≡ with_found (reverse self.old.values.items) from found) }
+        ensures indexed { IsIndexed self.old.indexes.items self.old.values.items
+            → OnOk result (IsIndexed self.new.indexes.items self.new.values.items) }
         ensures functions { self.new.functions ≡ self.old.functions }
         ensures applied { self.new.applied ≡ self.old.applied }
     {
@@ -108,8 +113,11 @@ impl Uses {
 
     /// Notes a name at its first use.
     fn note(&mut self, value: Used) -> Result<(), AllocError>
-        ensures values { IsIndexed self.old.indexes.items self.old.values.items → OnOk result (reverse self.new.values.items ≡ noted (reverse self.old.values.items) value) }
-        ensures indexed { IsIndexed self.old.indexes.items self.old.values.items → OnOk result (IsIndexed self.new.indexes.items self.new.values.items) }
+        ensures values { IsIndexed self.old.indexes.items self.old.values.items
+            → OnOk result (reverse self.new.values.items
+            ≡ noted (reverse self.old.values.items) value) }
+        ensures indexed { IsIndexed self.old.indexes.items self.old.values.items
+            → OnOk result (IsIndexed self.new.indexes.items self.new.values.items) }
         ensures functions { self.new.functions ≡ self.old.functions }
         ensures applied { self.new.applied ≡ self.old.applied }
     {
@@ -125,8 +133,11 @@ impl Uses {
 
     /// Notes each of the names at its first use.
     fn note_all(&mut self, values: &[Used]) -> Result<(), AllocError>
-        ensures values { IsIndexed self.old.indexes.items self.old.values.items → OnOk result (reverse self.new.values.items ≡ all_noted (reverse self.old.values.items) values.now) }
-        ensures indexed { IsIndexed self.old.indexes.items self.old.values.items → OnOk result (IsIndexed self.new.indexes.items self.new.values.items) }
+        ensures values { IsIndexed self.old.indexes.items self.old.values.items
+            → OnOk result (reverse self.new.values.items
+            ≡ all_noted (reverse self.old.values.items) values.now) }
+        ensures indexed { IsIndexed self.old.indexes.items self.old.values.items
+            → OnOk result (IsIndexed self.new.indexes.items self.new.values.items) }
         ensures functions { self.new.functions ≡ self.old.functions }
         ensures applied { self.new.applied ≡ self.old.applied }
     {
@@ -148,8 +159,11 @@ impl Uses {
 
     /// Notes the function of that item at its first application.
     fn note_function(&mut self, item: usize) -> Result<(), AllocError>
-        ensures functions { IsListed self.old.applied.items self.old.functions.items → OnOk result (reverse self.new.functions.items ≡ with_item (reverse self.old.functions.items) item) }
-        ensures listed { IsListed self.old.applied.items self.old.functions.items → OnOk result (IsListed self.new.applied.items self.new.functions.items) }
+        ensures functions { IsListed self.old.applied.items self.old.functions.items
+            → OnOk result (reverse self.new.functions.items
+            ≡ with_item (reverse self.old.functions.items) item) }
+        ensures listed { IsListed self.old.applied.items self.old.functions.items
+            → OnOk result (IsListed self.new.applied.items self.new.functions.items) }
         ensures values { self.new.values ≡ self.old.values }
         ensures indexes { self.new.indexes ≡ self.old.indexes }
     {
@@ -164,8 +178,11 @@ impl Uses {
 
     /// Notes the functions of those items, each at its first application.
     fn note_functions(&mut self, items: &[usize]) -> Result<(), AllocError>
-        ensures functions { IsListed self.old.applied.items self.old.functions.items → OnOk result (reverse self.new.functions.items ≡ with_items (reverse self.old.functions.items) items.now) }
-        ensures listed { IsListed self.old.applied.items self.old.functions.items → OnOk result (IsListed self.new.applied.items self.new.functions.items) }
+        ensures functions { IsListed self.old.applied.items self.old.functions.items
+            → OnOk result (reverse self.new.functions.items
+            ≡ with_items (reverse self.old.functions.items) items.now) }
+        ensures listed { IsListed self.old.applied.items self.old.functions.items
+            → OnOk result (IsListed self.new.applied.items self.new.functions.items) }
         ensures values { self.new.values ≡ self.old.values }
         ensures indexes { self.new.indexes ≡ self.old.indexes }
     {
@@ -178,8 +195,11 @@ impl Uses {
     /// A name without arguments that is no parameter and was looked for is used, where it is bound.
     /// Errors: want of memory.
     pub fn add_name(&mut self, from: usize, found: Option<Found>) -> Result<(), AllocError>
-        ensures values { IsIndexed self.old.indexes.items self.old.values.items → OnOk result (reverse self.new.values.items ≡ with_name (reverse self.old.values.items) from found) }
-        ensures indexed { IsIndexed self.old.indexes.items self.old.values.items → OnOk result (IsIndexed self.new.indexes.items self.new.values.items) }
+        ensures values { IsIndexed self.old.indexes.items self.old.values.items
+            → OnOk result (reverse self.new.values.items
+            ≡ with_name (reverse self.old.values.items) from found) }
+        ensures indexed { IsIndexed self.old.indexes.items self.old.values.items
+            → OnOk result (IsIndexed self.new.indexes.items self.new.values.items) }
         ensures functions { self.new.functions ≡ self.old.functions }
         ensures applied { self.new.applied ≡ self.old.applied }
     {
@@ -192,10 +212,17 @@ impl Uses {
     /// The function is applied, and so is what its body applies and used what its body uses.
     /// Errors: want of memory.
     pub fn add_function(&mut self, function: &Function) -> Result<(), AllocError>
-        ensures values { IsIndexed self.old.indexes.items self.old.values.items → OnOk result (reverse self.new.values.items ≡ all_noted (reverse self.old.values.items) function.now.values.items) }
-        ensures functions { IsListed self.old.applied.items self.old.functions.items → OnOk result (reverse self.new.functions.items ≡ with_items (reverse self.old.functions.items) (function.now.item ∷ function.now.functions.items)) }
-        ensures indexed { IsIndexed self.old.indexes.items self.old.values.items → OnOk result (IsIndexed self.new.indexes.items self.new.values.items) }
-        ensures listed { IsListed self.old.applied.items self.old.functions.items → OnOk result (IsListed self.new.applied.items self.new.functions.items) }
+        ensures values { IsIndexed self.old.indexes.items self.old.values.items
+            → OnOk result (reverse self.new.values.items
+            ≡ all_noted (reverse self.old.values.items) function.now.values.items) }
+        ensures functions { IsListed self.old.applied.items self.old.functions.items
+            → OnOk result (reverse self.new.functions.items
+            ≡ with_items (reverse self.old.functions.items)
+            (function.now.item ∷ function.now.functions.items)) }
+        ensures indexed { IsIndexed self.old.indexes.items self.old.values.items
+            → OnOk result (IsIndexed self.new.indexes.items self.new.values.items) }
+        ensures listed { IsListed self.old.applied.items self.old.functions.items
+            → OnOk result (IsListed self.new.applied.items self.new.functions.items) }
     {
         self.note_function(function.item)?;
         self.note_functions(&function.functions)?;

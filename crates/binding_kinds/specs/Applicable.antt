@@ -18,7 +18,8 @@ applied_binder arity_of count (binders.Predefined p) = Err faults.Arity
 applied_binder arity_of count (binders.Bound i) = Err faults.Arity
 applied_binder arity_of count (binders.Applicable f) = applied f count (arity_of f)
 
--- The function that a name with so many arguments stands for, given how many parameters each function has.
+-- The function that a name with so many arguments stands for, given how many parameters each
+-- function has.
 abbrev pub applied_found : (ℕ → Option ℕ) → ℕ → Option Found → Result ℕ ModelFault
 applied_found arity_of count None = Err faults.Unbound
 applied_found arity_of count (Some f) = applied_binder arity_of count f.binder

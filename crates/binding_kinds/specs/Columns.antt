@@ -13,16 +13,23 @@ use Rattle.binding_kinds.specs.Combinations.{digit, number_of, has_any, unknown}
 use Rattle.binding_kinds.specs.Senses.{Sense}
 use Rattle.binding_kinds.specs.Functions.{kind_of_body, clashes_in, kinds_of_body, clash_among}
 
--- The list has an entry for each of the first n combinations of so many kinds, which is made of its kinds.
-pub record IsFilled {X : Type 0} (other : X) (arity n : ℕ) (made : List Kind → X) (column : List X) : Type 0 where
+-- The list has an entry for each of the first n combinations of so many kinds, which is made of its
+-- kinds.
+pub record IsFilled {X : Type 0} (other : X) (arity n : ℕ) (made : List Kind → X) (column : List X)
+    : Type 0 where
   pub long : length column ≡ n
-  pub entries : (kinds : List Kind) → length kinds ≡ arity → number_of kinds < n → get_or column (number_of kinds) other ≡ made kinds
+  pub entries : (kinds : List Kind) → length kinds ≡ arity → number_of kinds < n
+      → get_or column (number_of kinds) other ≡ made kinds
 
 abbrev pub plain : Kind → Signature
 plain k = record { kind = k; clashes = false }
 
 abbrev pub of_infix : Infix → Signature → Signature → Signature
-of_infix op s t = record { kind = joined op s.kind t.kind; clashes = s.clashes || t.clashes || not (takes op s.kind t.kind) }
+of_infix op s t =
+    record {
+      kind = joined op s.kind t.kind;
+      clashes = s.clashes || t.clashes || not (takes op s.kind t.kind);
+    }
 
 abbrev pub of_postfix : Signature → Signature
 of_postfix s = record { kind = marked s.kind; clashes = s.clashes || not (is_relation s.kind) }
@@ -36,7 +43,11 @@ none_gathered = record { combination = 0; clashes = false }
 
 -- with the argument at that index
 abbrev pub with_one : ℕ → Gathered → Signature → Gathered
-with_one index g s = record { combination = g.combination + digit s.kind * 3 ^ index; clashes = g.clashes || s.clashes }
+with_one index g s =
+    record {
+      combination = g.combination + digit s.kind * 3 ^ index;
+      clashes = g.clashes || s.clashes;
+    }
 
 -- what the function makes of its arguments
 abbrev pub of_applied : Function → Gathered → Signature
@@ -50,7 +61,8 @@ of_function ks s = record { kind = if has_any ks then OfAny else s.kind; clashes
 
 -- an expression in the body of a function whose parameters have these kinds
 abbrev pub signature_in : List Sense → List Naming → List (List ℕ) → Term → List Kind → Signature
-signature_in ss names ps t ks = record { kind = kind_of_body ss names ps ks t; clashes = clashes_in ss names ps ks t }
+signature_in ss names ps t ks =
+    record { kind = kind_of_body ss names ps ks t; clashes = clashes_in ss names ps ks t }
 
 -- these arguments there
 abbrev pub gathered_in : List Sense → List Naming → List (List ℕ) → Terms → List Kind → Gathered

@@ -16,11 +16,13 @@ of_binding ss names recursive earlier b =
     if is_seen earlier b.name then Some faults.Duplicate
     else if recursive && is_of_set (kind_in ss names b.body) then Some faults.SetInRec else None
 
-abbrev pub first_in : List Sense → List Naming → ℕ → Bool → List (List ℕ) → List Bound → Option ModelFault
+abbrev pub first_in : List Sense → List Naming → ℕ → Bool → List (List ℕ) → List Bound
+    → Option ModelFault
 first_in ss names from recursive earlier [] = None
 first_in ss names from recursive earlier (b ∷ bs) =
     or_else (of_binding ss names recursive earlier b)
-    (or_else (first_within ss names from false b.body) (first_in ss names from recursive (b.name ∷ earlier) bs))
+    (or_else (first_within ss names from false b.body)
+    (first_in ss names from recursive (b.name ∷ earlier) bs))
 
 -- a name of a body
 abbrev pub of_inside : Option ℕ → Option Found → Option ModelFault
@@ -39,27 +41,34 @@ abbrev mutual
   first_of_body ss names ps AllEvents = None
   first_of_body ss names ps EmptyRelation = None
   first_of_body ss names ps EmptySet = None
-  first_of_body ss names ps (Join op a b) = or_else (first_of_body ss names ps a) (first_of_body ss names ps b)
+  first_of_body ss names ps (Join op a b) =
+      or_else (first_of_body ss names ps a) (first_of_body ss names ps b)
   first_of_body ss names ps (Mark op a) = first_of_body ss names ps a
   first_of_body ss names ps (Not a) = first_of_body ss names ps a
   first_of_body ss names ps (On a) = first_of_body ss names ps a
   first_of_body ss names ps (Apply x arguments) =
-      or_else (of_applied (parameter_of (reverse ps) x) (sense_of ss (count_of arguments) (found names x)))
+      or_else (of_applied (parameter_of (reverse ps) x)
+      (sense_of ss (count_of arguments) (found names x)))
       (first_of_bodies ss names ps arguments)
 
   pub first_of_bodies : List Sense → List Naming → List (List ℕ) → Terms → Option ModelFault
   first_of_bodies ss names ps NoTerm = None
-  first_of_bodies ss names ps (OneMore a others) = or_else (first_of_body ss names ps a) (first_of_bodies ss names ps others)
+  first_of_bodies ss names ps (OneMore a others) =
+      or_else (first_of_body ss names ps a) (first_of_bodies ss names ps others)
 
 abbrev pub first_of_item : List Sense → List Naming → ℕ → Clause → Option ModelFault
-first_of_item ss names item (Group true bs) = first_in ss (with_own names item 0 bs) (length names) true [] bs
+first_of_item ss names item (Group true bs) =
+    first_in ss (with_own names item 0 bs) (length names) true [] bs
 first_of_item ss names item (Group false bs) = first_in ss names (length names) false [] bs
 first_of_item ss names item (Check w e) =
-    or_else (unless (takes_body w (kind_in ss names e)) faults.Kind) (first_within ss names (length names) false e)
+    or_else (unless (takes_body w (kind_in ss names e)) faults.Kind)
+    (first_within ss names (length names) false e)
 first_of_item ss names item Mute = None
-first_of_item ss names item (Defined n ps b) = or_else (of_parameters [] ps) (first_of_body ss names ps b)
+first_of_item ss names item (Defined n ps b) =
+    or_else (of_parameters [] ps) (first_of_body ss names ps b)
 
 abbrev pub first : List Sense → List Naming → ℕ → List Clause → Option ModelFault
 first ss names from [] = None
 first ss names from (c ∷ cs) =
-    or_else (first_of_item ss names from c) (first (senses_after ss names c) (extended ss names from c) (from + 1) cs)
+    or_else (first_of_item ss names from c) (first (senses_after ss names c)
+    (extended ss names from c) (from + 1) cs)

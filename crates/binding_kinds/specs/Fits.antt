@@ -40,14 +40,16 @@ kind_of ks (Marked op a) = marked (kind_of ks a)
 kind_of ks (Complement a) = kind_of ks a
 kind_of ks (Identity a) = narrowed (kind_of ks a)
 
--- where the parameters have these kinds, each name stands for a set or a relation, and each operator takes its operands
+-- where the parameters have these kinds, each name stands for a set or a relation, and each
+-- operator takes its operands
 abbrev pub IsTyped : List Kind → Formula → Type 0
 IsTyped ks (Value f) = IsKnown f.kind
 IsTyped ks (Parameter index) = IsKnown (get_or ks index OfAny)
 IsTyped ks Everything = Unit {0}
 IsTyped ks NoPairs = Unit {0}
 IsTyped ks NoEvents = Unit {0}
-IsTyped ks (Joined op a b) = IsTyped ks a × IsTyped ks b × IsTrue (takes op (kind_of ks a) (kind_of ks b))
+IsTyped ks (Joined op a b) =
+    IsTyped ks a × IsTyped ks b × IsTrue (takes op (kind_of ks a) (kind_of ks b))
 IsTyped ks (Marked op a) = IsTyped ks a × IsTrue (is_relation (kind_of ks a))
 IsTyped ks (Complement a) = IsTyped ks a
 IsTyped ks (Identity a) = IsTyped ks a × IsTrue (is_set (kind_of ks a))
@@ -56,34 +58,41 @@ abbrev pub AreKnownKinds : List Kind → Type 0
 AreKnownKinds [] = Unit {0}
 AreKnownKinds (k ∷ ks) = IsKnown k × AreKnownKinds ks
 
--- with arguments of known kinds that clash nowhere, the function's body is typed, and has the kind that is said of it
+-- with arguments of known kinds that clash nowhere, the function's body is typed, and has the kind
+-- that is said of it
 abbrev pub IsSound : Sense → Type 0
 IsSound s =
-    (ks : List Kind) → length ks ≡ s.arity → AreKnownKinds ks → s.clashes ks ≡ false → IsTyped ks s.formula
+    (ks : List Kind) → length ks ≡ s.arity → AreKnownKinds ks → s.clashes ks ≡ false
+    → IsTyped ks s.formula
     × (s.kind_with ks ≡ kind_of ks s.formula)
 
 abbrev pub AreSound : List Sense → Type 0
 AreSound [] = Unit {0}
 AreSound (s ∷ ss) = IsSound s × AreSound ss
 
--- a function takes its arguments: the application is not too large, and no operator of the body clashes
+-- a function takes its arguments: the application is not too large, and no operator of the body
+-- clashes
 abbrev pub IsFitApplied : Result Sense ModelFault → List ℕ → List Kind → Type 0
 IsFitApplied (Err k) sizes kinds = ⊥
 IsFitApplied (Ok s) sizes kinds = (size_with s sizes ≤ 4096) × (s.clashes kinds ≡ false)
 
 abbrev mutual
-  -- each name stands for a set or a relation, and each operator and each function takes its operands
+  -- each name stands for a set or a relation, and each operator and each function takes its
+  -- operands
   pub IsFit : List Sense → List Naming → Term → Type 0
   IsFit ss names (Atom x) = IsKnownValue (found names x)
   IsFit ss names AllEvents = Unit {0}
   IsFit ss names EmptyRelation = Unit {0}
   IsFit ss names EmptySet = Unit {0}
-  IsFit ss names (Join op a b) = IsFit ss names a × IsFit ss names b × IsTrue (takes op (kind_in ss names a) (kind_in ss names b))
+  IsFit ss names (Join op a b) =
+      IsFit ss names a × IsFit ss names b
+      × IsTrue (takes op (kind_in ss names a) (kind_in ss names b))
   IsFit ss names (Mark op a) = IsFit ss names a × IsTrue (is_relation (kind_in ss names a))
   IsFit ss names (Not a) = IsFit ss names a
   IsFit ss names (On a) = IsFit ss names a × IsTrue (is_set (kind_in ss names a))
   IsFit ss names (Apply x arguments) =
-      IsFitApplied (sense_of ss (count_of arguments) (found names x)) (sizes_in ss names arguments) (kinds_in ss names arguments)
+      IsFitApplied (sense_of ss (count_of arguments) (found names x)) (sizes_in ss names arguments)
+      (kinds_in ss names arguments)
       × AreFitArguments ss names arguments
 
   pub AreFitArguments : List Sense → List Naming → Terms → Type 0

@@ -1,5 +1,5 @@
--- An expression whose names are resolved and in which each application stands as the body of its function, with the
--- arguments in the places of the parameters.
+-- An expression whose names are resolved and in which each application stands as the body of its
+-- function, with the arguments in the places of the parameters.
 use Rattle.std.specs.Prelude.{ℕ, ◌+◌, ◌<◌, List, [], ◌∷◌, ◌++◌, nat_eq, if◌then◌else◌, get_or}
 use Rattle.text_values.specs.declared.model.Infix.{Infix}
 use Rattle.text_values.specs.declared.model.Postfix.{Postfix}

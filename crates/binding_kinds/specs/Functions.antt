@@ -19,7 +19,11 @@ abbrev pub with_parameters : List (List ℕ) → List Kind → List Naming → L
 with_parameters [] ks names = names
 with_parameters (p ∷ ps) [] names = names
 with_parameters (p ∷ ps) (k ∷ ks) names =
-    with_parameters ps ks (record { name = p; kind = k; binder = binders.Bound (record { item = 0; position = 0 }) } ∷ names)
+    with_parameters ps ks (record {
+      name = p;
+      kind = k;
+      binder = binders.Bound (record { item = 0; position = 0 });
+    } ∷ names)
 
 -- A parameter is no function.
 abbrev pub sense_seen : List Sense → List Naming → List (List ℕ) → ℕ → List ℕ → Option Sense
@@ -50,18 +54,22 @@ abbrev mutual
   kind_of_body ss names ps ks AllEvents = OfSet
   kind_of_body ss names ps ks EmptyRelation = OfRelation
   kind_of_body ss names ps ks EmptySet = OfSet
-  kind_of_body ss names ps ks (Join op a b) = joined op (kind_of_body ss names ps ks a) (kind_of_body ss names ps ks b)
+  kind_of_body ss names ps ks (Join op a b) =
+      joined op (kind_of_body ss names ps ks a) (kind_of_body ss names ps ks b)
   kind_of_body ss names ps ks (Mark op a) = marked (kind_of_body ss names ps ks a)
   kind_of_body ss names ps ks (Not a) = kind_of_body ss names ps ks a
   kind_of_body ss names ps ks (On a) = narrowed (kind_of_body ss names ps ks a)
-  kind_of_body ss names ps ks (Apply x ts) = kind_of_sense (sense_seen ss names ps (count_of ts) x) (kinds_of_body ss names ps ks ts)
+  kind_of_body ss names ps ks (Apply x ts) =
+      kind_of_sense (sense_seen ss names ps (count_of ts) x) (kinds_of_body ss names ps ks ts)
 
   pub kinds_of_body : List Sense → List Naming → List (List ℕ) → List Kind → Terms → List Kind
   kinds_of_body ss names ps ks NoTerm = []
-  kinds_of_body ss names ps ks (OneMore a others) = kind_of_body ss names ps ks a ∷ kinds_of_body ss names ps ks others
+  kinds_of_body ss names ps ks (OneMore a others) =
+      kind_of_body ss names ps ks a ∷ kinds_of_body ss names ps ks others
 
 abbrev mutual
-  -- an operator of the body, or of the body of a function that it applies, does not take its operands
+  -- an operator of the body, or of the body of a function that it applies, does not take its
+  -- operands
   pub clashes_in : List Sense → List Naming → List (List ℕ) → List Kind → Term → Bool
   clashes_in ss names ps ks (Atom x) = false
   clashes_in ss names ps ks AllEvents = false
@@ -70,15 +78,19 @@ abbrev mutual
   clashes_in ss names ps ks (Join op a b) =
       clashes_in ss names ps ks a || clashes_in ss names ps ks b
       || not (takes op (kind_of_body ss names ps ks a) (kind_of_body ss names ps ks b))
-  clashes_in ss names ps ks (Mark op a) = clashes_in ss names ps ks a || not (is_relation (kind_of_body ss names ps ks a))
+  clashes_in ss names ps ks (Mark op a) =
+      clashes_in ss names ps ks a || not (is_relation (kind_of_body ss names ps ks a))
   clashes_in ss names ps ks (Not a) = clashes_in ss names ps ks a
-  clashes_in ss names ps ks (On a) = clashes_in ss names ps ks a || not (is_set (kind_of_body ss names ps ks a))
+  clashes_in ss names ps ks (On a) =
+      clashes_in ss names ps ks a || not (is_set (kind_of_body ss names ps ks a))
   clashes_in ss names ps ks (Apply x ts) =
-      clash_of_sense (sense_seen ss names ps (count_of ts) x) (clash_among ss names ps ks ts) (kinds_of_body ss names ps ks ts)
+      clash_of_sense (sense_seen ss names ps (count_of ts) x) (clash_among ss names ps ks ts)
+      (kinds_of_body ss names ps ks ts)
 
   pub clash_among : List Sense → List Naming → List (List ℕ) → List Kind → Terms → Bool
   clash_among ss names ps ks NoTerm = false
-  clash_among ss names ps ks (OneMore a others) = clashes_in ss names ps ks a || clash_among ss names ps ks others
+  clash_among ss names ps ks (OneMore a others) =
+      clashes_in ss names ps ks a || clash_among ss names ps ks others
 
 abbrev pub is_at : ℕ → Option ℕ → Bool
 is_at index None = false
@@ -105,10 +117,12 @@ abbrev mutual
       is_some s && is_under_among ss names ps index under (under_at s) 0 ts
 
   -- the arguments from that one on
-  pub is_under_among : List Sense → List Naming → List (List ℕ) → ℕ → Bool → (ℕ → Bool) → ℕ → Terms → Bool
+  pub is_under_among : List Sense → List Naming → List (List ℕ) → ℕ → Bool → (ℕ → Bool) → ℕ → Terms
+      → Bool
   is_under_among ss names ps index under turned i NoTerm = false
   is_under_among ss names ps index under turned i (OneMore a others) =
-      is_under_in ss names ps index (under || turned i) a || is_under_among ss names ps index under turned (suc i) others
+      is_under_in ss names ps index (under || turned i) a
+      || is_under_among ss names ps index under turned (suc i) others
 
 abbrev pub bound_formula : Found → Binder → Formula
 bound_formula f (binders.Predefined p) = Value f
@@ -125,22 +139,26 @@ abbrev pub applied_formula : Option Sense → List Formula → Formula
 applied_formula None arguments = NoPairs
 applied_formula (Some s) arguments = filled arguments s.formula
 
--- An expression with the functions that it applies put in. What has a fault stands as the empty relation.
+-- An expression with the functions that it applies put in. What has a fault stands as the empty
+-- relation.
 abbrev mutual
   pub formula_in : List Sense → List Naming → List (List ℕ) → Term → Formula
   formula_in ss names ps (Atom x) = named_formula (parameter_of (reverse ps) x) (found names x)
   formula_in ss names ps AllEvents = Everything
   formula_in ss names ps EmptyRelation = NoPairs
   formula_in ss names ps EmptySet = NoEvents
-  formula_in ss names ps (Join op a b) = Joined op (formula_in ss names ps a) (formula_in ss names ps b)
+  formula_in ss names ps (Join op a b) =
+      Joined op (formula_in ss names ps a) (formula_in ss names ps b)
   formula_in ss names ps (Mark op a) = Marked op (formula_in ss names ps a)
   formula_in ss names ps (Not a) = Complement (formula_in ss names ps a)
   formula_in ss names ps (On a) = Identity (formula_in ss names ps a)
-  formula_in ss names ps (Apply x ts) = applied_formula (sense_seen ss names ps (count_of ts) x) (formulas_in ss names ps ts)
+  formula_in ss names ps (Apply x ts) =
+      applied_formula (sense_seen ss names ps (count_of ts) x) (formulas_in ss names ps ts)
 
   pub formulas_in : List Sense → List Naming → List (List ℕ) → Terms → List Formula
   formulas_in ss names ps NoTerm = []
-  formulas_in ss names ps (OneMore a others) = formula_in ss names ps a ∷ formulas_in ss names ps others
+  formulas_in ss names ps (OneMore a others) =
+      formula_in ss names ps a ∷ formulas_in ss names ps others
 
 -- An application to an argument that fits every kind fits every kind.
 abbrev pub sense_of_function : List Sense → List Naming → List (List ℕ) → Term → Sense

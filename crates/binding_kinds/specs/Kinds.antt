@@ -9,11 +9,13 @@ use Rattle.binding_kinds.specs.declared.kinds.Kind.TheVariants.{OfSet, OfRelatio
 use Rattle.binding_kinds.specs.declared.scope.Found.{Found}
 use Rattle.binding_kinds.specs.Value.{Naming}
 
--- The namings that an expression sees, the latest first. The slot of a naming is the number of those before it,
--- so it stays the same as the scope grows.
+-- The namings that an expression sees, the latest first. The slot of a naming is the number of
+-- those before it, so it stays the same as the scope grows.
 abbrev pub found : List Naming → List ℕ → Option Found
 found [] x = None
-found (n ∷ ns) x = if bytes_eq n.name x then Some (record { slot = length ns; kind = n.kind; binder = n.binder }) else found ns x
+found (n ∷ ns) x =
+    if bytes_eq n.name x then Some (record { slot = length ns; kind = n.kind; binder = n.binder })
+    else found ns x
 
 abbrev pub is_set : Kind → Bool
 is_set OfSet = true

@@ -12,4 +12,5 @@ kind_of_predefined p = if is_set p then OfSet else OfRelation
 
 -- a predefined name stands for itself
 abbrev pub naming_of : Predefined → Naming
-naming_of p = record { name = spelling p; kind = kind_of_predefined p; binder = binders.Predefined p }
+naming_of p =
+    record { name = spelling p; kind = kind_of_predefined p; binder = binders.Predefined p }

@@ -1,5 +1,5 @@
--- What the functions of a model are to those who apply them: the kinds, the sizes and the first fault of expressions
--- that apply them.
+-- What the functions of a model are to those who apply them: the kinds, the sizes and the first
+-- fault of expressions that apply them.
 use Rattle.std.specs.Prelude.{◌≡◌, ℕ, suc, ◌+◌, ◌*◌, ◌<◌, ◌≤◌, nat_lt, min, List, [], ◌∷◌, length, get_or, slice_get, Bool, true, false, not, ◌||◌, nat_eq, if◌then◌else◌, Option, Some, None, Result, Ok, Err}
 use Rattle.text_values.specs.ModelValue.{Term, Terms, Atom, AllEvents, EmptyRelation, EmptySet, Join, Mark, Not, On, Apply, NoTerm, OneMore}
 use Rattle.binding_kinds.specs.declared.fault.ModelFault.{ModelFault}
@@ -16,9 +16,10 @@ use Rattle.binding_kinds.specs.Combinations.{number_of, unknown}
 use Rattle.binding_kinds.specs.Formula.{Formula, constant_of, factor_of, HasParameters, postfix}
 use Rattle.binding_kinds.specs.Verdict.{or_else, unless, of_name}
 
--- A function, to those who apply it: how many parameters it has, the kind of an application to arguments of some
--- kinds, whether an operator of the body does not take its operands then, whether a parameter stands under a
--- complement or right of a difference, and its body with the functions that it applies put in.
+-- A function, to those who apply it: how many parameters it has, the kind of an application to
+-- arguments of some kinds, whether an operator of the body does not take its operands then, whether
+-- a parameter stands under a complement or right of a difference, and its body with the functions
+-- that it applies put in.
 pub record Sense : Type 0 where
   pub arity : ℕ
   pub kind_with : List Kind → Kind
@@ -69,7 +70,8 @@ abbrev mutual
   size_in ss names (Mark op a) = size_in ss names a + 1
   size_in ss names (Not a) = size_in ss names a + 1
   size_in ss names (On a) = size_in ss names a + 1
-  size_in ss names (Apply x arguments) = size_applied (sense_of ss (count_of arguments) (found names x)) (sizes_in ss names arguments)
+  size_in ss names (Apply x arguments) =
+      size_applied (sense_of ss (count_of arguments) (found names x)) (sizes_in ss names arguments)
 
   pub sizes_in : List Sense → List Naming → Terms → List ℕ
   sizes_in ss names NoTerm = []
@@ -77,11 +79,13 @@ abbrev mutual
 
 -- An application of a name that is no such function, or one that is too large, fits every kind.
 abbrev pub kind_applied : Result Sense ModelFault → List ℕ → List Kind → Kind
-kind_applied (Ok s) sizes kinds = if nat_lt 4096 (size_with s sizes) then OfAny else s.kind_with kinds
+kind_applied (Ok s) sizes kinds =
+    if nat_lt 4096 (size_with s sizes) then OfAny else s.kind_with kinds
 kind_applied (Err k) sizes kinds = OfAny
 
 abbrev mutual
-  -- The kind of an expression. One that holds an unbound name or an operator that does not take its operands fits every kind.
+  -- The kind of an expression. One that holds an unbound name or an operator that does not take its
+  -- operands fits every kind.
   pub kind_in : List Sense → List Naming → Term → Kind
   kind_in ss names (Atom x) = kind_found (found names x)
   kind_in ss names AllEvents = OfSet
@@ -92,7 +96,8 @@ abbrev mutual
   kind_in ss names (Not a) = kind_in ss names a
   kind_in ss names (On a) = narrowed (kind_in ss names a)
   kind_in ss names (Apply x arguments) =
-      kind_applied (sense_of ss (count_of arguments) (found names x)) (sizes_in ss names arguments) (kinds_in ss names arguments)
+      kind_applied (sense_of ss (count_of arguments) (found names x)) (sizes_in ss names arguments)
+      (kinds_in ss names arguments)
 
   pub kinds_in : List Sense → List Naming → Terms → List Kind
   kinds_in ss names NoTerm = []
@@ -104,9 +109,11 @@ under_of (Ok s) = s.is_under
 under_of (Err k) = λ index. false
 
 -- The first fault of an application stands at its name, or else in its arguments.
-abbrev pub fault_applied : Result Sense ModelFault → List ℕ → List Kind → Option ModelFault → Option ModelFault
+abbrev pub fault_applied : Result Sense ModelFault → List ℕ → List Kind → Option ModelFault
+    → Option ModelFault
 fault_applied (Ok s) sizes kinds later =
-    if nat_lt 4096 (size_with s sizes) then Some faults.TooLarge else or_else (unless (not (s.clashes kinds)) faults.Kind) later
+    if nat_lt 4096 (size_with s sizes) then Some faults.TooLarge
+    else or_else (unless (not (s.clashes kinds)) faults.Kind) later
 fault_applied (Err k) sizes kinds later = Some k
 
 abbrev mutual
@@ -121,18 +128,23 @@ abbrev mutual
       (or_else (unless (takes op (kind_in ss names a) (kind_in ss names b)) faults.Kind)
       (first_within ss names from (is_turned op under) b))
   first_within ss names from under (Mark op a) =
-      or_else (first_within ss names from under a) (unless (is_relation (kind_in ss names a)) faults.Kind)
+      or_else (first_within ss names from under a)
+      (unless (is_relation (kind_in ss names a)) faults.Kind)
   first_within ss names from under (Not a) = first_within ss names from true a
-  first_within ss names from under (On a) = or_else (unless (is_set (kind_in ss names a)) faults.Kind) (first_within ss names from under a)
+  first_within ss names from under (On a) =
+      or_else (unless (is_set (kind_in ss names a)) faults.Kind)
+      (first_within ss names from under a)
   first_within ss names from under (Apply x arguments) =
       let f = sense_of ss (count_of arguments) (found names x) in
-      fault_applied f (sizes_in ss names arguments) (kinds_in ss names arguments) (first_among ss names from under (under_of f) 0 arguments)
+      fault_applied f (sizes_in ss names arguments) (kinds_in ss names arguments)
+      (first_among ss names from under (under_of f) 0 arguments)
 
   -- the first fault of the arguments from that index on
   pub first_among : List Sense → List Naming → ℕ → Bool → (ℕ → Bool) → ℕ → Terms → Option ModelFault
   first_among ss names from under is_under index NoTerm = None
   first_among ss names from under is_under index (OneMore a others) =
-      or_else (first_within ss names from (under || is_under index) a) (first_among ss names from under is_under (suc index) others)
+      or_else (first_within ss names from (under || is_under index) a)
+      (first_among ss names from under is_under (suc index) others)
 
 abbrev pub ArePositive : List ℕ → Type 0
 ArePositive [] = Unit {0}
@@ -143,13 +155,15 @@ pub record IsKept (f : Function) (s : Sense) : Type 0 where
   pub arity : f.arity ≡ s.arity
   pub few : s.arity ≤ 8
   pub kinds : (kinds : List Kind) → length kinds ≡ s.arity
-      → get_or f.signatures.items (number_of kinds) unknown ≡ record { kind = s.kind_with kinds; clashes = s.clashes kinds }
+      → get_or f.signatures.items (number_of kinds) unknown
+      ≡ record { kind = s.kind_with kinds; clashes = s.clashes kinds }
   pub under : (index : ℕ) → index < s.arity → get_or f.under index false ≡ s.is_under index
   pub within : HasParameters s.arity s.formula
   pub large : f.is_oversized ≡ true → 4096 < length (postfix s.formula)
   pub template : f.is_oversized ≡ false → f.template.items ≡ postfix s.formula
   pub constant : f.is_oversized ≡ false → f.constant ≡ constant_of s.formula
-  pub factor : f.is_oversized ≡ false → (index : ℕ) → index < s.arity → get_or f.factors index 0 ≡ factor_of s.formula index
+  pub factor : f.is_oversized ≡ false → (index : ℕ) → index < s.arity
+      → get_or f.factors index 0 ≡ factor_of s.formula index
 
 abbrev pub AreKept : List Function → List Sense → Type 0
 AreKept [] [] = Unit {0}

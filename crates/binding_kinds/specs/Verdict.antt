@@ -37,7 +37,9 @@ is_seen (n ∷ ns) x = bytes_eq n x || is_seen ns x
 
 -- the fault of a parameter after those that are seen: it stands twice, or it is the ninth
 abbrev pub of_parameter : List (List ℕ) → List ℕ → Option ModelFault
-of_parameter earlier p = if is_seen earlier p then Some faults.Duplicate else unless (nat_lt (length earlier) 8) faults.TooLarge
+of_parameter earlier p =
+    if is_seen earlier p then Some faults.Duplicate
+    else unless (nat_lt (length earlier) 8) faults.TooLarge
 
 -- the first fault of parameters after those that are seen, the latest first
 abbrev pub of_parameters : List (List ℕ) → List (List ℕ) → Option ModelFault

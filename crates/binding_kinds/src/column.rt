@@ -45,7 +45,8 @@ fn at(column: &[Signature], combination: usize) -> Signature
 
 /// A column of so many rows of what has that kind for each combination. Errors: want of memory.
 pub fn constant_column(alloc: Global, rows: usize, kind: Kind) -> Result<Vec<Signature>, AllocError>
-    ensures { (arity : ℕ) → IfOk result (λ v. IsFilled unknown arity rows (λ kinds. plain kind) v.items) }
+    ensures { (arity : ℕ)
+        → IfOk result (λ v. IsFilled unknown arity rows (λ kinds. plain kind) v.items) }
 {
     vec![in alloc; plain(kind); rows]
 }
@@ -56,7 +57,9 @@ pub fn parameter_column(
     rows: usize,
     index: usize,
 ) -> Result<Vec<Signature>, AllocError>
-    ensures { (arity : ℕ) (other : Kind) → arity ≤ 8 → index < arity → IfOk result (λ v. IsFilled unknown arity rows (λ kinds. plain (get_or kinds index other)) v.items) }
+    ensures { (arity : ℕ) (other : Kind) → arity ≤ 8 → index < arity
+        → IfOk result (λ v.
+        IsFilled unknown arity rows (λ kinds. plain (get_or kinds index other)) v.items) }
 {
     let mut column = Vec::new(alloc);
     for combination in 0..rows {
@@ -85,7 +88,10 @@ pub fn infix_column(
     left: &[Signature],
     right: &[Signature],
 ) -> Result<Vec<Signature>, AllocError>
-    ensures { (arity rows : ℕ) (first second : List Kind → Signature) → IsFilled unknown arity rows first left.now → IsFilled unknown arity rows second right.now → IfOk result (λ v. IsFilled unknown arity rows (λ kinds. of_infix op (first kinds) (second kinds)) v.items) }
+    ensures { (arity rows : ℕ) (first second : List Kind → Signature)
+        → IsFilled unknown arity rows first left.now → IsFilled unknown arity rows second right.now
+        → IfOk result (λ v. IsFilled unknown arity rows
+        (λ kinds. of_infix op (first kinds) (second kinds)) v.items) }
 {
     let mut column = Vec::new(alloc);
     for (combination, one) in left.iter().enumerate() {
@@ -106,7 +112,10 @@ fn sign_postfix(inner: Signature) -> Signature
 
 /// The column of a postfix operator. Errors: want of memory.
 pub fn postfix_column(alloc: Global, inner: &[Signature]) -> Result<Vec<Signature>, AllocError>
-    ensures { (arity rows : ℕ) (operand : List Kind → Signature) → IsFilled unknown arity rows operand inner.now → IfOk result (λ v. IsFilled unknown arity rows (λ kinds. of_postfix (operand kinds)) v.items) }
+    ensures { (arity rows : ℕ) (operand : List Kind → Signature)
+        → IsFilled unknown arity rows operand inner.now
+        → IfOk result (λ v.
+        IsFilled unknown arity rows (λ kinds. of_postfix (operand kinds)) v.items) }
 {
     let mut column = Vec::new(alloc);
     for one in inner {
@@ -127,7 +136,10 @@ fn sign_identity(inner: Signature) -> Signature
 
 /// The column of an identity. Errors: want of memory.
 pub fn identity_column(alloc: Global, inner: &[Signature]) -> Result<Vec<Signature>, AllocError>
-    ensures { (arity rows : ℕ) (operand : List Kind → Signature) → IsFilled unknown arity rows operand inner.now → IfOk result (λ v. IsFilled unknown arity rows (λ kinds. of_identity (operand kinds)) v.items) }
+    ensures { (arity rows : ℕ) (operand : List Kind → Signature)
+        → IsFilled unknown arity rows operand inner.now
+        → IfOk result (λ v.
+        IsFilled unknown arity rows (λ kinds. of_identity (operand kinds)) v.items) }
 {
     let mut column = Vec::new(alloc);
     for one in inner {
@@ -138,7 +150,8 @@ pub fn identity_column(alloc: Global, inner: &[Signature]) -> Result<Vec<Signatu
 
 /// Nothing is known of no arguments, in each of so many rows. Errors: want of memory.
 pub fn no_arguments(alloc: Global, rows: usize) -> Result<Vec<Gathered>, AllocError>
-    ensures { (arity : ℕ) → IfOk result (λ v. IsFilled none_gathered arity rows (λ kinds. none_gathered) v.items) }
+    ensures { (arity : ℕ)
+        → IfOk result (λ v. IsFilled none_gathered arity rows (λ kinds. none_gathered) v.items) }
 {
     let none = Gathered {
         combination: 0,
@@ -164,7 +177,12 @@ pub fn with_argument(
     index: usize,
     one: &[Signature],
 ) -> Result<Vec<Gathered>, AllocError>
-    ensures { (arity rows : ℕ) (before : List Kind → Gathered) (more : List Kind → Signature) → index < 8 → ((kinds : List Kind) → (before kinds).combination < 6561) → IsFilled none_gathered arity rows before all.now → IsFilled unknown arity rows more one.now → IfOk result (λ v. IsFilled none_gathered arity rows (λ kinds. with_one index (before kinds) (more kinds)) v.items) }
+    ensures { (arity rows : ℕ) (before : List Kind → Gathered) (more : List Kind → Signature)
+        → index < 8 → ((kinds : List Kind) → (before kinds).combination < 6561)
+        → IsFilled none_gathered arity rows before all.now
+        → IsFilled unknown arity rows more one.now
+        → IfOk result (λ v. IsFilled none_gathered arity rows
+        (λ kinds. with_one index (before kinds) (more kinds)) v.items) }
 {
     let mut column = Vec::new(alloc);
     for (combination, known) in all.iter().enumerate() {
@@ -190,7 +208,10 @@ pub fn applied_column(
     function: &Function,
     all: &[Gathered],
 ) -> Result<Vec<Signature>, AllocError>
-    ensures { (arity rows : ℕ) (known : List Kind → Gathered) → IsFilled none_gathered arity rows known all.now → IfOk result (λ v. IsFilled unknown arity rows (λ kinds. of_applied function.now (known kinds)) v.items) }
+    ensures { (arity rows : ℕ) (known : List Kind → Gathered)
+        → IsFilled none_gathered arity rows known all.now
+        → IfOk result (λ v. IsFilled unknown arity rows
+        (λ kinds. of_applied function.now (known kinds)) v.items) }
 {
     let mut column = Vec::new(alloc);
     for known in all {
@@ -201,7 +222,8 @@ pub fn applied_column(
 
 /// What a function makes of arguments of one combination of kinds, of which its body makes that.
 fn sign_function(arity: usize, combination: usize, body: Signature) -> Signature
-    ensures { (kinds : List Kind) → combination ≡ number_of kinds → arity ≡ length kinds → length kinds ≤ 8 → result ≡ of_function kinds body }
+    ensures { (kinds : List Kind) → combination ≡ number_of kinds → arity ≡ length kinds
+        → length kinds ≤ 8 → result ≡ of_function kinds body }
 {
     if has_any(combination, arity) {
         Signature {
@@ -221,7 +243,10 @@ pub fn signatures(
     arity: usize,
     column: &[Signature],
 ) -> Result<Vec<Signature>, AllocError>
-    ensures { (made : List Kind → Signature) (kinds : List Kind) → IsFilled unknown arity (3 ^ arity) made column.now → length kinds ≡ arity → arity ≤ 8 → IfOk result (λ v. get_or v.items (number_of kinds) unknown ≡ of_function kinds (made kinds)) }
+    ensures { (made : List Kind → Signature) (kinds : List Kind)
+        → IsFilled unknown arity (3 ^ arity) made column.now → length kinds ≡ arity → arity ≤ 8
+        → IfOk result (λ v. get_or v.items (number_of kinds) unknown
+        ≡ of_function kinds (made kinds)) }
 {
     let mut table = Vec::new(alloc);
     for (combination, one) in column.iter().enumerate() {

@@ -16,8 +16,8 @@ pub enum ModelFault {
     Duplicate,
     /// M5: a body of a recursive group that is a set.
     SetInRec,
-    /// M6: a function that is applied to another number of arguments or stands without any, or a name that is applied
-    /// and is no function.
+    /// M6: a function that is applied to another number of arguments or stands without any, or a
+    /// name that is applied and is no function.
     Arity,
     /// M7: an application of size over 4,096.
     TooLarge,

@@ -163,7 +163,8 @@ fn count_others(template: &[Piece]) -> usize
 /// Counts the parts of a template: those that are no parameter, and each parameter.
 pub fn count_parts(template: &[Piece]) -> (usize, [usize; MAX_PARAMETERS])
     ensures constant { result.0 ≡ count_by is_no_parameter template.now }
-    ensures factors { (index : ℕ) → index < 8 → get_or result.1 index 0 ≡ count_by (is_parameter_at index) template.now }
+    ensures factors { (index : ℕ) → index < 8
+        → get_or result.1 index 0 ≡ count_by (is_parameter_at index) template.now }
 {
     let mut factors = [0usize; MAX_PARAMETERS];
     for index in 0..MAX_PARAMETERS {

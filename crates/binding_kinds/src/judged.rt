@@ -129,7 +129,9 @@ fn recursive_fault(from: usize, under: bool, slot: usize) -> Option<ModelFault>
 pub fn judged_infix(op: Infix, first: Judged, second: Judged) -> Judged
     ensures size { IsAlike result.size (first.size + second.size + 1) }
     ensures kind { result.kind ≡ joined op first.kind second.kind }
-    ensures fault { result.fault ≡ or_else first.fault (or_else (unless (takes op first.kind second.kind) ModelFault.Kind) second.fault) }
+    ensures fault { result.fault
+        ≡ or_else first.fault (or_else (unless (takes op first.kind second.kind) ModelFault.Kind)
+        second.fault) }
 {
     let here = unless(takes(op, first.kind, second.kind), ModelFault::Kind);
     Judged {
@@ -143,7 +145,8 @@ pub fn judged_infix(op: Infix, first: Judged, second: Judged) -> Judged
 pub fn judged_postfix(inner: Judged) -> Judged
     ensures size { IsAlike result.size (inner.size + 1) }
     ensures kind { result.kind ≡ marked inner.kind }
-    ensures fault { result.fault ≡ or_else inner.fault (unless (is_relation inner.kind) ModelFault.Kind) }
+    ensures fault { result.fault
+        ≡ or_else inner.fault (unless (is_relation inner.kind) ModelFault.Kind) }
 {
     let here = unless(inner.kind.is_relation(), ModelFault::Kind);
     Judged {
@@ -170,7 +173,8 @@ pub fn judged_complement(inner: Judged) -> Judged
 pub fn judged_identity(inner: Judged) -> Judged
     ensures size { IsAlike result.size (inner.size + 1) }
     ensures kind { result.kind ≡ narrowed inner.kind }
-    ensures fault { result.fault ≡ or_else (unless (is_set inner.kind) ModelFault.Kind) inner.fault }
+    ensures fault { result.fault
+        ≡ or_else (unless (is_set inner.kind) ModelFault.Kind) inner.fault }
 {
     let here = unless(inner.kind.is_set(), ModelFault::Kind);
     Judged {
@@ -196,8 +200,10 @@ impl Arguments {
 
     /// With the argument at that index.
     pub fn with(self, function: &Function, index: usize, one: Judged) -> Arguments
-        ensures combination { index < 8 → self.combination < 6561 → result.combination ≡ self.combination + digit one.kind * 3 ^ index }
-        ensures size { IsAlike result.size (self.size + get_or function.now.factors index 0 * one.size) }
+        ensures combination { index < 8 → self.combination < 6561
+            → result.combination ≡ self.combination + digit one.kind * 3 ^ index }
+        ensures size { IsAlike result.size
+            (self.size + get_or function.now.factors index 0 * one.size) }
         ensures fault { result.fault ≡ or_else self.fault one.fault }
     {
         let more = function.factor(index).saturating_mul(one.size);
@@ -210,9 +216,17 @@ impl Arguments {
 
     /// The application.
     pub fn applied(self, function: &Function) -> Judged
-        ensures oversized { function.now.is_oversized ≡ true → (result.kind ≡ Kind.OfAny) × (result.fault ≡ Some ModelFault.TooLarge) × (4096 < result.size) }
-        ensures large { 4096 < self.size → (result.kind ≡ Kind.OfAny) × (result.fault ≡ Some ModelFault.TooLarge) × (4096 < result.size) }
-        ensures small { let made = get_or function.now.signatures.items self.combination unknown in function.now.is_oversized ≡ false → self.size ≤ 4096 → (result.kind ≡ made.kind) × (result.fault ≡ or_else (unless (not made.clashes) ModelFault.Kind) self.fault) × (result.size ≡ self.size) }
+        ensures oversized { function.now.is_oversized ≡ true
+            → (result.kind ≡ Kind.OfAny) × (result.fault ≡ Some ModelFault.TooLarge)
+            × (4096 < result.size) }
+        ensures large { 4096 < self.size
+            → (result.kind ≡ Kind.OfAny) × (result.fault ≡ Some ModelFault.TooLarge)
+            × (4096 < result.size) }
+        ensures small { let made = get_or function.now.signatures.items self.combination unknown in
+            function.now.is_oversized ≡ false → self.size ≤ 4096
+            → (result.kind ≡ made.kind)
+            × (result.fault ≡ or_else (unless (not made.clashes) ModelFault.Kind) self.fault)
+            × (result.size ≡ self.size) }
     {
         if function.is_oversized || self.size > MAX_SIZE {
             return Judged {

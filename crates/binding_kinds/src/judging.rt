@@ -26,7 +26,11 @@ pub fn function_of<'a>(
     name: &Name,
     count: usize,
 ) -> Result<&'a Function, ModelFault>
-    ensures { let looked_for = found (reverse (map entry_of entries.now)) name.now in (senses : List Sense) → AreKept functions.now senses → MatchResult result (λ f. (s : Sense) × (sense_of senses count looked_for ≡ Ok s) × IsKept f.now s) (λ k. sense_of senses count looked_for ≡ Err k) }
+    ensures { let looked_for = found (reverse (map entry_of entries.now)) name.now in
+        (senses : List Sense) → AreKept functions.now senses
+        → MatchResult result
+        (λ f. (s : Sense) × (sense_of senses count looked_for ≡ Ok s) × IsKept f.now s)
+        (λ k. sense_of senses count looked_for ≡ Err k) }
 {
     let Some(found) = find(entries, name) else {
         return Err(ModelFault::Unbound);
@@ -56,9 +60,15 @@ pub fn judge(
     under: bool,
     term: &Expression,
 ) -> Judged
-    ensures kind_in { (senses : List Sense) → AreKept functions.now senses → result.kind ≡ kind_in senses (reverse (map entry_of entries.now)) (term_of term.now) }
-    ensures size_in { (senses : List Sense) → AreKept functions.now senses → IsAlike result.size (size_in senses (reverse (map entry_of entries.now)) (term_of term.now)) }
-    ensures first_within { (senses : List Sense) → AreKept functions.now senses → result.fault ≡ first_within senses (reverse (map entry_of entries.now)) from under (term_of term.now) }
+    ensures kind_in { (senses : List Sense) → AreKept functions.now senses
+        → result.kind ≡ kind_in senses (reverse (map entry_of entries.now)) (term_of term.now) }
+    ensures size_in { (senses : List Sense) → AreKept functions.now senses
+        → IsAlike result.size (size_in senses (reverse (map entry_of entries.now))
+        (term_of term.now)) }
+    ensures first_within { (senses : List Sense) → AreKept functions.now senses
+        → result.fault
+        ≡ first_within senses (reverse (map entry_of entries.now)) from under
+        (term_of term.now) }
 {
     match term {
         Expression::Named(name) => judged_name(from, under, find(entries, name)),
@@ -117,7 +127,9 @@ pub fn binding_fault(
     before: &[Binding],
     binding: &Binding,
 ) -> Option<ModelFault>
-    ensures { (senses : List Sense) → (names : List Naming) → body ≡ kind_in senses names (bound_of binding.now).body → result ≡ of_binding senses names recursive (names_of before.now) (bound_of binding.now) }
+    ensures { (senses : List Sense) → (names : List Naming)
+        → body ≡ kind_in senses names (bound_of binding.now).body
+        → result ≡ of_binding senses names recursive (names_of before.now) (bound_of binding.now) }
 {
     if is_seen(before, &binding.name) {
         return Some(ModelFault::Duplicate);

@@ -1,5 +1,5 @@
-//! What the names of a model stand for, and the kinds and the faults of its expressions. Read specs/Kinds first, then
-//! specs/Faults: `FirstFault` is the first fault of a model.
+//! What the names of a model stand for, and the kinds and the faults of its expressions. Read
+//! specs/Kinds first, then specs/Faults: `FirstFault` is the first fault of a model.
 #![tactic(auto)]
 
 mod column;

@@ -75,7 +75,8 @@ pub struct Scope {
 // So many bytes of a name are in its key.
 const KEYED: usize = 7;
 
-/// Whether two names are the same, the key of the second of which is given: most are told apart by it.
+/// Whether two names are the same, the key of the second of which is given: most are told apart by
+/// it.
 #[tactic(auto, using(crate::proofs::Scopes::keys_apart))]
 fn is_keyed(one: &Name, other: &Name, key: u64) -> bool
     ensures { key ≡ key_of other.now → result ≡ bytes_eq one.now other.now }
@@ -147,7 +148,8 @@ fn predefined_entries(alloc: Global, names: &[Predefined]) -> Result<Vec<Entry>,
 impl Scope {
     /// The predefined names. Errors: want of memory.
     pub fn new(alloc: Global) -> Result<Scope, AllocError>
-        ensures entries { IfOk result (λ s. map entry_of s.entries.items ≡ map naming_of PREDEFINED) }
+        ensures entries { IfOk result (λ s. map entry_of s.entries.items
+            ≡ map naming_of PREDEFINED) }
         ensures functions { IfOk result (λ s. s.functions.items ≡ []) }
     {
         Ok(Scope {

@@ -77,7 +77,9 @@ impl Named {
 impl Sight<'_> {
     /// What a name without arguments is found to be, in one look-up.
     pub fn named(&self, name: &Name) -> Named
-        ensures { result ≡ named_of (parameter_of (reverse self.now.parameters.now) name.now) (found (reverse (map entry_of self.now.entries.now)) name.now) }
+        ensures { result
+            ≡ named_of (parameter_of (reverse self.now.parameters.now) name.now)
+            (found (reverse (map entry_of self.now.entries.now)) name.now) }
     {
         match parameter(self.parameters, name) {
             Some(index) => Named::Parameter(index),
@@ -89,7 +91,9 @@ impl Sight<'_> {
     /// `Arity` where it is a function.
     #[tactic(auto, using(crate::proofs::Scopes::named_meaning))]
     pub fn value(&self, name: &Name) -> Result<Meaning, ModelFault>
-        ensures { result ≡ meaning_of (parameter_of (reverse self.now.parameters.now) name.now) (found (reverse (map entry_of self.now.entries.now)) name.now) }
+        ensures { result
+            ≡ meaning_of (parameter_of (reverse self.now.parameters.now) name.now)
+            (found (reverse (map entry_of self.now.entries.now)) name.now) }
     {
         self.named(name).meaning()
     }
@@ -97,7 +101,10 @@ impl Sight<'_> {
     /// The function that a name with so many arguments stands for. Errors: `Unbound` where nothing
     /// binds the name, `Arity` where it is no function of so many.
     pub fn function(&self, name: &Name, count: usize) -> Result<usize, ModelFault>
-        ensures { result ≡ applied_of (λ f. slice_get (map (λ one. one.arity) self.now.functions.now) f) count (parameter_of (reverse self.now.parameters.now) name.now) (found (reverse (map entry_of self.now.entries.now)) name.now) }
+        ensures { result
+            ≡ applied_of (λ f. slice_get (map (λ one. one.arity) self.now.functions.now) f) count
+            (parameter_of (reverse self.now.parameters.now) name.now)
+            (found (reverse (map entry_of self.now.entries.now)) name.now) }
     {
         if parameter(self.parameters, name).is_some() {
             return Err(ModelFault::Arity);

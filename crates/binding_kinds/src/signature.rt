@@ -35,7 +35,8 @@ pub fn weight(index: usize) -> usize
 
 /// The kind at that index of a combination of kinds.
 pub fn kind_at(combination: usize, index: usize) -> Kind
-    ensures { (kinds : List Kind) → (other : Kind) → combination ≡ number_of kinds → index < length kinds → length kinds ≤ 8 → result ≡ get_or kinds index other }
+    ensures { (kinds : List Kind) → (other : Kind) → combination ≡ number_of kinds
+        → index < length kinds → length kinds ≤ 8 → result ≡ get_or kinds index other }
 {
     let digit = combination / weight(index) % 3;
     if digit == 0 {
@@ -61,7 +62,8 @@ pub fn weighed(kind: Kind, index: usize) -> usize
 
 /// Whether one of the kinds of a combination fits every kind.
 pub fn has_any(combination: usize, arity: usize) -> bool
-    ensures { (kinds : List Kind) → combination ≡ number_of kinds → arity ≡ length kinds → length kinds ≤ 8 → result ≡ has_any kinds }
+    ensures { (kinds : List Kind) → combination ≡ number_of kinds → arity ≡ length kinds
+        → length kinds ≤ 8 → result ≡ has_any kinds }
 {
     let mut any = false;
     for index in 0..arity {

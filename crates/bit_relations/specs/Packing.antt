@@ -6,7 +6,8 @@ use Rattle.bit_relations.specs.Relation.{Relation, IsRegular, max_events, wide, 
 abbrev pub high_rows : ℕ → ℕ
 high_rows n = cond (nat_lt 64 n) n 0
 
--- the words of a relation: a low word for each event, and then, where there are over 64, a high word for each
+-- the words of a relation: a low word for each event, and then, where there are over 64, a high
+-- word for each
 unfoldable pub packed : Relation → List ℕ
 packed r = take r.count (low_words r.rows) ++ take (high_rows r.count) (high_words r.rows)
 
@@ -28,7 +29,8 @@ padded ws = ws ++ replicate (max_events - length ws) 0
 
 -- the relation on n events whose words come first
 unfoldable pub relation_of : ℕ → List ℕ → Relation
-relation_of n ws = record { count = n; rows = wide (padded (take n ws)) (padded (take (high_rows n) (drop n ws))) }
+relation_of n ws =
+    record { count = n; rows = wide (padded (take n ws)) (padded (take (high_rows n) (drop n ws))) }
 
 -- the relations of these counts whose words stand one after another
 abbrev pub unpacked : List ℕ → List ℕ → List Relation

@@ -77,7 +77,8 @@ abbrev pub high_words : List ℕ → List ℕ
 high_words [] = []
 high_words (w ∷ ws) = (w / 2 ^ 64) ∷ high_words ws
 
--- the two columns of words that a `Rel` is made of: the rows lose neither, and all pairs are below the count
+-- the two columns of words that a `Rel` is made of: the rows lose neither, and all pairs are below
+-- the count
 pub record AreColumns (count : ℕ) (low high : List ℕ) : Type 0 where
   pub few : count ≤ max_events
   pub low_height : length low ≡ max_events
@@ -86,7 +87,8 @@ pub record AreColumns (count : ℕ) (low high : List ℕ) : Type 0 where
   pub high_kept : high_words (wide low high) ≡ high
   pub within : (a b : ℕ) → Bit (slice_index (wide low high) a) b → (a < count) × (b < count)
 
--- the two words that an `EventSet` is made of: neither is lost in the word, and all events are below the count
+-- the two words that an `EventSet` is made of: neither is lost in the word, and all events are
+-- below the count
 pub record AreWords (count low high : ℕ) : Type 0 where
   pub few : count ≤ max_events
   pub low_fits : low < 2 ^ 64

@@ -50,7 +50,8 @@ pub(crate) fn blocks_of(end: usize) -> usize
 pub(crate) fn join_own(words: &mut [u64; MAX_EVENTS], k: usize, word: u64, blocks: usize)
     requires inside { k < 64 }
     requires few { 8 * blocks ≤ 128 }
-    ensures { AreWritten words.old words.new (8 * blocks) (UnionWhere (RowsHave words.old) (RowsHave words.old) k word) }
+    ensures { AreWritten words.old words.new (8 * blocks) (UnionWhere (RowsHave words.old)
+        (RowsHave words.old) k word) }
 {
     for block in 0..blocks {
         let lanes = load(words, 8 * block);
@@ -59,14 +60,16 @@ pub(crate) fn join_own(words: &mut [u64; MAX_EVENTS], k: usize, word: u64, block
     }
 }
 
-/// Takes the events of eight rows, `own`, as middles, one after another: those from `at` on, as many as `end` says. Each of
-/// sixteen rows that leads to a middle gets the middle's row.
+/// Takes the events of eight rows, `own`, as middles, one after another: those from `at` on, as
+/// many as `end` says. Each of sixteen rows that leads to a middle gets the middle's row.
 fn close_eight(own: u64x8, other: u64x8, at: usize, end: usize) -> (u64x8, u64x8)
     requires half { (at ≡ 0) ⊎ (at ≡ 8) }
     requires few { end ≤ 8 }
     ensures own { length result.0 ≡ 8 }
     ensures other { length result.1 ≡ 8 }
-    ensures pairs { (rows : List ℕ) → ((a b : ℕ) → Sixteen at own other a b ↔ PlusBelow (RowsHave rows) at a b) → (a b : ℕ) → Sixteen at result.0 result.1 a b ↔ PlusBelow (RowsHave rows) (at + end) a b }
+    ensures pairs { (rows : List ℕ)
+        → ((a b : ℕ) → Sixteen at own other a b ↔ PlusBelow (RowsHave rows) at a b) → (a b : ℕ)
+        → Sixteen at result.0 result.1 a b ↔ PlusBelow (RowsHave rows) (at + end) a b }
 {
     let mut these = own;
     let mut those = other;
@@ -106,8 +109,8 @@ pub(crate) fn close_sixteen(words: &mut [u64; MAX_EVENTS], count: usize)
     }
 }
 
-/// Adds one word's bits to each word of the blocks that has the bit k itself, and another word's bits to the word of the
-/// same row in the other column.
+/// Adds one word's bits to each word of the blocks that has the bit k itself, and another word's
+/// bits to the word of the same row in the other column.
 pub(crate) fn join_both(
     own: &mut [u64; MAX_EVENTS],
     other: &mut [u64; MAX_EVENTS],
@@ -118,8 +121,10 @@ pub(crate) fn join_both(
 )
     requires inside { k < 64 }
     requires few { 8 * blocks ≤ 128 }
-    ensures own { AreWritten own.old own.new (8 * blocks) (UnionWhere (RowsHave own.old) (RowsHave own.old) k own_word) }
-    ensures other { AreWritten other.old other.new (8 * blocks) (UnionWhere (RowsHave other.old) (RowsHave own.old) k other_word) }
+    ensures own { AreWritten own.old own.new (8 * blocks) (UnionWhere (RowsHave own.old)
+        (RowsHave own.old) k own_word) }
+    ensures other { AreWritten other.old other.new (8 * blocks) (UnionWhere (RowsHave other.old)
+        (RowsHave own.old) k other_word) }
 {
     for block in 0..blocks {
         let select = load(own, 8 * block);
@@ -131,7 +136,8 @@ pub(crate) fn join_both(
     }
 }
 
-/// Each lane of `acc`, joined with those words of others, from an index on, that the lowest bits of `select` name.
+/// Each lane of `acc`, joined with those words of others, from an index on, that the lowest bits of
+/// `select` name.
 #[inline]
 fn join_words(
     acc: u64x8,
@@ -144,7 +150,9 @@ fn join_words(
     requires inside { middles ≤ 64 }
     requires room { at + middles ≤ 128 }
     ensures count { length result ≡ 8 }
-    ensures lanes { (i b : ℕ) → i < 8 → RowsHave result i b ↔ JoinedFrom at middles (RowsHave acc) (RowsHave select) (RowsHave others.now) i b }
+    ensures lanes { (i b : ℕ) → i < 8
+        → RowsHave result i b
+        ↔ JoinedFrom at middles (RowsHave acc) (RowsHave select) (RowsHave others.now) i b }
 {
     let mut joined = acc;
     for c in 0..middles {
@@ -156,7 +164,8 @@ fn join_words(
     joined
 }
 
-/// Adds to the words of the blocks those words of others, from an index on, that the lowest bits of `select` name.
+/// Adds to the words of the blocks those words of others, from an index on, that the lowest bits of
+/// `select` name.
 pub(crate) fn join_block(
     words: &mut [u64; MAX_EVENTS],
     select: &[u64; MAX_EVENTS],
@@ -168,7 +177,8 @@ pub(crate) fn join_block(
     requires inside { middles ≤ 64 }
     requires room { at + middles ≤ 128 }
     requires few { 8 * blocks ≤ 128 }
-    ensures { AreWritten words.old words.new (8 * blocks) (JoinedFrom at middles (RowsHave words.old) (RowsHave select.now) (RowsHave others.now)) }
+    ensures { AreWritten words.old words.new (8 * blocks) (JoinedFrom at middles
+        (RowsHave words.old) (RowsHave select.now) (RowsHave others.now)) }
 {
     for block in 0..blocks {
         let acc = load(words, 8 * block);

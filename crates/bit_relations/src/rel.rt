@@ -31,7 +31,8 @@ impl Model for Rel {
 
     ghost invariant = { λ r. AreColumns r.count r.low r.high };
 
-    ghost inverse = { λ v. record { count = v.count; low = low_words v.rows; high = high_words v.rows } };
+    ghost inverse = { λ v.
+        record { count = v.count; low = low_words v.rows; high = high_words v.rows } };
 
     ghost inverse_ok = { λ r h. rw (h.low_kept, h.high_kept) refl };
 }
@@ -62,7 +63,8 @@ impl Rel {
     /// The pairs from an event of one set to an event of another.
     pub fn product(left: &EventSet, right: &EventSet) -> Rel
         requires { right.now.count ≡ left.now.count }
-        ensures { IsRelation result left.now.count (Product (IsMember left.now) (IsMember right.now)) }
+        ensures { IsRelation result left.now.count
+            (Product (IsMember left.now) (IsMember right.now)) }
     {
         let mut made = Rel::empty(left.count());
         made.set_product(left, right);
@@ -139,7 +141,8 @@ impl Rel {
         made
     }
 
-    /// The pairs that a pair of this one and then a pair of the other join, by an event in the middle.
+    /// The pairs that a pair of this one and then a pair of the other join, by an event in the
+    /// middle.
     pub fn compose(&self, other: &Rel) -> Rel
         requires { other.now.count ≡ self.now.count }
         ensures { IsRelation result self.now.count (Composed (Has self.now) (Has other.now)) }
@@ -197,7 +200,8 @@ impl Rel {
     /// Its pairs with both ends in a set.
     pub fn restrict(&self, events: &EventSet) -> Rel
         requires { events.now.count ≡ self.now.count }
-        ensures { IsRelation result self.now.count (Restricted (Has self.now) (IsMember events.now)) }
+        ensures { IsRelation result self.now.count
+            (Restricted (Has self.now) (IsMember events.now)) }
     {
         let mut made = *self;
         made.keep_within(events);
@@ -330,7 +334,8 @@ impl Rel {
     /// Keeps the pairs with both ends in a set.
     pub fn keep_within(&mut self, events: &EventSet)
         requires { events.now.count ≡ self.old.count }
-        ensures { IsRelation self.new self.old.count (Restricted (Has self.old) (IsMember events.now)) }
+        ensures { IsRelation self.new self.old.count
+            (Restricted (Has self.old) (IsMember events.now)) }
     {
         let (low, high) = events.words();
         words::keep(&mut self.low, low, high, low, self.count);
@@ -385,7 +390,8 @@ impl Rel {
     /// Becomes the pairs from an event of one set to an event of another.
     pub fn set_product(&mut self, left: &EventSet, right: &EventSet)
         requires { right.now.count ≡ left.now.count }
-        ensures { IsRelation self.new left.now.count (Product (IsMember left.now) (IsMember right.now)) }
+        ensures { IsRelation self.new left.now.count
+            (Product (IsMember left.now) (IsMember right.now)) }
     {
         let count = left.count();
         let (low, high) = left.words();
@@ -404,8 +410,8 @@ impl Rel {
         self.keep_within(events);
     }
 
-    /// Appends the words of its rows: the low ones, then the high ones where the count is over 64. Where memory is out
-    /// the list stays as it was.
+    /// Appends the words of its rows: the low ones, then the high ones where the count is over 64.
+    /// Where memory is out the list stays as it was.
     pub fn append_to(&self, list: &mut Vec<u64>) -> Result<(), AllocError>
         ensures added { OnOk result (list.new.items ≡ list.old.items ++ packed self.now) }
         ensures kept { OnErr result (list.new.items ≡ list.old.items) }
@@ -435,7 +441,8 @@ impl Rel {
     /// Whether the words of its rows stand in a list from an offset on, the low ones first.
     pub fn is_stored(&self, list: &[u64], at: usize) -> bool
         requires low { at + self.now.count ≤ length list.now }
-        requires high { 64 < self.now.count → at + self.now.count + self.now.count ≤ length list.now }
+        requires high { 64 < self.now.count
+            → at + self.now.count + self.now.count ≤ length list.now }
         ensures { IsTrue result ↔ AreStored list.now at self.now }
     {
         if words::are_at(&self.low, list, at, self.count) {

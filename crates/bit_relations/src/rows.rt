@@ -17,7 +17,8 @@ pub fn has_pair(low: &[u64; MAX_EVENTS], high: &[u64; MAX_EVENTS], from: usize, 
     has_event(low[from], high[from], to)
 }
 
-/// The events below an end whose words have the bit, where the first bit of the result stands for the event `at`.
+/// The events below an end whose words have the bit, where the first bit of the result stands for
+/// the event `at`.
 fn column(words: &[u64; MAX_EVENTS], k: usize, at: usize, end: usize) -> u64
     requires inside { k < 64 }
     requires few { end ≤ 64 }
@@ -42,7 +43,8 @@ fn leading_to(
     requires event { event < 128 }
     requires few { end ≤ 64 }
     requires room { at + end ≤ 128 }
-    ensures { (b : ℕ) → Bit result b ↔ ((b < end) × RowsHave (wide low.now high.now) (b + at) event) }
+    ensures { (b : ℕ)
+        → Bit result b ↔ ((b < end) × RowsHave (wide low.now high.now) (b + at) event) }
 {
     if event < 64 {
         column(low, event, at, end)
@@ -63,7 +65,8 @@ pub fn invert(
     requires few { part ≤ 64 }
     requires room { at + part ≤ 128 }
     requires end { end ≤ 128 }
-    ensures { AreWritten words.old words.new end (Inverted at part (RowsHave (wide low.now high.now))) }
+    ensures { AreWritten words.old words.new end
+        (Inverted at part (RowsHave (wide low.now high.now))) }
 {
     for a in 0..end {
         words[a] = leading_to(low, high, a, at, part);
@@ -81,7 +84,8 @@ pub fn compose(
 )
     requires count { count ≤ 128 }
     requires few { 8 * blocks ≤ 128 }
-    ensures { AreWritten words.old words.new (8 * blocks) (JoinedBelow count (RowsHave words.old) (RowsHave (wide low.now high.now)) (RowsHave others.now)) }
+    ensures { AreWritten words.old words.new (8 * blocks) (JoinedBelow count (RowsHave words.old)
+        (RowsHave (wide low.now high.now)) (RowsHave others.now)) }
 {
     join_block(words, low, others, 0, in_low(count), blocks);
     if count > 64 {
@@ -89,7 +93,8 @@ pub fn compose(
     }
 }
 
-/// Closes rows of one word over paths of one step or more, with one event after another in the middle.
+/// Closes rows of one word over paths of one step or more, with one event after another in the
+/// middle.
 fn close_blocks(low: &mut [u64; MAX_EVENTS], count: usize)
     requires few { count ≤ 64 }
     requires within { (a b : ℕ) → RowsHave low.old a b → (a < count) × (b < count) }
@@ -131,7 +136,9 @@ fn close_through(
     requires inside { middle < count }
     requires columns { AreColumns count low.old high.old }
     ensures columns { AreColumns count low.new high.new }
-    ensures pairs { (a b : ℕ) → RowsHave (wide low.new high.new) a b ↔ Through middle (RowsHave (wide low.old high.old)) a b }
+    ensures pairs { (a b : ℕ)
+        → RowsHave (wide low.new high.new) a b
+        ↔ Through middle (RowsHave (wide low.old high.old)) a b }
 {
     let row_low = low[middle];
     let row_high = high[middle];
@@ -147,7 +154,8 @@ fn close_through(
 fn close_both(low: &mut [u64; MAX_EVENTS], high: &mut [u64; MAX_EVENTS], count: usize)
     requires { AreColumns count low.old high.old }
     ensures columns { AreColumns count low.new high.new }
-    ensures pairs { (a b : ℕ) → RowsHave (wide low.new high.new) a b ↔ Plus (RowsHave (wide low.old high.old)) a b }
+    ensures pairs { (a b : ℕ)
+        → RowsHave (wide low.new high.new) a b ↔ Plus (RowsHave (wide low.old high.old)) a b }
 {
     for middle in 0..count {
         if low[middle] != 0 || high[middle] != 0 {
@@ -156,11 +164,13 @@ fn close_both(low: &mut [u64; MAX_EVENTS], high: &mut [u64; MAX_EVENTS], count: 
     }
 }
 
-/// Closes rows over paths of one step or more: of one word where the count is at most 64, and else of two.
+/// Closes rows over paths of one step or more: of one word where the count is at most 64, and else
+/// of two.
 pub fn close(low: &mut [u64; MAX_EVENTS], high: &mut [u64; MAX_EVENTS], count: usize)
     requires { AreColumns count low.old high.old }
     ensures columns { AreColumns count low.new high.new }
-    ensures pairs { (a b : ℕ) → RowsHave (wide low.new high.new) a b ↔ Plus (RowsHave (wide low.old high.old)) a b }
+    ensures pairs { (a b : ℕ)
+        → RowsHave (wide low.new high.new) a b ↔ Plus (RowsHave (wide low.old high.old)) a b }
 {
     if count <= 64 {
         close_low(low, count);
@@ -169,7 +179,8 @@ pub fn close(low: &mut [u64; MAX_EVENTS], high: &mut [u64; MAX_EVENTS], count: u
     }
 }
 
-/// Whether no path of one step or more leads back to where it began, in rows of one word: it closes a copy of them.
+/// Whether no path of one step or more leads back to where it began, in rows of one word: it closes
+/// a copy of them.
 pub fn is_low_acyclic(low: &[u64; MAX_EVENTS], count: usize) -> bool
     requires few { count ≤ 64 }
     requires within { (a b : ℕ) → RowsHave low.now a b → (a < count) × (b < count) }

@@ -23,7 +23,8 @@ impl Model for EventSet {
 
     ghost invariant = { λ s. AreWords s.count s.low s.high };
 
-    ghost inverse = { λ v. record { count = v.count; low = v.word % 2 ^ 64; high = v.word / 2 ^ 64 } };
+    ghost inverse = { λ v.
+        record { count = v.count; low = v.word % 2 ^ 64; high = v.word / 2 ^ 64 } };
 }
 
 impl EventSet {
@@ -114,7 +115,8 @@ impl EventSet {
     /// The events of this set that are not in the other.
     pub fn minus(&self, other: &EventSet) -> EventSet
         requires { other.now.count ≡ self.now.count }
-        ensures { IsEvents result self.now.count (λ a. IsMember self.now a × (IsMember other.now a → ⊥)) }
+        ensures { IsEvents result self.now.count
+            (λ a. IsMember self.now a × (IsMember other.now a → ⊥)) }
     {
         EventSet {
             count: self.count,
@@ -125,7 +127,8 @@ impl EventSet {
 
     /// The events below the count that are not in it.
     pub fn complement(&self) -> EventSet
-        ensures { IsEvents result self.now.count (λ a. (a < self.now.count) × (IsMember self.now a → ⊥)) }
+        ensures { IsEvents result self.now.count
+            (λ a. (a < self.now.count) × (IsMember self.now a → ⊥)) }
     {
         EventSet {
             count: self.count,

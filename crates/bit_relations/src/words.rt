@@ -61,7 +61,8 @@ pub fn copy(words: &mut [u64; MAX_EVENTS], others: &[u64; MAX_EVENTS], end: usiz
 /// Adds the bits of the words of another.
 pub fn join(words: &mut [u64; MAX_EVENTS], others: &[u64; MAX_EVENTS], end: usize)
     requires { end ≤ 128 }
-    ensures { AreWritten words.old words.new end (Union (RowsHave words.old) (RowsHave others.now)) }
+    ensures { AreWritten words.old words.new end
+        (Union (RowsHave words.old) (RowsHave others.now)) }
 {
     for a in 0..end {
         words[a] = either(words[a], others[a]);
@@ -71,7 +72,8 @@ pub fn join(words: &mut [u64; MAX_EVENTS], others: &[u64; MAX_EVENTS], end: usiz
 /// Keeps the bits that the words of another have too.
 pub fn meet(words: &mut [u64; MAX_EVENTS], others: &[u64; MAX_EVENTS], end: usize)
     requires { end ≤ 128 }
-    ensures { AreWritten words.old words.new end (Inter (RowsHave words.old) (RowsHave others.now)) }
+    ensures { AreWritten words.old words.new end
+        (Inter (RowsHave words.old) (RowsHave others.now)) }
 {
     for a in 0..end {
         words[a] = both(words[a], others[a]);
@@ -81,7 +83,8 @@ pub fn meet(words: &mut [u64; MAX_EVENTS], others: &[u64; MAX_EVENTS], end: usiz
 /// Drops the bits that the words of another have.
 pub fn drop_bits(words: &mut [u64; MAX_EVENTS], others: &[u64; MAX_EVENTS], end: usize)
     requires { end ≤ 128 }
-    ensures { AreWritten words.old words.new end (Minus (RowsHave words.old) (RowsHave others.now)) }
+    ensures { AreWritten words.old words.new end
+        (Minus (RowsHave words.old) (RowsHave others.now)) }
 {
     for a in 0..end {
         words[a] = left_alone(words[a], others[a]);
@@ -111,7 +114,8 @@ pub fn fill(words: &mut [u64; MAX_EVENTS], low: u64, high: u64, word: u64, end: 
 /// Keeps the bits of one word where the event is in the set of two words, and empties the others.
 pub fn keep(words: &mut [u64; MAX_EVENTS], low: u64, high: u64, word: u64, end: usize)
     requires { end ≤ 128 }
-    ensures { AreWritten words.old words.new end (Kept (joined low high) word (RowsHave words.old)) }
+    ensures { AreWritten words.old words.new end
+        (Kept (joined low high) word (RowsHave words.old)) }
 {
     for a in 0..end {
         words[a] = word_if(has_event(low, high, a), both(words[a], word));
@@ -131,7 +135,8 @@ pub fn add_diagonal(words: &mut [u64; MAX_EVENTS], at: usize, end: usize)
 /// Whether no word has the bit of its own event, where the first bit stands for the event `at`.
 pub fn is_diagonal_free(words: &[u64; MAX_EVENTS], at: usize, end: usize) -> bool
     requires { end ≤ 128 }
-    ensures { IsTrue result ↔ ((a b : ℕ) → a < end → b < 64 → a ≡ b + at → RowsHave words.now a b → ⊥) }
+    ensures { IsTrue result
+        ↔ ((a b : ℕ) → a < end → b < 64 → a ≡ b + at → RowsHave words.now a b → ⊥) }
 {
     for a in 0..end {
         if has_own_bit(words[a], a, at) {
@@ -157,7 +162,8 @@ pub fn are_empty(words: &[u64; MAX_EVENTS], end: usize) -> bool
 /// Whether the words below the end are those of another.
 pub fn are_same(words: &[u64; MAX_EVENTS], others: &[u64; MAX_EVENTS], end: usize) -> bool
     requires { end ≤ 128 }
-    ensures { IsTrue result ↔ ((a : ℕ) → a < end → slice_index words.now a ≡ slice_index others.now a) }
+    ensures { IsTrue result
+        ↔ ((a : ℕ) → a < end → slice_index words.now a ≡ slice_index others.now a) }
 {
     for a in 0..end {
         if words[a] != others[a] {
@@ -171,7 +177,8 @@ pub fn are_same(words: &[u64; MAX_EVENTS], others: &[u64; MAX_EVENTS], end: usiz
 pub fn are_at(words: &[u64; MAX_EVENTS], list: &[u64], at: usize, end: usize) -> bool
     requires end { end ≤ 128 }
     requires room { at + end ≤ length list.now }
-    ensures { IsTrue result ↔ ((a : ℕ) → a < end → slice_index list.now (at + a) ≡ slice_index words.now a) }
+    ensures { IsTrue result
+        ↔ ((a : ℕ) → a < end → slice_index list.now (at + a) ≡ slice_index words.now a) }
 {
     for a in 0..end {
         if words[a] != list[at + a] {

@@ -1,5 +1,5 @@
--- What a board shows: for each test and each model what is known of the cell. Read this file first, then Operations, then
--- Legal, then Right.
+-- What a board shows: for each test and each model what is known of the cell. Read this file first,
+-- then Operations, then Legal, then Right.
 use Rattle.std.specs.Prelude.{ℕ, List, [], Option, Some, None, bytes_eq, slice_get, option_map}
 use Rattle.std.specs.List.{position_or_len}
 use Rattle.verdict.specs.declared.answer.Outcome.{Outcome}
@@ -45,7 +45,8 @@ cell_at rows test model = slice_get (cells_of (slice_get rows test)) model
 
 -- the cell of a test and a model, by their names
 abbrev pub shown : BoardContent → (test model : List ℕ) → Cell
-shown b test model = shown_cell (cell_at b.rows (row_index test b.rows) (column_index model b.columns))
+shown b test model =
+    shown_cell (cell_at b.rows (row_index test b.rows) (column_index model b.columns))
 
 -- the printed items of the model of that name
 abbrev pub items_of : BoardContent → List ℕ → Option (List ℕ)

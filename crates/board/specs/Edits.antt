@@ -21,4 +21,5 @@ edit_count ops = min (edits_in ops) (2 ^ 64 - 1)
 -- no two edits have one number
 abbrev pub AreNumbersApart : List BoardOp → Type 0
 AreNumbersApart ops =
-    (i k : ℕ) (e f : BoardEdit) → slice_get ops i ≡ Some (Edit e) → slice_get ops k ≡ Some (Edit f) → e.number ≡ f.number → i ≡ k
+    (i k : ℕ) (e f : BoardEdit) → slice_get ops i ≡ Some (Edit e) → slice_get ops k ≡ Some (Edit f)
+    → e.number ≡ f.number → i ≡ k

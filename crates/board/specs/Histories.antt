@@ -1,4 +1,5 @@
--- Histories of operations: the texts after them as they are read, and which edits those texts make. Read it after Legal.
+-- Histories of operations: the texts after them as they are read, and which edits those texts make.
+-- Read it after Legal.
 use Rattle.std.specs.Prelude.{◌≡◌, false, ℕ, List, [], ◌∷◌, fold, map}
 use Rattle.text_values.specs.TestValue.{content_of}
 use Rattle.bench_texts.specs.declared.edit.Edit as code
@@ -38,8 +39,9 @@ HasContents ops = IsContentOf (contents_after ops) (texts_after ops)
 
 -- ---- histories
 
--- The operation is that of this edit, which these texts make: it puts in place what the edit makes of them, of the test or the
--- model that the edit names, and says whether the edit puts or drops it as a whole.
+-- The operation is that of this edit, which these texts make: it puts in place what the edit makes
+-- of them, of the test or the model that the edit names, and says whether the edit puts or drops it
+-- as a whole.
 pub record IsMadeBy (t : BenchTexts) (edit : BoardEdit) (e : Edit) : Type 0 where
   pub applies : Applies t false e (texts_with edit.prepared.value.replacement t)
   pub target : IsPutBy t e edit.prepared.value.replacement
@@ -67,7 +69,8 @@ IsHistory all = IsLegal all × AreEditsMade all
 
 -- the operation may come after these
 abbrev pub MayComeNext : List BoardOp → BoardOp → Type 0
-MayComeNext all op = MayFollow (texts_after all) (legal.last_number all) op × IsMadeOn (contents_after all) op
+MayComeNext all op =
+    MayFollow (texts_after all) (legal.last_number all) op × IsMadeOn (contents_after all) op
 
 -- the operation is that of the edit of these texts, under that number
 abbrev pub IsEditOf : BenchTexts → BoardOp → Edit → ℕ → Type 0

@@ -7,10 +7,13 @@ use Rattle.board.specs.Legal.{Held, texts_after}
 use Rattle.board.specs.Right.{printed_of}
 use Rattle.board.specs.Results.{model_named}
 
--- the items of the model of that name in these texts, with their numbers, one on each line; none without such a model
+-- the items of the model of that name in these texts, with their numbers, one on each line; none
+-- without such a model
 abbrev pub printed_in : Held → List ℕ → Option (List ℕ)
 printed_in h model = option_map printed_of (model_named h model)
 
--- after these operations the items of each model, asked for by its name, are those of the texts after them
+-- after these operations the items of each model, asked for by its name, are those of the texts
+-- after them
 abbrev pub ShowsRightItems : List BoardOp → Type 0
-ShowsRightItems ops = (model : List ℕ) → items_of (board_after ops) model ≡ printed_in (texts_after ops) model
+ShowsRightItems ops =
+    (model : List ℕ) → items_of (board_after ops) model ≡ printed_in (texts_after ops) model

@@ -60,28 +60,39 @@ slice_before h i j = cell_slice (slice_get h.tests i) (slice_get h.models j)
 abbrev pub slice_after : Held → Replacement → (test model : ℕ) → Option Slice
 slice_after h r i j = cell_slice (test_after r h.tests i) (model_after r h.models j)
 
--- the edit puts the test or the model of the cell as a whole, or its slice before the edit and after it differs
+-- the edit puts the test or the model of the cell as a whole, or its slice before the edit and
+-- after it differs
 abbrev pub IsReached : Held → (whole : Bool) → Replacement → (test model : ℕ) → Type 0
-IsReached h whole r i j = IsTrue (whole && is_of r i j) ⊎ ¬ (slice_before h i j ≡ slice_after h r i j)
+IsReached h whole r i j =
+    IsTrue (whole && is_of r i j) ⊎ ¬ (slice_before h i j ≡ slice_after h r i j)
 
 abbrev pub IsCellOf : Held → CellIndex → Type 0
 IsCellOf h at = (at.test < length h.tests) × (at.model < length h.models)
 
--- The list has the cells that the edit reaches, of those that there are after it; each other cell has one slice before the
--- edit and after it.
-pub record ListsReached (h : Held) (whole : Bool) (r : Replacement) (cells : List CellIndex) : Type 0 where
-  pub exact : (at : CellIndex) → Contains cells at ↔ (IsCellOf (held_with r h) at × IsReached h whole r at.test at.model)
-  pub kept : (at : CellIndex) → (Contains cells at → ⊥) → slice_before h at.test at.model ≡ slice_after h r at.test at.model
+-- The list has the cells that the edit reaches, of those that there are after it; each other cell
+-- has one slice before the edit and after it.
+pub record ListsReached (h : Held) (whole : Bool) (r : Replacement) (cells : List CellIndex)
+    : Type 0 where
+  pub exact : (at : CellIndex)
+      → Contains cells at ↔ (IsCellOf (held_with r h) at × IsReached h whole r at.test at.model)
+  pub kept : (at : CellIndex) → (Contains cells at → ⊥)
+      → slice_before h at.test at.model ≡ slice_after h r at.test at.model
 
--- The change of names is that of what the edit puts or drops. The cells of what is dropped go, so none is listed.
+-- The change of names is that of what the edit puts or drops. The cells of what is dropped go, so
+-- none is listed.
 abbrev pub Announces : Held → (whole : Bool) → NameChange → List CellIndex → Replacement → Type 0
 Announces h whole (PutTest at name) cells (made.PutTest index test) =
-    (at ≡ index) × (at ≤ length h.tests) × (arc_value name ≡ test.name) × ListsReached h whole (made.PutTest index test) cells
-Announces h whole (DropTest at) cells (made.DropTest index) = (at ≡ index) × (at < length h.tests) × (cells ≡ [])
+    (at ≡ index) × (at ≤ length h.tests) × (arc_value name ≡ test.name)
+    × ListsReached h whole (made.PutTest index test) cells
+Announces h whole (DropTest at) cells (made.DropTest index) =
+    (at ≡ index) × (at < length h.tests) × (cells ≡ [])
 Announces h whole (PutModel at name items) cells (made.PutModel index model next) =
     (at ≡ index) × (at ≤ length h.models) × (arc_value name ≡ model.name)
-    × ListsReached h whole (made.PutModel index model next) cells × (Some (arc_value items).items ≡ printed_by (made.PutModel index model next)) × IsRead model
-Announces h whole (DropModel at) cells (made.DropModel index) = (at ≡ index) × (at < length h.models) × (cells ≡ [])
+    × ListsReached h whole (made.PutModel index model next) cells
+    × (Some (arc_value items).items ≡ printed_by (made.PutModel index model next))
+    × IsRead model
+Announces h whole (DropModel at) cells (made.DropModel index) =
+    (at ≡ index) × (at < length h.models) × (cells ≡ [])
 Announces h whole change cells r = ⊥
 
 -- ---- outcomes
@@ -96,15 +107,19 @@ pub record IsRightAt (h : Held) (i j : ℕ) (outcome : Outcome) : Type 0 where
 
 -- ---- lists of operations
 
--- The operation may come next: numbers rise and an edit announces what it does, and an outcome is right for the texts there.
+-- The operation may come next: numbers rise and an edit announces what it does, and an outcome is
+-- right for the texts there.
 abbrev pub MayFollow : Held → ℕ → BoardOp → Type 0
 MayFollow h last (Edit edit) =
-    (last < edit.number) × Announces h edit.prepared.value.whole edit.change edit.reached.items edit.prepared.value.replacement
+    (last < edit.number)
+    × Announces h edit.prepared.value.whole edit.change edit.reached.items
+    edit.prepared.value.replacement
 MayFollow h last (Settle at outcome) = IsRightAt h at.test at.model (arc_value outcome)
 
 abbrev pub LegalFrom : Held → ℕ → List BoardOp → Type 0
 LegalFrom h last [] = Unit {0}
-LegalFrom h last (op ∷ ops) = MayFollow h last op × LegalFrom (held_after h op) (number_after last op) ops
+LegalFrom h last (op ∷ ops) =
+    MayFollow h last op × LegalFrom (held_after h op) (number_after last op) ops
 
 -- each operation may follow those before it
 abbrev pub IsLegal : List BoardOp → Type 0

@@ -14,7 +14,8 @@ use Rattle.board.specs.Contents.{RowContent, ColumnContent, BoardContent}
 
 -- the row with that in one of its cells
 abbrev pub with_cell : ℕ → Option Outcome → RowContent → RowContent
-with_cell model cell row = record { name = row.name; cells = changed_at model (λ _. cell) row.cells }
+with_cell model cell row =
+    record { name = row.name; cells = changed_at model (λ _. cell) row.cells }
 
 -- the rows with that in one cell
 abbrev pub put_cell : (test model : ℕ) → Option Outcome → List RowContent → List RowContent
@@ -40,11 +41,15 @@ narrower_row model row = record { name = row.name; cells = remove row.cells mode
 abbrev pub with_name : List ℕ → RowContent → RowContent
 with_name name row = record { name = name; cells = row.cells }
 
--- What is put has the index of the name, or is the last; a name that is dropped goes, with its cells.
+-- What is put has the index of the name, or is the last; a name that is dropped goes, with its
+-- cells.
 abbrev pub rows_after : NameChange → List ColumnContent → List RowContent → List RowContent
-rows_after (PutTest at name) columns rows = if nat_lt at (length rows) then changed_at at (with_name (arc_value name)) rows else rows ++ open_row (arc_value name) columns ∷ []
+rows_after (PutTest at name) columns rows =
+    if nat_lt at (length rows) then changed_at at (with_name (arc_value name)) rows
+    else rows ++ open_row (arc_value name) columns ∷ []
 rows_after (DropTest at) columns rows = remove rows at
-rows_after (PutModel at name items) columns rows = if nat_lt at (length columns) then rows else map wider_row rows
+rows_after (PutModel at name items) columns rows =
+    if nat_lt at (length columns) then rows else map wider_row rows
 rows_after (DropModel at) columns rows = map (narrower_row at) rows
 
 -- likewise, with the printed items of a model
@@ -53,11 +58,17 @@ columns_after (PutTest at name) columns = columns
 columns_after (DropTest at) columns = columns
 columns_after (PutModel at name items) columns =
     let column : ColumnContent = record { name = arc_value name; items = (arc_value items).items } in
-    if nat_lt at (length columns) then changed_at at (λ _. column) columns else columns ++ column ∷ []
+    if nat_lt at (length columns) then changed_at at (λ _. column) columns
+    else columns ++ column ∷ []
 columns_after (DropModel at) columns = remove columns at
 
 abbrev pub named_after : NameChange → BoardContent → BoardContent
-named_after change b = record { rows = rows_after change b.columns b.rows; columns = columns_after change b.columns; edits = b.edits }
+named_after change b =
+    record {
+      rows = rows_after change b.columns b.rows;
+      columns = columns_after change b.columns;
+      edits = b.edits;
+    }
 
 -- ---- operations
 
@@ -70,9 +81,15 @@ abbrev pub counted : BoardContent → BoardContent
 counted b = record { rows = b.rows; columns = b.columns; edits = min (suc b.edits) (2 ^ 64 - 1) }
 
 abbrev pub settled : CellIndex → Outcome → BoardContent → BoardContent
-settled at outcome b = record { rows = put_cell at.test at.model (Some outcome) b.rows; columns = b.columns; edits = b.edits }
+settled at outcome b =
+    record {
+      rows = put_cell at.test at.model (Some outcome) b.rows;
+      columns = b.columns;
+      edits = b.edits;
+    }
 
--- An edit changes the names, opens the cells that it reaches and is counted; a settled cell shows its outcome.
+-- An edit changes the names, opens the cells that it reaches and is counted; a settled cell shows
+-- its outcome.
 abbrev pub after_operation : BoardContent → BoardOp → BoardContent
 after_operation b (Edit edit) = counted (opened edit.reached.items (named_after edit.change b))
 after_operation b (Settle at outcome) = settled at (arc_value outcome) b

@@ -37,16 +37,21 @@ pub record IsResultIn (h : Held) (test model : List ℕ) (outcome : Outcome) : T
   pub model_is : model_named h model ≡ Some under
   pub right : IsFromScratch content under.text outcome
 
--- The cell is right for these texts: there is none just where the texts lack the test or the model, and an outcome is theirs.
+-- The cell is right for these texts: there is none just where the texts lack the test or the model,
+-- and an outcome is theirs.
 abbrev pub IsRightCell : Held → (test model : List ℕ) → Cell → Type 0
 IsRightCell h test model NoCell = LacksOne h test model
 IsRightCell h test model Open = HasBoth h test model
 IsRightCell h test model (Settled outcome) = IsResultIn h test model outcome
 
--- after these operations each cell, asked for by the names of its test and of its model, is right for the texts after them
+-- after these operations each cell, asked for by the names of its test and of its model, is right
+-- for the texts after them
 abbrev pub ShowsRightCells : List BoardOp → Type 0
-ShowsRightCells ops = (test model : List ℕ) → IsRightCell (texts_after ops) test model (shown (board_after ops) test model)
+ShowsRightCells ops =
+    (test model : List ℕ)
+    → IsRightCell (texts_after ops) test model (shown (board_after ops) test model)
 
 -- texts have one result of a test under a model
 abbrev pub HasOneResult : Held → (test model : List ℕ) → Type 0
-HasOneResult h test model = (o p : Outcome) → IsResultIn h test model o → IsResultIn h test model p → o ≡ p
+HasOneResult h test model =
+    (o p : Outcome) → IsResultIn h test model o → IsResultIn h test model p → o ≡ p

@@ -17,8 +17,8 @@ use std::mem::drop;
 use std::sync::Arc;
 use text_values::Name;
 
-/// For each test and each model what is known of the cell, the printed items of the models, and how many edits were made.
-/// Contracts see it as plain data.
+/// For each test and each model what is known of the cell, the printed items of the models, and how
+/// many edits were made. Contracts see it as plain data.
 pub struct Board {
     rows: Vec<Row>,
     columns: Vec<Column>,
@@ -40,7 +40,8 @@ impl Model for Board {
 
     ghost Value = { BoardContent };
 
-    ghost view = { λ b. record { rows = b.rows.items; columns = b.columns.items; edits = b.edits } };
+    ghost view = { λ b.
+        record { rows = b.rows.items; columns = b.columns.items; edits = b.edits } };
 }
 
 impl Board {
@@ -94,7 +95,8 @@ impl Board {
 
     /// The name of the test at an index.
     pub fn test_name(&self, index: usize) -> Option<&[u8]>
-        ensures { option_map (λ n. n.now) result ≡ option_map (λ r. r.name) (slice_get self.now.rows index) }
+        ensures { option_map (λ n. n.now) result
+            ≡ option_map (λ r. r.name) (slice_get self.now.rows index) }
     {
         match self.rows.get(index) {
             Some(row) => Some(row.name()),
@@ -104,7 +106,8 @@ impl Board {
 
     /// The name of the model at an index.
     pub fn model_name(&self, index: usize) -> Option<&[u8]>
-        ensures { option_map (λ n. n.now) result ≡ option_map (λ c. c.name) (slice_get self.now.columns index) }
+        ensures { option_map (λ n. n.now) result
+            ≡ option_map (λ c. c.name) (slice_get self.now.columns index) }
     {
         match self.columns.get(index) {
             Some(column) => Some(column.name()),
@@ -119,7 +122,8 @@ impl Board {
         self.edits
     }
 
-    /// The items of the model of this name, as the bench prints them, or none without such a model. It takes no memory.
+    /// The items of the model of this name, as the bench prints them, or none without such a model.
+    /// It takes no memory.
     pub fn items(&self, model: &[u8]) -> Option<&[u8]>
         ensures { option_map (λ b. b.now) result ≡ items_of self.now model.now }
     {
@@ -131,7 +135,8 @@ impl Board {
 
     /// Makes one change. Errors: want of memory, and then the board is as it was.
     pub fn apply(&mut self, alloc: Global, operation: &BoardOp) -> Result<(), AllocError>
-        ensures { MatchResult result (λ _. self.new ≡ after_operation self.old operation.now) (λ _. self.new ≡ self.old) }
+        ensures { MatchResult result (λ _. self.new ≡ after_operation self.old operation.now)
+            (λ _. self.new ≡ self.old) }
     {
         match operation {
             BoardOp::Edit(edit) => {
@@ -149,7 +154,8 @@ impl Board {
 
     // Changes the names as an edit does.
     fn rename(&mut self, alloc: Global, change: &NameChange) -> Result<(), AllocError>
-        ensures { MatchResult result (λ _. self.new ≡ named_after change.now self.old) (λ _. self.new ≡ self.old) }
+        ensures { MatchResult result (λ _. self.new ≡ named_after change.now self.old)
+            (λ _. self.new ≡ self.old) }
     {
         match change {
             NameChange::PutTest { at, name } => put_test(
@@ -179,7 +185,9 @@ impl Board {
         name: &Arc<Name>,
         items: &Arc<Vec<u8>>,
     ) -> Result<(), AllocError>
-        ensures { MatchResult result (λ _. self.new ≡ named_after (NameChange.PutModel at name.now items.now) self.old) (λ _. self.new ≡ self.old) }
+        ensures { MatchResult result
+            (λ _. self.new ≡ named_after (NameChange.PutModel at name.now items.now) self.old)
+            (λ _. self.new ≡ self.old) }
     {
         let column = Column::new(Arc::try_clone(name)?, Arc::try_clone(items)?);
         if at < self.columns.len() {

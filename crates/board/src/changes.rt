@@ -41,7 +41,8 @@ pub(crate) fn column_index(columns: &[Column], name: &[u8]) -> usize
 
 /// Puts an outcome, or none, into a cell, where there is one.
 pub(crate) fn put_cell(rows: &mut Vec<Row>, at: CellIndex, cell: Option<Arc<Outcome>>)
-    ensures { rows.new.items ≡ put_cell at.test at.model (option_map arc_value cell) rows.old.items }
+    ensures { rows.new.items
+        ≡ put_cell at.test at.model (option_map arc_value cell) rows.old.items }
 {
     if at.test < rows.len() {
         rows[at.test].put(at.model, cell);
@@ -73,7 +74,8 @@ pub(crate) fn put_column(columns: &mut Vec<Column>, at: usize, column: Column)
     drop(replace(&mut columns[at], column));
 }
 
-/// Puts a test: gives the row of that index its name, or adds a row without outcomes. Errors: want of memory, and then nothing changes.
+/// Puts a test: gives the row of that index its name, or adds a row without outcomes. Errors: want
+/// of memory, and then nothing changes.
 pub(crate) fn put_test(
     alloc: Global,
     rows: &mut Vec<Row>,
@@ -81,7 +83,11 @@ pub(crate) fn put_test(
     at: usize,
     name: &Arc<Name>,
 ) -> Result<(), AllocError>
-    ensures { MatchResult result (λ _. rows.new.items ≡ (if nat_lt at (length rows.old.items) then changed_at at (with_name (arc_value name.now)) rows.old.items else rows.old.items ++ open_row (arc_value name.now) columns.now ∷ [])) (λ _. rows.new.items ≡ rows.old.items) }
+    ensures { MatchResult result
+        (λ _. rows.new.items ≡ (if nat_lt at (length rows.old.items) then changed_at at
+        (with_name (arc_value name.now)) rows.old.items
+        else rows.old.items ++ open_row (arc_value name.now) columns.now ∷ []))
+        (λ _. rows.new.items ≡ rows.old.items) }
 {
     let name = Arc::try_clone(name)?;
     if at < rows.len() {

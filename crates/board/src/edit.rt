@@ -45,7 +45,8 @@ fn push_reached(
     at: CellIndex,
     reached: &mut Vec<CellIndex>,
 ) -> Result<(), AllocError>
-    ensures { OnOk result (ListsOneMore (held_of texts.now) prepared.now.whole prepared.now.replacement at reached.old.items reached.new.items) }
+    ensures { OnOk result (ListsOneMore (held_of texts.now) prepared.now.whole
+        prepared.now.replacement at reached.old.items reached.new.items) }
 {
     if !reaches(texts, prepared, at.test, at.model) {
         return Ok(());
@@ -61,7 +62,8 @@ fn reached_among(
     prepared: &Prepared,
     cells: &[CellIndex],
 ) -> Result<Vec<CellIndex>, AllocError>
-    ensures { IfOk result (λ v. ListsAmong (held_of texts.now) prepared.now.whole prepared.now.replacement cells.now v.items) }
+    ensures { IfOk result (λ v. ListsAmong (held_of texts.now) prepared.now.whole
+        prepared.now.replacement cells.now v.items) }
 {
     let mut reached = Vec::new(alloc);
     for at in cells {
@@ -79,7 +81,8 @@ fn shared_name(alloc: Global, name: &[u8]) -> Result<Arc<Name>, AllocError>
 
 // The printed items of the model that the edit puts, and none where it puts none.
 fn shared_items(alloc: Global, prepared: &Prepared) -> Result<Arc<Vec<u8>>, AllocError>
-    ensures { IfOk result (λ v. (items : List ℕ) → printed_by prepared.now.replacement ≡ Some items → (arc_value v).items ≡ items) }
+    ensures { IfOk result (λ v. (items : List ℕ) → printed_by prepared.now.replacement ≡ Some items
+        → (arc_value v).items ≡ items) }
 {
     let items = match prepared.printed() {
         Some(printed) => Vec::from_slice(alloc, printed)?,
@@ -101,7 +104,11 @@ fn announce_test(
     at: usize,
     name: &[u8],
 ) -> Result<Announcement, AllocError>
-    ensures { IfOk result (λ a. (test : Test) → prepared.now.replacement ≡ Replacement.PutTest at test → test.name ≡ name.now → at ≤ vec_len texts.now.tests → Announces (held_of texts.now) prepared.now.whole a.change a.reached.items prepared.now.replacement) }
+    ensures { IfOk result (λ a. (test : Test)
+        → prepared.now.replacement ≡ Replacement.PutTest at test → test.name ≡ name.now
+        → at ≤ vec_len texts.now.tests
+        → Announces (held_of texts.now) prepared.now.whole a.change a.reached.items
+        prepared.now.replacement) }
 {
     let cells = cells_of_test(alloc, at, texts.models().len())?;
     let reached = reached_among(alloc, texts, prepared, &cells)?;
@@ -117,7 +124,11 @@ fn announce_model(
     at: usize,
     name: &[u8],
 ) -> Result<Announcement, AllocError>
-    ensures { IfOk result (λ a. (model : NamedModel) (next : ℕ) → prepared.now.replacement ≡ Replacement.PutModel at model next → model.name ≡ name.now → at ≤ vec_len texts.now.models → IsRead model → Announces (held_of texts.now) prepared.now.whole a.change a.reached.items prepared.now.replacement) }
+    ensures { IfOk result (λ a. (model : NamedModel) (next : ℕ)
+        → prepared.now.replacement ≡ Replacement.PutModel at model next → model.name ≡ name.now
+        → at ≤ vec_len texts.now.models → IsRead model
+        → Announces (held_of texts.now) prepared.now.whole a.change a.reached.items
+        prepared.now.replacement) }
 {
     let cells = cells_of_model(alloc, texts.tests().len(), at)?;
     let reached = reached_among(alloc, texts, prepared, &cells)?;
@@ -129,7 +140,8 @@ fn announce_model(
 
 fn announce(alloc: Global, texts: &Texts, prepared: &Prepared) -> Result<Announcement, AllocError>
     requires { IsReplaceable texts.now prepared.now.replacement }
-    ensures { IfOk result (λ a. Announces (held_of texts.now) prepared.now.whole a.change a.reached.items prepared.now.replacement) }
+    ensures { IfOk result (λ a. Announces (held_of texts.now) prepared.now.whole a.change
+        a.reached.items prepared.now.replacement) }
 {
     match prepared.replacement() {
         Replacement::PutTest { at, test } => announce_test(
@@ -158,7 +170,8 @@ fn announce(alloc: Global, texts: &Texts, prepared: &Prepared) -> Result<Announc
 }
 
 impl BoardEdit {
-    /// What an edit of this number does to boards, from the texts on which it was prepared. Errors: want of memory.
+    /// What an edit of this number does to boards, from the texts on which it was prepared. Errors:
+    /// want of memory.
     pub fn new(
         alloc: Global,
         number: u64,
@@ -166,7 +179,8 @@ impl BoardEdit {
         prepared: &Prepared,
     ) -> Result<BoardEdit, AllocError>
         requires { IsReplaceable texts.now prepared.now.replacement }
-        ensures follows { (last : ℕ) → last < number → IfOk result (λ e. MayFollow (held_of texts.now) last (BoardOp.Edit e)) }
+        ensures follows { (last : ℕ) → last < number
+            → IfOk result (λ e. MayFollow (held_of texts.now) last (BoardOp.Edit e)) }
         ensures prepared { IfOk result (λ e. e.prepared.value ≡ prepared.now) }
         ensures number { IfOk result (λ e. e.number ≡ number) }
     {

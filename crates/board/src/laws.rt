@@ -5,19 +5,20 @@ ghost use Rattle.board.specs.declared.operation.BoardOp.{BoardOp};
 ghost use Rattle.board.specs.Legal.{texts_after, last_number, MayFollow, IsLegal};
 ghost use Rattle.board.specs.Right.{OutcomesAreRight, HasNamesOf, HasItemsOf};
 
-/// After each legal list of operations, each settled cell carries what evaluating its test under its model from nothing gives,
-/// for the texts at that moment.
+/// After each legal list of operations, each settled cell carries what evaluating its test under
+/// its model from nothing gives, for the texts at that moment.
 pub fn legal_is_right()
     ensures { (ops : List BoardOp) → IsLegal ops → OutcomesAreRight ops }
 {}
 
-/// After each legal list of operations, the names of the board are those of the texts at that moment, in their orders.
+/// After each legal list of operations, the names of the board are those of the texts at that
+/// moment, in their orders.
 pub fn names_are_those()
     ensures { (ops : List BoardOp) → IsLegal ops → HasNamesOf ops }
 {}
 
-/// After each legal list of operations, each model of the board has the items of that model of the texts at that moment, with
-/// their numbers, one on each line.
+/// After each legal list of operations, each model of the board has the items of that model of the
+/// texts at that moment, with their numbers, one on each line.
 pub fn items_are_those()
     ensures { (ops : List BoardOp) → IsLegal ops → HasItemsOf ops }
 {}
@@ -29,5 +30,6 @@ pub fn beginnings_are_legal()
 
 /// A legal list is legal with one operation more that may follow it.
 pub fn one_more_is_legal()
-    ensures { (ops : List BoardOp) (op : BoardOp) → IsLegal ops → MayFollow (texts_after ops) (last_number ops) op → IsLegal (ops ++ op ∷ []) }
+    ensures { (ops : List BoardOp) (op : BoardOp) → IsLegal ops
+        → MayFollow (texts_after ops) (last_number ops) op → IsLegal (ops ++ op ∷ []) }
 {}

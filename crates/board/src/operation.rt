@@ -69,7 +69,8 @@ impl Drop for BoardEdit {
     }
 }
 
-/// A change of a board: what the calls of an author and the results that the bench accepts do to it.
+/// A change of a board: what the calls of an author and the results that the bench accepts do to
+/// it.
 pub enum BoardOp {
     /// An accepted edit.
     Edit(BoardEdit),

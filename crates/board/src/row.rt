@@ -27,7 +27,8 @@ impl Model for Row {
 
     ghost Value = { RowContent };
 
-    ghost view = { λ r. record { name = arc_value r.name; cells = map (option_map arc_value) r.cells.items } };
+    ghost view = { λ r.
+        record { name = arc_value r.name; cells = map (option_map arc_value) r.cells.items } };
 }
 
 impl Row {

@@ -1,6 +1,7 @@
--- The candidate executions of a test, as Alglave, Maranget and Tautschnig define them (Herding Cats, TOPLAS 36(2), 2014):
--- events in program order, dependencies, reads-from and coherence. The test is given by the values that its locations hold
--- at the start and by its threads; V is the list of the values that its loads may take.
+-- The candidate executions of a test, as Alglave, Maranget and Tautschnig define them (Herding
+-- Cats, TOPLAS 36(2), 2014): events in program order, dependencies, reads-from and coherence. The
+-- test is given by the values that its locations hold at the start and by its threads; V is the
+-- list of the values that its loads may take.
 use Rattle.std.specs.Prelude.{ℕ, ◌≡◌, ◌+◌, List, [], ◌∷◌, ◌++◌, map, take, length, replicate, Some, slice_get, Contains, All, true}
 use Rattle.std.specs.List.{flat_map, AllZip}
 use Rattle.bit_relations.specs.Pairs.{Union, IsAcyclic}
@@ -13,18 +14,20 @@ use Rattle.run_combinations.specs.declared.combination.Action.{Action}
 use Rattle.run_combinations.specs.declared.combination.Action.TheVariants.{Read, Write}
 use Rattle.run_combinations.specs.declared.combination.Event.{Event}
 
--- An execution: a run of each thread; reads-from, which gives for each load, in the order of the events, the store that it
--- reads; and coherence, which gives for each location its stores from the first to the last. A store goes by its number
+-- An execution: a run of each thread; reads-from, which gives for each load, in the order of the
+-- events, the store that it reads; and coherence, which gives for each location its stores from the
+-- first to the last. A store goes by its number
 pub record Execution : Type 0 where
   pub runs : List Run
   pub reads_from : List ℕ
   pub coherence : List (List ℕ)
 
--- The events: the initial store of each location, and then what each thread does, in program order. The number of an event
--- is its place in this list
+-- The events: the initial store of each location, and then what each thread does, in program order.
+-- The number of an event is its place in this list
 abbrev pub events_from : ℕ → List Run → List Event
 events_from thread [] = []
-events_from thread (r ∷ rs) = thread_events thread r.outcome.walk.events ++ events_from (thread + 1) rs
+events_from thread (r ∷ rs) =
+    thread_events thread r.outcome.walk.events ++ events_from (thread + 1) rs
 
 abbrev pub events : List Value → List Run → List Event
 events initial runs = initial_stores 0 initial ++ events_from 0 runs
@@ -44,13 +47,15 @@ abbrev pub locations_from : ℕ → List Value → List ℕ
 locations_from location [] = []
 locations_from location (v ∷ vs) = location ∷ locations_from (location + 1) vs
 
--- The number of the event of a step of the run of a thread, if the step is an event: the events of the run are numbered on
--- from those of the initial stores and of the threads before it
+-- The number of the event of a step of the run of a thread, if the step is an event: the events of
+-- the run are numbered on from those of the initial stores and of the threads before it
 abbrev pub event_number : List Value → List Run → ℕ → Run → ℕ → ℕ
-event_number initial runs thread run step = length (events initial (take thread runs)) + event_place (executed run.outcome.walk.steps) step
+event_number initial runs thread run step =
+    length (events initial (take thread runs)) + event_place (executed run.outcome.walk.steps) step
 
 -- A dependency: two steps of the run of a thread are so related, and the events are theirs
-pub record IsDependency (R : Executed → ℕ → ℕ → Type 0) (initial : List Value) (runs : List Run) (a b : ℕ) : Type 0 where
+pub record IsDependency (R : Executed → ℕ → ℕ → Type 0) (initial : List Value) (runs : List Run)
+    (a b : ℕ) : Type 0 where
   pub thread : ℕ
   pub run : Run
   pub its_run : slice_get runs thread ≡ Some run
@@ -67,27 +72,31 @@ Does es n action = (e : Event) × (slice_get es n ≡ Some e) × (e.action ≡ a
 -- the load reads the store: both are of one location and one value
 abbrev pub MayRead : List Event → ℕ → ℕ → Type 0
 MayRead es load store =
-    (location : ℕ) × (value : Value) × Does es load (Read location value) × Does es store (Write location value)
+    (location : ℕ) × (value : Value) × Does es load (Read location value)
+    × Does es store (Write location value)
 
--- the list is an order of the stores of a location: the initial store, which has the number of the location, is the first,
--- and each of the stores stands in it just once
+-- the list is an order of the stores of a location: the initial store, which has the number of the
+-- location, is the first, and each of the stores stands in it just once
 pub record IsOrder (es : List Event) (location : ℕ) (order : List ℕ) : Type 0 where
   pub initial : slice_get order 0 ≡ Some location
   pub stores : All (Contains (stores_at es location)) order
   pub each : length order ≡ length (stores_at es location)
   pub once : AreDistinct order
 
--- What makes an execution: a run of each thread, whose loads take values with the property; each load reads a store of its location and value; the
--- stores of each location are ordered, the initial one first; and reads-from together with need has no cycle, so that no
--- value comes out of thin air
-pub record IsExecution (initial : List Value) (threads : List Thread) (P : Value → Type 0) (x : Execution) : Type 0 where
+-- What makes an execution: a run of each thread, whose loads take values with the property; each
+-- load reads a store of its location and value; the stores of each location are ordered, the
+-- initial one first; and reads-from together with need has no cycle, so that no value comes out of
+-- thin air
+pub record IsExecution (initial : List Value) (threads : List Thread) (P : Value → Type 0)
+    (x : Execution) : Type 0 where
   pub runs : AllZip (λ t r. IsRun t P r) threads x.runs
   pub reads : AllZip (MayRead (events initial x.runs)) (loads (events initial x.runs)) x.reads_from
   pub orders : AllZip (IsOrder (events initial x.runs)) (locations_from 0 initial) x.coherence
-  pub acyclic : IsAcyclic (Union (IsDependency IsNeed initial x.runs) (ReadsFrom (loads (events initial x.runs)) x.reads_from))
+  pub acyclic : IsAcyclic (Union (IsDependency IsNeed initial x.runs)
+      (ReadsFrom (loads (events initial x.runs)) x.reads_from))
 
--- All that can be put together: each choice of a run for each thread, of a store for each load, and of as many stores for
--- each location as it has, in lexicographic order
+-- All that can be put together: each choice of a run for each thread, of a store for each load, and
+-- of as many stores for each location as it has, in lexicographic order
 abbrev pub product : {X : Type 0} → List (List X) → List (List X)
 product [] = [] ∷ []
 product {X} (xs ∷ xss) = flat_map (λ (x : X). map (λ (rest : List X). x ∷ rest) (product xss)) xs
@@ -103,13 +112,19 @@ orders es initial = product (map (rows es) (locations_from 0 initial))
 
 abbrev pub over_runs : List Value → List Run → List Execution
 over_runs initial runs =
-    flat_map (λ reads_from. map (λ coherence. record { runs = runs; reads_from = reads_from; coherence = coherence }) (orders (events initial runs) initial)) (maps (events initial runs))
+    flat_map
+    (λ reads_from. map
+    (λ coherence. record { runs = runs; reads_from = reads_from; coherence = coherence })
+    (orders (events initial runs) initial))
+    (maps (events initial runs))
 
 -- The list has just the executions of the threads over the values, in that order
-pub record AreExecutions (initial : List Value) (threads : List Thread) (V : List Value) (xs : List Execution) : Type 0 where
+pub record AreExecutions (initial : List Value) (threads : List Thread) (V : List Value)
+    (xs : List Execution) : Type 0 where
   pub runs : List (List Run)
   pub of_threads : AllZip (λ t rs. AreRuns t (Contains V) rs) threads runs
-  pub executions : IsFiltered (IsExecution initial threads (Contains V)) (flat_map (over_runs initial) (product runs)) xs
+  pub executions : IsFiltered (IsExecution initial threads (Contains V))
+      (flat_map (over_runs initial) (product runs)) xs
 
 -- some run of it stopped at a fault
 abbrev pub HasFault : Execution → Type 0

@@ -1,4 +1,5 @@
--- The refusals of a space: the numbers that they are printed with, and those that a domain hands on.
+-- The refusals of a space: the numbers that they are printed with, and those that a domain hands
+-- on.
 use Rattle.std.specs.Prelude.{ℕ}
 use Rattle.ppc_semantics.specs.declared.fault.DomainFault.{DomainFault}
 use Rattle.ppc_semantics.specs.declared.fault.DomainFault.TheVariants as domain_faults

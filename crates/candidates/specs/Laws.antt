@@ -1,4 +1,5 @@
--- Laws of the executions of a test, each the contract of a call of `laws`. Read `Executions` and `Listed` first.
+-- Laws of the executions of a test, each the contract of a call of `laws`. Read `Executions` and
+-- `Listed` first.
 use Rattle.std.specs.Prelude.{ℕ, Some, true, ◌≡◌, ◌↔◌, List, [], length, slice_get, Contains}
 use Rattle.std.specs.List.{AllZip}
 use Rattle.text_values.specs.declared.test.Test.{Test}
@@ -20,32 +21,42 @@ use Rattle.candidates.specs.declared.execution.Execution as shown
 use Rattle.candidates.specs.declared.candidate.Space.{Space}
 use Rattle.candidates.specs.Listed.{AreTestExecutions, Shows, ListsExecutions, IsRefusal}
 
--- the law of the domain: what is shown, where the loads of the execution take any values whatever, is an execution over
--- the values of the last round, also of a test that is refused for a bound
+-- the law of the domain: what is shown, where the loads of the execution take any values whatever,
+-- is an execution over the values of the last round, also of a test that is refused for a bound
 abbrev pub LosesNoValue : Test → shown.Execution → Type 0
 LosesNoValue t e =
-    (p : Program) (V : List Value) (x : Execution) → IsProgram t p → IsRound p (load_total p) V → Shows p.initial.items x (shown_by e)
-    → IsExecution p.initial.items (threads_of p) IsOne x → IsExecution p.initial.items (threads_of p) (Contains V) x
+    (p : Program) (V : List Value) (x : Execution) → IsProgram t p → IsRound p (load_total p) V
+    → Shows p.initial.items x (shown_by e)
+    → IsExecution p.initial.items (threads_of p) IsOne x
+    → IsExecution p.initial.items (threads_of p) (Contains V) x
 
 -- a test has one list of executions
 abbrev pub HasOneList : List Value → List Thread → List Value → Type 0
-HasOneList initial threads V = (xs ys : List Execution) → AreExecutions initial threads V xs → AreExecutions initial threads V ys → xs ≡ ys
+HasOneList initial threads V =
+    (xs ys : List Execution) → AreExecutions initial threads V xs
+    → AreExecutions initial threads V ys → xs ≡ ys
 
 -- runs with a load that no store serves are in no execution
 abbrev pub LosesNoExecution : List Value → List Thread → List Value → List Run → Type 0
 LosesNoExecution initial threads V runs =
-    AllZip (λ t r. IsRun t (Contains V) r) threads runs → CannotRead (events initial runs) → IsFiltered (IsExecution initial threads (Contains V)) (over_runs initial runs) []
+    AllZip (λ t r. IsRun t (Contains V) r) threads runs → CannotRead (events initial runs)
+    → IsFiltered (IsExecution initial threads (Contains V)) (over_runs initial runs) []
 
 -- no event of a run of a thread is left out of the events of an execution
 abbrev pub DropsNoEvent : Thread → Run → Type 0
-DropsNoEvent t r = (thread : ℕ) → run_of t.lines t.first r.values ≡ Some r.outcome → length (thread_events thread r.outcome.walk.events) ≡ length r.outcome.walk.events
+DropsNoEvent t r =
+    (thread : ℕ) → run_of t.lines t.first r.values ≡ Some r.outcome
+    → length (thread_events thread r.outcome.walk.events) ≡ length r.outcome.walk.events
 
 -- at the number by which a dependency names a step of a run stands the event of that step
 abbrev pub NumbersItsSteps : List Value → List Thread → List Run → Type 0
 NumbersItsSteps initial threads runs =
     AllZip (λ t r. IsRun t IsOne r) threads runs
-    → (thread step : ℕ) (r : Run) → slice_get runs thread ≡ Some r → is_event (executed r.outcome.walk.steps step) ≡ true
-    → (e : Event) × (slice_get (events initial runs) (event_number initial runs thread r step) ≡ Some e) × IsKind thread (executed r.outcome.walk.steps step) e
+    → (thread step : ℕ) (r : Run) → slice_get runs thread ≡ Some r
+    → is_event (executed r.outcome.walk.steps step) ≡ true
+    → (e : Event)
+    × (slice_get (events initial runs) (event_number initial runs thread r step) ≡ Some e)
+    × IsKind thread (executed r.outcome.walk.steps step) e
 
 -- a store of an execution stands in the coherence of its location
 pub record IsCovered (initial : List Value) (x : Execution) (store : ℕ) : Type 0 where
@@ -59,8 +70,10 @@ pub record IsCovered (initial : List Value) (x : Execution) (store : ℕ) : Type
 -- each does: an execution makes no store but at a location of the test
 abbrev pub CoversEachStore : Test → Type 0
 CoversEachStore t =
-    (p : Program) (V : List Value) (x : Execution) → IsProgram t p → IsRound p (load_total p) V → IsExecution p.initial.items (threads_of p) IsOne x
-    → (store : ℕ) → Contains (stores (events p.initial.items x.runs)) store → IsCovered p.initial.items x store
+    (p : Program) (V : List Value) (x : Execution) → IsProgram t p → IsRound p (load_total p) V
+    → IsExecution p.initial.items (threads_of p) IsOne x
+    → (store : ℕ) → Contains (stores (events p.initial.items x.runs)) store
+    → IsCovered p.initial.items x store
 
 -- a test has one outcome: a space or a refusal, and one refusal at most
 pub record HasOneOutcome (t : Test) : Type 0 where
@@ -74,5 +87,6 @@ ShowOneTest t r s = ListsExecutions t r → ListsExecutions t s → ShowTheSame 
 -- the list of the executions of a test has just those whose loads take any values whatever
 abbrev pub HasAllExecutions : Test → Type 0
 HasAllExecutions t =
-    (initial : List Value) (xs : List Execution) (h : AreTestExecutions t initial xs) (x : Execution)
+    (initial : List Value) (xs : List Execution) (h : AreTestExecutions t initial xs)
+    (x : Execution)
     → Contains xs x ↔ IsExecution initial (threads_of h.program) IsOne x

@@ -1,5 +1,6 @@
--- What `space` says of the executions of a test, and how a space shows them: its clauses `executions` and `refused` cite
--- `ListsExecutions` and `IsRefusedFor`. Read `Events` and `Executions` first.
+-- What `space` says of the executions of a test, and how a space shows them: its clauses
+-- `executions` and `refused` cite `ListsExecutions` and `IsRefusedFor`. Read `Events` and
+-- `Executions` first.
 use Rattle.std.specs.Prelude.{ℕ, ◌≡◌, ◌<◌, ◌≤◌, ◌↔◌, List, map, length, Contains}
 use Rattle.std.specs.List.{AllPairs, AllZip, flat_map}
 use Rattle.text_values.specs.declared.test.Test.{Test}
@@ -32,7 +33,8 @@ pub record AreTestExecutions (t : Test) (initial : List Value) (xs : List Execut
   pub executions : AreExecutions initial (threads_of program) values xs
 
 -- the pairs are just those of the dependency, in rising order
-pub record ArePairs (R : Executed → ℕ → ℕ → Type 0) (initial : List Value) (x : Execution) (pairs : List (ℕ × ℕ)) : Type 0 where
+pub record ArePairs (R : Executed → ℕ → ℕ → Type 0) (initial : List Value) (x : Execution)
+    (pairs : List (ℕ × ℕ)) : Type 0 where
   pub rising : AllPairs IsPairBefore pairs
   pub exact : (p : ℕ × ℕ) → Contains pairs p ↔ IsDependency R initial x.runs p.0 p.1
 
@@ -47,8 +49,8 @@ pub record Shows (initial : List Value) (x : Execution) (e : Shown) : Type 0 whe
   pub coherence : e.order ≡ flat_map (λ order. order) x.coherence
   pub registers : e.registers ≡ map (λ r. r.outcome.walk.state.registers) x.runs
 
--- the space lists just the executions of the test, in their order: at most 16,384, of which none has a run that stopped
--- at a fault; and it names the locations of the test
+-- the space lists just the executions of the test, in their order: at most 16,384, of which none
+-- has a run that stopped at a fault; and it names the locations of the test
 pub record ListsExecutions (t : Test) (s : Space) : Type 0 where
   pub initial : List Value
   pub all : List Execution
@@ -92,15 +94,17 @@ abbrev pub IsRefusedFor : Test → SpaceFault → Type 0
 IsRefusedFor t (Refused r) = IsRefusal t r
 IsRefusedFor t (OutOfMemory e) = Unit {0}
 
--- reads-from and coherence are chosen apart: the executions of some runs are each reads-from, that is one, with each
--- coherence, that is one
+-- reads-from and coherence are chosen apart: the executions of some runs are each reads-from, that
+-- is one, with each coherence, that is one
 abbrev pub IsReadsFrom : List Value → List Run → List ℕ → Type 0
 IsReadsFrom initial runs reads_from =
     AllZip (MayRead (events initial runs)) (loads (events initial runs)) reads_from
-    × IsAcyclic (Union (IsDependency IsNeed initial runs) (ReadsFrom (loads (events initial runs)) reads_from))
+    × IsAcyclic (Union (IsDependency IsNeed initial runs)
+    (ReadsFrom (loads (events initial runs)) reads_from))
 
 abbrev pub IsCoherence : List Value → List Run → List (List ℕ) → Type 0
-IsCoherence initial runs coherence = AllZip (IsOrder (events initial runs)) (locations_from 0 initial) coherence
+IsCoherence initial runs coherence =
+    AllZip (IsOrder (events initial runs)) (locations_from 0 initial) coherence
 
 abbrev pub ChoosesApart : List Value → List Thread → List Value → List Run → Type 0
 ChoosesApart initial threads V runs =
@@ -108,4 +112,6 @@ ChoosesApart initial threads V runs =
     → AllZip (λ t r. IsRun t (Contains V) r) threads runs
     → IsFiltered (IsReadsFrom initial runs) (maps (events initial runs)) reads
     → IsFiltered (IsCoherence initial runs) (orders (events initial runs) initial) coherences
-    → IsFiltered (IsExecution initial threads (Contains V)) (over_runs initial runs) (flat_map (λ r. map (λ c. record { runs = runs; reads_from = r; coherence = c }) coherences) reads)
+    → IsFiltered (IsExecution initial threads (Contains V)) (over_runs initial runs)
+    (flat_map (λ r. map (λ c. record { runs = runs; reads_from = r; coherence = c }) coherences)
+    reads)

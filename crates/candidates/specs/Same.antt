@@ -20,7 +20,8 @@ pairs_left xs ys i j = cond (nat_lt j (length ys)) (pairs_from xs ys i j) []
 
 abbrev pub candidates_from : List Combination → ℕ → ℕ → List Candidate
 candidates_from [] i j = []
-candidates_from (c ∷ cs) i j = map (λ t. (c, t)) (pairs_left (lists_of c.sources.items) c.orders i j) ++ candidates_in cs
+candidates_from (c ∷ cs) i j =
+    map (λ t. (c, t)) (pairs_left (lists_of c.sources.items) c.orders i j) ++ candidates_in cs
 
 -- those that are left
 abbrev pub left_in : Candidates → List Candidate

@@ -19,15 +19,18 @@ Candidate = Combination × (List ℕ × List ℕ)
 abbrev pub candidates_in : List Combination → List Candidate
 candidates_in cs = flat_map (λ c. map (λ t. (c, t)) (candidates_of c)) cs
 
--- what the registers of each thread hold at the end of its run; no values where there is no such run
+-- what the registers of each thread hold at the end of its run; no values where there is no such
+-- run
 abbrev pub end_at : List (List Value) → ℕ → List Value
 end_at ends run = slice_index_or ends run (replicate 32 NoValue)
 
 abbrev pub registers_at : List (Vec (List Value) Global) → List ℕ → List (List Value)
 registers_at threads runs = map (λ p. end_at p.0.items p.1) (zip threads runs)
 
--- the execution is this candidate of the combination, where each thread has runs with these registers at their ends
-pub record IsExecution (threads : List (Vec (List Value) Global)) (c : Combination) (t : List ℕ × List ℕ) (e : Execution) : Type 0 where
+-- the execution is this candidate of the combination, where each thread has runs with these
+-- registers at their ends
+pub record IsExecution (threads : List (Vec (List Value) Global)) (c : Combination)
+    (t : List ℕ × List ℕ) (e : Execution) : Type 0 where
   pub events : e.events.items ≡ c.events.items
   pub dependencies : dependency_lists e.dependencies ≡ dependency_lists c.dependencies
   pub sources : e.sources.items ≡ t.0
@@ -69,7 +72,8 @@ shown_in s = map (shown_of s.registers.items) (candidates_in s.combinations.item
 abbrev pub IsShown : Space → ℕ → Execution → Type 0
 IsShown s index e = slice_get (shown_in s) index ≡ Some (shown_by e)
 
--- two spaces show the same: locations of the same names, and candidates that show the same, in the same order
+-- two spaces show the same: locations of the same names, and candidates that show the same, in the
+-- same order
 abbrev pub ShowTheSame : Space → Space → Type 0
 ShowTheSame r s = (r.locations.items ≡ s.locations.items) × (shown_in r ≡ shown_in s)
 

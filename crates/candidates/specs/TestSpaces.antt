@@ -25,11 +25,16 @@ use Rattle.run_combinations.specs.Candidates.{AreCandidates, AreTooMany, AreFaul
 
 -- the registers at the ends of the runs, and the locations
 abbrev pub HasEnds : Layout → Space → Type 0
-HasEnds l s = (map (λ v. v.items) s.registers.items ≡ map (λ t. map (λ p. p.registers) t.parts.items) l.threads.items) × (s.locations ≡ l.locations)
+HasEnds l s =
+    (map (λ v. v.items) s.registers.items
+    ≡ map (λ t. map (λ p. p.registers) t.parts.items) l.threads.items)
+    × (s.locations ≡ l.locations)
 
 -- the space of a layout, or why there is none
 abbrev pub IsSpaceOf : Layout → Space → Type 0
-IsSpaceOf l s = AreCandidates (location_count l) (all_combinations l) (map combination_lists s.combinations.items) × HasEnds l s
+IsSpaceOf l s =
+    AreCandidates (location_count l) (all_combinations l)
+    (map combination_lists s.combinations.items) × HasEnds l s
 
 abbrev pub IsRefusedAs : Layout → EvalRefusal → Type 0
 IsRefusedAs l TooManyCandidates = AreTooMany (location_count l) (all_combinations l)
@@ -40,23 +45,30 @@ abbrev pub IsAnswer : Layout → Result Space EvalRefusal → Type 0
 IsAnswer l (Ok s) = IsSpaceOf l s
 IsAnswer l (Err r) = IsRefusedAs l r
 
--- what the candidates of the test are made of: the initial stores of its program, and runs of each of its threads over
--- its domain, but for some with a load of what its location never holds
+-- what the candidates of the test are made of: the initial stores of its program, and runs of each
+-- of its threads over its domain, but for some with a load of what its location never holds
 abbrev pub HasLayout : Test → Layout → Type 0
-HasLayout t l = (p : Program) × (values : List Value) × (runs : List (Vec Run Global)) × IsProgram t p × IsDomain p values × AreServedRuns p values runs × IsLaidOut p runs l
+HasLayout t l =
+    (p : Program) × (values : List Value) × (runs : List (Vec Run Global)) × IsProgram t p
+    × IsDomain p values × AreServedRuns p values runs × IsLaidOut p runs l
 
 -- with the sets of what its runs read and store
 abbrev pub IsReady : Test → Layout → Type 0
-IsReady t l = HasLayout t l × (key : ℕ → Value → Option (ℕ × ℕ)) × (initial : List Value) × IsKeyed key l × (l.initial.items ≡ initial_stores 0 initial)
+IsReady t l =
+    HasLayout t l × (key : ℕ → Value → Option (ℕ × ℕ)) × (initial : List Value) × IsKeyed key l
+    × (l.initial.items ≡ initial_stores 0 initial)
 
--- the space of the test, or why it has none: a refusal of its domain, or one that its candidates call for
+-- the space of the test, or why it has none: a refusal of its domain, or one that its candidates
+-- call for
 abbrev pub IsTestSpace : Test → Space → Type 0
 IsTestSpace t s = (l : Layout) × HasLayout t l × IsSpaceOf l s
 
 abbrev pub IsLayoutFault : Test → SpaceFault → Type 0
-IsLayoutFault t (Refused r) = (d : DomainRefusal) × (r ≡ refusal_of d) × IsTestFault t (domain_faults.Refused d)
+IsLayoutFault t (Refused r) =
+    (d : DomainRefusal) × (r ≡ refusal_of d) × IsTestFault t (domain_faults.Refused d)
 IsLayoutFault t (OutOfMemory e) = Unit {0}
 
 abbrev pub IsTestRefusal : Test → SpaceFault → Type 0
-IsTestRefusal t (Refused r) = IsLayoutFault t (Refused r) ⊎ ((l : Layout) × HasLayout t l × IsRefusedAs l r)
+IsTestRefusal t (Refused r) =
+    IsLayoutFault t (Refused r) ⊎ ((l : Layout) × HasLayout t l × IsRefusedAs l r)
 IsTestRefusal t (OutOfMemory e) = Unit {0}

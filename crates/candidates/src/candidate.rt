@@ -39,7 +39,8 @@ fn execution_of(
     index: usize,
 ) -> Result<Execution, AllocError>
     requires { index < length (candidates_of combination.now) }
-    ensures { IfOk result (λ e. HoldsAt (λ t. IsExecution registers.now combination.now t e) (candidates_of combination.now) index) }
+    ensures { IfOk result (λ e. HoldsAt (λ t. IsExecution registers.now combination.now t e)
+        (candidates_of combination.now) index) }
 {
     let orders = combination.orders.len();
     let sources = &combination.sources[index / orders];
@@ -93,7 +94,8 @@ impl Space {
     /// The candidate at an index, from 0; `None` where there are no more than `index`. Errors: want
     /// of memory.
     pub fn execution(&self, alloc: Global, index: usize) -> Result<Option<Execution>, AllocError>
-        ensures some { IfOk result (λ o. IfSome o (λ e. (index < candidate_count self.now) × IsShown self.now index e)) }
+        ensures some { IfOk result (λ o.
+            IfSome o (λ e. (index < candidate_count self.now) × IsShown self.now index e)) }
         ensures none { IfOk result (λ o. IfNone o (candidate_count self.now ≤ index)) }
     {
         let mut left = index;

@@ -10,7 +10,8 @@ ghost use Rattle.candidates.specs.Laws.{HasAllExecutions, CoversEachStore, Loses
 use crate::{Execution, Space};
 use text_values::Test;
 
-/// The domain of a test loses none of its executions: one whose loads take any values whatever is one over the domain.
+/// The domain of a test loses none of its executions: one whose loads take any values whatever is
+/// one over the domain.
 pub fn domain_loses_nothing(test: &Test, execution: &Execution)
     ensures { LosesNoValue test.now execution.now }
 {
@@ -27,17 +28,20 @@ pub fn executions_are_all(test: &Test)
 
 /// A test has one list of executions.
 pub fn executions_are_one()
-    ensures { (initial : List Value) (threads : List Thread) (V : List Value) → HasOneList initial threads V }
+    ensures { (initial : List Value) (threads : List Thread) (V : List Value)
+        → HasOneList initial threads V }
 {}
 
 /// Runs with a load that no store serves are in no execution.
 pub fn pruned_runs_lose_nothing()
-    ensures { (initial : List Value) (threads : List Thread) (V : List Value) (runs : List Run) → LosesNoExecution initial threads V runs }
+    ensures { (initial : List Value) (threads : List Thread) (V : List Value) (runs : List Run)
+        → LosesNoExecution initial threads V runs }
 {}
 
 /// Of some runs, each reads-from with each coherence is an execution.
 pub fn executions_are_a_product()
-    ensures { (initial : List Value) (threads : List Thread) (V : List Value) (runs : List Run) → ChoosesApart initial threads V runs }
+    ensures { (initial : List Value) (threads : List Thread) (V : List Value) (runs : List Run)
+        → ChoosesApart initial threads V runs }
 {}
 
 /// No event of a run is left out.
@@ -45,10 +49,11 @@ pub fn events_are_whole()
     ensures { (t : Thread) (r : Run) → DropsNoEvent t r }
 {}
 
-/// A dependency names the events of its steps: at the number that it gives a step that is an event stands an event of that
-/// thread and of the kind of the step's instruction.
+/// A dependency names the events of its steps: at the number that it gives a step that is an event
+/// stands an event of that thread and of the kind of the step's instruction.
 pub fn dependencies_name_events_of_their_steps()
-    ensures { (initial : List Value) (threads : List Thread) (runs : List Run) → NumbersItsSteps initial threads runs }
+    ensures { (initial : List Value) (threads : List Thread) (runs : List Run)
+        → NumbersItsSteps initial threads runs }
 {}
 
 /// Each store of an execution stands in the coherence of its location.

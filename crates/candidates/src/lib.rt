@@ -39,7 +39,9 @@ fn space_with(
     layout: Layout,
     combinations: Vec<Combination>,
 ) -> Result<Space, AllocError>
-    ensures { IfOk result (λ s. (map combination_lists s.combinations.items ≡ map (λ c. ordered (location_count layout) (combination_lists c)) combinations.items) × HasEnds layout s) }
+    ensures { IfOk result (λ s. (map combination_lists s.combinations.items
+        ≡ map (λ c. ordered (location_count layout) (combination_lists c))
+        combinations.items) × HasEnds layout s) }
 {
     let combinations = with_orders(alloc, combinations, layout.initial.len())?;
     let registers = registers(alloc, &layout.threads)?;
@@ -53,7 +55,8 @@ fn space_with(
 /// The space of a layout, or why it has none.
 fn space_of(alloc: Global, layout: Layout) -> Result<Result<Space, EvalRefusal>, AllocError>
     requires { AreSmall (all_combinations layout) }
-    ensures { (key : ℕ → Value → Option (ℕ × ℕ)) (initial : List Value) → IsKeyed key layout → layout.initial.items ≡ initial_stores 0 initial → IfOk result (λ r. IsAnswer layout r) }
+    ensures { (key : ℕ → Value → Option (ℕ × ℕ)) (initial : List Value) → IsKeyed key layout
+        → layout.initial.items ≡ initial_stores 0 initial → IfOk result (λ r. IsAnswer layout r) }
 {
     match find_combinations(alloc, &layout)? {
         None => Ok(Err(EvalRefusal::TooManyCandidates)),

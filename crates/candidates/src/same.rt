@@ -102,7 +102,8 @@ fn are_same_ends(
     second: &[Vec<[Value; 32]>],
     second_runs: &[usize],
 ) -> bool
-    ensures { IsTrue result ↔ (registers_at first.now first_runs.now ≡ registers_at second.now second_runs.now) }
+    ensures { IsTrue result
+        ↔ (registers_at first.now first_runs.now ≡ registers_at second.now second_runs.now) }
 {
     let threads = first.len().min(first_runs.len());
     if threads != second.len().min(second_runs.len()) {
@@ -163,7 +164,9 @@ fn is_same_chosen(
     second: &Chosen,
     second_ends: &[Vec<[Value; 32]>],
 ) -> bool
-    ensures { IsTrue result ↔ (shown_of first_ends.now (chosen first.now) ≡ shown_of second_ends.now (chosen second.now)) }
+    ensures { IsTrue result
+        ↔ (shown_of first_ends.now (chosen first.now)
+        ≡ shown_of second_ends.now (chosen second.now)) }
 {
     let one = first.combination;
     let other = second.combination;
@@ -181,7 +184,8 @@ pub fn are_same(
     mut second: Candidates,
     second_ends: &[Vec<[Value; 32]>],
 ) -> bool
-    ensures { IsTrue result ↔ (shown_left first_ends.now first.entry ≡ shown_left second_ends.now second.entry) }
+    ensures { IsTrue result
+        ↔ (shown_left first_ends.now first.entry ≡ shown_left second_ends.now second.entry) }
 {
     while let Some(one) = first.next() {
         match second.next() {

@@ -23,7 +23,10 @@ abbrev pub IsLike : Event → Event → Type 0
 IsLike e f = (e.thread ≡ f.thread) × IsActionLike e.action f.action
 
 abbrev pub AreEventsLike : List Event → List Event → Type 0
-AreEventsLike es fs = (length es ≡ length fs) × ((i : ℕ) → i < length es → (d : Event) → IsLike (slice_index_or es i d) (slice_index_or fs i d))
+AreEventsLike es fs =
+    (length es ≡ length fs)
+    × ((i : ℕ) → i < length es → (d : Event)
+    → IsLike (slice_index_or es i d) (slice_index_or fs i d))
 
 -- the events are alike one by one, and the dependencies are the same
 pub record AreAlike (c d : Combination) : Type 0 where

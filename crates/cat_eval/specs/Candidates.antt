@@ -13,7 +13,8 @@ reading_so combination sources orders = map (λ order. (combination, (sources, o
 
 -- those that read in one of these ways
 abbrev pub reading_in : Combination → List (Vec ℕ Global) → List Candidate
-reading_in combination ways = flat_map (λ sources. reading_so combination sources.items combination.orders) ways
+reading_in combination ways =
+    flat_map (λ sources. reading_so combination sources.items combination.orders) ways
 
 -- those of combinations after one another
 abbrev pub of_combinations : List Combination → List Candidate

@@ -12,7 +12,8 @@ use Rattle.cat_eval.specs.Named.{InputEvents, InputPairs}
 abbrev pub events_of : Candidate → ℕ
 events_of one = length one.0.events.items
 
--- the events of a name among the first n events of the candidate, which is the one of number k for the values of the inputs
+-- the events of a name among the first n events of the candidate, which is the one of number k for
+-- the values of the inputs
 abbrev pub EventsAt : ℕ → Candidate → List (Bor Column) → ℕ → Source → ℕ → Type 0
 EventsAt n one inputs k (sources.Predefined name) = SetIn one.0 n name
 EventsAt n one inputs k (sources.Input index) = InputEvents (slice_get inputs index) k n

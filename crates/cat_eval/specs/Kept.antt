@@ -19,9 +19,11 @@ pub record AreWhere (is_kept : ℕ → Bool) (all answers : List Bool) : Type 0 
   pub long : length answers ≡ length all
   pub each : (k : ℕ) → slice_index_or answers k false ≡ (is_kept k && slice_index_or all k false)
 
--- the answers of an item that is a check over the candidates of a space, where they are kept, and elsewhere false
+-- the answers of an item that is a check over the candidates of a space, where they are kept, and
+-- elsewhere false
 abbrev pub KeptAnswersOf : List Bool → Role → List (Bor Column) → Space → List Bool → Type 0
-KeptAnswersOf kept role inputs space answers = (all : List Bool) × AnswersOf role inputs space all × AreWhere (is_kept_at kept) all answers
+KeptAnswersOf kept role inputs space answers =
+    (all : List Bool) × AnswersOf role inputs space all × AreWhere (is_kept_at kept) all answers
 
 -- ---- on the way through the candidates
 
@@ -30,9 +32,14 @@ abbrev pub is_asked_at : Option (Bor (List Bool)) → ℕ → Bool
 is_asked_at None k = true
 is_asked_at (Some kept) k = is_kept_at kept.now k
 
-abbrev pub AreAskedOver : CheckCode → List (Bor Column) → Option (Bor (List Bool)) → List Known → List Bool → Type 0
-AreAskedOver check inputs kept bases answers = (all : List Bool) × AreAnswersOver check inputs bases all × AreWhere (is_asked_at kept) all answers
+abbrev pub AreAskedOver : CheckCode → List (Bor Column) → Option (Bor (List Bool)) → List Known
+    → List Bool → Type 0
+AreAskedOver check inputs kept bases answers =
+    (all : List Bool) × AreAnswersOver check inputs bases all
+    × AreWhere (is_asked_at kept) all answers
 
 -- what is known of the last candidate is its answer
 abbrev pub IsLastAnswer : CheckCode → List (Bor Column) → List Known → Option Bool → Type 0
-IsLastAnswer check inputs bases known = (answer : Bool) (base : Known) → known ≡ Some answer → EndsWith bases base → IsAnswerOver check inputs base (length bases - 1) check.code.kind answer
+IsLastAnswer check inputs bases known =
+    (answer : Bool) (base : Known) → known ≡ Some answer → EndsWith bases base
+    → IsAnswerOver check inputs base (length bases - 1) check.code.kind answer

@@ -45,21 +45,30 @@ abbrev pub AreMonotone : List RelTree → Type 0
 AreMonotone bodies = (x : ℕ) → x < length bodies → IsMonotone (body bodies x)
 
 -- the value of one name is that of its body
-abbrev pub SolvesAt : ℕ → (Source → ℕ → Type 0) → (Source → ℕ → ℕ → Type 0) → List RelTree → List Relation → ℕ → Type 0
-SolvesAt n sets outer bodies values x = (a b : ℕ) → Of n values x a b ↔ Means n sets (WithOwn outer (Of n values)) (body bodies x) a b
+abbrev pub SolvesAt : ℕ → (Source → ℕ → Type 0) → (Source → ℕ → ℕ → Type 0) → List RelTree
+    → List Relation → ℕ → Type 0
+SolvesAt n sets outer bodies values x =
+    (a b : ℕ) → Of n values x a b ↔ Means n sets (WithOwn outer (Of n values)) (body bodies x) a b
 
 -- the tests hold of all that the bodies give where the names have the pairs that pass them
-abbrev pub IsClosed : ℕ → (Source → ℕ → Type 0) → (Source → ℕ → ℕ → Type 0) → List RelTree → (ℕ → ℕ → ℕ → Bool) → Type 0
+abbrev pub IsClosed : ℕ → (Source → ℕ → Type 0) → (Source → ℕ → ℕ → Type 0) → List RelTree
+    → (ℕ → ℕ → ℕ → Bool) → Type 0
 IsClosed n sets outer bodies test =
-    (x : ℕ) → x < length bodies → (a b : ℕ) → Means n sets (WithOwn outer (λ y c d. IsTrue (test y c d))) (body bodies x) a b → IsTrue (test x a b)
+    (x : ℕ) → x < length bodies → (a b : ℕ)
+    → Means n sets (WithOwn outer (λ y c d. IsTrue (test y c d))) (body bodies x) a b
+    → IsTrue (test x a b)
 
 -- each value is a relation on n events
 abbrev pub AreOn : ℕ → List Relation → Type 0
-AreOn n values = (x : ℕ) → x < length values → ((slice_index_or values x no_slot).count ≡ n) × IsRegular (slice_index_or values x no_slot)
+AreOn n values =
+    (x : ℕ) → x < length values
+    → ((slice_index_or values x no_slot).count ≡ n) × IsRegular (slice_index_or values x no_slot)
 
 -- the values satisfy the equations, and lie inside all that is closed under them
-pub record IsLeast (n : ℕ) (sets : Source → ℕ → Type 0) (outer : Source → ℕ → ℕ → Type 0) (bodies : List RelTree) (values : List Relation) : Type 0 where
+pub record IsLeast (n : ℕ) (sets : Source → ℕ → Type 0) (outer : Source → ℕ → ℕ → Type 0)
+    (bodies : List RelTree) (values : List Relation) : Type 0 where
   pub as_many : length values ≡ length bodies
   pub on : AreOn n values
   pub solves : (x : ℕ) → x < length bodies → SolvesAt n sets outer bodies values x
-  pub inside : (test : ℕ → ℕ → ℕ → Bool) → IsClosed n sets outer bodies test → (x : ℕ) → x < length bodies → (a b : ℕ) → Of n values x a b → IsTrue (test x a b)
+  pub inside : (test : ℕ → ℕ → ℕ → Bool) → IsClosed n sets outer bodies test → (x : ℕ)
+      → x < length bodies → (a b : ℕ) → Of n values x a b → IsTrue (test x a b)

@@ -55,4 +55,6 @@ abbrev pub EventsNamed : Names → Source → ℕ → Type 0
 EventsNamed names = EventsIn names.base.now names.inputs.now names.candidate
 
 abbrev pub PairsNamed : Names → Source → ℕ → ℕ → Type 0
-PairsNamed names = WithOwn (PairsOutside names.base.now names.inputs.now names.candidate) (Of names.base.now.count names.own.now)
+PairsNamed names =
+    WithOwn (PairsOutside names.base.now names.inputs.now names.candidate)
+    (Of names.base.now.count names.own.now)

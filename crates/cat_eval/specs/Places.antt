@@ -5,7 +5,8 @@ use Rattle.cat_eval.specs.declared.visit.Place.{Place}
 use Rattle.cat_eval.specs.Seen.{Known, seen, columns_of}
 use Rattle.cat_eval.specs.Steady.{IsSteady, EndsWith}
 
--- so many were visited; up to where the names stand for what they stood for in the last one; what was seen in it
+-- so many were visited; up to where the names stand for what they stood for in the last one; what
+-- was seen in it
 pub record IsAt (xs : List NamedColumn) (place : Place) (bases : List Known) : Type 0 where
   pub number : place.candidate ≡ length bases
   pub steady : IsSteady (columns_of xs) place.candidate place.steady

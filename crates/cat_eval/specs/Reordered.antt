@@ -20,4 +20,6 @@ EndsReordered bases base = (last : Known) × EndsWith bases last × IsReordered 
 
 -- what is held under the name in the first is held under it in the second
 abbrev pub HoldsSame : Predefined → Known → Known → Type 0
-HoldsSame name first second = (s : Events) (r : Relation) → IsHeld (is_set name) name first s r → IsHeld (is_set name) name second s r
+HoldsSame name first second =
+    (s : Events) (r : Relation) → IsHeld (is_set name) name first s r
+    → IsHeld (is_set name) name second s r

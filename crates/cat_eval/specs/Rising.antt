@@ -15,11 +15,14 @@ rooms [] = 0
 rooms (r ∷ rs) = room_of r + rooms rs
 
 -- each value lies inside its body's, and inside all that is closed
-pub record IsSound (n : ℕ) (sets : Source → ℕ → Type 0) (outer : Source → ℕ → ℕ → Type 0) (bodies : List RelTree) (values : List Relation) : Type 0 where
+pub record IsSound (n : ℕ) (sets : Source → ℕ → Type 0) (outer : Source → ℕ → ℕ → Type 0)
+    (bodies : List RelTree) (values : List Relation) : Type 0 where
   pub as_many : length values ≡ length bodies
   pub on : AreOn n values
-  pub rising : (x : ℕ) → x < length bodies → (a b : ℕ) → Of n values x a b → Means n sets (WithOwn outer (Of n values)) (body bodies x) a b
-  pub inside : (test : ℕ → ℕ → ℕ → Bool) → IsClosed n sets outer bodies test → (x : ℕ) → x < length bodies → (a b : ℕ) → Of n values x a b → IsTrue (test x a b)
+  pub rising : (x : ℕ) → x < length bodies → (a b : ℕ) → Of n values x a b
+      → Means n sets (WithOwn outer (Of n values)) (body bodies x) a b
+  pub inside : (test : ℕ → ℕ → ℕ → Bool) → IsClosed n sets outer bodies test → (x : ℕ)
+      → x < length bodies → (a b : ℕ) → Of n values x a b → IsTrue (test x a b)
 
 -- the expression holds one of the names of the group
 abbrev pub HoldsOne : ℕ → RelTree → Type 0
@@ -33,9 +36,12 @@ HoldsOne names (Close how e) = HoldsOne names e
 HoldsOne names (RelNot e) = HoldsOne names e
 
 -- within a round over the names todo, where the bodies below x have been evaluated
-pub record IsRound (n : ℕ) (sets : Source → ℕ → Type 0) (outer : Source → ℕ → ℕ → Type 0) (bodies : List RelTree) (values : List Relation) (todo x grew : ℕ) : Type 0 where
+pub record IsRound (n : ℕ) (sets : Source → ℕ → Type 0) (outer : Source → ℕ → ℕ → Type 0)
+    (bodies : List RelTree) (values : List Relation) (todo x grew : ℕ) : Type 0 where
   pub sound : IsSound n sets outer bodies values
-  pub pending : (y : ℕ) → y < length bodies → SolvesAt n sets outer bodies values y ⊎ (((x ≤ y) × IsAmong todo y) ⊎ HoldsOne grew (body bodies y))
+  pub pending : (y : ℕ) → y < length bodies
+      → SolvesAt n sets outer bodies values y
+      ⊎ (((x ≤ y) × IsAmong todo y) ⊎ HoldsOne grew (body bodies y))
 
 -- the bodies are the steps of these trees
 abbrev pub AreCodes : List RelTree → List Body → Type 0

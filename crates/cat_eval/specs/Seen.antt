@@ -30,7 +30,12 @@ pub record Value : Type 0 where
   pub pairs : Option Relation
 
 abbrev pub value_at : ℕ → NamedColumn → Value
-value_at k named = record { name = named.name; events = set_of named.column.now k; pairs = relation_of named.column.now k }
+value_at k named =
+    record {
+      name = named.name;
+      events = set_of named.column.now k;
+      pairs = relation_of named.column.now k;
+    }
 
 -- the number of events, and what stands under the names
 pub record Known : Type 0 where
@@ -40,12 +45,14 @@ pub record Known : Type 0 where
 -- the events of the first value of this name, if it is a set of n events
 abbrev pub EventsAmong : List Value → Predefined → ℕ → ℕ → Type 0
 EventsAmong [] name n a = ⊥
-EventsAmong (x ∷ xs) name n a = ((x.name ≡ name) × EventsFound x.events n a) ⊎ ((x.name ≡ name → ⊥) × EventsAmong xs name n a)
+EventsAmong (x ∷ xs) name n a =
+    ((x.name ≡ name) × EventsFound x.events n a) ⊎ ((x.name ≡ name → ⊥) × EventsAmong xs name n a)
 
 -- its pairs, if it is a relation of n events
 abbrev pub PairsAmong : List Value → Predefined → ℕ → ℕ → ℕ → Type 0
 PairsAmong [] name n a b = ⊥
-PairsAmong (x ∷ xs) name n a b = ((x.name ≡ name) × PairsFound x.pairs n a b) ⊎ ((x.name ≡ name → ⊥) × PairsAmong xs name n a b)
+PairsAmong (x ∷ xs) name n a b =
+    ((x.name ≡ name) × PairsFound x.pairs n a b) ⊎ ((x.name ≡ name → ⊥) × PairsAmong xs name n a b)
 
 abbrev pub EventsOf : Known → Predefined → ℕ → Type 0
 EventsOf known name = EventsAmong known.values name known.count

@@ -1,4 +1,5 @@
--- Candidates in which an item has the values that it had in the one before: nothing that it uses changes.
+-- Candidates in which an item has the values that it had in the one before: nothing that it uses
+-- changes.
 use Rattle.std.specs.Prelude.{ℕ, ◌≡◌, ◌<◌, ◌≤◌, ◌-◌, List, [], ◌∷◌, ◌++◌, Some, slice_get}
 use denote.Ref.{Bor}
 use Rattle.bit_relations.specs.Relation.{Relation, Events}
@@ -14,7 +15,9 @@ HasSame (columns.Relations values) j k = slice_get values j ≡ slice_get values
 
 -- each input has the same value in both candidates
 abbrev pub AreSame : List (Bor Column) → ℕ → ℕ → Type 0
-AreSame inputs j k = (index : ℕ) (column : Bor Column) → slice_get inputs index ≡ Some column → HasSame column.now j k
+AreSame inputs j k =
+    (index : ℕ) (column : Bor Column) → slice_get inputs index ≡ Some column
+    → HasSame column.now j k
 
 -- the candidates from one up to another have the inputs of the first
 abbrev pub AreSteady : List (Bor Column) → ℕ → ℕ → Type 0
@@ -26,7 +29,8 @@ IsSteady inputs next until = (k : ℕ) → next ≤ k → k < until → AreSame 
 
 -- the new column has its last value once more
 abbrev pub Repeats : Column → Column → Type 0
-Repeats old new = (s : Events) (r : Relation) → HasValue old (column_len old - 1) s r → Adds old new s r
+Repeats old new =
+    (s : Events) (r : Relation) → HasValue old (column_len old - 1) s r → Adds old new s r
 
 -- the last of them
 abbrev pub EndsWith : {X : Type 0} → List X → X → Type 0

@@ -21,37 +21,50 @@ use Rattle.cat_eval.specs.Values.{IsFor, column_len}
 
 -- the column's value for the candidate of number k is what the name stands for in that candidate
 pub record StandsFor (column : Column) (k : ℕ) (name : Predefined) (one : Candidate) : Type 0 where
-  pub events : (a : ℕ) → ColumnEvents column k (events_of one) a ↔ SetIn one.0 (events_of one) name a
-  pub pairs : (a b : ℕ) → ColumnPairs column k (events_of one) a b ↔ RelationIn name (events_of one) one.0 one.1.0 one.1.1 a b
+  pub events : (a : ℕ)
+      → ColumnEvents column k (events_of one) a ↔ SetIn one.0 (events_of one) name a
+  pub pairs : (a b : ℕ)
+      → ColumnPairs column k (events_of one) a b
+      ↔ RelationIn name (events_of one) one.0 one.1.0 one.1.1 a b
 
 -- and so in each candidate
 abbrev pub IsColumnOf : Column → Predefined → List Candidate → Type 0
-IsColumnOf column name candidates = (k : ℕ) (one : Candidate) → slice_get candidates k ≡ Some one → StandsFor column k name one
+IsColumnOf column name candidates =
+    (k : ℕ) (one : Candidate) → slice_get candidates k ≡ Some one → StandsFor column k name one
 
 -- each entry has the column of its name
 abbrev pub IsBlock : List Entry → List Candidate → Type 0
-IsBlock entries candidates = (i : ℕ) → i < length entries → (d : Entry) → IsColumnOf (slice_index_or entries i d).column (slice_index_or entries i d).name candidates
+IsBlock entries candidates =
+    (i : ℕ) → i < length entries → (d : Entry)
+    → IsColumnOf (slice_index_or entries i d).column (slice_index_or entries i d).name candidates
 
 abbrev pub AreBlocks : List (Vec Entry Global) → List Candidate → Type 0
-AreBlocks blocks candidates = (b : ℕ) → b < length blocks → (d : Vec Entry Global) → IsBlock (slice_index_or blocks b d).items candidates
+AreBlocks blocks candidates =
+    (b : ℕ) → b < length blocks → (d : Vec Entry Global)
+    → IsBlock (slice_index_or blocks b d).items candidates
 
 abbrev pub entry_names : List Entry → List Predefined
 entry_names entries = map (λ entry. entry.name) entries
 
 -- one of the blocks has an entry of this name
 abbrev pub HasName : List (Vec Entry Global) → Predefined → Type 0
-HasName blocks name = (b : ℕ) × (b < length blocks) × ((d : Vec Entry Global) → Contains (entry_names (slice_index_or blocks b d).items) name)
+HasName blocks name =
+    (b : ℕ) × (b < length blocks)
+    × ((d : Vec Entry Global) → Contains (entry_names (slice_index_or blocks b d).items) name)
 
 -- each of these has the column of its name
 abbrev pub AreColumnsFor : List NamedColumn → List Candidate → Type 0
-AreColumnsFor xs candidates = (i : ℕ) → i < length xs → (d : NamedColumn) → IsColumnOf (slice_index_or xs i d).column.now (slice_index_or xs i d).name candidates
+AreColumnsFor xs candidates =
+    (i : ℕ) → i < length xs → (d : NamedColumn)
+    → IsColumnOf (slice_index_or xs i d).column.now (slice_index_or xs i d).name candidates
 
 abbrev pub column_names : List NamedColumn → List Predefined
 column_names xs = map (λ x. x.name) xs
 
 -- what the evaluator keeps is of this space
 abbrev pub IsOver : Evaluator → Space → Type 0
-IsOver evaluator space = AreBlocks evaluator.table.blocks.items (candidates_in space.combinations.items)
+IsOver evaluator space =
+    AreBlocks evaluator.table.blocks.items (candidates_in space.combinations.items)
 
 -- ---- columns on their way through the candidates
 
@@ -69,7 +82,10 @@ IsHeld false name base s r = IsRelation r base.count (PairsOf base name)
 pub record IsFilled (entry : Entry) (bases : List Known) : Type 0 where
   pub kind : IsFor (kind_for (is_set entry.name)) entry.column
   pub long : column_len entry.column ≡ length bases
-  pub values : (k : ℕ) (base : Known) → slice_get bases k ≡ Some base → (s : Events) × (r : Relation) × HasValue entry.column k s r × IsHeld (is_set entry.name) entry.name base s r
+  pub values : (k : ℕ) (base : Known) → slice_get bases k ≡ Some base
+      → (s : Events) × (r : Relation) × HasValue entry.column k s r
+      × IsHeld (is_set entry.name) entry.name base s r
 
 abbrev pub AreFilled : List Entry → List Known → Type 0
-AreFilled entries bases = (i : ℕ) → i < length entries → (d : Entry) → IsFilled (slice_index_or entries i d) bases
+AreFilled entries bases =
+    (i : ℕ) → i < length entries → (d : Entry) → IsFilled (slice_index_or entries i d) bases

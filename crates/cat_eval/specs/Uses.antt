@@ -43,7 +43,9 @@ UsesAny names xs = Any (UsesOne names) xs
 
 -- the body at this position of a group uses one of these names
 abbrev pub UsesAt : ℕ → List Body → ℕ → Type 0
-UsesAt names bodies position = (body : Body) × (position < length bodies) × (slice_index_or bodies position body ≡ body) × UsesAny names body.code.steps.items
+UsesAt names bodies position =
+    (body : Body) × (position < length bodies) × (slice_index_or bodies position body ≡ body)
+    × UsesAny names body.code.steps.items
 
 -- this body, or one whose name shares the bit of its name, uses one of these names
 abbrev pub UsesNear : ℕ → List Body → ℕ → Type 0

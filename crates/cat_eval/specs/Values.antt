@@ -24,23 +24,35 @@ abbrev pub Unless : Bool → Type 0 → Type 0
 Unless false P = P
 Unless true P = P → ⊥
 
--- the answer is whether the expression meets the check, where the names stand for these events and pairs among n events:
--- there are no names of a recursive group
-abbrev pub IsAnswer : CheckCode → ℕ → (Source → ℕ → Type 0) → (Source → ℕ → ℕ → Type 0) → Kind → Bool → Type 0
-IsAnswer check n sets outer kinds.OfSet answer = (t : SetTree) → check.code.steps.items ≡ set_code t [] → IsTrue answer ↔ Unless check.negated (IsEmptySet (MeansSet n sets t))
-IsAnswer check n sets outer kinds.OfRelation answer = (t : RelTree) → check.code.steps.items ≡ rel_code t [] → IsTrue answer ↔ Unless check.negated (Holds check.word (Means n sets (WithOwn outer (Of n [])) t))
-IsAnswer check n sets outer kinds.OfAny answer = (t : RelTree) → check.code.steps.items ≡ rel_code t [] → IsTrue answer ↔ Unless check.negated (Holds check.word (Means n sets (WithOwn outer (Of n [])) t))
+-- the answer is whether the expression meets the check, where the names stand for these events and
+-- pairs among n events: there are no names of a recursive group
+abbrev pub IsAnswer : CheckCode → ℕ → (Source → ℕ → Type 0) → (Source → ℕ → ℕ → Type 0) → Kind
+    → Bool → Type 0
+IsAnswer check n sets outer kinds.OfSet answer =
+    (t : SetTree) → check.code.steps.items ≡ set_code t []
+    → IsTrue answer ↔ Unless check.negated (IsEmptySet (MeansSet n sets t))
+IsAnswer check n sets outer kinds.OfRelation answer =
+    (t : RelTree) → check.code.steps.items ≡ rel_code t []
+    → IsTrue answer
+    ↔ Unless check.negated (Holds check.word (Means n sets (WithOwn outer (Of n [])) t))
+IsAnswer check n sets outer kinds.OfAny answer =
+    (t : RelTree) → check.code.steps.items ≡ rel_code t []
+    → IsTrue answer
+    ↔ Unless check.negated (Holds check.word (Means n sets (WithOwn outer (Of n [])) t))
 
 -- one answer for each candidate, in order: whether the expression meets the check there
 abbrev pub AreAnswers : CheckCode → List (Bor Column) → List Candidate → List Bool → Type 0
 AreAnswers check inputs candidates answers =
-    (length answers ≡ length candidates) × ((k : ℕ) (one : Candidate) (answer : Bool) → slice_get candidates k ≡ Some one → slice_get answers k ≡ Some answer
-    → IsAnswer check (events_of one) (EventsAt (events_of one) one inputs k) (PairsAt (events_of one) one inputs k) check.code.kind answer)
+    (length answers ≡ length candidates) × ((k : ℕ) (one : Candidate) (answer : Bool)
+    → slice_get candidates k ≡ Some one → slice_get answers k ≡ Some answer
+    → IsAnswer check (events_of one) (EventsAt (events_of one) one inputs k)
+    (PairsAt (events_of one) one inputs k) check.code.kind answer)
 
 -- the answers of an item that is a check, over the candidates of a space; another item has none
 abbrev pub AnswersOf : Role → List (Bor Column) → Space → List Bool → Type 0
 AnswersOf (roles.Group recursive bodies) inputs space answers = answers ≡ []
-AnswersOf (roles.Check check) inputs space answers = AreAnswers check inputs (candidates_in space.combinations.items) answers
+AnswersOf (roles.Check check) inputs space answers =
+    AreAnswers check inputs (candidates_in space.combinations.items) answers
 AnswersOf roles.Silent inputs space answers = answers ≡ []
 
 -- so many candidates it has a value for
@@ -71,9 +83,15 @@ IsFor kinds.OfRelation (columns.Relations values) = Unit {0}
 IsFor kinds.OfAny (columns.Sets values) = ⊥
 IsFor kinds.OfAny (columns.Relations values) = Unit {0}
 
--- the set, or the relation, is what the code means, where the names stand for these events and pairs among n events: it
--- uses no names of a recursive group
-abbrev pub IsMeant : Kind → List Step → ℕ → (Source → ℕ → Type 0) → (Source → ℕ → ℕ → Type 0) → Events → Relation → Type 0
-IsMeant kinds.OfSet steps n sets outer s r = (t : SetTree) → steps ≡ set_code t [] → IsEvents s n (MeansSet n sets t)
-IsMeant kinds.OfRelation steps n sets outer s r = (t : RelTree) → steps ≡ rel_code t [] → IsRelation r n (Means n sets (WithOwn outer (Of n [])) t)
-IsMeant kinds.OfAny steps n sets outer s r = (t : RelTree) → steps ≡ rel_code t [] → IsRelation r n (Means n sets (WithOwn outer (Of n [])) t)
+-- the set, or the relation, is what the code means, where the names stand for these events and
+-- pairs among n events: it uses no names of a recursive group
+abbrev pub IsMeant : Kind → List Step → ℕ → (Source → ℕ → Type 0) → (Source → ℕ → ℕ → Type 0)
+    → Events → Relation → Type 0
+IsMeant kinds.OfSet steps n sets outer s r =
+    (t : SetTree) → steps ≡ set_code t [] → IsEvents s n (MeansSet n sets t)
+IsMeant kinds.OfRelation steps n sets outer s r =
+    (t : RelTree) → steps ≡ rel_code t []
+    → IsRelation r n (Means n sets (WithOwn outer (Of n [])) t)
+IsMeant kinds.OfAny steps n sets outer s r =
+    (t : RelTree) → steps ≡ rel_code t []
+    → IsRelation r n (Means n sets (WithOwn outer (Of n [])) t)

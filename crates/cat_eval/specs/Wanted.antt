@@ -1,4 +1,5 @@
--- Columns of a group of which only those of some names are wanted. `Evaluator::group_wanted` cites it; read `Columns` first.
+-- Columns of a group of which only those of some names are wanted. `Evaluator::group_wanted` cites
+-- it; read `Columns` first.
 use Rattle.std.specs.Prelude.{ℕ, ◌≡◌, ◌<◌, Bool, true, false, List, length, slice_index_or}
 use denote.Ref.{Bor}
 use Rattle.bit_relations.specs.Relation.{Relation, Events}
@@ -20,20 +21,29 @@ is_wanted wanted position = slice_index_or wanted position true
 -- as many columns: where a name is wanted its column, and else one without a value
 pub record AreShown (wanted : List Bool) (whole shown : List Column) : Type 0 where
   pub long : length shown ≡ length whole
-  pub same : (j : ℕ) → j < length shown → is_wanted wanted j ≡ true → (c : Column) → slice_index_or shown j c ≡ slice_index_or whole j c
-  pub empty : (j : ℕ) → j < length shown → is_wanted wanted j ≡ false → (c : Column) → column_len (slice_index_or shown j c) ≡ 0
+  pub same : (j : ℕ) → j < length shown → is_wanted wanted j ≡ true → (c : Column)
+      → slice_index_or shown j c ≡ slice_index_or whole j c
+  pub empty : (j : ℕ) → j < length shown → is_wanted wanted j ≡ false → (c : Column)
+      → column_len (slice_index_or shown j c) ≡ 0
 
 -- the columns of an item that is a group, of the names that are wanted
 abbrev pub WantedColumnsOf : List Bool → Role → List (Bor Column) → Space → List Column → Type 0
-WantedColumnsOf wanted role inputs space cs = (whole : List Column) × ColumnsOf role inputs space whole × AreShown wanted whole cs
+WantedColumnsOf wanted role inputs space cs =
+    (whole : List Column) × ColumnsOf role inputs space whole × AreShown wanted whole cs
 
--- the column has what the body means for each of these candidates, if it is wanted, and else no value
+-- the column has what the body means for each of these candidates, if it is wanted, and else no
+-- value
 abbrev pub IsWantedColumn : Bool → Body → List (Bor Column) → List Known → Column → Type 0
-IsWantedColumn wanted body inputs bases shown = (whole : Column) × IsBodyColumn body inputs bases whole × (wanted ≡ true → shown ≡ whole) × (wanted ≡ false → column_len shown ≡ 0)
+IsWantedColumn wanted body inputs bases shown =
+    (whole : Column) × IsBodyColumn body inputs bases whole × (wanted ≡ true → shown ≡ whole)
+    × (wanted ≡ false → column_len shown ≡ 0)
 
 -- as `WantedColumnsOf`, over the predefined names that are held for each candidate
-abbrev pub AreWantedOver : List Bool → Bool → List Body → List (Bor Column) → List Known → List Column → Type 0
-AreWantedOver wanted recursive bodies inputs bases cs = (whole : List Column) × AreColumnsOver recursive bodies inputs bases whole × AreShown wanted whole cs
+abbrev pub AreWantedOver : List Bool → Bool → List Body → List (Bor Column) → List Known
+    → List Column → Type 0
+AreWantedOver wanted recursive bodies inputs bases cs =
+    (whole : List Column) × AreColumnsOver recursive bodies inputs bases whole
+    × AreShown wanted whole cs
 
 -- the new column has one value more, or it is the old one
 abbrev pub AddsIf : Bool → Column → Column → Events → Relation → Type 0

@@ -9,7 +9,8 @@ use Rattle.candidates.specs.Space.{Candidate}
 
 -- what these names need is held: the sets among them, and what the relations among them are made of
 pub record AreHeld (names : List Predefined) (base : Known) : Type 0 where
-  pub sets : (name : Predefined) → Contains names name → IsTrue (is_set name) → Contains (set_names base.sets) name
+  pub sets : (name : Predefined) → Contains names name → IsTrue (is_set name)
+      → Contains (set_names base.sets) name
   pub relations : (name : Predefined) → Contains names name → is_set name ≡ false → Gives base name
 
 -- these names are held, and what is held is that of the combination where this fixes it
@@ -18,9 +19,10 @@ pub record IsReady (names : List Predefined) (base : Known) (c : Combination) : 
   pub held : AreHeld names base
   pub entered : IsEntered base c
 
--- what is held is that of the candidate: these names, what its combination fixes, and where they are needed what its
--- loads read and how its stores are ordered
-pub record IsWorld (names : List Predefined) (reads orders : Bool) (base : Known) (one : Candidate) : Type 0 where
+-- what is held is that of the candidate: these names, what its combination fixes, and where they
+-- are needed what its loads read and how its stores are ordered
+pub record IsWorld (names : List Predefined) (reads orders : Bool) (base : Known) (one : Candidate)
+    : Type 0 where
   pub ready : IsReady names base one.0
   pub reading : IsTrue reads → IsReading base one.0 one.1.0
   pub ordered : IsTrue orders → IsOrdered base one.0 one.1.1
@@ -30,4 +32,5 @@ abbrev pub AreWorlds : List Predefined → Bool → Bool → List Known → List
 AreWorlds names reads orders [] [] = Unit {0}
 AreWorlds names reads orders [] (c ∷ cs) = ⊥
 AreWorlds names reads orders (b ∷ bs) [] = ⊥
-AreWorlds names reads orders (b ∷ bs) (c ∷ cs) = IsWorld names reads orders b c × AreWorlds names reads orders bs cs
+AreWorlds names reads orders (b ∷ bs) (c ∷ cs) =
+    IsWorld names reads orders b c × AreWorlds names reads orders bs cs

@@ -33,8 +33,13 @@ impl AskedRun<'_> {
     fn evaluate(&mut self, named: &[NamedColumn], candidate: usize, count: usize)
         requires few { count ≤ 128 }
         requires more { candidate + 1 < 2 ^ 64 }
-        ensures fixed { (self.new.check ≡ self.old.check) × (self.new.inputs ≡ self.old.inputs) × (self.new.kept ≡ self.old.kept) × (self.new.answers ≡ self.old.answers) }
-        ensures at { (bases : List Known) → candidate ≡ length bases → IsAskedAt named.now self.old.check.now self.old.inputs.now self.old.kept bases self.old → IsAskedAt named.now self.old.check.now self.old.inputs.now self.old.kept bases self.new × (self.new.keeper.count ≡ Some count) × (candidate < self.new.until) }
+        ensures fixed { (self.new.check ≡ self.old.check) × (self.new.inputs ≡ self.old.inputs)
+            × (self.new.kept ≡ self.old.kept) × (self.new.answers ≡ self.old.answers) }
+        ensures at { (bases : List Known) → candidate ≡ length bases
+            → IsAskedAt named.now self.old.check.now self.old.inputs.now self.old.kept bases
+            self.old
+            → IsAskedAt named.now self.old.check.now self.old.inputs.now self.old.kept bases
+            self.new × (self.new.keeper.count ≡ Some count) × (candidate < self.new.until) }
     {
         if candidate < self.until && self.keeper.is_of(count) {
             return;
@@ -55,8 +60,15 @@ impl AskedRun<'_> {
     fn evaluate_asked(&mut self, named: &[NamedColumn], candidate: usize, count: usize, asked: bool)
         requires few { count ≤ 128 }
         requires more { candidate + 1 < 2 ^ 64 }
-        ensures fixed { (self.new.check ≡ self.old.check) × (self.new.inputs ≡ self.old.inputs) × (self.new.kept ≡ self.old.kept) × (self.new.answers ≡ self.old.answers) }
-        ensures at { (bases : List Known) → candidate ≡ length bases → IsAskedAt named.now self.old.check.now self.old.inputs.now self.old.kept bases self.old → IsAskedAt named.now self.old.check.now self.old.inputs.now self.old.kept bases self.new × (IsTrue asked → (self.new.keeper.count ≡ Some count) × (candidate < self.new.until)) }
+        ensures fixed { (self.new.check ≡ self.old.check) × (self.new.inputs ≡ self.old.inputs)
+            × (self.new.kept ≡ self.old.kept) × (self.new.answers ≡ self.old.answers) }
+        ensures at { (bases : List Known) → candidate ≡ length bases
+            → IsAskedAt named.now self.old.check.now self.old.inputs.now self.old.kept bases
+            self.old
+            → IsAskedAt named.now self.old.check.now self.old.inputs.now self.old.kept bases
+            self.new
+            × (IsTrue asked
+            → (self.new.keeper.count ≡ Some count) × (candidate < self.new.until)) }
     {
         if !asked {
             return;
@@ -67,8 +79,13 @@ impl AskedRun<'_> {
     /// Takes the next candidate, of so many events.
     fn take(&mut self, named: &[NamedColumn], count: usize) -> Result<(), AllocError>
         requires few { count ≤ 128 }
-        ensures fixed { (self.new.check ≡ self.old.check) × (self.new.inputs ≡ self.old.inputs) × (self.new.kept ≡ self.old.kept) }
-        ensures at { (bases : List Known) → IsAskedAt named.now self.old.check.now self.old.inputs.now self.old.kept bases self.old → OnOk result (IsAskedAt named.now self.old.check.now self.old.inputs.now self.old.kept (bases ++ seen named.now (length bases) count ∷ []) self.new) }
+        ensures fixed { (self.new.check ≡ self.old.check) × (self.new.inputs ≡ self.old.inputs)
+            × (self.new.kept ≡ self.old.kept) }
+        ensures at { (bases : List Known)
+            → IsAskedAt named.now self.old.check.now self.old.inputs.now self.old.kept bases
+            self.old
+            → OnOk result (IsAskedAt named.now self.old.check.now self.old.inputs.now self.old.kept
+            (bases ++ seen named.now (length bases) count ∷ []) self.new) }
     {
         let candidate = self.answers.len();
         if candidate == usize::MAX {
@@ -82,7 +99,9 @@ impl AskedRun<'_> {
 }
 
 impl RunVisit for AskedRun<'_> {
-    ghost has_taken = { λ named first bases run. (run.check ≡ first.check) × (run.inputs ≡ first.inputs) × (run.kept ≡ first.kept) × IsAskedAt named first.check.now first.inputs.now first.kept bases run };
+    ghost has_taken = { λ named first bases run. (run.check ≡ first.check)
+        × (run.inputs ≡ first.inputs) × (run.kept ≡ first.kept)
+        × IsAskedAt named first.check.now first.inputs.now first.kept bases run };
 
     fn visit_run(
         &mut self,

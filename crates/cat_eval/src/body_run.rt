@@ -29,8 +29,12 @@ impl BodyRun<'_> {
     fn evaluate(&mut self, named: &[NamedColumn], candidate: usize, count: usize)
         requires few { count ≤ 128 }
         requires more { candidate + 1 < 2 ^ 64 }
-        ensures fixed { (self.new.body ≡ self.old.body) × (self.new.inputs ≡ self.old.inputs) × (self.new.column ≡ self.old.column) }
-        ensures at { (bases : List Known) → candidate ≡ length bases → IsBodyAt named.now self.old.body.now self.old.inputs.now bases self.old → IsBodyAt named.now self.old.body.now self.old.inputs.now bases self.new × (self.new.keeper.count ≡ Some count) × (candidate < self.new.until) }
+        ensures fixed { (self.new.body ≡ self.old.body) × (self.new.inputs ≡ self.old.inputs)
+            × (self.new.column ≡ self.old.column) }
+        ensures at { (bases : List Known) → candidate ≡ length bases
+            → IsBodyAt named.now self.old.body.now self.old.inputs.now bases self.old
+            → IsBodyAt named.now self.old.body.now self.old.inputs.now bases self.new
+            × (self.new.keeper.count ≡ Some count) × (candidate < self.new.until) }
     {
         if candidate < self.until && self.keeper.is_of(count) {
             return;
@@ -53,8 +57,14 @@ impl BodyRun<'_> {
         requires few { count ≤ 128 }
         requires more { column_len self.old.column < stop }
         ensures fixed { (self.new.body ≡ self.old.body) × (self.new.inputs ≡ self.old.inputs) }
-        ensures longer { OnOk result ((column_len self.old.column < column_len self.new.column) × (column_len self.new.column ≤ stop)) }
-        ensures at { (bases : List Known) → IsBodyAt named.now self.old.body.now self.old.inputs.now bases self.old → OnOk result (IsBodyAt named.now self.old.body.now self.old.inputs.now (bases ++ seen_run named.now (length bases) count (column_len self.new.column - column_len self.old.column)) self.new) }
+        ensures longer { OnOk result ((column_len self.old.column < column_len self.new.column)
+            × (column_len self.new.column ≤ stop)) }
+        ensures at { (bases : List Known)
+            → IsBodyAt named.now self.old.body.now self.old.inputs.now bases self.old
+            → OnOk result (IsBodyAt named.now self.old.body.now self.old.inputs.now
+            (bases
+            ++ seen_run named.now (length bases) count
+            (column_len self.new.column - column_len self.old.column)) self.new) }
     {
         let candidate = self.column.len();
         self.evaluate(named, candidate, count);
@@ -66,7 +76,8 @@ impl BodyRun<'_> {
 }
 
 impl RunVisit for BodyRun<'_> {
-    ghost has_taken = { λ named first bases run. (run.body ≡ first.body) × (run.inputs ≡ first.inputs) × IsBodyAt named first.body.now first.inputs.now bases run };
+    ghost has_taken = { λ named first bases run. (run.body ≡ first.body)
+        × (run.inputs ≡ first.inputs) × IsBodyAt named first.body.now first.inputs.now bases run };
 
     fn visit_run(
         &mut self,

@@ -64,7 +64,8 @@ impl CheckRun<'_> {
         base: &Seen,
         candidate: usize,
     ) -> Result<bool, AllocError>
-        ensures { IfOk result (IsAnswerOver self.now.check.now self.now.inputs.now base.now candidate self.now.check.now.code.kind) }
+        ensures { IfOk result (IsAnswerOver self.now.check.now self.now.inputs.now base.now
+            candidate self.now.check.now.code.kind) }
     {
         let names = Names {
             base,
@@ -77,7 +78,8 @@ impl CheckRun<'_> {
         Ok(met != self.check.negated)
     }
 
-    /// Whether the check holds in a candidate, where it is known, as in one that is asked or is the same as the last one.
+    /// Whether the check holds in a candidate, where it is known, as in one that is asked or is the
+    /// same as the last one.
     fn known_in(
         &self,
         machine: &mut Machine,
@@ -87,7 +89,10 @@ impl CheckRun<'_> {
         asked: bool,
     ) -> Result<Option<bool>, AllocError>
         ensures asked { IsTrue asked → IfOk result (λ known. known ≡ None → ⊥) }
-        ensures right { IfOk result (λ known. (answer : Bool) → known ≡ Some answer → (IsTrue same × (self.now.known ≡ Some answer)) ⊎ IsAnswerOver self.now.check.now self.now.inputs.now base.now candidate self.now.check.now.code.kind answer) }
+        ensures right { IfOk result (λ known. (answer : Bool) → known ≡ Some answer
+            → (IsTrue same × (self.now.known ≡ Some answer))
+            ⊎ IsAnswerOver self.now.check.now self.now.inputs.now base.now candidate
+            self.now.check.now.code.kind answer) }
     {
         if same && self.known.is_some() {
             return Ok(self.known);
@@ -100,7 +105,11 @@ impl CheckRun<'_> {
 }
 
 impl Visit for CheckRun<'_> {
-    ghost has_taken = { λ first bases run. (run.check ≡ first.check) × (run.inputs ≡ first.inputs) × (run.kept ≡ first.kept) × AreAskedOver first.check.now first.inputs.now first.kept bases run.answers.items × IsLastAnswer first.check.now first.inputs.now bases run.known × IsSteady first.inputs.now (length run.answers.items) run.steady };
+    ghost has_taken = { λ first bases run. (run.check ≡ first.check) × (run.inputs ≡ first.inputs)
+        × (run.kept ≡ first.kept)
+        × AreAskedOver first.check.now first.inputs.now first.kept bases run.answers.items
+        × IsLastAnswer first.check.now first.inputs.now bases run.known
+        × IsSteady first.inputs.now (length run.answers.items) run.steady };
 
     fn visit(
         &mut self,
@@ -128,7 +137,8 @@ fn asked_answers<'a>(
     space: &Space,
     slots: &mut Vec<Rel>,
 ) -> Result<Vec<bool>, AllocError>
-    ensures { IfOk result (λ v. AreAskedOver check.now inputs.now kept.entry (seen_in named.now 0 (candidates_in space.now.combinations.items)) v.items) }
+    ensures { IfOk result (λ v. AreAskedOver check.now inputs.now kept.entry
+        (seen_in named.now 0 (candidates_in space.now.combinations.items)) v.items) }
 {
     let relations = mem::replace(slots, Vec::new(alloc));
     let keeper = Keeper::of(alloc, &check.code.steps, relations)?;
@@ -158,7 +168,8 @@ fn visited_answers<'a>(
     space: &Space,
     machine: &mut Machine,
 ) -> Result<Vec<bool>, AllocError>
-    ensures { IfOk result (λ v. AreAskedOver check.now inputs.now kept.entry (seen_in named.now 0 (candidates_in space.now.combinations.items)) v.items) }
+    ensures { IfOk result (λ v. AreAskedOver check.now inputs.now kept.entry
+        (seen_in named.now 0 (candidates_in space.now.combinations.items)) v.items) }
 {
     let mut run = CheckRun {
         check,
@@ -172,7 +183,8 @@ fn visited_answers<'a>(
     Ok(run.answers)
 }
 
-/// Whether a check holds, where candidates are kept, with the columns of the predefined names that it uses.
+/// Whether a check holds, where candidates are kept, with the columns of the predefined names that
+/// it uses.
 fn answers_over<'a>(
     alloc: Global,
     check: &'a CheckCode,
@@ -183,7 +195,8 @@ fn answers_over<'a>(
     machine: &mut Machine,
     slots: &mut Vec<Rel>,
 ) -> Result<Vec<bool>, AllocError>
-    ensures { IfOk result (λ v. AreAskedOver check.now inputs.now kept.entry (seen_in named.now 0 (candidates_in space.now.combinations.items)) v.items) }
+    ensures { IfOk result (λ v. AreAskedOver check.now inputs.now kept.entry
+        (seen_in named.now 0 (candidates_in space.now.combinations.items)) v.items) }
 {
     if has_many(space) {
         asked_answers(alloc, check, inputs, kept, named, space, slots)
@@ -225,7 +238,8 @@ impl Evaluator {
         }
     }
 
-    /// As `check`, in the candidates that are kept: of the others it says that the check does not hold.
+    /// As `check`, in the candidates that are kept: of the others it says that the check does not
+    /// hold.
     pub fn check_kept(
         &mut self,
         alloc: Global,
@@ -236,7 +250,8 @@ impl Evaluator {
     ) -> Result<Vec<bool>, AllocError>
         requires { IsOver self.old space.now }
         ensures over { IsOver self.new space.now }
-        ensures answers { IfOk result (λ v. KeptAnswersOf kept.now item.now.role inputs.now space.now v.items) }
+        ensures answers { IfOk result (λ v.
+            KeptAnswersOf kept.now item.now.role inputs.now space.now v.items) }
     {
         match &item.role {
             Role::Check(check) => self.ask(alloc, item, check, space, inputs, Some(kept)),
@@ -256,7 +271,10 @@ impl Evaluator {
     ) -> Result<Vec<bool>, AllocError>
         requires { IsOver self.old space.now }
         ensures over { IsOver self.new space.now }
-        ensures answers { item.now.role ≡ Role.Check check.now → IfOk result (λ v. (all : List Bool) × AreAnswers check.now inputs.now (candidates_in space.now.combinations.items) all × AreWhere (is_asked_at kept.entry) all v.items) }
+        ensures answers { item.now.role ≡ Role.Check check.now
+            → IfOk result (λ v. (all : List Bool)
+            × AreAnswers check.now inputs.now (candidates_in space.now.combinations.items)
+            all × AreWhere (is_asked_at kept.entry) all v.items) }
     {
         self.need_names(alloc, item, space)?;
         let none = Column::of_sets(alloc);

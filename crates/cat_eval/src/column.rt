@@ -12,8 +12,8 @@ use bit_relations::{EventSet, Rel};
 use columns::{Cursor, RunColumn, SetRuns};
 use std::alloc::{AllocError, Global};
 
-/// The value of a name in each candidate of a space, in order. Contracts see one value a candidate; neighbours with
-/// equal values share one.
+/// The value of a name in each candidate of a space, in order. Contracts see one value a candidate;
+/// neighbours with equal values share one.
 pub enum Column {
     /// A set for each candidate.
     Sets(SetRuns),
@@ -98,13 +98,14 @@ impl Column {
         }
     }
 
-    /// The set of a candidate of so many events, empty where there is none, and up to where the candidates behind it have
-    /// the same.
+    /// The set of a candidate of so many events, empty where there is none, and up to where the
+    /// candidates behind it have the same.
     pub(crate) fn read_set(&self, candidate: usize, count: usize) -> (EventSet, usize)
         requires few { count ≤ 128 }
         requires more { candidate + 1 < 2 ^ 64 }
         ensures after { candidate < result.1 }
-        ensures value { (k : ℕ) → candidate ≤ k → k < result.1 → IsEvents result.0 count (ColumnEvents self.now k count) }
+        ensures value { (k : ℕ) → candidate ≤ k → k < result.1
+            → IsEvents result.0 count (ColumnEvents self.now k count) }
     {
         match self {
             Column::Sets(values) => read_events(values, candidate, count),
@@ -112,13 +113,14 @@ impl Column {
         }
     }
 
-    /// Makes `target` the relation of a candidate of so many events, empty where there is none, and answers up to where
-    /// the candidates behind it have the same.
+    /// Makes `target` the relation of a candidate of so many events, empty where there is none, and
+    /// answers up to where the candidates behind it have the same.
     pub(crate) fn read_relation(&self, candidate: usize, count: usize, target: &mut Rel) -> usize
         requires few { count ≤ 128 }
         requires more { candidate + 1 < 2 ^ 64 }
         ensures after { candidate < result }
-        ensures value { (k : ℕ) → candidate ≤ k → k < result → IsRelation target.new count (ColumnPairs self.now k count) }
+        ensures value { (k : ℕ) → candidate ≤ k → k < result
+            → IsRelation target.new count (ColumnPairs self.now k count) }
     {
         match self {
             Column::Sets(_) => {
@@ -137,7 +139,8 @@ impl Column {
         end: usize,
     ) -> Result<(), AllocError>
         requires { column_len self.old < end }
-        ensures { OnOk result (AddsRun self.old self.new (end - column_len self.old) set.now relation.now) }
+        ensures { OnOk result (AddsRun self.old self.new (end - column_len self.old) set.now
+            relation.now) }
     {
         match self {
             Column::Sets(values) => values.push_run(set, end)?,
@@ -194,7 +197,8 @@ fn found_set(values: &SetRuns, candidate: usize, count: usize) -> EventSet
     EventSet::empty(count)
 }
 
-/// Writes the relation of a candidate to `target`: the empty one where there is none of so many events.
+/// Writes the relation of a candidate to `target`: the empty one where there is none of so many
+/// events.
 fn write_found(values: &RunColumn, candidate: usize, count: usize, target: &mut Rel)
     requires { count ≤ 128 }
     ensures { IsRelation target.new count (PairsFound (slice_get values.now candidate) count) }
@@ -213,7 +217,8 @@ fn read_events(values: &SetRuns, candidate: usize, count: usize) -> (EventSet, u
     requires few { count ≤ 128 }
     requires more { candidate + 1 < 2 ^ 64 }
     ensures after { candidate < result.1 }
-    ensures value { (k : ℕ) → candidate ≤ k → k < result.1 → IsEvents result.0 count (EventsFound (slice_get values.now k) count) }
+    ensures value { (k : ℕ) → candidate ≤ k → k < result.1
+        → IsEvents result.0 count (EventsFound (slice_get values.now k) count) }
 {
     if values.len() <= candidate {
         return (EventSet::empty(count), usize::MAX);
@@ -225,12 +230,14 @@ fn read_events(values: &SetRuns, candidate: usize, count: usize) -> (EventSet, u
     (value, end)
 }
 
-/// Writes the relation of a candidate to `target`: the empty one where there is none of so many events.
+/// Writes the relation of a candidate to `target`: the empty one where there is none of so many
+/// events.
 fn read_pairs(values: &RunColumn, candidate: usize, count: usize, target: &mut Rel) -> usize
     requires few { count ≤ 128 }
     requires more { candidate + 1 < 2 ^ 64 }
     ensures after { candidate < result }
-    ensures value { (k : ℕ) → candidate ≤ k → k < result → IsRelation target.new count (PairsFound (slice_get values.now k) count) }
+    ensures value { (k : ℕ) → candidate ≤ k → k < result
+        → IsRelation target.new count (PairsFound (slice_get values.now k) count) }
 {
     if values.len() <= candidate {
         target.clear(count);

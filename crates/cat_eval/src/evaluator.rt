@@ -14,8 +14,8 @@ use bit_relations::Rel;
 use candidates::Space;
 use std::alloc::{AllocError, Global};
 
-/// Where items are evaluated over the candidates of one space: the predefined names are made once, and each item uses the
-/// memory of the ones before.
+/// Where items are evaluated over the candidates of one space: the predefined names are made once,
+/// and each item uses the memory of the ones before.
 pub struct Evaluator {
     pub(crate) base: Base,
     pub(crate) table: Table,
@@ -52,8 +52,8 @@ impl Evaluator {
         }
     }
 
-    /// Makes the predefined names that some items need, in one go. An index that is no item's asks for nothing.
-    /// Errors: want of memory.
+    /// Makes the predefined names that some items need, in one go. An index that is no item's asks
+    /// for nothing. Errors: want of memory.
     pub fn prepare(
         &mut self,
         alloc: Global,
@@ -84,8 +84,10 @@ impl Evaluator {
     ) -> Result<(), AllocError>
         requires { IsOver self.old space.now }
         ensures over { IsOver self.new space.now }
-        ensures names { OnOk result (AreListed self.new.needs.names.items (role_names item.now.role)) }
-        ensures there { OnOk result ((name : _) → Contains self.new.needs.names.items name → HasName self.new.table.blocks.items name) }
+        ensures names { OnOk result (AreListed self.new.needs.names.items
+            (role_names item.now.role)) }
+        ensures there { OnOk result ((name : _) → Contains self.new.needs.names.items name
+            → HasName self.new.table.blocks.items name) }
     {
         self.needs.replace_by(item)?;
         self.table

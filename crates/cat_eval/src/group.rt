@@ -63,8 +63,11 @@ fn put(
     relation: &Rel,
 ) -> Result<(), AllocError>
     ensures long { length columns.new.items ≡ length columns.old.items }
-    ensures others { (j : ℕ) → (j ≡ position → ⊥) → (c : Column) → slice_index_or columns.new.items j c ≡ slice_index_or columns.old.items j c }
-    ensures added { OnOk result (position < length columns.old.items → (c : Column) → AddsIf (is_wanted wanted.now position) (slice_index_or columns.old.items position c) (slice_index_or columns.new.items position c) set.now relation.now) }
+    ensures others { (j : ℕ) → (j ≡ position → ⊥) → (c : Column)
+        → slice_index_or columns.new.items j c ≡ slice_index_or columns.old.items j c }
+    ensures added { OnOk result (position < length columns.old.items → (c : Column)
+        → AddsIf (is_wanted wanted.now position) (slice_index_or columns.old.items position c)
+        (slice_index_or columns.new.items position c) set.now relation.now) }
 {
     if position < columns.len() && is_wanted(wanted, position) {
         columns[position].push(set, relation)?;
@@ -81,7 +84,12 @@ fn put_all(
 ) -> Result<(), AllocError>
     requires { count ≤ 128 }
     ensures long { length columns.new.items ≡ length columns.old.items }
-    ensures added { OnOk result ((j : ℕ) → j < length values.now → j < length columns.old.items → (c : Column) → (s : Events) × AddsIf (is_wanted wanted.now j) (slice_index_or columns.old.items j c) (slice_index_or columns.new.items j c) s (slice_index_or values.now j no_slot)) }
+    ensures added { OnOk result ((j : ℕ) → j < length values.now → j < length columns.old.items
+        → (c : Column)
+        → (s : Events)
+        × AddsIf (is_wanted wanted.now j) (slice_index_or columns.old.items j c)
+        (slice_index_or columns.new.items j c) s
+        (slice_index_or values.now j no_slot)) }
 {
     let none = EventSet::empty(count);
     for position in 0..values.len() {
@@ -93,8 +101,12 @@ fn put_all(
 /// Gives the next candidate the last value of the column of a name that is wanted.
 fn repeat(columns: &mut Vec<Column>, wanted: &[bool], position: usize) -> Result<(), AllocError>
     ensures long { length columns.new.items ≡ length columns.old.items }
-    ensures others { (j : ℕ) → (j ≡ position → ⊥) → (c : Column) → slice_index_or columns.new.items j c ≡ slice_index_or columns.old.items j c }
-    ensures repeated { OnOk result (position < length columns.old.items → (c : Column) → RepeatsIf (is_wanted wanted.now position) (slice_index_or columns.old.items position c) (slice_index_or columns.new.items position c)) }
+    ensures others { (j : ℕ) → (j ≡ position → ⊥) → (c : Column)
+        → slice_index_or columns.new.items j c ≡ slice_index_or columns.old.items j c }
+    ensures repeated { OnOk result (position < length columns.old.items → (c : Column)
+        → RepeatsIf (is_wanted wanted.now position)
+        (slice_index_or columns.old.items position c)
+        (slice_index_or columns.new.items position c)) }
 {
     if position < columns.len() && is_wanted(wanted, position) {
         columns[position].push_last()?;
@@ -105,7 +117,9 @@ fn repeat(columns: &mut Vec<Column>, wanted: &[bool], position: usize) -> Result
 /// Gives the next candidate the last value of each column of a name that is wanted.
 fn repeat_all(columns: &mut Vec<Column>, wanted: &[bool]) -> Result<(), AllocError>
     ensures long { length columns.new.items ≡ length columns.old.items }
-    ensures repeated { OnOk result ((j : ℕ) → j < length columns.old.items → (c : Column) → RepeatsIf (is_wanted wanted.now j) (slice_index_or columns.old.items j c) (slice_index_or columns.new.items j c)) }
+    ensures repeated { OnOk result ((j : ℕ) → j < length columns.old.items → (c : Column)
+        → RepeatsIf (is_wanted wanted.now j) (slice_index_or columns.old.items j c)
+        (slice_index_or columns.new.items j c)) }
 {
     for position in 0..columns.len() {
         repeat(columns, wanted, position)?;
@@ -123,10 +137,25 @@ impl GroupRun<'_> {
         position: usize,
     ) -> Result<(), AllocError>
         requires { position < length self.old.bodies.now }
-        ensures fixed { (self.new.bodies ≡ self.old.bodies) × (self.new.inputs ≡ self.old.inputs) × (self.new.recursive ≡ self.old.recursive) × (self.new.solver.own ≡ self.old.solver.own) × (self.new.steady ≡ self.old.steady) × (self.new.wanted ≡ self.old.wanted) }
+        ensures fixed { (self.new.bodies ≡ self.old.bodies) × (self.new.inputs ≡ self.old.inputs)
+            × (self.new.recursive ≡ self.old.recursive)
+            × (self.new.solver.own ≡ self.old.solver.own) × (self.new.steady ≡ self.old.steady)
+            × (self.new.wanted ≡ self.old.wanted) }
         ensures long { length self.new.columns.items ≡ length self.old.columns.items }
-        ensures others { (j : ℕ) → (j ≡ position → ⊥) → (c : Column) → slice_index_or self.new.columns.items j c ≡ slice_index_or self.old.columns.items j c }
-        ensures added { OnOk result (self.old.solver.own.items ≡ [] → position < length self.old.columns.items → (c : Column) → (s : Events) × (r : Relation) × AddsIf (is_wanted self.old.wanted.now position) (slice_index_or self.old.columns.items position c) (slice_index_or self.new.columns.items position c) s r × ((b : Body) → IsMeaningOver (slice_index_or self.old.bodies.now position b).code.kind (slice_index_or self.old.bodies.now position b).code.steps.items self.old.inputs.now base.now candidate s r)) }
+        ensures others { (j : ℕ) → (j ≡ position → ⊥) → (c : Column)
+            → slice_index_or self.new.columns.items j c
+            ≡ slice_index_or self.old.columns.items j c }
+        ensures added { OnOk result (self.old.solver.own.items ≡ []
+            → position < length self.old.columns.items → (c : Column)
+            → (s : Events) × (r : Relation)
+            × AddsIf (is_wanted self.old.wanted.now position)
+            (slice_index_or self.old.columns.items position c)
+            (slice_index_or self.new.columns.items position c) s r
+            × ((b : Body)
+            → IsMeaningOver
+            (slice_index_or self.old.bodies.now position b).code.kind
+            (slice_index_or self.old.bodies.now position b).code.steps.items
+            self.old.inputs.now base.now candidate s r)) }
     {
         let bodies = self.bodies;
         let inputs = self.inputs;
@@ -151,9 +180,21 @@ impl GroupRun<'_> {
         base: &Seen,
         candidate: usize,
     ) -> Result<(), AllocError>
-        ensures fixed { (self.new.bodies ≡ self.old.bodies) × (self.new.inputs ≡ self.old.inputs) × (self.new.recursive ≡ self.old.recursive) × (self.new.solver.own ≡ self.old.solver.own) × (self.new.steady ≡ self.old.steady) × (self.new.wanted ≡ self.old.wanted) }
+        ensures fixed { (self.new.bodies ≡ self.old.bodies) × (self.new.inputs ≡ self.old.inputs)
+            × (self.new.recursive ≡ self.old.recursive)
+            × (self.new.solver.own ≡ self.old.solver.own) × (self.new.steady ≡ self.old.steady)
+            × (self.new.wanted ≡ self.old.wanted) }
         ensures long { length self.new.columns.items ≡ length self.old.columns.items }
-        ensures added { OnOk result (self.old.solver.own.items ≡ [] → (j : ℕ) → j < length self.old.bodies.now → j < length self.old.columns.items → (c : Column) → (s : Events) × (r : Relation) × AddsIf (is_wanted self.old.wanted.now j) (slice_index_or self.old.columns.items j c) (slice_index_or self.new.columns.items j c) s r × ((b : Body) → IsMeaningOver (slice_index_or self.old.bodies.now j b).code.kind (slice_index_or self.old.bodies.now j b).code.steps.items self.old.inputs.now base.now candidate s r)) }
+        ensures added { OnOk result (self.old.solver.own.items ≡ [] → (j : ℕ)
+            → j < length self.old.bodies.now → j < length self.old.columns.items → (c : Column)
+            → (s : Events) × (r : Relation)
+            × AddsIf (is_wanted self.old.wanted.now j)
+            (slice_index_or self.old.columns.items j c)
+            (slice_index_or self.new.columns.items j c) s r
+            × ((b : Body)
+            → IsMeaningOver (slice_index_or self.old.bodies.now j b).code.kind
+            (slice_index_or self.old.bodies.now j b).code.steps.items
+            self.old.inputs.now base.now candidate s r)) }
     {
         for position in 0..self.bodies.len() {
             self.evaluate_one(machine, base, candidate, position)?;
@@ -168,10 +209,23 @@ impl GroupRun<'_> {
         base: &Seen,
         candidate: usize,
     ) -> Result<(), AllocError>
-        ensures fixed { (self.new.bodies ≡ self.old.bodies) × (self.new.inputs ≡ self.old.inputs) × (self.new.recursive ≡ self.old.recursive) × (length self.new.solver.own.items ≡ length self.old.solver.own.items) × (self.new.steady ≡ self.old.steady) × (self.new.wanted ≡ self.old.wanted) }
+        ensures fixed { (self.new.bodies ≡ self.old.bodies) × (self.new.inputs ≡ self.old.inputs)
+            × (self.new.recursive ≡ self.old.recursive)
+            × (length self.new.solver.own.items ≡ length self.old.solver.own.items)
+            × (self.new.steady ≡ self.old.steady) × (self.new.wanted ≡ self.old.wanted) }
         ensures long { length self.new.columns.items ≡ length self.old.columns.items }
-        ensures added { OnOk result ((j : ℕ) → j < length self.old.solver.own.items → j < length self.old.columns.items → (c : Column) → (s : Events) × AddsIf (is_wanted self.old.wanted.now j) (slice_index_or self.old.columns.items j c) (slice_index_or self.new.columns.items j c) s (slice_index_or self.new.solver.own.items j no_slot)) }
-        ensures least { OnOk result (length self.old.solver.own.items ≡ length self.old.bodies.now → (trees : List RelTree) → AreCodes trees self.old.bodies.now → AreMonotone trees → IsLeast base.now.count (EventsIn base.now self.old.inputs.now candidate) (PairsOutside base.now self.old.inputs.now candidate) trees self.new.solver.own.items) }
+        ensures added { OnOk result ((j : ℕ) → j < length self.old.solver.own.items
+            → j < length self.old.columns.items → (c : Column)
+            → (s : Events)
+            × AddsIf (is_wanted self.old.wanted.now j)
+            (slice_index_or self.old.columns.items j c)
+            (slice_index_or self.new.columns.items j c) s
+            (slice_index_or self.new.solver.own.items j no_slot)) }
+        ensures least { OnOk result (length self.old.solver.own.items ≡ length self.old.bodies.now
+            → (trees : List RelTree) → AreCodes trees self.old.bodies.now → AreMonotone trees
+            → IsLeast base.now.count (EventsIn base.now self.old.inputs.now candidate)
+            (PairsOutside base.now self.old.inputs.now candidate) trees
+            self.new.solver.own.items) }
     {
         self.solver
             .solve(machine, self.bodies, base, self.inputs, candidate)?;
@@ -187,7 +241,11 @@ impl GroupRun<'_> {
 }
 
 impl Visit for GroupRun<'_> {
-    ghost has_taken = { λ first bases run. (run.bodies ≡ first.bodies) × (run.inputs ≡ first.inputs) × (run.recursive ≡ first.recursive) × (run.wanted ≡ first.wanted) × HasOwn first.recursive first.bodies.now run.solver.own.items × AreWantedOver first.wanted.now first.recursive first.bodies.now first.inputs.now bases run.columns.items × IsSteady first.inputs.now (length bases) run.steady };
+    ghost has_taken = { λ first bases run. (run.bodies ≡ first.bodies) × (run.inputs ≡ first.inputs)
+        × (run.recursive ≡ first.recursive) × (run.wanted ≡ first.wanted)
+        × HasOwn first.recursive first.bodies.now run.solver.own.items
+        × AreWantedOver first.wanted.now first.recursive first.bodies.now first.inputs.now bases
+        run.columns.items × IsSteady first.inputs.now (length bases) run.steady };
 
     fn visit(
         &mut self,
@@ -214,7 +272,10 @@ impl Visit for GroupRun<'_> {
 
 /// A column without a value for each body.
 fn columns_of(alloc: Global, bodies: &[Body]) -> Result<Vec<Column>, AllocError>
-    ensures { IfOk result (λ v. (length v.items ≡ length bodies.now) × ((j : ℕ) → j < length bodies.now → (b : Body) (c : Column) → IsFor (slice_index_or bodies.now j b).code.kind (slice_index_or v.items j c) × (column_len (slice_index_or v.items j c) ≡ 0))) }
+    ensures { IfOk result (λ v. (length v.items ≡ length bodies.now)
+        × ((j : ℕ) → j < length bodies.now → (b : Body) (c : Column)
+        → IsFor (slice_index_or bodies.now j b).code.kind (slice_index_or v.items j c)
+        × (column_len (slice_index_or v.items j c) ≡ 0))) }
 {
     let mut columns = Vec::with_capacity(alloc, bodies.len())?;
     for body in bodies {
@@ -246,7 +307,8 @@ fn solver_of(alloc: Global, recursive: bool, bodies: &[Body]) -> Result<Solver, 
     }
 }
 
-/// Whether the steps of a group's bodies keep their values: in a space of many candidates, where the group is not recursive.
+/// Whether the steps of a group's bodies keep their values: in a space of many candidates, where
+/// the group is not recursive.
 fn keeps_steps(recursive: bool, space: &Space) -> bool
     ensures { IsTrue result → recursive ≡ false }
 {
@@ -262,7 +324,8 @@ fn body_column<'a>(
     space: &Space,
     slots: &mut Vec<Rel>,
 ) -> Result<Column, AllocError>
-    ensures { IfOk result (λ c. IsBodyColumn body.now inputs.now (seen_in named.now 0 (candidates_in space.now.combinations.items)) c) }
+    ensures { IfOk result (λ c. IsBodyColumn body.now inputs.now
+        (seen_in named.now 0 (candidates_in space.now.combinations.items)) c) }
 {
     let relations = mem::replace(slots, Vec::new(alloc));
     let keeper = Keeper::of(alloc, &body.code.steps, relations)?;
@@ -290,7 +353,8 @@ fn wanted_column(
     space: &Space,
     slots: &mut Vec<Rel>,
 ) -> Result<Column, AllocError>
-    ensures { IfOk result (λ c. IsWantedColumn is_wanted body.now inputs.now (seen_in named.now 0 (candidates_in space.now.combinations.items)) c) }
+    ensures { IfOk result (λ c. IsWantedColumn is_wanted body.now inputs.now
+        (seen_in named.now 0 (candidates_in space.now.combinations.items)) c) }
 {
     let column = body_column(alloc, body, inputs, named, space, slots)?;
     if is_wanted {
@@ -310,7 +374,8 @@ fn plain_columns(
     space: &Space,
     slots: &mut Vec<Rel>,
 ) -> Result<Vec<Column>, AllocError>
-    ensures { IfOk result (λ v. AreWantedOver wanted.now false bodies.now inputs.now (seen_in named.now 0 (candidates_in space.now.combinations.items)) v.items) }
+    ensures { IfOk result (λ v. AreWantedOver wanted.now false bodies.now inputs.now
+        (seen_in named.now 0 (candidates_in space.now.combinations.items)) v.items) }
 {
     let mut columns = Vec::with_capacity(alloc, bodies.len())?;
     for body in bodies {
@@ -332,7 +397,8 @@ fn visited_columns(
     space: &Space,
     machine: &mut Machine,
 ) -> Result<Vec<Column>, AllocError>
-    ensures { IfOk result (λ v. AreWantedOver wanted.now is_recursive bodies.now inputs.now (seen_in named.now 0 (candidates_in space.now.combinations.items)) v.items) }
+    ensures { IfOk result (λ v. AreWantedOver wanted.now is_recursive bodies.now inputs.now
+        (seen_in named.now 0 (candidates_in space.now.combinations.items)) v.items) }
 {
     let mut run = GroupRun {
         bodies,
@@ -380,8 +446,8 @@ impl Evaluator {
         self.group_wanted(alloc, item, &[], space, inputs)
     }
 
-    /// As `group`, with the values of those names alone that are wanted: of each other name the column has no value, and
-    /// takes no memory. A name without an entry is wanted.
+    /// As `group`, with the values of those names alone that are wanted: of each other name the
+    /// column has no value, and takes no memory. A name without an entry is wanted.
     pub fn group_wanted(
         &mut self,
         alloc: Global,
@@ -392,7 +458,8 @@ impl Evaluator {
     ) -> Result<Vec<Column>, AllocError>
         requires { IsOver self.old space.now }
         ensures over { IsOver self.new space.now }
-        ensures values { IfOk result (λ v. WantedColumnsOf wanted.now item.now.role inputs.now space.now v.items) }
+        ensures values { IfOk result (λ v.
+            WantedColumnsOf wanted.now item.now.role inputs.now space.now v.items) }
     {
         match &item.role {
             Role::Group { recursive, bodies } => {

@@ -1,7 +1,8 @@
 //! The groups and checks of a model, evaluated over all candidate executions of a test.
 //!
 //! The meaning of the operators and of `let rec` is that of Alglave, Maranget and Tautschnig,
-//! Herding Cats, TOPLAS 36(2), 2014, and of the herd7 manual, chapter on cat. Read specs/Meaning first, then specs/Least.
+//! Herding Cats, TOPLAS 36(2), 2014, and of the herd7 manual, chapter on cat. Read specs/Meaning
+//! first, then specs/Least.
 #![tactic(auto)]
 
 mod asked_run;

@@ -62,7 +62,8 @@ impl Names<'_> {
 
     /// Writes the present value of a name of the recursive group itself.
     fn write_own(&self, position: usize, target: &mut Rel)
-        ensures { IsRelation target.new self.now.base.now.count (Of self.now.base.now.count self.now.own.now position) }
+        ensures { IsRelation target.new self.now.base.now.count
+            (Of self.now.base.now.count self.now.own.now position) }
     {
         match self.own.get(position) {
             Some(value) if value.count() == self.count() => target.copy_from(value),

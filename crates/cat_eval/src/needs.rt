@@ -81,7 +81,8 @@ impl Needs {
 
     /// Makes these the needs of an item alone, in the memory of those before.
     pub(crate) fn replace_by(&mut self, item: &ResolvedItem) -> Result<(), AllocError>
-        ensures changes { OnOk result ((self.new.reads ≡ role_reads item.now.role) × (self.new.orders ≡ role_orders item.now.role)) }
+        ensures changes { OnOk result ((self.new.reads ≡ role_reads item.now.role)
+            × (self.new.orders ≡ role_orders item.now.role)) }
         ensures names { OnOk result (AreListed self.new.names.items (role_names item.now.role)) }
     {
         self.clear();
@@ -101,8 +102,11 @@ impl Needs {
 
     /// Adds what an item needs.
     pub(crate) fn add_item(&mut self, item: &ResolvedItem) -> Result<(), AllocError>
-        ensures changes { OnOk result ((self.new.reads ≡ (self.old.reads || role_reads item.now.role)) × (self.new.orders ≡ (self.old.orders || role_orders item.now.role))) }
-        ensures names { OnOk result (AreListed self.new.names.items (self.old.names.items ++ role_names item.now.role)) }
+        ensures changes { OnOk result ((self.new.reads
+            ≡ (self.old.reads || role_reads item.now.role))
+            × (self.new.orders ≡ (self.old.orders || role_orders item.now.role))) }
+        ensures names { OnOk result (AreListed self.new.names.items
+            (self.old.names.items ++ role_names item.now.role)) }
     {
         match &item.role {
             Role::Group { bodies, .. } => self.add_bodies(bodies),
@@ -113,8 +117,10 @@ impl Needs {
 
     /// Adds what the bodies of a group need.
     fn add_bodies(&mut self, bodies: &[Body]) -> Result<(), AllocError>
-        ensures changes { OnOk result ((self.new.reads ≡ (self.old.reads || bodies_read bodies.now)) × (self.new.orders ≡ (self.old.orders || bodies_order bodies.now))) }
-        ensures names { OnOk result (AreListed self.new.names.items (self.old.names.items ++ bodies_names bodies.now)) }
+        ensures changes { OnOk result ((self.new.reads ≡ (self.old.reads || bodies_read bodies.now))
+            × (self.new.orders ≡ (self.old.orders || bodies_order bodies.now))) }
+        ensures names { OnOk result (AreListed self.new.names.items
+            (self.old.names.items ++ bodies_names bodies.now)) }
     {
         for body in bodies {
             self.add_all(&body.code.steps)?;
@@ -124,8 +130,10 @@ impl Needs {
 
     /// Adds what the steps need.
     fn add_all(&mut self, steps: &[Step]) -> Result<(), AllocError>
-        ensures changes { OnOk result ((self.new.reads ≡ (self.old.reads || steps_read steps.now)) × (self.new.orders ≡ (self.old.orders || steps_order steps.now))) }
-        ensures names { OnOk result (AreListed self.new.names.items (self.old.names.items ++ names_in steps.now)) }
+        ensures changes { OnOk result ((self.new.reads ≡ (self.old.reads || steps_read steps.now))
+            × (self.new.orders ≡ (self.old.orders || steps_order steps.now))) }
+        ensures names { OnOk result (AreListed self.new.names.items
+            (self.old.names.items ++ names_in steps.now)) }
     {
         for step in steps {
             self.add_step(*step)?;
@@ -135,8 +143,11 @@ impl Needs {
 
     /// Adds what one step needs.
     fn add_step(&mut self, step: Step) -> Result<(), AllocError>
-        ensures changes { OnOk result ((self.new.reads ≡ (self.old.reads || step_passes changes_with_reads step)) × (self.new.orders ≡ (self.old.orders || step_passes changes_with_orders step))) }
-        ensures names { OnOk result (AreListed self.new.names.items (self.old.names.items ++ step_names step)) }
+        ensures changes { OnOk result ((self.new.reads
+            ≡ (self.old.reads || step_passes changes_with_reads step))
+            × (self.new.orders ≡ (self.old.orders || step_passes changes_with_orders step))) }
+        ensures names { OnOk result (AreListed self.new.names.items
+            (self.old.names.items ++ step_names step)) }
     {
         match step {
             Step::PushSet(source) | Step::PushRelation(source) => match source {
@@ -149,9 +160,13 @@ impl Needs {
 
     /// Adds a name.
     pub(crate) fn add(&mut self, name: Predefined) -> Result<(), AllocError>
-        ensures changes { OnOk result ((self.new.reads ≡ (self.old.reads || changes_with_reads name)) × (self.new.orders ≡ (self.old.orders || changes_with_orders name))) }
-        ensures names { OnOk result (AreListed self.new.names.items (self.old.names.items ++ (name ∷ []))) }
-        ensures suited { AreSuited self.old.names.items self.old.reads self.old.orders → AreSuited self.new.names.items self.new.reads self.new.orders }
+        ensures changes { OnOk result ((self.new.reads
+            ≡ (self.old.reads || changes_with_reads name))
+            × (self.new.orders ≡ (self.old.orders || changes_with_orders name))) }
+        ensures names { OnOk result (AreListed self.new.names.items
+            (self.old.names.items ++ (name ∷ []))) }
+        ensures suited { AreSuited self.old.names.items self.old.reads self.old.orders
+            → AreSuited self.new.names.items self.new.reads self.new.orders }
     {
         self.note(name);
         self.list(name)?;
@@ -171,7 +186,8 @@ impl Needs {
     /// Adds a name to the list, if it is not there.
     fn list(&mut self, name: Predefined) -> Result<(), AllocError>
         ensures fixed { (self.new.reads ≡ self.old.reads) × (self.new.orders ≡ self.old.orders) }
-        ensures listed { OnOk result (AreListed self.new.names.items (self.old.names.items ++ (name ∷ []))) }
+        ensures listed { OnOk result (AreListed self.new.names.items
+            (self.old.names.items ++ (name ∷ []))) }
         ensures within { AreListed (self.old.names.items ++ (name ∷ [])) self.new.names.items }
     {
         if is_listed(&self.names, name) {

@@ -8,8 +8,8 @@ use crate::seen::NamedColumn;
 use candidates::Space;
 use std::alloc::AllocError;
 
-/// From how many candidates on each step of an expression keeps its value: where there are fewer, to keep the values
-/// costs more than it saves.
+/// From how many candidates on each step of an expression keeps its value: where there are fewer,
+/// to keep the values costs more than it saves.
 const MANY: usize = 64;
 
 /// Whether a space has so many candidates that each step keeps its value.
@@ -21,10 +21,12 @@ pub(crate) fn has_many(space: &Space) -> bool {
 pub(crate) trait RunVisit {
     ghost use Rattle.cat_eval.specs.declared.seen.NamedColumn.{NamedColumn};
 
-    /// From the first state on it has taken candidates of these predefined names, one after another.
+    /// From the first state on it has taken candidates of these predefined names, one after
+    /// another.
     ghost has_taken: { List NamedColumn → Self → List Known → Self → Type 0 };
 
-    /// Takes the next candidates, so many of so many events, with the columns of the predefined names.
+    /// Takes the next candidates, so many of so many events, with the columns of the predefined
+    /// names.
     fn visit_run(
         &mut self,
         named: &[NamedColumn],
@@ -32,7 +34,9 @@ pub(crate) trait RunVisit {
         many: usize,
     ) -> Result<(), AllocError>
         requires { count ≤ 128 }
-        ensures { (first : _) (bases : List Known) → has_taken named.now first bases self.old → OnOk result (has_taken named.now first (bases ++ seen_run named.now (length bases) count many) self.new) };
+        ensures { (first : _) (bases : List Known) → has_taken named.now first bases self.old
+            → OnOk result (has_taken named.now first
+            (bases ++ seen_run named.now (length bases) count many) self.new) };
 }
 
 /// Visits all candidates of a space, in order, with some names.
@@ -41,7 +45,9 @@ pub(crate) fn visit_runs<V: RunVisit>(
     space: &Space,
     visitor: &mut V,
 ) -> Result<(), AllocError>
-    ensures { V.has_taken named.now visitor.old [] visitor.old → OnOk result (V.has_taken named.now visitor.old (seen_in named.now 0 (candidates_in space.now.combinations.items)) visitor.new) }
+    ensures { V.has_taken named.now visitor.old [] visitor.old
+        → OnOk result (V.has_taken named.now visitor.old
+        (seen_in named.now 0 (candidates_in space.now.combinations.items)) visitor.new) }
 {
     for combination in &space.combinations {
         let count = combination.events.len();

@@ -34,8 +34,8 @@ impl<'a> NamedColumn<'a> {
     }
 }
 
-/// The predefined names that an item uses, as they are in one candidate. Contracts see the number of its events, and
-/// what stands under the names.
+/// The predefined names that an item uses, as they are in one candidate. Contracts see the number
+/// of its events, and what stands under the names.
 #[derive(Drop)]
 pub(crate) struct Seen<'a> {
     named: &'a [NamedColumn<'a>],
@@ -58,8 +58,10 @@ impl<'a> Model for Seen<'a> {
 
 /// The column of a name, if it is one of these.
 pub(crate) fn column_of<'c>(named: &[NamedColumn<'c>], name: Predefined) -> Option<&'c Column>
-    ensures events { (k n a : ℕ) → InputEvents result k n a ↔ EventsAmong (map (value_at k) named.now) name n a }
-    ensures pairs { (k n a b : ℕ) → InputPairs result k n a b ↔ PairsAmong (map (value_at k) named.now) name n a b }
+    ensures events { (k n a : ℕ)
+        → InputEvents result k n a ↔ EventsAmong (map (value_at k) named.now) name n a }
+    ensures pairs { (k n a b : ℕ)
+        → InputPairs result k n a b ↔ PairsAmong (map (value_at k) named.now) name n a b }
 {
     for one in named {
         if one.name == name {

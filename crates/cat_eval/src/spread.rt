@@ -22,8 +22,12 @@ pub(crate) struct Spread<'a> {
 impl<'a> Spread<'a> {
     /// The column of a name, if it is not one of a recursive group itself.
     fn column(&self, source: Source) -> Option<&'a Column>
-        ensures events { (k n a : ℕ) → InputEvents result k n a ↔ EventsIn (seen self.now.named.now k n) self.now.inputs.now k source a }
-        ensures pairs { (k n a b : ℕ) → InputPairs result k n a b ↔ PairsOutside (seen self.now.named.now k n) self.now.inputs.now k source a b }
+        ensures events { (k n a : ℕ)
+            → InputEvents result k n a
+            ↔ EventsIn (seen self.now.named.now k n) self.now.inputs.now k source a }
+        ensures pairs { (k n a b : ℕ)
+            → InputPairs result k n a b
+            ↔ PairsOutside (seen self.now.named.now k n) self.now.inputs.now k source a b }
     {
         match source {
             Source::Predefined(name) => column_of(self.named, name),
@@ -35,12 +39,15 @@ impl<'a> Spread<'a> {
         }
     }
 
-    /// The set of a name in a candidate of so many events, and up to where the candidates behind it have the same.
+    /// The set of a name in a candidate of so many events, and up to where the candidates behind it
+    /// have the same.
     pub(crate) fn set(&self, source: Source, candidate: usize, count: usize) -> (EventSet, usize)
         requires few { count ≤ 128 }
         requires more { candidate + 1 < 2 ^ 64 }
         ensures after { candidate < result.1 }
-        ensures value { (k : ℕ) → candidate ≤ k → k < result.1 → IsEvents result.0 count (EventsIn (seen self.now.named.now k count) self.now.inputs.now k source) }
+        ensures value { (k : ℕ) → candidate ≤ k → k < result.1
+            → IsEvents result.0 count (EventsIn (seen self.now.named.now k count)
+            self.now.inputs.now k source) }
     {
         match self.column(source) {
             Some(column) => column.read_set(candidate, count),
@@ -48,8 +55,8 @@ impl<'a> Spread<'a> {
         }
     }
 
-    /// Makes `target` the relation of a name in a candidate of so many events, and answers up to where the candidates
-    /// behind it have the same.
+    /// Makes `target` the relation of a name in a candidate of so many events, and answers up to
+    /// where the candidates behind it have the same.
     pub(crate) fn write_relation(
         &self,
         source: Source,
@@ -60,7 +67,9 @@ impl<'a> Spread<'a> {
         requires few { count ≤ 128 }
         requires more { candidate + 1 < 2 ^ 64 }
         ensures after { candidate < result }
-        ensures value { (k : ℕ) → candidate ≤ k → k < result → IsRelation target.new count (PairsOutside (seen self.now.named.now k count) self.now.inputs.now k source) }
+        ensures value { (k : ℕ) → candidate ≤ k → k < result
+            → IsRelation target.new count (PairsOutside (seen self.now.named.now k count)
+            self.now.inputs.now k source) }
     {
         match self.column(source) {
             Some(column) => column.read_relation(candidate, count, target),

@@ -18,8 +18,8 @@ fn same_until(inputs: &[&Column], candidate: usize) -> usize
     until
 }
 
-/// Up to where the candidates behind one have its inputs, where up to `steady` those from it on have the inputs of the
-/// one before it.
+/// Up to where the candidates behind one have its inputs, where up to `steady` those from it on
+/// have the inputs of the one before it.
 pub(crate) fn steady_after(inputs: &[&Column], steady: usize, candidate: usize) -> usize
     ensures { IsSteady inputs.now candidate steady → IsSteady inputs.now (candidate + 1) result }
 {
@@ -30,7 +30,8 @@ pub(crate) fn steady_after(inputs: &[&Column], steady: usize, candidate: usize) 
     }
 }
 
-/// Whether the next candidate is as the one before it: it has its predefined names, and up to `steady` its inputs.
+/// Whether the next candidate is as the one before it: it has its predefined names, and up to
+/// `steady` its inputs.
 pub(crate) fn is_as_before(again: bool, candidate: usize, steady: usize) -> bool
     ensures { IsTrue result → IsTrue again × (candidate < steady) }
 {
@@ -50,7 +51,8 @@ fn named_until(named: &[NamedColumn], candidate: usize) -> usize
 
 /// As `steady_after`, of names.
 pub(crate) fn named_after(named: &[NamedColumn], steady: usize, candidate: usize) -> usize
-    ensures { IsSteady (columns_of named.now) candidate steady → IsSteady (columns_of named.now) (candidate + 1) result }
+    ensures { IsSteady (columns_of named.now) candidate steady
+        → IsSteady (columns_of named.now) (candidate + 1) result }
 {
     if candidate < steady {
         steady

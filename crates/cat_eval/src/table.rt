@@ -49,7 +49,8 @@ struct NameRun {
 /// Adds the value of a name in the present candidate.
 fn push_value(entry: &mut Entry, base: &Base, made: &mut Rel) -> Result<(), AllocError>
     ensures name { entry.new.name ≡ entry.old.name }
-    ensures filled { OnOk result ((bases : List Known) → IsFilled entry.old bases → IsFilled entry.new (bases ++ base.now ∷ [])) }
+    ensures filled { OnOk result ((bases : List Known) → IsFilled entry.old bases
+        → IsFilled entry.new (bases ++ base.now ∷ [])) }
 {
     let set = base.set(entry.name);
     base.write_relation(entry.name, made);
@@ -60,16 +61,19 @@ fn push_value(entry: &mut Entry, base: &Base, made: &mut Rel) -> Result<(), Allo
 /// Gives a name its last value once more.
 fn push_again(entry: &mut Entry) -> Result<(), AllocError>
     ensures name { entry.new.name ≡ entry.old.name }
-    ensures filled { OnOk result ((bases : List Known) (last base : Known) → EndsWith bases last → HoldsSame entry.old.name last base → IsFilled entry.old bases → IsFilled entry.new (bases ++ base ∷ [])) }
+    ensures filled { OnOk result ((bases : List Known) (last base : Known) → EndsWith bases last
+        → HoldsSame entry.old.name last base → IsFilled entry.old bases
+        → IsFilled entry.new (bases ++ base ∷ [])) }
 {
     entry.column.push_last()?;
     Ok(())
 }
 
-/// Whether a name has the value of the candidate before: all names have it again, or those that do not change with the
-/// order of the stores.
+/// Whether a name has the value of the candidate before: all names have it again, or those that do
+/// not change with the order of the stores.
 fn is_kept(name: Predefined, again: bool, reordered: bool) -> bool
-    ensures { IsTrue result → IsTrue again ⊎ (IsTrue reordered × (changes_with_orders name ≡ false)) }
+    ensures { IsTrue result
+        → IsTrue again ⊎ (IsTrue reordered × (changes_with_orders name ≡ false)) }
 {
     if again {
         return true;
@@ -86,7 +90,9 @@ fn fill(
     made: &mut Rel,
 ) -> Result<(), AllocError>
     ensures name { entry.new.name ≡ entry.old.name }
-    ensures filled { OnOk result ((bases : List Known) → (IsTrue again → EndsWith bases base.now) → (IsTrue reordered → EndsReordered bases base.now) → IsFilled entry.old bases → IsFilled entry.new (bases ++ base.now ∷ [])) }
+    ensures filled { OnOk result ((bases : List Known) → (IsTrue again → EndsWith bases base.now)
+        → (IsTrue reordered → EndsReordered bases base.now) → IsFilled entry.old bases
+        → IsFilled entry.new (bases ++ base.now ∷ [])) }
 {
     if is_kept(entry.name, again, reordered) {
         push_again(entry)
@@ -106,15 +112,22 @@ fn fill_at(
 ) -> Result<(), AllocError>
     requires { index < length entries.old.items }
     ensures long { length entries.new.items ≡ length entries.old.items }
-    ensures others { (j : ℕ) → (j ≡ index → ⊥) → (d : Entry) → slice_index_or entries.new.items j d ≡ slice_index_or entries.old.items j d }
-    ensures name { (d : Entry) → (slice_index_or entries.new.items index d).name ≡ (slice_index_or entries.old.items index d).name }
-    ensures filled { OnOk result ((bases : List Known) → (IsTrue again → EndsWith bases base.now) → (IsTrue reordered → EndsReordered bases base.now) → (d : Entry) → IsFilled (slice_index_or entries.old.items index d) bases → IsFilled (slice_index_or entries.new.items index d) (bases ++ base.now ∷ [])) }
+    ensures others { (j : ℕ) → (j ≡ index → ⊥) → (d : Entry)
+        → slice_index_or entries.new.items j d ≡ slice_index_or entries.old.items j d }
+    ensures name { (d : Entry)
+        → (slice_index_or entries.new.items index d).name
+        ≡ (slice_index_or entries.old.items index d).name }
+    ensures filled { OnOk result ((bases : List Known) → (IsTrue again → EndsWith bases base.now)
+        → (IsTrue reordered → EndsReordered bases base.now) → (d : Entry)
+        → IsFilled (slice_index_or entries.old.items index d) bases
+        → IsFilled (slice_index_or entries.new.items index d) (bases ++ base.now ∷ [])) }
 {
     fill(&mut entries[index], base, again, reordered, made)
 }
 
 impl Enter for NameRun {
-    ghost has_taken = { λ first bases run. (entry_names run.entries.items ≡ entry_names first.entries.items) × AreFilled run.entries.items bases };
+    ghost has_taken = { λ first bases run. (entry_names run.entries.items
+        ≡ entry_names first.entries.items) × AreFilled run.entries.items bases };
 
     fn enter(&mut self, base: &Base, again: bool, reordered: bool) -> Result<(), AllocError> {
         for index in 0..self.entries.len() {
@@ -160,7 +173,10 @@ fn entries_of(alloc: Global, names: &[Predefined]) -> Result<Vec<Entry>, AllocEr
 
 /// The column of a name among some.
 fn column_in(entries: &[Entry], name: Predefined) -> Option<&Column>
-    ensures { MatchOption result (Contains (entry_names entries.now) name → ⊥) (λ c. Contains (entry_names entries.now) name × ((candidates : List Candidate) → IsBlock entries.now candidates → IsColumnOf c.now name candidates)) }
+    ensures { MatchOption result (Contains (entry_names entries.now) name → ⊥) (λ c. Contains
+        (entry_names entries.now) name
+        × ((candidates : List Candidate) → IsBlock entries.now candidates
+        → IsColumnOf c.now name candidates)) }
 {
     for entry in entries {
         if entry.name == name {
@@ -180,7 +196,8 @@ fn made_columns(
 ) -> Result<Vec<Entry>, AllocError>
     requires { AreSuited needs.now.names.items needs.now.reads needs.now.orders }
     ensures names { IfOk result (λ v. entry_names v.items ≡ needs.now.names.items) }
-    ensures columns { IfOk result (λ v. IsBlock v.items (candidates_in space.now.combinations.items)) }
+    ensures columns { IfOk result (λ v.
+        IsBlock v.items (candidates_in space.now.combinations.items)) }
 {
     base.hold(alloc, &needs.names)?;
     run.entries = entries_of(alloc, &needs.names)?;
@@ -200,7 +217,10 @@ impl Table {
 
     /// The column of a name.
     fn column(&self, name: Predefined) -> Option<&Column>
-        ensures { MatchOption result (HasName self.now.blocks.items name → ⊥) (λ c. HasName self.now.blocks.items name × ((candidates : List Candidate) → AreBlocks self.now.blocks.items candidates → IsColumnOf c.now name candidates)) }
+        ensures { MatchOption result (HasName self.now.blocks.items name → ⊥) (λ c. HasName
+            self.now.blocks.items name
+            × ((candidates : List Candidate) → AreBlocks self.now.blocks.items candidates
+            → IsColumnOf c.now name candidates)) }
     {
         for block in &self.blocks {
             if let Some(column) = column_in(block, name) {
@@ -219,7 +239,8 @@ impl Table {
 
     /// Whether all these names are there.
     fn has_all(&self, names: &[Predefined]) -> bool
-        ensures { IsTrue result → (name : _) → Contains names.now name → HasName self.now.blocks.items name }
+        ensures { IsTrue result → (name : _) → Contains names.now name
+            → HasName self.now.blocks.items name }
     {
         for name in names {
             if !self.has(*name) {
@@ -229,23 +250,28 @@ impl Table {
         true
     }
 
-    /// Whether a name is not there, of those that change with reads-from or coherence or of the others.
+    /// Whether a name is not there, of those that change with reads-from or coherence or of the
+    /// others.
     fn lacks(&self, name: Predefined, is_changing: bool) -> bool
-        ensures { result ≡ false → is_changing_name name ≡ is_changing → HasName self.now.blocks.items name }
+        ensures { result ≡ false → is_changing_name name ≡ is_changing
+            → HasName self.now.blocks.items name }
     {
         Needs::is_changing(name) == is_changing && !self.has(name)
     }
 
-    /// What is needed to make those of the names that are not there, of those that change with reads-from or coherence or
-    /// of the others.
+    /// What is needed to make those of the names that are not there, of those that change with
+    /// reads-from or coherence or of the others.
     fn missing(
         &self,
         alloc: Global,
         names: &[Predefined],
         is_changing: bool,
     ) -> Result<Needs, AllocError>
-        ensures suited { IfOk result (λ needs. AreSuited needs.names.items needs.reads needs.orders) }
-        ensures all { IfOk result (λ needs. (name : _) → Contains names.now name → is_changing_name name ≡ is_changing → HasName self.now.blocks.items name ⊎ Contains needs.names.items name) }
+        ensures suited { IfOk result (λ needs.
+            AreSuited needs.names.items needs.reads needs.orders) }
+        ensures all { IfOk result (λ needs. (name : _) → Contains names.now name
+            → is_changing_name name ≡ is_changing
+            → HasName self.now.blocks.items name ⊎ Contains needs.names.items name) }
     {
         let mut missing = Needs::none(alloc);
         for name in names {
@@ -258,15 +284,20 @@ impl Table {
 
     /// Adds names that were made together.
     fn add_block(&mut self, block: Vec<Entry>) -> Result<(), AllocError>
-        ensures right { (candidates : List Candidate) → IsBlock block.items candidates → AreBlocks self.old.blocks.items candidates → AreBlocks self.new.blocks.items candidates }
-        ensures kept { (name : _) → HasName self.old.blocks.items name → HasName self.new.blocks.items name }
-        ensures there { OnOk result ((name : _) → Contains (entry_names block.items) name → HasName self.new.blocks.items name) }
+        ensures right { (candidates : List Candidate) → IsBlock block.items candidates
+            → AreBlocks self.old.blocks.items candidates
+            → AreBlocks self.new.blocks.items candidates }
+        ensures kept { (name : _) → HasName self.old.blocks.items name
+            → HasName self.new.blocks.items name }
+        ensures there { OnOk result ((name : _) → Contains (entry_names block.items) name
+            → HasName self.new.blocks.items name) }
     {
         self.blocks.push(block)?;
         Ok(())
     }
 
-    /// Makes those of the names that are not there, of those that change with reads-from or coherence or of the others.
+    /// Makes those of the names that are not there, of those that change with reads-from or
+    /// coherence or of the others.
     fn need_some(
         &mut self,
         alloc: Global,
@@ -276,9 +307,12 @@ impl Table {
         is_changing: bool,
         run: &mut NameRun,
     ) -> Result<(), AllocError>
-        ensures right { AreBlocks self.old.blocks.items (candidates_in space.now.combinations.items) → AreBlocks self.new.blocks.items (candidates_in space.now.combinations.items) }
-        ensures kept { (name : _) → HasName self.old.blocks.items name → HasName self.new.blocks.items name }
-        ensures there { OnOk result ((name : _) → Contains names.now name → is_changing_name name ≡ is_changing → HasName self.new.blocks.items name) }
+        ensures right { AreBlocks self.old.blocks.items (candidates_in space.now.combinations.items)
+            → AreBlocks self.new.blocks.items (candidates_in space.now.combinations.items) }
+        ensures kept { (name : _) → HasName self.old.blocks.items name
+            → HasName self.new.blocks.items name }
+        ensures there { OnOk result ((name : _) → Contains names.now name
+            → is_changing_name name ≡ is_changing → HasName self.new.blocks.items name) }
     {
         let missing = self.missing(alloc, names, is_changing)?;
         if missing.names.is_empty() {
@@ -297,8 +331,10 @@ impl Table {
         space: &Space,
         names: &[Predefined],
     ) -> Result<(), AllocError>
-        ensures right { AreBlocks self.old.blocks.items (candidates_in space.now.combinations.items) → AreBlocks self.new.blocks.items (candidates_in space.now.combinations.items) }
-        ensures there { OnOk result ((name : _) → Contains names.now name → HasName self.new.blocks.items name) }
+        ensures right { AreBlocks self.old.blocks.items (candidates_in space.now.combinations.items)
+            → AreBlocks self.new.blocks.items (candidates_in space.now.combinations.items) }
+        ensures there { OnOk result ((name : _) → Contains names.now name
+            → HasName self.new.blocks.items name) }
     {
         let mut run = NameRun {
             entries: Vec::new(alloc),
@@ -317,8 +353,10 @@ impl Table {
         space: &Space,
         names: &[Predefined],
     ) -> Result<(), AllocError>
-        ensures right { AreBlocks self.old.blocks.items (candidates_in space.now.combinations.items) → AreBlocks self.new.blocks.items (candidates_in space.now.combinations.items) }
-        ensures there { OnOk result ((name : _) → Contains names.now name → HasName self.new.blocks.items name) }
+        ensures right { AreBlocks self.old.blocks.items (candidates_in space.now.combinations.items)
+            → AreBlocks self.new.blocks.items (candidates_in space.now.combinations.items) }
+        ensures there { OnOk result ((name : _) → Contains names.now name
+            → HasName self.new.blocks.items name) }
     {
         if self.has_all(names) {
             return Ok(());
@@ -333,8 +371,10 @@ impl Table {
         named: &mut Few<NamedColumn<'a>>,
     ) -> Result<(), AllocError>
         requires { named.old ≡ [] }
-        ensures columns { OnOk result ((candidates : List Candidate) → AreBlocks self.now.blocks.items candidates → AreColumnsFor named.new candidates) }
-        ensures all { OnOk result ((name : _) → Contains names.now name → HasName self.now.blocks.items name → Contains (column_names named.new) name) }
+        ensures columns { OnOk result ((candidates : List Candidate)
+            → AreBlocks self.now.blocks.items candidates → AreColumnsFor named.new candidates) }
+        ensures all { OnOk result ((name : _) → Contains names.now name
+            → HasName self.now.blocks.items name → Contains (column_names named.new) name) }
     {
         for name in names {
             if let Some(column) = self.column(*name) {

@@ -1,4 +1,5 @@
-//! All candidates of a space, one after another, with what the predefined names of an item stand for.
+//! All candidates of a space, one after another, with what the predefined names of an item stand
+//! for.
 
 ghost use Rattle.std.specs.Prelude.{◌≡◌, ◌≤◌, ◌*◌, ◌++◌, List, [], ◌∷◌, length, Some, IsTrue, OnOk};
 ghost use Rattle.candidates.specs.Space.{candidates_in};
@@ -18,8 +19,8 @@ pub(crate) trait Visit {
     /// another.
     ghost has_taken: { Self → List Known → Self → Type 0 };
 
-    /// Takes the next candidate, of which the predefined names are given, its number, and whether the names are those of
-    /// the one before.
+    /// Takes the next candidate, of which the predefined names are given, its number, and whether
+    /// the names are those of the one before.
     fn visit(
         &mut self,
         machine: &mut Machine,
@@ -27,7 +28,9 @@ pub(crate) trait Visit {
         candidate: usize,
         again: bool,
     ) -> Result<(), AllocError>
-        ensures { (first : _) (bases : List Known) → candidate ≡ length bases → (IsTrue again → EndsWith bases base.now) → has_taken first bases self.old → OnOk result (has_taken first (bases ++ base.now ∷ []) self.new) };
+        ensures { (first : _) (bases : List Known) → candidate ≡ length bases
+            → (IsTrue again → EndsWith bases base.now) → has_taken first bases self.old
+            → OnOk result (has_taken first (bases ++ base.now ∷ []) self.new) };
 }
 
 /// How far the candidates were visited.
@@ -60,7 +63,11 @@ fn visit_next<V: Visit>(
     visitor: &mut V,
 ) -> Result<(), AllocError>
     requires { count ≤ 128 }
-    ensures { (first : _) (bases : List Known) → IsAt named.now place.old bases → V.has_taken first bases visitor.old → OnOk result (let next = seen named.now (length bases) count in IsAt named.now place.new (bases ++ next ∷ []) × V.has_taken first (bases ++ next ∷ []) visitor.new) }
+    ensures { (first : _) (bases : List Known) → IsAt named.now place.old bases
+        → V.has_taken first bases visitor.old
+        → OnOk result (let next = seen named.now (length bases) count in
+        IsAt named.now place.new (bases ++ next ∷ [])
+        × V.has_taken first (bases ++ next ∷ []) visitor.new) }
 {
     let candidate = place.candidate;
     let Some(next) = candidate.checked_add(1) else {
@@ -89,7 +96,11 @@ fn visit_run<V: Visit>(
     visitor: &mut V,
 ) -> Result<(), AllocError>
     requires { count ≤ 128 }
-    ensures { (first : _) (bases : List Known) → IsAt named.now place.old bases → V.has_taken first bases visitor.old → OnOk result (let run = seen_run named.now (length bases) count many in IsAt named.now place.new (bases ++ run) × V.has_taken first (bases ++ run) visitor.new) }
+    ensures { (first : _) (bases : List Known) → IsAt named.now place.old bases
+        → V.has_taken first bases visitor.old
+        → OnOk result (let run = seen_run named.now (length bases) count many in
+        IsAt named.now place.new (bases ++ run)
+        × V.has_taken first (bases ++ run) visitor.new) }
 {
     for _at in 0..many {
         visit_next(named, count, machine, place, visitor)?;
@@ -105,7 +116,13 @@ fn visit_combination<V: Visit>(
     place: &mut Place,
     visitor: &mut V,
 ) -> Result<(), AllocError>
-    ensures { (first : _) (bases : List Known) → IsAt named.now place.old bases → V.has_taken first bases visitor.old → OnOk result (let run = seen_run named.now (length bases) (length combination.now.events.items) (length combination.now.sources.items * length combination.now.orders) in IsAt named.now place.new (bases ++ run) × V.has_taken first (bases ++ run) visitor.new) }
+    ensures { (first : _) (bases : List Known) → IsAt named.now place.old bases
+        → V.has_taken first bases visitor.old
+        → OnOk result (
+        let run = seen_run named.now (length bases) (length combination.now.events.items)
+        (length combination.now.sources.items * length combination.now.orders) in
+        IsAt named.now place.new (bases ++ run)
+        × V.has_taken first (bases ++ run) visitor.new) }
 {
     let count = combination.events.len();
     let many = combination.orders.len();
@@ -122,7 +139,9 @@ pub(crate) fn visit_all<V: Visit>(
     machine: &mut Machine,
     visitor: &mut V,
 ) -> Result<(), AllocError>
-    ensures { V.has_taken visitor.old [] visitor.old → OnOk result (V.has_taken visitor.old (seen_in named.now 0 (candidates_in space.now.combinations.items)) visitor.new) }
+    ensures { V.has_taken visitor.old [] visitor.old
+        → OnOk result (V.has_taken visitor.old
+        (seen_in named.now 0 (candidates_in space.now.combinations.items)) visitor.new) }
 {
     let mut place = Place {
         candidate: 0,

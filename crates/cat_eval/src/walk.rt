@@ -21,10 +21,13 @@ pub(crate) trait Enter {
     /// another.
     ghost has_taken: { Self → List Known → Self → Type 0 };
 
-    /// Takes the next candidate, of which the predefined names are given, and whether they are those of the one before:
-    /// `again` all of them, `reordered` those that do not change with the order of the stores.
+    /// Takes the next candidate, of which the predefined names are given, and whether they are
+    /// those of the one before: `again` all of them, `reordered` those that do not change with the
+    /// order of the stores.
     fn enter(&mut self, base: &Base, again: bool, reordered: bool) -> Result<(), AllocError>
-        ensures { (first : _) (bases : List Known) → (IsTrue again → EndsWith bases base.now) → (IsTrue reordered → EndsReordered bases base.now) → has_taken first bases self.old → OnOk result (has_taken first (bases ++ base.now ∷ []) self.new) };
+        ensures { (first : _) (bases : List Known) → (IsTrue again → EndsWith bases base.now)
+            → (IsTrue reordered → EndsReordered bases base.now) → has_taken first bases self.old
+            → OnOk result (has_taken first (bases ++ base.now ∷ []) self.new) };
 }
 
 /// Goes over to an order of the stores, from a previous one where it is given.
@@ -34,7 +37,9 @@ fn put_order(base: &mut Base, combination: &Combination, previous: Option<&[u8]>
     ensures sets { base.new.sets ≡ base.old.sets }
     ensures shared { base.new.shared ≡ base.old.shared }
     ensures reads_from { base.new.reads_from ≡ base.old.reads_from }
-    ensures ordered { IfSome previous.entry (λ earlier. IsOrdered base.old combination.now earlier.now) → IsOrdered base.new combination.now order.now }
+    ensures ordered { IfSome previous.entry
+        (λ earlier. IsOrdered base.old combination.now earlier.now)
+        → IsOrdered base.new combination.now order.now }
 {
     match previous {
         Some(earlier) => base.order_after(combination, earlier, order),
@@ -42,8 +47,8 @@ fn put_order(base: &mut Base, combination: &Combination, previous: Option<&[u8]>
     }
 }
 
-/// Goes over to an order of the stores, where a name changes with it. Of a base that is that of the last candidate it says
-/// whether it still is.
+/// Goes over to an order of the stores, where a name changes with it. Of a base that is that of the
+/// last candidate it says whether it still is.
 fn go_to_order(
     needs: &Needs,
     base: &mut Base,
@@ -54,9 +59,13 @@ fn go_to_order(
 ) -> bool
     ensures kept { IsTrue result → IsTrue again × (base.new ≡ base.old) }
     ensures reordered { IsReordered base.old base.new }
-    ensures ready { IsReady needs.now.names.items base.old combination.now → IsReady needs.now.names.items base.new combination.now }
-    ensures reading { (sources : List ℕ) → IsReading base.old combination.now sources → IsReading base.new combination.now sources }
-    ensures ordered { IsTrue needs.now.orders → IfSome previous.entry (λ earlier. IsOrdered base.old combination.now earlier.now) → IsOrdered base.new combination.now order.now }
+    ensures ready { IsReady needs.now.names.items base.old combination.now
+        → IsReady needs.now.names.items base.new combination.now }
+    ensures reading { (sources : List ℕ) → IsReading base.old combination.now sources
+        → IsReading base.new combination.now sources }
+    ensures ordered { IsTrue needs.now.orders
+        → IfSome previous.entry (λ earlier. IsOrdered base.old combination.now earlier.now)
+        → IsOrdered base.new combination.now order.now }
 {
     if needs.orders {
         put_order(base, combination, previous, order);
@@ -74,7 +83,8 @@ fn go_to_sources(
     again: bool,
 ) -> bool
     ensures kept { IsTrue result → IsTrue again × (base.new ≡ base.old) }
-    ensures ready { IsReady needs.now.names.items base.old combination.now → IsReady needs.now.names.items base.new combination.now }
+    ensures ready { IsReady needs.now.names.items base.old combination.now
+        → IsReady needs.now.names.items base.new combination.now }
     ensures reading { IsTrue needs.now.reads → IsReading base.new combination.now sources.now }
 {
     if needs.reads {
@@ -94,7 +104,8 @@ fn go_to_combination(
     ensures kept { IsTrue result → IsTrue again × (base.new ≡ base.old) }
     ensures known { IsConsistent base.old → IsConsistent base.new }
     ensures held { (names : _) → AreHeld names base.old → AreHeld names base.new }
-    ensures entered { IfSome entered.entry (λ earlier. IsEntered base.old earlier.now) → IsEntered base.new combination.now }
+    ensures entered { IfSome entered.entry (λ earlier. IsEntered base.old earlier.now)
+        → IsEntered base.new combination.now }
 {
     match entered {
         Some(earlier) if is_same_shape(earlier, combination) => again,
@@ -105,8 +116,8 @@ fn go_to_combination(
     }
 }
 
-/// Visits the candidates of a combination that read in the present way. `again` says whether the base is that of the
-/// last candidate, before and after.
+/// Visits the candidates of a combination that read in the present way. `again` says whether the
+/// base is that of the last candidate, before and after.
 fn enter_orders<V: Enter>(
     combination: &Combination,
     needs: &Needs,
@@ -116,7 +127,15 @@ fn enter_orders<V: Enter>(
 ) -> Result<bool, AllocError>
     requires { IsReady needs.now.names.items base.old combination.now }
     ensures ready { IsReady needs.now.names.items base.new combination.now }
-    ensures worlds { (sources : List ℕ) → (IsTrue needs.now.reads → IsReading base.old combination.now sources) → (first : _) (bases : List Known) → (IsTrue again → EndsWith bases base.old) → V.has_taken first bases visitor.old → IfOk result (λ ends. (more : List Known) × AreWorlds needs.now.names.items needs.now.reads needs.now.orders more (reading_so combination.now sources combination.now.orders) × V.has_taken first (bases ++ more) visitor.new × (IsTrue ends → EndsWith (bases ++ more) base.new)) }
+    ensures worlds { (sources : List ℕ)
+        → (IsTrue needs.now.reads → IsReading base.old combination.now sources)
+        → (first : _) (bases : List Known) → (IsTrue again → EndsWith bases base.old)
+        → V.has_taken first bases visitor.old
+        → IfOk result (λ ends. (more : List Known)
+        × AreWorlds needs.now.names.items needs.now.reads needs.now.orders more
+        (reading_so combination.now sources combination.now.orders)
+        × V.has_taken first (bases ++ more) visitor.new
+        × (IsTrue ends → EndsWith (bases ++ more) base.new)) }
 {
     let mut again = again;
     let mut previous: Option<&[u8]> = None;
@@ -140,7 +159,13 @@ fn enter_combination<V: Enter>(
 ) -> Result<bool, AllocError>
     requires { IsReady needs.now.names.items base.old combination.now }
     ensures ready { IsReady needs.now.names.items base.new combination.now }
-    ensures worlds { (first : _) (bases : List Known) → (IsTrue again → EndsWith bases base.old) → V.has_taken first bases visitor.old → IfOk result (λ ends. (more : List Known) × AreWorlds needs.now.names.items needs.now.reads needs.now.orders more (reading_in combination.now combination.now.sources.items) × V.has_taken first (bases ++ more) visitor.new × (IsTrue ends → EndsWith (bases ++ more) base.new)) }
+    ensures worlds { (first : _) (bases : List Known) → (IsTrue again → EndsWith bases base.old)
+        → V.has_taken first bases visitor.old
+        → IfOk result (λ ends. (more : List Known)
+        × AreWorlds needs.now.names.items needs.now.reads needs.now.orders more
+        (reading_in combination.now combination.now.sources.items)
+        × V.has_taken first (bases ++ more) visitor.new
+        × (IsTrue ends → EndsWith (bases ++ more) base.new)) }
 {
     let mut again = again;
     for sources in &combination.sources {
@@ -159,7 +184,11 @@ pub(crate) fn enter_space<V: Enter>(
 ) -> Result<(), AllocError>
     requires known { IsConsistent base.old }
     requires held { AreHeld needs.now.names.items base.old }
-    ensures { V.has_taken visitor.old [] visitor.old → OnOk result ((bases : List Known) × AreWorlds needs.now.names.items needs.now.reads needs.now.orders bases (candidates_in space.now.combinations.items) × V.has_taken visitor.old bases visitor.new) }
+    ensures { V.has_taken visitor.old [] visitor.old
+        → OnOk result ((bases : List Known)
+        × AreWorlds needs.now.names.items needs.now.reads needs.now.orders bases
+        (candidates_in space.now.combinations.items)
+        × V.has_taken visitor.old bases visitor.new) }
 {
     let mut entered = None;
     let mut again = false;

@@ -64,7 +64,8 @@ abbrev mutual
   spelled (Prefix a) rest = tokens.Tilde ∷ spelled a rest
   spelled (Group a) rest = tokens.Open ∷ spelled a (tokens.Close ∷ rest)
   spelled (Square a) rest = tokens.OpenSquare ∷ spelled a (tokens.CloseSquare ∷ rest)
-  spelled (Application n arguments) rest = tokens.Name n ∷ tokens.Open ∷ spelled_arguments arguments rest
+  spelled (Application n arguments) rest =
+      tokens.Name n ∷ tokens.Open ∷ spelled_arguments arguments rest
 
   pub spelled_arguments : Trees → List Token → List Token
   spelled_arguments (Last a) rest = spelled a (tokens.Close ∷ rest)
@@ -96,8 +97,8 @@ level Difference = 3
 level Intersection = 4
 level Product = 5
 
--- how tight an operand must be: `\` groups to the left, and so takes its own level on the left alone; the others
--- group to the right
+-- how tight an operand must be: `\` groups to the left, and so takes its own level on the left
+-- alone; the others group to the right
 abbrev pub left_level : Infix → ℕ
 left_level Union = 2
 left_level Sequence = 3
@@ -131,7 +132,8 @@ abbrev mutual
   IsGrouped Underscore = Unit {0}
   IsGrouped Zero = Unit {0}
   IsGrouped Braces = Unit {0}
-  IsGrouped (Pair op a b) = (left_level op ≤ tightness a) × (right_level op ≤ tightness b) × IsGrouped a × IsGrouped b
+  IsGrouped (Pair op a b) =
+      (left_level op ≤ tightness a) × (right_level op ≤ tightness b) × IsGrouped a × IsGrouped b
   IsGrouped (Post op a) = (7 ≤ tightness a) × IsGrouped a
   IsGrouped (Prefix a) = (6 ≤ tightness a) × IsGrouped a
   IsGrouped (Group a) = IsGrouped a
@@ -178,8 +180,8 @@ abbrev mutual
   operators_of (Last a) = operators a
   operators_of (More a others) = operators a + operators_of others
 
--- How many brackets and prefixes may be open at once, how many operators an expression may have, and how many items a
--- model, names a group and parameters a function.
+-- How many brackets and prefixes may be open at once, how many operators an expression may have,
+-- and how many items a model, names a group and parameters a function.
 pub record Limits : Type 0 where
   pub nesting : ℕ
   pub operators : ℕ
@@ -251,7 +253,8 @@ spelled_group (b ∷ c ∷ bs) rest = spelled_bound b (tokens.And ∷ spelled_gr
 abbrev pub spelled_parameters : List (List ℕ) → List Token → List Token
 spelled_parameters [] rest = rest
 spelled_parameters (p ∷ []) rest = tokens.Name p ∷ rest
-spelled_parameters (p ∷ q ∷ ps) rest = tokens.Name p ∷ tokens.Comma ∷ spelled_parameters (q ∷ ps) rest
+spelled_parameters (p ∷ q ∷ ps) rest =
+    tokens.Name p ∷ tokens.Comma ∷ spelled_parameters (q ∷ ps) rest
 
 abbrev pub spelled_check : CheckTree → List Token → List Token
 spelled_check c rest = spelled_tilde c.negated (tokens.Check c.word ∷ spelled c.body rest)
@@ -267,11 +270,14 @@ spelled_shown (s ∷ u ∷ ss) rest = spelled_one s (tokens.Comma ∷ spelled_sh
 
 -- the tokens of an item, and then rest
 abbrev pub spelled_item : ItemTree → List Token → List Token
-spelled_item (Let recursive group) rest = tokens.Let ∷ spelled_rec recursive (spelled_group group rest)
+spelled_item (Let recursive group) rest =
+    tokens.Let ∷ spelled_rec recursive (spelled_group group rest)
 spelled_item (Function n parameters body) rest =
-    tokens.Let ∷ tokens.Name n ∷ tokens.Open ∷ spelled_parameters parameters (tokens.Close ∷ tokens.Equals ∷ spelled body rest)
+    tokens.Let ∷ tokens.Name n ∷ tokens.Open
+    ∷ spelled_parameters parameters (tokens.Close ∷ tokens.Equals ∷ spelled body rest)
 spelled_item (Check c label) rest = spelled_check c (spelled_label label rest)
-spelled_item (Flag c label) rest = tokens.Flag ∷ spelled_check c (tokens.As ∷ tokens.Name label ∷ rest)
+spelled_item (Flag c label) rest =
+    tokens.Flag ∷ spelled_check c (tokens.As ∷ tokens.Name label ∷ rest)
 spelled_item (Show hidden shown) rest = show_token hidden ∷ spelled_shown shown rest
 spelled_item (Include path) rest = tokens.Include ∷ tokens.Quoted path ∷ rest
 
@@ -304,11 +310,14 @@ AreShown most (s ∷ ss) = IsExpression most s.body × AreShown most ss
 
 -- a file that has no effect, whose names need no definition
 abbrev pub has_no_effect : List ℕ → Bool
-has_no_effect path = if bytes_eq path (codes "cos.cat") then true else bytes_eq path (codes "stdlib.cat")
+has_no_effect path =
+    if bytes_eq path (codes "cos.cat") then true else bytes_eq path (codes "stdlib.cat")
 
 abbrev pub IsItem : Limits → ItemTree → Type 0
-IsItem most (Let recursive group) = (0 < length group) × (length group ≤ most.names) × AreBound most group
-IsItem most (Function n parameters body) = (0 < length parameters) × (length parameters ≤ most.parameters) × IsExpression most body
+IsItem most (Let recursive group) =
+    (0 < length group) × (length group ≤ most.names) × AreBound most group
+IsItem most (Function n parameters body) =
+    (0 < length parameters) × (length parameters ≤ most.parameters) × IsExpression most body
 IsItem most (Check c label) = IsExpression most c.body
 IsItem most (Flag c label) = IsExpression most c.body
 IsItem most (Show hidden shown) = (0 < length shown) × AreShown most shown
@@ -360,7 +369,8 @@ pub record Begins (most : Limits) (form : Form) (ts : List Token) : Type 0 where
 
 -- ---- faults
 
--- limits that differ in how much may be open or joined alone, or in how many items, names and parameters alone
+-- limits that differ in how much may be open or joined alone, or in how many items, names and
+-- parameters alone
 abbrev pub SameCounts : Limits → Limits → Type 0
 SameCounts a b = (a.items ≡ b.items) × (a.names ≡ b.names) × (a.parameters ≡ b.parameters)
 
@@ -384,8 +394,8 @@ pub record AsksForMore (most : Limits) (form : Form) (ts : List Token) : Type 0 
   pub same : SameDepths most wider
   pub more : Begins wider form ts
 
--- These tokens can stand where they do: some text begins with them. The name that is one too many is at fault, and not
--- the `and` or the comma before it.
+-- These tokens can stand where they do: some text begins with them. The name that is one too many
+-- is at fault, and not the `and` or the comma before it.
 pub data CanStand (most : Limits) (form : Form) (ts : List Token) : Type 0 where
   BeginsText : Begins most form ts → CanStand most form ts
   BeforeAName : AsksForMore most form ts → CanStand most form ts
@@ -425,31 +435,47 @@ abbrev pub is_check : Token → Bool
 is_check (tokens.Check w) = true
 is_check _ = false
 
--- The rule that a token of the grammar breaks after these two where no limits help: another file after `include`, a
--- parenthesis after `rec` or `and` and a name, or the grammar alone.
+-- The rule that a token of the grammar breaks after these two where no limits help: another file
+-- after `include`, a parenthesis after `rec` or `and` and a name, or the grammar alone.
 abbrev pub plain_rule : Token × Token → Token → CatRule
 plain_rule p (tokens.Quoted path) = if is_include p.1 then rules.Include else rules.Syntax
-plain_rule p tokens.Open = if is_name p.1 && is_rec_or_and p.0 then rules.Unsupported else rules.Syntax
+plain_rule p tokens.Open =
+    if is_name p.1 && is_rec_or_and p.0 then rules.Unsupported else rules.Syntax
 plain_rule p _ = rules.Syntax
 
--- the offset of the first token of an item that this token is seen to begin, or to go on with after `~`
+-- the offset of the first token of an item that this token is seen to begin, or to go on with after
+-- `~`
 abbrev pub first_offset : List TokenAt → TokenAt → ℕ
 first_offset before here =
-    if is_check here.token && is_tilde ((last_two tokens.End tokens.End (tokens_of before)).1) then last_offset 0 before else here.offset
+    if is_check here.token && is_tilde ((last_two tokens.End tokens.End (tokens_of before)).1) then last_offset
+    0 before
+    else here.offset
 
 -- The rule that a token breaks, and the offset that is at fault.
-pub data IsRefusal (most : Limits) (form : Form) (before : List TokenAt) (here : TokenAt) (rule : CatRule) (offset : ℕ) : Type 0 where
+pub data IsRefusal (most : Limits) (form : Form) (before : List TokenAt) (here : TokenAt)
+    (rule : CatRule) (offset : ℕ) : Type 0 where
   -- it stands nowhere
-  Nowhere : broken_rule here.token ≡ Some rule → offset ≡ here.offset → IsRefusal most form before here rule offset
-  -- it can stand if there may be more items, names or parameters: the first token of what is too many is at fault
-  TooMany : (wider : Limits) → SameDepths most wider → Begins wider form (tokens_of before ++ here.token ∷ []) → rule ≡ rules.TooMany → offset ≡ first_offset before here → IsRefusal most form before here rule offset
+  Nowhere : broken_rule here.token ≡ Some rule → offset ≡ here.offset
+      → IsRefusal most form before here rule offset
+  -- it can stand if there may be more items, names or parameters: the first token of what is too
+  -- many is at fault
+  TooMany : (wider : Limits) → SameDepths most wider
+      → Begins wider form (tokens_of before ++ here.token ∷ []) → rule ≡ rules.TooMany
+      → offset ≡ first_offset before here → IsRefusal most form before here rule offset
   -- it can stand if more may be open or joined
-  TooDeep : (wider : Limits) → SameCounts most wider → Begins wider form (tokens_of before ++ here.token ∷ []) → rule ≡ rules.TooDeep → offset ≡ here.offset → IsRefusal most form before here rule offset
+  TooDeep : (wider : Limits) → SameCounts most wider
+      → Begins wider form (tokens_of before ++ here.token ∷ []) → rule ≡ rules.TooDeep
+      → offset ≡ here.offset → IsRefusal most form before here rule offset
   -- it can stand under no limits
-  Plain : ((wider : Limits) → Begins wider form (tokens_of before ++ here.token ∷ []) → ⊥) → broken_rule here.token ≡ None → rule ≡ plain_rule (last_two tokens.End tokens.End (tokens_of before)) here.token → offset ≡ here.offset → IsRefusal most form before here rule offset
+  Plain : ((wider : Limits) → Begins wider form (tokens_of before ++ here.token ∷ []) → ⊥)
+      → broken_rule here.token ≡ None
+      → rule ≡ plain_rule (last_two tokens.End tokens.End (tokens_of before)) here.token
+      → offset ≡ here.offset → IsRefusal most form before here rule offset
 
--- The tokens before some token can stand, and with it they cannot: this rule is broken, at this offset.
-pub record IsFault (most : Limits) (form : Form) (ps : List TokenAt) (rule : CatRule) (offset : ℕ) : Type 0 where
+-- The tokens before some token can stand, and with it they cannot: this rule is broken, at this
+-- offset.
+pub record IsFault (most : Limits) (form : Form) (ps : List TokenAt) (rule : CatRule) (offset : ℕ)
+    : Type 0 where
   pub before : List TokenAt
   pub here : TokenAt
   pub after : List TokenAt

@@ -45,7 +45,8 @@ pub data Part : Type 0 where
   InLet : (part : LetPart) → Part
   AfterFlag : Part
   AfterTilde : (flagged : Bool) → Part
-  Body : (head : Head) (frames : List machine.Frame) (used : ℕ) (expected : machine.Expectation) → Part
+  Body : (head : Head) (frames : List machine.Frame) (used : ℕ) (expected : machine.Expectation)
+      → Part
   Label : (check : CheckHead) (body : Term) → Part
   ShowLabel : (shown : Shown) (body : Term) → Part
   AfterShowLabel : (shown : Shown) → Part
@@ -68,7 +69,8 @@ abbrev pub begin_body : Head → Part
 begin_body h = Body h [] 0 machine.Wants
 
 abbrev pub begin_check : Bool → Bool → CheckWord → Part
-begin_check flagged negated w = begin_body (CheckedHead (record { flagged = flagged; negated = negated; word = w }))
+begin_check flagged negated w =
+    begin_body (CheckedHead (record { flagged = flagged; negated = negated; word = w }))
 
 abbrev pub begin_show : Bool → Part
 begin_show hidden = begin_body (ShownHead (record { hidden = hidden; terms = [] }))
@@ -132,11 +134,15 @@ after_keyword (tokens.Name n) = Ok (InLet (Named n))
 after_keyword t = refuses t
 
 abbrev pub bound_name : Limits → Group → Token → Result Part Fault
-bound_name most g (tokens.Name n) = if nat_lt (length g.bindings) most.names then Ok (InLet (Bound g n)) else Err (Here rules.TooMany)
+bound_name most g (tokens.Name n) =
+    if nat_lt (length g.bindings) most.names then Ok (InLet (Bound g n))
+    else Err (Here rules.TooMany)
 bound_name most g t = refuses t
 
 abbrev pub parameter_read : Limits → List ℕ → List (List ℕ) → Token → Result Part Fault
-parameter_read most n ps (tokens.Name p) = if nat_lt (length ps) most.parameters then Ok (InLet (AfterParameter n (ps ++ p ∷ []))) else Err (Here rules.TooMany)
+parameter_read most n ps (tokens.Name p) =
+    if nat_lt (length ps) most.parameters then Ok (InLet (AfterParameter n (ps ++ p ∷ [])))
+    else Err (Here rules.TooMany)
 parameter_read most n ps t = refuses t
 
 abbrev pub after_parameter : List ℕ → List (List ℕ) → Token → Result Part Fault
@@ -207,8 +213,11 @@ unless_before (Some rules.TooMany) p = Err (Before rules.TooMany)
 unless_before (Some r) p = Err (Here r)
 
 -- the tilde of the next item, which this check word shows, ends an item
-abbrev pub item_ended_by_tilde : Limits → Form → List Clause → Head → Term → CheckWord → Result State Fault
-item_ended_by_tilde most form is h v w = added is (finished h v rules.Syntax) (λ n. unless_before (excess most form n) (begin_check false true w))
+abbrev pub item_ended_by_tilde : Limits → Form → List Clause → Head → Term → CheckWord
+    → Result State Fault
+item_ended_by_tilde most form is h v w =
+    added is (finished h v rules.Syntax) (λ n.
+    unless_before (excess most form n) (begin_check false true w))
 
 abbrev pub and_read : Head → Term → Result Part Fault
 and_read (BoundHead g n) v = Ok (InLet (And (extended g n v)))
@@ -246,16 +255,19 @@ after_show_label most form is s t = added is (Ok (shown_clause s)) (λ n. item_o
 
 abbrev pub after_include : List Clause → Token → Result State Fault
 after_include is (tokens.Quoted path) =
-    if has_no_effect path then Ok (record { items = is ++ Including path ∷ []; part = Start }) else Err (Here rules.Include)
+    if has_no_effect path then Ok (record { items = is ++ Including path ∷ []; part = Start })
+    else Err (Here rules.Include)
 after_include is t = refuses t
 
 -- ---- the whole step
 
 -- what a token did to the expression of an item
-abbrev pub goes_on : Limits → Form → List Clause → Head → Token → machine.StepResult → Result State Fault
+abbrev pub goes_on : Limits → Form → List Clause → Head → Token → machine.StepResult
+    → Result State Fault
 goes_on most form is h t (machine.Goes fs used expected) = at is (Ok (Body h fs used expected))
 goes_on most form is h t (machine.Ends v) = after_body most form is h v t
-goes_on most form is h (tokens.Check w) (machine.EndsTilde v) = item_ended_by_tilde most form is h v w
+goes_on most form is h (tokens.Check w) (machine.EndsTilde v) =
+    item_ended_by_tilde most form is h v w
 goes_on most form is h t (machine.EndsTilde v) = refuses t
 goes_on most form is h t (machine.Refuses k) = Err (Here k)
 
@@ -265,7 +277,8 @@ step_part most form is Start t = at is (item_or_end most form (length is) t)
 step_part most form is (InLet p) t = at is (after_let most p t)
 step_part most form is AfterFlag t = at is (after_flag t)
 step_part most form is (AfterTilde flagged) t = at is (after_tilde flagged t)
-step_part most form is (Body h fs used expected) t = goes_on most form is h t (machine.expression_step most fs used expected t)
+step_part most form is (Body h fs used expected) t =
+    goes_on most form is h t (machine.expression_step most fs used expected t)
 step_part most form is (Label h v) t = after_as is h v t
 step_part most form is (ShowLabel s v) t = at is (after_show_as s v t)
 step_part most form is (AfterShowLabel s) t = after_show_label most form is s t

@@ -19,7 +19,8 @@ pub data Frame : Type 0 where
   LeftOf : (op : Infix) (a : Term) → Frame
   InArguments : (name : List ℕ) (arguments : List Term) → Frame
 
--- what was read last: nothing, a brace, a name, an operand, an operand and a star, or that and a tilde
+-- what was read last: nothing, a brace, a name, an operand, an operand and a star, or that and a
+-- tilde
 pub data Expectation : Type 0 where
   Wants : Expectation
   HasBrace : Expectation
@@ -49,7 +50,8 @@ fold_to l [] v = ([], v)
 fold_to l (InGroup ∷ fs) v = (InGroup ∷ fs, v)
 fold_to l (InSquare ∷ fs) v = (InSquare ∷ fs, v)
 fold_to l (InPrefix ∷ fs) v = fold_to l fs (Not v)
-fold_to l (LeftOf op a ∷ fs) v = if nat_le l (level op) then fold_to l fs (Join op a v) else (LeftOf op a ∷ fs, v)
+fold_to l (LeftOf op a ∷ fs) v =
+    if nat_le l (level op) then fold_to l fs (Join op a v) else (LeftOf op a ∷ fs, v)
 fold_to l (InArguments n args ∷ fs) v = (InArguments n args ∷ fs, v)
 
 -- no bracket is open
@@ -62,7 +64,8 @@ is_outermost (LeftOf op a ∷ fs) = is_outermost fs
 is_outermost (InArguments n args ∷ fs) = false
 
 abbrev pub opened : Limits → List Frame → ℕ → Frame → StepResult
-opened most fs used f = if nat_lt (open_count fs) most.nesting then Goes (f ∷ fs) used Wants else Refuses TooDeep
+opened most fs used f =
+    if nat_lt (open_count fs) most.nesting then Goes (f ∷ fs) used Wants else Refuses TooDeep
 
 -- a token where an operand is wanted
 abbrev pub operand : Limits → List Frame → ℕ → Token → StepResult
@@ -112,8 +115,10 @@ comma_read used (f ∷ fs, v) = Refuses Syntax
 
 -- a token after an operand
 abbrev pub after : Limits → List Frame → ℕ → Term → Token → StepResult
-after most fs used v (tokens.Sign s) = counted most used (Goes (infix_at (infix_of s) fs v) (used + 1) Wants)
-after most fs used v (tokens.Mark m) = counted most used (Goes fs (used + 1) (Has (Mark (postfix_of m) v)))
+after most fs used v (tokens.Sign s) =
+    counted most used (Goes (infix_at (infix_of s) fs v) (used + 1) Wants)
+after most fs used v (tokens.Mark m) =
+    counted most used (Goes fs (used + 1) (Has (Mark (postfix_of m) v)))
 after most fs used v tokens.Star = counted most used (Goes fs (used + 1) (HasStar v))
 after most fs used v tokens.Close = closed used (fold_to 0 fs v)
 after most fs used v tokens.CloseSquare = square_closed used (fold_to 0 fs v)
@@ -142,7 +147,8 @@ after_star most fs used v t = star_then most fs used v t (begins_operand t)
 
 -- a token after an operand, a star and a tilde, at the outermost level
 abbrev pub after_star_tilde : Limits → List Frame → ℕ → Term → Token → StepResult
-after_star_tilde most fs used v (tokens.Check w) = EndsTilde ((fold_to 0 fs (Mark postfix.Closure v)).1)
+after_star_tilde most fs used v (tokens.Check w) =
+    EndsTilde ((fold_to 0 fs (Mark postfix.Closure v)).1)
 after_star_tilde most fs used v t = operand most (InPrefix ∷ infix_at Product fs v) used t
 
 abbrev pub expression_step : Limits → List Frame → ℕ → Expectation → Token → StepResult

@@ -23,7 +23,9 @@ and_then (Err e) f = Err e
 -- the tokens one after another, with the offset of the first fault
 abbrev pub run : Limits → Form → ℕ → State → List TokenAt → Ran
 run most form before s [] = Ok s
-run most form before s (p ∷ ps) = and_then (with_offset before p.offset (step most form s p.token)) (λ s'. run most form p.offset s' ps)
+run most form before s (p ∷ ps) =
+    and_then (with_offset before p.offset (step most form s p.token))
+    (λ s'. run most form p.offset s' ps)
 
 abbrev pub items_of : Ran → Result (List Clause) (CatRule × ℕ)
 items_of (Ok s) = Ok s.items

@@ -14,11 +14,20 @@ ghost use Rattle.cat_grammar.specs.Running.{run, items_of};
 /// The reader reads exactly the texts of the grammar, within the limits of the language.
 pub fn reads_the_grammar()
     // What it takes to the end is a text that means the items it gives.
-    ensures found { (form : Form) (ps : List TokenAt) (ts : List Token) → tokens_of ps ≡ ts ++ End ∷ [] → (cs : List Clause) → items_of (run limits form 0 (start form) ps) ≡ Ok cs → Means limits form (tokens_of ps) cs }
+    ensures found { (form : Form) (ps : List TokenAt) (ts : List Token)
+        → tokens_of ps ≡ ts ++ End ∷ [] → (cs : List Clause)
+        → items_of (run limits form 0 (start form) ps) ≡ Ok cs
+        → Means limits form (tokens_of ps) cs }
     // A text means nothing else than the items it gives.
-    ensures only { (form : Form) (ps : List TokenAt) (cs v : List Clause) → items_of (run limits form 0 (start form) ps) ≡ Ok cs → Means limits form (tokens_of ps) v → cs ≡ v }
+    ensures only { (form : Form) (ps : List TokenAt) (cs v : List Clause)
+        → items_of (run limits form 0 (start form) ps) ≡ Ok cs → Means limits form (tokens_of ps) v
+        → cs ≡ v }
     // What it refuses is at fault there, by the rule that is broken there.
-    ensures fault { (form : Form) (ps : List TokenAt) (rule : CatRule) (offset : ℕ) → items_of (run limits form 0 (start form) ps) ≡ Err (rule, offset) → IsFault limits form ps rule offset }
+    ensures fault { (form : Form) (ps : List TokenAt) (rule : CatRule) (offset : ℕ)
+        → items_of (run limits form 0 (start form) ps) ≡ Err (rule, offset)
+        → IsFault limits form ps rule offset }
     // A text that means some items has no fault.
-    ensures whole { (form : Form) (ps : List TokenAt) (v : List Clause) (rule : CatRule) (offset : ℕ) → Means limits form (tokens_of ps) v → IsFault limits form ps rule offset → ⊥ }
+    ensures whole { (form : Form) (ps : List TokenAt) (v : List Clause) (rule : CatRule)
+        (offset : ℕ) → Means limits form (tokens_of ps) v → IsFault limits form ps rule offset
+        → ⊥ }
 {}

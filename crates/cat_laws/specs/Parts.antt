@@ -1,4 +1,5 @@
--- What stands where a refusal has a number of its own: the string of an include, and the `=` of a binding.
+-- What stands where a refusal has a number of its own: the string of an include, and the `=` of a
+-- binding.
 use Rattle.std.specs.Prelude.{◌≡◌, List, ◌∷◌, ◌++◌, true}
 use Rattle.cat_tokens.specs.declared.token.Token.{Token}
 use Rattle.cat_tokens.specs.declared.token.Token.TheVariants as tokens

@@ -21,7 +21,8 @@ pub record IsWord (s : List ℕ) : Type 0 where
 -- one of `| ; \ & + ? * ~ ( ) [ ] { } _ 0 , =`
 abbrev pub is_sign : ℕ → Bool
 is_sign b =
-    b == 124 || (b == 59 || (b == 92 || (b == 38 || (b == 43 || (b == 63 || (b == 42 || (b == 126 || (
+    b == 124 || (b == 59 || (b == 92 || (b == 38 || (b == 43 || (b == 63 || (b == 42 || (b == 126
+    || (
     b == 40 || (b == 41 || (b == 91 || (b == 93 || (b == 123 || (b == 125 || (
     b == 95 || (b == 48 || (b == 44 || b == 61))))))))))))))))
 
@@ -29,7 +30,8 @@ pub data Spells (s : List ℕ) (t : Token) : Type 0 where
   -- a name or a keyword
   Word : IsWord s → t ≡ word_token s → Spells s t
   -- a string, with its quotes
-  String : (inside : List ℕ) → LacksQuote inside → s ≡ 34 ∷ (inside ++ 34 ∷ []) → t ≡ tokens.Quoted inside → Spells s t
+  String : (inside : List ℕ) → LacksQuote inside → s ≡ 34 ∷ (inside ++ 34 ∷ [])
+      → t ≡ tokens.Quoted inside → Spells s t
   -- one byte
   Sign : (b : ℕ) → is_sign b ≡ true → s ≡ b ∷ [] → t ≡ sign_token b → Spells s t
   -- `^-1`
@@ -49,12 +51,15 @@ begins_gap bs = is_layout (slice_index bs 0) || (begins_comment bs || begins_lin
 pub data IsGap (s rest : List ℕ) : Type 0 where
   Blank : (b : ℕ) → is_layout b ≡ true → s ≡ b ∷ [] → IsGap s rest
   Comment : BeginsWithComment (s ++ rest) (length s) → IsGap s rest
-  Line : begins_line_comment s ≡ true → ((k : ℕ) → k < length s → is_line_end (slice_index s k) ≡ false)
+  Line : begins_line_comment s ≡ true
+      → ((k : ℕ) → k < length s → is_line_end (slice_index s k) ≡ false)
       → (0 < length rest → is_line_end (slice_index rest 0) ≡ true) → IsGap s rest
 
 -- no longer beginning of the text spells a token
 abbrev pub IsLongest : List ℕ → List ℕ → Type 0
-IsLongest s rest = (longer others : List ℕ) (t : Token) → longer ++ others ≡ s ++ rest → Spells longer t → length longer ≤ length s
+IsLongest s rest =
+    (longer others : List ℕ) (t : Token) → longer ++ others ≡ s ++ rest → Spells longer t
+    → length longer ≤ length s
 
 -- no beginning of the text spells a token
 abbrev pub SpellsNone : List ℕ → Type 0
@@ -65,13 +70,15 @@ pub data IsLexeme (t : Token) (s rest : List ℕ) : Type 0 where
   -- the longest piece that spells a token
   Spelled : begins_gap (s ++ rest) ≡ false → Spells s t → IsLongest s rest → IsLexeme t s rest
   -- a byte that begins none
-  NoToken : (b : ℕ) → is_quote b ≡ false → s ≡ b ∷ [] → begins_gap (s ++ rest) ≡ false → SpellsNone (s ++ rest)
+  NoToken : (b : ℕ) → is_quote b ≡ false → s ≡ b ∷ [] → begins_gap (s ++ rest) ≡ false
+      → SpellsNone (s ++ rest)
       → t ≡ tokens.Broken rules.Token → IsLexeme t s rest
   -- a comment that does not end, through the end of the text
   OpenComment : begins_comment s ≡ true → ((n : ℕ) → BeginsWithComment s n → ⊥) → rest ≡ []
       → t ≡ tokens.Broken rules.Syntax → IsLexeme t s rest
   -- a string that does not end
-  OpenString : (inside : List ℕ) → LacksQuote inside → s ≡ 34 ∷ inside → rest ≡ [] → t ≡ tokens.Broken rules.Syntax → IsLexeme t s rest
+  OpenString : (inside : List ℕ) → LacksQuote inside → s ≡ 34 ∷ inside → rest ≡ []
+      → t ≡ tokens.Broken rules.Syntax → IsLexeme t s rest
 
 pub data Piece : Type 0 where
   Gap : (text : List ℕ) → Piece

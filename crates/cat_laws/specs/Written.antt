@@ -54,10 +54,12 @@ abbrev pub AreShown : List (Term × Option (List ℕ)) → Type 0
 AreShown [] = Unit {0}
 AreShown (s ∷ ss) = IsTerm s.0 × IsLabel s.1 × AreShown ss
 
--- an item with one binding, parameter or shown expression or more, and no file but those without effect
+-- an item with one binding, parameter or shown expression or more, and no file but those without
+-- effect
 abbrev pub IsWritten : Clause → Type 0
 IsWritten (Binding recursive group) = (0 < length group) × AreBindings group
-IsWritten (Function n parameters body) = IsName n × (0 < length parameters) × AreNames parameters × IsTerm body
+IsWritten (Function n parameters body) =
+    IsName n × (0 < length parameters) × AreNames parameters × IsTerm body
 IsWritten (Checking check label) = IsTerm check.body × IsLabel label
 IsWritten (Flagging check label) = IsTerm check.body × IsName label
 IsWritten (Showing hidden shown) = (0 < length shown) × AreShown shown
@@ -87,7 +89,8 @@ abbrev mutual
   nesting AllEvents = 0
   nesting EmptyRelation = 0
   nesting EmptySet = 0
-  nesting (Join op a b) = max (nesting a + one_where (is_binary a)) (nesting b + one_where (is_binary b))
+  nesting (Join op a b) =
+      max (nesting a + one_where (is_binary a)) (nesting b + one_where (is_binary b))
   nesting (Mark op a) = nesting a + one_where (is_compound a)
   nesting (Not a) = nesting a + one_where (is_binary a) + 1
   nesting (On a) = nesting a + 1
@@ -169,8 +172,8 @@ pub record IsModelWithinLimits (cs : List Clause) : Type 0 where
 
 -- ---- what was read before
 
--- What printing can break of the limits that an item kept which was read: its text may be longer, and have more
--- parentheses.
+-- What printing can break of the limits that an item kept which was read: its text may be longer,
+-- and have more parentheses.
 abbrev pub AreShallow : List Clause → Type 0
 AreShallow [] = Unit {0}
 AreShallow (c ∷ cs) = (deepest (bodies c) ≤ limits.nesting) × AreShallow cs

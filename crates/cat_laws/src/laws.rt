@@ -18,9 +18,12 @@ pub fn printed_item_is_read()
     // The limits of length, nesting and number aside.
     ensures text { (c : Clause) → IsWritten c → IsTextOfItem (printed_item c) c }
     // Within them, as the reader reads.
-    ensures reads { (c : Clause) → IsWritten c → IsItemWithinLimits c → ReadsItem (printed_item c) c }
-    // What was read from some text is read again, where its printed text stays within the limits of length and nesting.
-    ensures again { (bytes : List ℕ) (c : Clause) → ReadsItem bytes c → ItemStaysWithin c → ReadsItem (printed_item c) c }
+    ensures reads { (c : Clause) → IsWritten c → IsItemWithinLimits c
+        → ReadsItem (printed_item c) c }
+    // What was read from some text is read again, where its printed text stays within the limits of
+    // length and nesting.
+    ensures again { (bytes : List ℕ) (c : Clause) → ReadsItem bytes c → ItemStaysWithin c
+        → ReadsItem (printed_item c) c }
 {}
 
 /// The printed model is read as that model.
@@ -28,9 +31,12 @@ pub fn printed_is_read()
     // The limits of length, nesting and number aside.
     ensures text { (cs : List Clause) → AreWritten cs → IsTextOfModel (printed_model cs) cs }
     // Within them, as the reader reads.
-    ensures reads { (cs : List Clause) → AreWritten cs → IsModelWithinLimits cs → ReadsModel (printed_model cs) cs }
-    // What was read from some text is read again, where its printed text stays within the limits of length and nesting.
-    ensures again { (bytes : List ℕ) (cs : List Clause) → ReadsModel bytes cs → ModelStaysWithin cs → ReadsModel (printed_model cs) cs }
+    ensures reads { (cs : List Clause) → AreWritten cs → IsModelWithinLimits cs
+        → ReadsModel (printed_model cs) cs }
+    // What was read from some text is read again, where its printed text stays within the limits of
+    // length and nesting.
+    ensures again { (bytes : List ℕ) (cs : List Clause) → ReadsModel bytes cs → ModelStaysWithin cs
+        → ReadsModel (printed_model cs) cs }
 {}
 
 /// What a text reads as can be printed so.
@@ -43,8 +49,8 @@ pub fn read_is_written()
     ensures read_model { (bytes : List ℕ) (cs : List Clause) → ReadsModel bytes cs → AreWritten cs }
 {}
 
-/// The tokens of a model's text are the longest pieces that spell tokens. With the gaps between them (blanks, line ends
-/// and comments) they cover the text, in rising order.
+/// The tokens of a model's text are the longest pieces that spell tokens. With the gaps between
+/// them (blanks, line ends and comments) they cover the text, in rising order.
 pub fn tokens_cover_the_text()
     // The text is cut into such pieces, and its tokens are theirs.
     ensures cut { (bytes : List ℕ) → IsCut bytes (lexed bytes) }
@@ -54,10 +60,14 @@ pub fn tokens_cover_the_text()
     ensures rising { (bytes : List ℕ) → AreRising 0 (lexed bytes) }
 {}
 
-/// Two refusals have the number of what would stand there. Behind `include` a model has the string of an include,
-/// so another string is refused there as an include of another file (C3). Behind a name that follows `rec` or `and` it has
-/// the `=` of a binding, so a parenthesis is refused there as a function (C4).
+/// Two refusals have the number of what would stand there. Behind `include` a model has the string
+/// of an include, so another string is refused there as an include of another file (C3). Behind a
+/// name that follows `rec` or `and` it has the `=` of a binding, so a parenthesis is refused there
+/// as a function (C4).
 pub fn refusals_are_of_their_parts()
-    ensures path { (most : Limits) (form : Form) (before : List Token) (here : Token) → GoesOn most form (before ++ tokens.Include ∷ []) here → IsPath here }
-    ensures equals { (most : Limits) (form : Form) (before : List Token) (a : Token) (n : List ℕ) (here : Token) → is_rec_or_and a ≡ true → GoesOn most form (before ++ a ∷ tokens.Name n ∷ []) here → here ≡ tokens.Equals }
+    ensures path { (most : Limits) (form : Form) (before : List Token) (here : Token)
+        → GoesOn most form (before ++ tokens.Include ∷ []) here → IsPath here }
+    ensures equals { (most : Limits) (form : Form) (before : List Token) (a : Token) (n : List ℕ)
+        (here : Token) → is_rec_or_and a ≡ true
+        → GoesOn most form (before ++ a ∷ tokens.Name n ∷ []) here → here ≡ tokens.Equals }
 {}

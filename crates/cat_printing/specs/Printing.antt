@@ -42,18 +42,21 @@ is_compound (Not a) = true
 is_compound _ = false
 
 abbrev mutual
-  -- an infix operand of an infix operator or of a tilde stands in parentheses, and so does the operand of a postfix
-  -- operator that is no atom
+  -- an infix operand of an infix operator or of a tilde stands in parentheses, and so does the
+  -- operand of a postfix operator that is no atom
   pub printed_term : Term → List ℕ
   printed_term (Atom n) = n
   printed_term AllEvents = codes "_"
   printed_term EmptyRelation = codes "0"
   printed_term EmptySet = codes "{}"
-  printed_term (Join op a b) = bracketed (is_binary a) (printed_term a) ++ (infix_text op ++ bracketed (is_binary b) (printed_term b))
+  printed_term (Join op a b) =
+      bracketed (is_binary a) (printed_term a)
+      ++ (infix_text op ++ bracketed (is_binary b) (printed_term b))
   printed_term (Mark op a) = bracketed (is_compound a) (printed_term a) ++ postfix_text op
   printed_term (Not a) = codes "~" ++ bracketed (is_binary a) (printed_term a)
   printed_term (On a) = codes "[" ++ (printed_term a ++ codes "]")
-  printed_term (Apply n arguments) = n ++ (codes "(" ++ (joined (codes ", ") (printed_terms arguments) ++ codes ")"))
+  printed_term (Apply n arguments) =
+      n ++ (codes "(" ++ (joined (codes ", ") (printed_terms arguments) ++ codes ")"))
 
   pub printed_terms : Terms → List (List ℕ)
   printed_terms NoTerm = []
@@ -99,8 +102,11 @@ quote = 34 ∷ []
 
 -- one space round `=`, after words and after commas
 abbrev pub printed_item : Clause → List ℕ
-printed_item (Binding recursive group) = codes "let " ++ (recursion_text recursive ++ joined (codes " and ") (map binding_text group))
-printed_item (Function name parameters body) = codes "let " ++ (name ++ (codes "(" ++ (joined (codes ", ") parameters ++ (codes ") = " ++ printed_term body))))
+printed_item (Binding recursive group) =
+    codes "let " ++ (recursion_text recursive ++ joined (codes " and ") (map binding_text group))
+printed_item (Function name parameters body) =
+    codes "let " ++ (name
+    ++ (codes "(" ++ (joined (codes ", ") parameters ++ (codes ") = " ++ printed_term body))))
 printed_item (Checking check label) = check_text check ++ optional_label label
 printed_item (Flagging check label) = codes "flag " ++ (check_text check ++ label_text label)
 printed_item (Showing hidden shown) = show_text hidden ++ joined (codes ", ") (map shown_text shown)

@@ -1,5 +1,5 @@
-//! The printed texts of models in the cat language. Read specs/Printing.antt first; cat_laws has the law that a printed
-//! model is read as the model that was printed.
+//! The printed texts of models in the cat language. Read specs/Printing.antt first; cat_laws has
+//! the law that a printed model is read as the model that was printed.
 #![tactic(auto)]
 
 mod print;

@@ -84,7 +84,8 @@ fn put_operand(
     operand: &Expression,
     in_parentheses: bool,
 ) -> Result<(), AllocError>
-    ensures { OnOk result (text.new.items ≡ text.old.items ++ bracketed in_parentheses (printed_term (term_of operand.now))) }
+    ensures { OnOk result (text.new.items
+        ≡ text.old.items ++ bracketed in_parentheses (printed_term (term_of operand.now))) }
 {
     if in_parentheses {
         put_bytes(text, b"(")?;
@@ -98,7 +99,9 @@ fn put_operand(
 // Appends the arguments of a function, with commas between them.
 #[cycle(print)]
 fn put_arguments(text: &mut Vec<u8>, arguments: &[Expression]) -> Result<(), AllocError>
-    ensures { OnOk result (text.new.items ≡ text.old.items ++ joined (codes ", ") (map printed_term (map term_of arguments.now))) }
+    ensures { OnOk result (text.new.items
+        ≡ text.old.items
+        ++ joined (codes ", ") (map printed_term (map term_of arguments.now))) }
 {
     for (i, argument) in arguments.iter().enumerate() {
         put_between(text, b", ", i)?;
@@ -110,7 +113,8 @@ fn put_arguments(text: &mut Vec<u8>, arguments: &[Expression]) -> Result<(), All
 // Appends an expression.
 #[cycle(print)]
 fn put_expression(text: &mut Vec<u8>, expression: &Expression) -> Result<(), AllocError>
-    ensures { OnOk result (text.new.items ≡ text.old.items ++ printed_term (term_of expression.now)) }
+    ensures { OnOk result (text.new.items
+        ≡ text.old.items ++ printed_term (term_of expression.now)) }
 {
     match expression {
         Expression::Named(name) => put_bytes(text, name.as_bytes()),
@@ -171,7 +175,8 @@ fn put_check(text: &mut Vec<u8>, check: &Check) -> Result<(), AllocError>
 }
 
 fn put_binding(text: &mut Vec<u8>, binding: &Binding) -> Result<(), AllocError>
-    ensures { OnOk result (text.new.items ≡ text.old.items ++ binding_text (binding_of binding.now)) }
+    ensures { OnOk result (text.new.items
+        ≡ text.old.items ++ binding_text (binding_of binding.now)) }
 {
     put_bytes(text, binding.name.as_bytes())?;
     put_bytes(text, b" = ")?;
@@ -180,7 +185,9 @@ fn put_binding(text: &mut Vec<u8>, binding: &Binding) -> Result<(), AllocError>
 
 // Appends the bindings of a group, with `and` between them.
 fn put_bindings(text: &mut Vec<u8>, group: &[Binding]) -> Result<(), AllocError>
-    ensures { OnOk result (text.new.items ≡ text.old.items ++ joined (codes " and ") (map binding_text (map binding_of group.now))) }
+    ensures { OnOk result (text.new.items
+        ≡ text.old.items
+        ++ joined (codes " and ") (map binding_text (map binding_of group.now))) }
 {
     for (i, binding) in group.iter().enumerate() {
         put_between(text, b" and ", i)?;
@@ -190,7 +197,9 @@ fn put_bindings(text: &mut Vec<u8>, group: &[Binding]) -> Result<(), AllocError>
 }
 
 fn put_group(text: &mut Vec<u8>, recursive: bool, group: &[Binding]) -> Result<(), AllocError>
-    ensures { OnOk result (text.new.items ≡ text.old.items ++ (codes "let " ++ (recursion_text recursive ++ joined (codes " and ") (map binding_text (map binding_of group.now))))) }
+    ensures { OnOk result (text.new.items
+        ≡ text.old.items ++ (codes "let " ++ (recursion_text recursive
+        ++ joined (codes " and ") (map binding_text (map binding_of group.now))))) }
 {
     put_bytes(
         text,
@@ -220,7 +229,9 @@ fn put_function(
     parameters: &[Name],
     body: &Expression,
 ) -> Result<(), AllocError>
-    ensures { OnOk result (text.new.items ≡ text.old.items ++ (codes "let " ++ (name.now ++ (codes "(" ++ (joined (codes ", ") parameters.now ++ (codes ") = " ++ printed_term (term_of body.now))))))) }
+    ensures { OnOk result (text.new.items
+        ≡ text.old.items ++ (codes "let " ++ (name.now ++ (codes "(" ++ (joined (codes ", ")
+        parameters.now ++ (codes ") = " ++ printed_term (term_of body.now))))))) }
 {
     put_bytes(text, b"let ")?;
     put_bytes(text, name.as_bytes())?;
@@ -239,7 +250,8 @@ fn put_shown_expression(text: &mut Vec<u8>, shown: &ShownExpression) -> Result<(
 
 // Appends what is shown, with commas between.
 fn put_shown(text: &mut Vec<u8>, shown: &[ShownExpression]) -> Result<(), AllocError>
-    ensures { OnOk result (text.new.items ≡ text.old.items ++ joined (codes ", ") (map shown_text (map shown_of shown.now))) }
+    ensures { OnOk result (text.new.items
+        ≡ text.old.items ++ joined (codes ", ") (map shown_text (map shown_of shown.now))) }
 {
     for (i, one) in shown.iter().enumerate() {
         put_between(text, b", ", i)?;
@@ -249,7 +261,9 @@ fn put_shown(text: &mut Vec<u8>, shown: &[ShownExpression]) -> Result<(), AllocE
 }
 
 fn put_show(text: &mut Vec<u8>, hidden: bool, shown: &[ShownExpression]) -> Result<(), AllocError>
-    ensures { OnOk result (text.new.items ≡ text.old.items ++ (show_text hidden ++ joined (codes ", ") (map shown_text (map shown_of shown.now)))) }
+    ensures { OnOk result (text.new.items
+        ≡ text.old.items ++ (show_text hidden
+        ++ joined (codes ", ") (map shown_text (map shown_of shown.now)))) }
 {
     put_bytes(
         text,
@@ -263,7 +277,9 @@ fn put_show(text: &mut Vec<u8>, hidden: bool, shown: &[ShownExpression]) -> Resu
 }
 
 fn put_flag(text: &mut Vec<u8>, check: &Check, label: &Name) -> Result<(), AllocError>
-    ensures { OnOk result (text.new.items ≡ text.old.items ++ (codes "flag " ++ (check_text (check_of check.now) ++ label_text label.now))) }
+    ensures { OnOk result (text.new.items
+        ≡ text.old.items
+        ++ (codes "flag " ++ (check_text (check_of check.now) ++ label_text label.now))) }
 {
     put_bytes(text, b"flag ")?;
     put_check(text, check)?;
@@ -294,9 +310,9 @@ fn put_item(text: &mut Vec<u8>, item: &Item) -> Result<(), AllocError>
     }
 }
 
-/// The printed item. One space stands around infix operators and `=`, after words and after commas. Parentheses stand
-/// around an infix operand of an infix operator or of `~`, and around each operand of a postfix operator but an atom.
-/// Errors: out of memory.
+/// The printed item. One space stands around infix operators and `=`, after words and after commas.
+/// Parentheses stand around an infix operand of an infix operator or of `~`, and around each
+/// operand of a postfix operator but an atom. Errors: out of memory.
 pub fn print_item(alloc: Global, item: &Item) -> Result<Vec<u8>, AllocError>
     ensures { IfOk result (λ v. v.items ≡ printed_item (clause_of item.now)) }
 {
@@ -305,7 +321,8 @@ pub fn print_item(alloc: Global, item: &Item) -> Result<Vec<u8>, AllocError>
     Ok(text)
 }
 
-/// The printed model: its items, one on each line, each with a line feed at its end. Errors: out of memory.
+/// The printed model: its items, one on each line, each with a line feed at its end. Errors: out of
+/// memory.
 pub fn print_model(alloc: Global, model: &ModelText) -> Result<Vec<u8>, AllocError>
     ensures { IfOk result (λ v. v.items ≡ printed_model (clauses_of model.now.items.items)) }
 {

@@ -14,7 +14,8 @@ use Rattle.cat_syntax.specs.ReadingItems.{head_of, part_of, Fails}
 
 -- the part with the expression that is read in it
 abbrev pub part_with : OpenExpression → code_part.Part → machine.Part
-part_with o (parts.Body h) = machine.Body (head_of h) (stack_of o.frames.items) o.operators (expectation_of o.expected)
+part_with o (parts.Body h) =
+    machine.Body (head_of h) (stack_of o.frames.items) o.operators (expectation_of o.expected)
 part_with o p = part_of p
 
 abbrev pub state_of : Parser → State

@@ -20,7 +20,8 @@ use Rattle.cat_syntax.specs.ParserState.{state_of}
 -- the items of a text, or the rule that it breaks and where
 unfoldable pub reading : Form → List ℕ → Result (List Clause) (CatRule × ℕ)
 reading form bytes =
-    if nat_lt 65536 (length bytes) then Err (TooLong, 65536) else items_of (run limits form 0 (start form) (lexed bytes))
+    if nat_lt 65536 (length bytes) then Err (TooLong, 65536)
+    else items_of (run limits form 0 (start form) (lexed bytes))
 
 -- ---- what the code answers
 

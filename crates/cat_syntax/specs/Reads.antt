@@ -18,7 +18,8 @@ pub record Reads (form : Form) (bytes : List ℕ) (v : List Clause) : Type 0 whe
 -- the length is looked at first, and then the tokens
 pub data FaultAt (form : Form) (bytes : List ℕ) (rule : CatRule) (offset : ℕ) : Type 0 where
   IsLong : 65536 < length bytes → rule ≡ TooLong → offset ≡ 65536 → FaultAt form bytes rule offset
-  InText : length bytes ≤ 65536 → IsFault limits form (lexed bytes) rule offset → FaultAt form bytes rule offset
+  InText : length bytes ≤ 65536 → IsFault limits form (lexed bytes) rule offset
+      → FaultAt form bytes rule offset
 
 -- a refusal is the text's
 abbrev pub IsFaultOf : Form → List ℕ → CatFault → Type 0

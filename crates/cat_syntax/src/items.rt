@@ -173,7 +173,8 @@ fn item_ended(
     body: Expression,
     token: Token,
 ) -> Result<Part, StepError>
-    ensures { Steps result items.new.items (item_ended limits form (clauses_of items.old.items) (head_of head) (term_of body) token) }
+    ensures { Steps result items.new.items (item_ended limits form (clauses_of items.old.items)
+        (head_of head) (term_of body) token) }
 {
     let item = finished(head, body, token.rule())?;
     items.push(item)?;
@@ -188,7 +189,8 @@ fn item_ended_by_tilde(
     body: Expression,
     word: CheckWord,
 ) -> Result<Part, StepError>
-    ensures { Steps result items.new.items (item_ended_by_tilde limits form (clauses_of items.old.items) (head_of head) (term_of body) word) }
+    ensures { Steps result items.new.items (item_ended_by_tilde limits form
+        (clauses_of items.old.items) (head_of head) (term_of body) word) }
 {
     let item = finished(head, body, CatRule::Syntax)?;
     items.push(item)?;
@@ -208,7 +210,8 @@ fn body_read(
     body: Expression,
     token: Token,
 ) -> Result<Part, StepError>
-    ensures { Steps result items.new.items (after_body limits form (clauses_of items.old.items) (head_of head) (term_of body) token) }
+    ensures { Steps result items.new.items (after_body limits form (clauses_of items.old.items)
+        (head_of head) (term_of body) token) }
 {
     match token {
         Token::And => and_read(head, body),
@@ -261,7 +264,8 @@ fn label_read(
     body: Expression,
     token: Token,
 ) -> Result<Part, StepError>
-    ensures { Steps result items.new.items (after_as (clauses_of items.old.items) head (term_of body) token) }
+    ensures { Steps result items.new.items (after_as (clauses_of items.old.items) head
+        (term_of body) token) }
 {
     match token {
         Token::Name(label) => {
@@ -299,7 +303,8 @@ fn after_show_label(
     head: ShowHead,
     token: Token,
 ) -> Result<Part, StepError>
-    ensures { Steps result items.new.items (after_show_label limits form (clauses_of items.old.items) (show_of head) token) }
+    ensures { Steps result items.new.items (after_show_label limits form
+        (clauses_of items.old.items) (show_of head) token) }
 {
     match token {
         Token::Comma => Ok(body_start(Head::Show(head))),
@@ -370,10 +375,11 @@ impl Parser {
         }
     }
 
-    /// The step over a token. Errors: out of memory, or the rule that this token or the one before it breaks; the
-    /// parser is then to be dropped.
+    /// The step over a token. Errors: out of memory, or the rule that this token or the one before
+    /// it breaks; the parser is then to be dropped.
     pub fn step(&mut self, token: Token) -> Result<(), StepError>
-        ensures steps { AreSteps result self.new (step limits self.old.form (state_of self.old) token) }
+        ensures steps { AreSteps result self.new
+            (step limits self.old.form (state_of self.old) token) }
         ensures form { self.new.form ≡ self.old.form }
     {
         if !self.part.is_body() {
@@ -388,7 +394,8 @@ impl Parser {
 
     // Goes on to the next part. An expression begins anew.
     fn go_to(&mut self, next: Part)
-        ensures state { state_of self.new ≡ record { items = clauses_of self.old.items.items; part = part_of next } }
+        ensures state { state_of self.new
+            ≡ record { items = clauses_of self.old.items.items; part = part_of next } }
         ensures form { self.new.form ≡ self.old.form }
     {
         self.part = next;
@@ -397,7 +404,8 @@ impl Parser {
 
     // A token that stands in no expression.
     fn part_step(&mut self, token: Token) -> Result<(), StepError>
-        ensures steps { is_body self.old.part ≡ false → AreSteps result self.new (step limits self.old.form (state_of self.old) token) }
+        ensures steps { is_body self.old.part ≡ false
+            → AreSteps result self.new (step limits self.old.form (state_of self.old) token) }
         ensures form { self.new.form ≡ self.old.form }
     {
         let part = mem::replace(&mut self.part, Part::Done);
@@ -408,8 +416,10 @@ impl Parser {
 
     // A token after an item's expression.
     fn body_ended(&mut self, token: Token) -> Result<(), StepError>
-        ensures steps { (h : Head) → IsBody h self.old.part → AreSteps result self.new
-            (after_body limits self.old.form (clauses_of self.old.items.items) (head_of h) (whole_of self.old.expression.expected) token) }
+        ensures steps { (h : Head) → IsBody h self.old.part
+            → AreSteps result self.new (after_body limits self.old.form
+            (clauses_of self.old.items.items) (head_of h)
+            (whole_of self.old.expression.expected) token) }
         ensures form { self.new.form ≡ self.old.form }
     {
         let part = mem::replace(&mut self.part, Part::Done);
@@ -426,8 +436,10 @@ impl Parser {
 
     // The `~` of the next item and its check word, after an item's expression.
     fn body_ended_by_tilde(&mut self, word: CheckWord) -> Result<(), StepError>
-        ensures steps { (h : Head) → IsBody h self.old.part → AreSteps result self.new
-            (item_ended_by_tilde limits self.old.form (clauses_of self.old.items.items) (head_of h) (whole_of self.old.expression.expected) word) }
+        ensures steps { (h : Head) → IsBody h self.old.part
+            → AreSteps result self.new (item_ended_by_tilde limits self.old.form
+            (clauses_of self.old.items.items) (head_of h)
+            (whole_of self.old.expression.expected) word) }
         ensures form { self.new.form ≡ self.old.form }
     {
         let part = mem::replace(&mut self.part, Part::Done);

@@ -146,7 +146,8 @@ fn after_name(alloc: Global, name: Name, token: Token) -> Result<Part, StepError
     }
 }
 
-// A token after a name that is no function's. A parenthesis would make it one, which is not supported here.
+// A token after a name that is no function's. A parenthesis would make it one, which is not
+// supported here.
 fn after_bound(group: Group, name: Name, token: Token) -> Result<Part, StepError>
     ensures { Gives part_of result (after_bound (group_of group) name token) }
 {
@@ -166,7 +167,8 @@ fn after_parameters(name: Name, parameters: Vec<Name>, token: Token) -> Result<P
     }
 }
 
-/// The step over a token in the head of a `let`. Errors: out of memory, or the rule that the token breaks.
+/// The step over a token in the head of a `let`. Errors: out of memory, or the rule that the token
+/// breaks.
 pub fn after_let(alloc: Global, part: LetPart, token: Token) -> Result<Part, StepError>
     ensures { Gives part_of result (after_let limits (let_of part) token) }
 {

@@ -1,5 +1,5 @@
-//! Models in the cat language: their reader and their printer. Read cat_grammar/specs/Grammar.antt first (the texts and
-//! their meanings), then specs/Reads.antt (what the reader answers).
+//! Models in the cat language: their reader and their printer. Read cat_grammar/specs/Grammar.antt
+//! first (the texts and their meanings), then specs/Reads.antt (what the reader answers).
 #![tactic(auto)]
 
 mod fault;

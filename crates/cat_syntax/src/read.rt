@@ -22,7 +22,8 @@ use text_values::{Item, MAX_BYTES, ModelText};
 
 // A token at an offset; the token before it began at `before`.
 fn step_at(parser: &mut Parser, token: Token, before: usize, offset: usize) -> Result<(), CatFault>
-    ensures steps { StepsAt result parser.new (with_offset before offset (step limits parser.old.form (state_of parser.old) token)) }
+    ensures steps { StepsAt result parser.new (with_offset before offset
+        (step limits parser.old.form (state_of parser.old) token)) }
     ensures form { parser.new.form ≡ parser.old.form }
     ensures within { IfErr result (λ e. (n : ℕ) → before ≤ n → offset ≤ n → IsWithin n e) }
 {
@@ -39,7 +40,8 @@ fn step_at(parser: &mut Parser, token: Token, before: usize, offset: usize) -> R
 
 // Gives the parser the tokens of a text and its end.
 fn read_tokens(alloc: Global, bytes: &[u8], parser: &mut Parser) -> Result<(), CatFault>
-    ensures steps { StepsAt result parser.new (run limits parser.old.form 0 (state_of parser.old) (lexed bytes.now)) }
+    ensures steps { StepsAt result parser.new (run limits parser.old.form 0 (state_of parser.old)
+        (lexed bytes.now)) }
     ensures within { IfErr result (λ e. IsWithin (length bytes.now) e) }
 {
     let mut before = 0;
@@ -83,7 +85,8 @@ fn read_all(alloc: Global, bytes: &[u8], form: Form) -> Result<Vec<Item>, CatFau
 // The items of a text, as the grammar has them.
 fn read_text(alloc: Global, bytes: &[u8], form: Form) -> Result<Vec<Item>, CatFault>
     ensures found { IfOk result (λ v. Reads form bytes.now (clauses_of v.items)) }
-    ensures only { (v : List Clause) → Reads form bytes.now v → MatchResult result (λ w. clauses_of w.items ≡ v) IsMemory }
+    ensures only { (v : List Clause) → Reads form bytes.now v
+        → MatchResult result (λ w. clauses_of w.items ≡ v) IsMemory }
     ensures fault { IfErr result (IsFaultOf form bytes.now) }
     ensures within { IfErr result (λ e. IsWithin (length bytes.now) e) }
     ensures too_long { 65536 < length bytes.now → MatchResult result (λ _. ⊥) IsTooLong }
@@ -91,17 +94,20 @@ fn read_text(alloc: Global, bytes: &[u8], form: Form) -> Result<Vec<Item>, CatFa
     read_all(alloc, bytes, form)
 }
 
-/// The model of a text: an optional title, and items. A rejected text is blamed at the first token that no valid
-/// text could have there, which is the end of the text if it ends too early. Two cases differ by one token: a name or
-/// parameter too many is blamed itself, and not the `and` or comma before it; and where the item too many begins with
-/// `~` behind a `*`, that `~` is blamed, and not the word behind it that shows this. Errors: the broken rule with its
-/// byte offset, or out of memory.
+/// The model of a text: an optional title, and items. A rejected text is blamed at the first token
+/// that no valid text could have there, which is the end of the text if it ends too early. Two
+/// cases differ by one token: a name or parameter too many is blamed itself, and not the `and` or
+/// comma before it; and where the item too many begins with `~` behind a `*`, that `~` is blamed,
+/// and not the word behind it that shows this. Errors: the broken rule with its byte offset, or out
+/// of memory.
 pub fn read_model(alloc: Global, bytes: &[u8]) -> Result<ModelText, CatFault>
     // What is read is what the text means.
     ensures found { IfOk result (λ m. Reads Form.Model bytes.now (clauses_of m.items.items)) }
     // What means some items is read so, unless memory runs out.
-    ensures only { (v : List Clause) → Reads Form.Model bytes.now v → MatchResult result (λ m. clauses_of m.items.items ≡ v) IsMemory }
-    // A refusal has the offset of the first token that cannot stand, and the rule that is broken there.
+    ensures only { (v : List Clause) → Reads Form.Model bytes.now v
+        → MatchResult result (λ m. clauses_of m.items.items ≡ v) IsMemory }
+    // A refusal has the offset of the first token that cannot stand, and the rule that is broken
+    // there.
     ensures fault { IfErr result (IsFaultOf Form.Model bytes.now) }
     // It stands within the text, or at its end.
     ensures within { IfErr result (λ e. IsWithin (length bytes.now) e) }
@@ -114,14 +120,17 @@ pub fn read_model(alloc: Global, bytes: &[u8]) -> Result<ModelText, CatFault>
     }
 }
 
-/// The item of a text that is one item, without a title. A rejected text is blamed as a model's is; a second item is
-/// refused at the token that shows it. Errors: the broken rule with its byte offset, or out of memory.
+/// The item of a text that is one item, without a title. A rejected text is blamed as a model's is;
+/// a second item is refused at the token that shows it. Errors: the broken rule with its byte
+/// offset, or out of memory.
 pub fn read_item(alloc: Global, bytes: &[u8]) -> Result<Item, CatFault>
     // What is read is the item that the text means.
     ensures found { IfOk result (λ item. Reads Form.Item bytes.now (clause_of item ∷ [])) }
     // What means an item is read so, unless memory runs out.
-    ensures only { (v : Clause) → Reads Form.Item bytes.now (v ∷ []) → MatchResult result (λ item. clause_of item ≡ v) IsMemory }
-    // A refusal has the offset of the first token that cannot stand, and the rule that is broken there.
+    ensures only { (v : Clause) → Reads Form.Item bytes.now (v ∷ [])
+        → MatchResult result (λ item. clause_of item ≡ v) IsMemory }
+    // A refusal has the offset of the first token that cannot stand, and the rule that is broken
+    // there.
     ensures fault { IfErr result (IsFaultOf Form.Item bytes.now) }
     // It stands within the text, or at its end.
     ensures within { IfErr result (λ e. IsWithin (length bytes.now) e) }

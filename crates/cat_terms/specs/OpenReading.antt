@@ -29,11 +29,15 @@ whole_of (expectations.Named n) = AllEvents
 whole_of (expectations.HasStar v) = AllEvents
 whole_of (expectations.HasStarTilde v) = AllEvents
 
--- what a token did to an expression, read before this token, is what the machine does, unless memory ran out
-abbrev pub StepsTo : Token → Result code_step.ExpressionStep StepError → OpenExpression → machine.StepResult → Type 0
-StepsTo t (Ok code_steps.Goes) o made = made ≡ machine.Goes (stack_of o.frames.items) o.operators (expectation_of o.expected)
+-- what a token did to an expression, read before this token, is what the machine does, unless
+-- memory ran out
+abbrev pub StepsTo : Token → Result code_step.ExpressionStep StepError → OpenExpression
+    → machine.StepResult → Type 0
+StepsTo t (Ok code_steps.Goes) o made =
+    made ≡ machine.Goes (stack_of o.frames.items) o.operators (expectation_of o.expected)
 StepsTo t (Ok code_steps.Ends) o made = made ≡ machine.Ends (whole_of o.expected)
-StepsTo t (Ok (code_steps.EndsTilde w)) o made = (made ≡ machine.EndsTilde (whole_of o.expected)) × (t ≡ tokens.Check w)
+StepsTo t (Ok (code_steps.EndsTilde w)) o made =
+    (made ≡ machine.EndsTilde (whole_of o.expected)) × (t ≡ tokens.Check w)
 StepsTo t (Err errors.OutOfMemory) o made = Unit {0}
 StepsTo t (Err (errors.Refused k)) o made = made ≡ machine.Refuses k
 StepsTo t (Err (errors.RefusedBefore k)) o made = ⊥

@@ -180,7 +180,8 @@ fn takes(frames: &[Frame], least: usize) -> bool
     }
 }
 
-/// Joins the operand with the open operators to its left that bind at least this tightly. Errors: out of memory.
+/// Joins the operand with the open operators to its left that bind at least this tightly. Errors:
+/// out of memory.
 pub fn join(
     alloc: Global,
     least: usize,
@@ -233,7 +234,8 @@ pub fn open_infix(
     op: Infix,
     left: Expression,
 ) -> Result<(), AllocError>
-    ensures { IfOk result (λ _. stack_of frames.new.items ≡ infix_at op (stack_of frames.old.items) (term_of left)) }
+    ensures { IfOk result (λ _. stack_of frames.new.items
+        ≡ infix_at op (stack_of frames.old.items) (term_of left)) }
 {
     let mut left = left;
     join(alloc, left_level(op), frames, &mut left)?;

@@ -9,7 +9,8 @@ use std::alloc::Global;
 use std::mem;
 use text_values::{Expression, Infix, Name, Postfix};
 
-/// An expression that is read in part: what is open, how many operators it has so far, and what is expected.
+/// An expression that is read in part: what is open, how many operators it has so far, and what is
+/// expected.
 #[derive(Drop)]
 pub struct OpenExpression {
     // The innermost last.
@@ -59,12 +60,13 @@ impl OpenExpression {
         }
     }
 
-    /// The step over a token of an expression. A `*` is decided by the token behind it; where that is `~`, outside all
-    /// brackets, by the token behind the `~`. Errors: out of memory, or the rule that this token breaks; the
-    /// expression is then to be dropped.
+    /// The step over a token of an expression. A `*` is decided by the token behind it; where that
+    /// is `~`, outside all brackets, by the token behind the `~`. Errors: out of memory, or the
+    /// rule that this token breaks; the expression is then to be dropped.
     pub fn step(&mut self, alloc: Global, token: &Token) -> Result<ExpressionStep, StepError>
-        ensures { StepsTo token.now result self.new
-            (expression_step limits (stack_of self.old.frames.items) self.old.operators (expectation_of self.old.expected) token.now) }
+        ensures { StepsTo token.now result self.new (expression_step limits
+            (stack_of self.old.frames.items) self.old.operators
+            (expectation_of self.old.expected) token.now) }
     {
         match self.expected {
             Expectation::Wants => self.operand(alloc, token),
@@ -74,8 +76,9 @@ impl OpenExpression {
 
     // A token that may be what is expected.
     fn expected_read(&mut self, alloc: Global, token: &Token) -> Result<ExpressionStep, StepError>
-        ensures { StepsTo token.now result self.new
-            (expression_step limits (stack_of self.old.frames.items) self.old.operators (expectation_of self.old.expected) token.now) }
+        ensures { StepsTo token.now result self.new (expression_step limits
+            (stack_of self.old.frames.items) self.old.operators
+            (expectation_of self.old.expected) token.now) }
     {
         match mem::replace(&mut self.expected, Expectation::Wants) {
             Expectation::Wants => self.operand(alloc, token),
@@ -117,7 +120,8 @@ impl OpenExpression {
 
     // A token where an operand is wanted.
     fn operand(&mut self, alloc: Global, token: &Token) -> Result<ExpressionStep, StepError>
-        ensures { StepsTo token.now result self.new (operand limits (stack_of self.old.frames.items) self.old.operators token.now) }
+        ensures { StepsTo token.now result self.new (operand limits (stack_of self.old.frames.items)
+            self.old.operators token.now) }
     {
         match token {
             Token::Name(name) => {
@@ -148,7 +152,8 @@ impl OpenExpression {
 
     // A token after `{`.
     fn after_brace(&mut self, token: &Token) -> Result<ExpressionStep, StepError>
-        ensures { StepsTo token.now result self.new (after_brace (stack_of self.old.frames.items) self.old.operators token.now) }
+        ensures { StepsTo token.now result self.new (after_brace (stack_of self.old.frames.items)
+            self.old.operators token.now) }
     {
         match token {
             Token::CloseBrace => self.goes(Expectation::Has(Expression::NoEvents)),
@@ -158,8 +163,8 @@ impl OpenExpression {
 
     // A `)` after an operand.
     fn closed(&mut self, alloc: Global, operand: Expression) -> Result<ExpressionStep, StepError>
-        ensures { StepsTo Close result self.new
-            (closed self.old.operators (fold_to 0 (stack_of self.old.frames.items) (term_of operand))) }
+        ensures { StepsTo Close result self.new (closed self.old.operators
+            (fold_to 0 (stack_of self.old.frames.items) (term_of operand))) }
     {
         let mut operand = operand;
         join(alloc, 0, &mut self.frames, &mut operand)?;
@@ -183,8 +188,8 @@ impl OpenExpression {
         alloc: Global,
         operand: Expression,
     ) -> Result<ExpressionStep, StepError>
-        ensures { StepsTo CloseSquare result self.new
-            (square_closed self.old.operators (fold_to 0 (stack_of self.old.frames.items) (term_of operand))) }
+        ensures { StepsTo CloseSquare result self.new (square_closed self.old.operators
+            (fold_to 0 (stack_of self.old.frames.items) (term_of operand))) }
     {
         let mut operand = operand;
         join(alloc, 0, &mut self.frames, &mut operand)?;
@@ -204,8 +209,8 @@ impl OpenExpression {
         alloc: Global,
         operand: Expression,
     ) -> Result<ExpressionStep, StepError>
-        ensures { StepsTo Comma result self.new
-            (comma_read self.old.operators (fold_to 0 (stack_of self.old.frames.items) (term_of operand))) }
+        ensures { StepsTo Comma result self.new (comma_read self.old.operators
+            (fold_to 0 (stack_of self.old.frames.items) (term_of operand))) }
     {
         let mut operand = operand;
         join(alloc, 0, &mut self.frames, &mut operand)?;
@@ -231,7 +236,8 @@ impl OpenExpression {
         operand: Expression,
         token: &Token,
     ) -> Result<ExpressionStep, StepError>
-        ensures { StepsTo token.now result self.new (ended token.now (fold_to 0 (stack_of self.old.frames.items) (term_of operand))) }
+        ensures { StepsTo token.now result self.new (ended token.now (fold_to 0
+            (stack_of self.old.frames.items) (term_of operand))) }
     {
         let mut operand = operand;
         join(alloc, 0, &mut self.frames, &mut operand)?;
@@ -248,8 +254,9 @@ impl OpenExpression {
         operand: Expression,
         sign: Sign,
     ) -> Result<ExpressionStep, StepError>
-        ensures { StepsTo (tokens.Sign sign) result self.new
-            (after limits (stack_of self.old.frames.items) self.old.operators (term_of operand) (tokens.Sign sign)) }
+        ensures { StepsTo (tokens.Sign sign) result self.new (after limits
+            (stack_of self.old.frames.items) self.old.operators (term_of operand)
+            (tokens.Sign sign)) }
     {
         if self.operators >= MAX_OPERATORS {
             return Err(StepError::Refused(CatRule::TooDeep));
@@ -266,8 +273,9 @@ impl OpenExpression {
         operand: Expression,
         mark: Mark,
     ) -> Result<ExpressionStep, StepError>
-        ensures { StepsTo (tokens.Mark mark) result self.new
-            (after limits (stack_of self.old.frames.items) self.old.operators (term_of operand) (tokens.Mark mark)) }
+        ensures { StepsTo (tokens.Mark mark) result self.new (after limits
+            (stack_of self.old.frames.items) self.old.operators (term_of operand)
+            (tokens.Mark mark)) }
     {
         if self.operators >= MAX_OPERATORS {
             return Err(StepError::Refused(CatRule::TooDeep));
@@ -279,8 +287,8 @@ impl OpenExpression {
 
     // A star after an operand.
     fn star_read(&mut self, operand: Expression) -> Result<ExpressionStep, StepError>
-        ensures { StepsTo tokens.Star result self.new
-            (after limits (stack_of self.old.frames.items) self.old.operators (term_of operand) tokens.Star) }
+        ensures { StepsTo tokens.Star result self.new (after limits (stack_of self.old.frames.items)
+            self.old.operators (term_of operand) tokens.Star) }
     {
         if self.operators >= MAX_OPERATORS {
             return Err(StepError::Refused(CatRule::TooDeep));
@@ -296,8 +304,8 @@ impl OpenExpression {
         operand: Expression,
         token: &Token,
     ) -> Result<ExpressionStep, StepError>
-        ensures { StepsTo token.now result self.new
-            (after limits (stack_of self.old.frames.items) self.old.operators (term_of operand) token.now) }
+        ensures { StepsTo token.now result self.new (after limits (stack_of self.old.frames.items)
+            self.old.operators (term_of operand) token.now) }
     {
         match token {
             Token::Sign(sign) => self.sign_read(alloc, operand, *sign),
@@ -312,8 +320,9 @@ impl OpenExpression {
 
     // The `(` after a function.
     fn applied(&mut self, alloc: Global, name: Name) -> Result<ExpressionStep, StepError>
-        ensures { (t : Token) → StepsTo t result self.new
-            (opened limits (stack_of self.old.frames.items) self.old.operators (InArguments name [])) }
+        ensures { (t : Token)
+            → StepsTo t result self.new (opened limits (stack_of self.old.frames.items)
+            self.old.operators (InArguments name [])) }
     {
         self.opened(Frame::Applied(name, Vec::new(alloc)))
     }
@@ -341,8 +350,8 @@ impl OpenExpression {
         left: Expression,
         token: &Token,
     ) -> Result<ExpressionStep, StepError>
-        ensures { StepsTo token.now result self.new
-            (after_star limits (stack_of self.old.frames.items) self.old.operators (term_of left) token.now) }
+        ensures { StepsTo token.now result self.new (after_star limits
+            (stack_of self.old.frames.items) self.old.operators (term_of left) token.now) }
     {
         match token {
             Token::Tilde => {
@@ -370,8 +379,8 @@ impl OpenExpression {
         left: Expression,
         token: &Token,
     ) -> Result<ExpressionStep, StepError>
-        ensures { StepsTo token.now result self.new
-            (after_star_tilde limits (stack_of self.old.frames.items) self.old.operators (term_of left) token.now) }
+        ensures { StepsTo token.now result self.new (after_star_tilde limits
+            (stack_of self.old.frames.items) self.old.operators (term_of left) token.now) }
     {
         match token {
             Token::Check(word) => {

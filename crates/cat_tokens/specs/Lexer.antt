@@ -60,16 +60,23 @@ sign_token b =
 -- a mark of two or three bytes, or one of one byte
 abbrev pub sign_front : List ℕ → Front
 sign_front bs =
-    if slice_index bs 0 == 43 && slice_index bs 1 == 43 then Lexeme (tokens.Broken rules.Unsupported) 2 else (
-    if slice_index bs 0 == 94 && slice_index bs 1 == 45 && slice_index bs 2 == 49 then Lexeme (tokens.Mark Inverse) 3 else Lexeme (sign_token (slice_index bs 0)) 1)
+    if slice_index bs 0 == 43 && slice_index bs 1 == 43 then Lexeme
+    (tokens.Broken rules.Unsupported) 2
+    else (
+    if slice_index bs 0 == 94 && slice_index bs 1 == 45 && slice_index bs 2 == 49 then Lexeme
+    (tokens.Mark Inverse) 3
+    else Lexeme (sign_token (slice_index bs 0)) 1)
 
 -- what a text begins with, and how many bytes it takes
 unfoldable pub front : List ℕ → Front
 front bs =
     if is_layout (slice_index bs 0) then Layout 1 else (
     if is_letter (slice_index bs 0) then word_front bs (position_or_len ends_name bs) else (
-    if slice_index bs 0 == 47 && slice_index bs 1 == 47 then Layout (position_or_len is_line_end bs) else (
-    if slice_index bs 0 == 40 && slice_index bs 1 == 42 then comment_front (length bs) (comment_of bs) else (
+    if slice_index bs 0 == 47 && slice_index bs 1 == 47 then Layout (position_or_len is_line_end bs)
+    else (
+    if slice_index bs 0 == 40 && slice_index bs 1 == 42 then comment_front (length bs)
+    (comment_of bs)
+    else (
     if slice_index bs 0 == 34 then quoted_front bs (quoted_from bs) else sign_front bs))))
 
 -- ---- all tokens of a text
@@ -82,7 +89,8 @@ after_front offset (Lexeme t n) later = record { token = t; offset = offset } �
 unfoldable pub tokens_from : ℕ → ℕ → List ℕ → List TokenAt
 tokens_from skip offset [] = record { token = tokens.End; offset = offset } ∷ []
 tokens_from (suc skip) offset (b ∷ bs) = tokens_from skip (offset + 1) bs
-tokens_from zero offset (b ∷ bs) = after_front offset (front (b ∷ bs)) (λ skip. tokens_from skip (offset + 1) bs)
+tokens_from zero offset (b ∷ bs) =
+    after_front offset (front (b ∷ bs)) (λ skip. tokens_from skip (offset + 1) bs)
 
 abbrev pub lexed : List ℕ → List TokenAt
 lexed bytes = tokens_from 0 0 bytes

@@ -62,4 +62,6 @@ word_or None other = other
 
 -- the token of a word: one of the grammar, one that is not supported, or a name
 abbrev pub word_token : List ℕ → Token
-word_token n = word_or (item_word n) (word_or (part_word n) (name_or_broken (is_definition_word n || is_other_word n) n))
+word_token n =
+    word_or (item_word n) (word_or (part_word n)
+    (name_or_broken (is_definition_word n || is_other_word n) n))

@@ -1,5 +1,5 @@
-//! The tokens of models in the cat language. Read specs/Lexer.antt first: `lexed` is the list of the tokens of a text
-//! with their offsets.
+//! The tokens of models in the cat language. Read specs/Lexer.antt first: `lexed` is the list of
+//! the tokens of a text with their offsets.
 #![tactic(auto)]
 
 mod lexer;

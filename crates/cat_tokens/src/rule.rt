@@ -8,8 +8,8 @@ ghost use Rattle.cat_tokens.specs.Tokens.{number_of};
 pub enum CatRule {
     /// C1: a byte that begins no token.
     Token,
-    /// C2: a misplaced token, unless another rule names it; a comment or a string that does not end;
-    /// a text that ends too early.
+    /// C2: a misplaced token, unless another rule names it; a comment or a string that does not
+    /// end; a text that ends too early.
     Syntax,
     /// C3: an `include` of another file than `cos.cat` and `stdlib.cat`.
     Include,

@@ -17,7 +17,8 @@ fn has_bytes(text: &[u8], word: &[u8]) -> bool
     text == word
 }
 
-// Whether a text is this word. Lengths and first bytes are compared where it is called, as most words differ there.
+// Whether a text is this word. Lengths and first bytes are compared where it is called, as most
+// words differ there.
 #[inline(always)]
 fn is_word(text: &[u8], word: &[u8]) -> bool
     ensures { result ≡ bytes_eq text.now word.now }

@@ -1,5 +1,5 @@
--- Read after Cells: what an event of a list and its reply make of a bench (`IsAnswered`), and a list of events with its
--- replies (`Answers`).
+-- Read after Cells: what an event of a list and its reply make of a bench (`IsAnswered`), and a
+-- list of events with its replies (`Answers`).
 use Rattle.std.specs.Prelude.{◌≡◌, ℕ, ◌+◌, ◌<◌, ◌≤◌, ⊤, Bool, false, ◌||◌, ◌==◌, leb, List, [], ◌∷◌, ◌++◌, Option, Some, None, Result, Ok, Err, if◌then◌else◌}
 use Rattle.value_store.specs.declared.fault.StoreFault.{StoreFault}
 use Rattle.memo_core.specs.declared.claims.ClaimFault.{ClaimFault}
@@ -61,47 +61,69 @@ accepted_among (r ∷ rs) = accepted_in r + accepted_among rs
 abbrev pub Refusing : Type 0 → Type 0 → Type 0 → Type 1
 Refusing T E F = T → E → Bool → F → Type 0
 
-module _ {T E V G F : Type 0} (means : Meaning T E V G) (refuses : Refusing T E F) (last : T → ℕ) where
-  -- an edit takes the next number, where the numbers are not spent, or is refused: then the last edit of the texts is the one that it was
-  abbrev pub IsEdited : Bench T V → E → Result ℕ F → Bench T V → Type 0
-  IsEdited old e (Ok number) new = (old.taken < LAST) × (number ≡ old.taken + 1) × Step means old (core.Edit e) new
-  IsEdited old e (Err fault) new = refuses old.texts e (leb LAST old.taken) fault × Step means old core.Refused new × (last new.texts ≡ last old.texts)
+module _ {T E V G F : Type 0} (means : Meaning T E V G) (refuses : Refusing T E F) (last : T → ℕ)
+  where
+    -- an edit takes the next number, where the numbers are not spent, or is refused: then the last
+    -- edit of the texts is the one that it was
+    abbrev pub IsEdited : Bench T V → E → Result ℕ F → Bench T V → Type 0
+    IsEdited old e (Ok number) new =
+        (old.taken < LAST) × (number ≡ old.taken + 1) × Step means old (core.Edit e) new
+    IsEdited old e (Err fault) new =
+        refuses old.texts e (leb LAST old.taken) fault × Step means old core.Refused new
+        × (last new.texts ≡ last old.texts)
 
-  -- the numbers are spent where so many are taken, and only there
-  abbrev pub IsClaimFault : ℕ → ClaimFault → Type 0
-  IsClaimFault taken fault = (fault ≡ Spent → LAST ≤ taken) × (LAST ≤ taken → fault ≡ Spent)
+    -- the numbers are spent where so many are taken, and only there
+    abbrev pub IsClaimFault : ℕ → ClaimFault → Type 0
+    IsClaimFault taken fault = (fault ≡ Spent → LAST ≤ taken) × (LAST ≤ taken → fault ≡ Spent)
 
-  -- where the numbers are not spent, a job is given out or there is no work, or the claim is refused; with the jobs that the list
-  -- has been given, before and after
-  abbrev pub IsClaimed : Bench T V → List (Task V G) → Result (Option ℕ) ClaimFault → Bench T V → List (Task V G) → Type 0
-  IsClaimed old given (Ok (Some number)) new after =
-      (old.taken < LAST) × (t : Task V G) × (number ≡ t.claim) × Step means old (core.Claim t.claim t.node t.given t.keys t.values) new × (after ≡ given ++ t ∷ [])
-  IsClaimed old given (Ok None) new after = (old.taken < LAST) × Step means old core.NoClaim new × (after ≡ given)
-  IsClaimed old given (Err fault) new after = IsClaimFault old.taken fault × Step means old core.Refused new × (new.texts ≡ old.texts) × (after ≡ given)
+    -- where the numbers are not spent, a job is given out or there is no work, or the claim is
+    -- refused; with the jobs that the list has been given, before and after
+    abbrev pub IsClaimed : Bench T V → List (Task V G) → Result (Option ℕ) ClaimFault → Bench T V
+        → List (Task V G) → Type 0
+    IsClaimed old given (Ok (Some number)) new after =
+        (old.taken < LAST) × (t : Task V G) × (number ≡ t.claim)
+        × Step means old (core.Claim t.claim t.node t.given t.keys t.values) new
+        × (after ≡ given ++ t ∷ [])
+    IsClaimed old given (Ok None) new after =
+        (old.taken < LAST) × Step means old core.NoClaim new × (after ≡ given)
+    IsClaimed old given (Err fault) new after =
+        IsClaimFault old.taken fault × Step means old core.Refused new × (new.texts ≡ old.texts)
+        × (after ≡ given)
 
-  -- the job of the claim is run and its return offered, or memory is refused; without such a job, nothing is done
-  abbrev pub IsReturned : Bench T V → Option (Task V G) → Result Finish StoreFault → Bench T V → Type 0
-  IsReturned old None (Ok Unknown) new = new ≡ old
-  IsReturned old None _ new = ⊥
-  IsReturned old (Some t) (Ok answer) new = (r : Returning V G) × (task_answered r ≡ t) × Step means old (core.Returned r answer) new
-  IsReturned old (Some t) (Err fault) new = new ≡ old
+    -- the job of the claim is run and its return offered, or memory is refused; without such a job,
+    -- nothing is done
+    abbrev pub IsReturned : Bench T V → Option (Task V G) → Result Finish StoreFault → Bench T V
+        → Type 0
+    IsReturned old None (Ok Unknown) new = new ≡ old
+    IsReturned old None _ new = ⊥
+    IsReturned old (Some t) (Ok answer) new =
+        (r : Returning V G) × (task_answered r ≡ t) × Step means old (core.Returned r answer) new
+    IsReturned old (Some t) (Err fault) new = new ≡ old
 
-  -- an event with its reply
-  abbrev pub IsAnswered : Bench T V → List (Task V G) → Event E → Reply F → Bench T V → List (Task V G) → Type 0
-  IsAnswered old given (Edit e) (Edited answer) new after = IsEdited old e answer new × (after ≡ given)
-  IsAnswered old given Claim (Claimed answer) new after = IsClaimed old given answer new after
-  IsAnswered old given (Return claim) (Returned answer) new after = IsReturned old (task_given claim given) answer new × (after ≡ given)
-  IsAnswered old given (Lose claim) (Lost answer) new after = Step means old (core.Lose claim answer) new × (after ≡ given)
-  IsAnswered old given Renew Renewed new after = Step means old core.Renew new × (after ≡ given)
-  IsAnswered old given _ _ new after = ⊥
+    -- an event with its reply
+    abbrev pub IsAnswered : Bench T V → List (Task V G) → Event E → Reply F → Bench T V
+        → List (Task V G) → Type 0
+    IsAnswered old given (Edit e) (Edited answer) new after =
+        IsEdited old e answer new × (after ≡ given)
+    IsAnswered old given Claim (Claimed answer) new after = IsClaimed old given answer new after
+    IsAnswered old given (Return claim) (Returned answer) new after =
+        IsReturned old (task_given claim given) answer new × (after ≡ given)
+    IsAnswered old given (Lose claim) (Lost answer) new after =
+        Step means old (core.Lose claim answer) new × (after ≡ given)
+    IsAnswered old given Renew Renewed new after = Step means old core.Renew new × (after ≡ given)
+    IsAnswered old given _ _ new after = ⊥
 
-  -- events with their replies, one after another
-  abbrev pub AreAnswered : Bench T V → List (Task V G) → List (Event E) → List (Reply F) → Bench T V → List (Task V G) → Type 0
-  AreAnswered old given [] [] new after = (new ≡ old) × (after ≡ given)
-  AreAnswered old given (e ∷ es) (r ∷ rs) new after =
-      (mid : Bench T V) × (later : List (Task V G)) × IsAnswered old given e r mid later × AreAnswered mid later es rs new after
-  AreAnswered old given _ _ new after = ⊥
+    -- events with their replies, one after another
+    abbrev pub AreAnswered : Bench T V → List (Task V G) → List (Event E) → List (Reply F)
+        → Bench T V
+        → List (Task V G) → Type 0
+    AreAnswered old given [] [] new after = (new ≡ old) × (after ≡ given)
+    AreAnswered old given (e ∷ es) (r ∷ rs) new after =
+        (mid : Bench T V) × (later : List (Task V G)) × IsAnswered old given e r mid later
+        × AreAnswered mid later es rs new after
+    AreAnswered old given _ _ new after = ⊥
 
-  -- a list of events, which begins without jobs
-  abbrev pub Answers : Bench T V → List (Event E) → List (Reply F) → Bench T V → Type 0
-  Answers old events replies new = (after : List (Task V G)) × AreAnswered old [] events replies new after
+    -- a list of events, which begins without jobs
+    abbrev pub Answers : Bench T V → List (Event E) → List (Reply F) → Bench T V → Type 0
+    Answers old events replies new =
+        (after : List (Task V G)) × AreAnswered old [] events replies new after

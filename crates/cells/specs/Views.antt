@@ -1,4 +1,5 @@
--- How jobs and returns are read as plain data, and what holds of a bench and of a return at all times.
+-- How jobs and returns are read as plain data, and what holds of a bench and of a return at all
+-- times.
 use Rattle.std.specs.Prelude.{◌≡◌, ◌≤◌, ℕ, List, [], Vec, length, vec_len, vec_capacity}
 use Rattle.std.specs.Global.{Global}
 use Rattle.value_store.specs.Tokens.{Shown}
@@ -13,7 +14,8 @@ use Rattle.memo_core.specs.Step.{Return, open_claims, AreNumbered}
 use Rattle.memo_core.specs.Run.{Bench, Meaning, IsFreshFrom}
 use Rattle.memo_core.specs.Marks.{IsMarkedTo}
 
--- a job: the number of its claim, its node, what it is given of the texts, its inputs and their values
+-- a job: the number of its claim, its node, what it is given of the texts, its inputs and their
+-- values
 pub record Task (V G : Type 0) : Type 0 where
   pub claim : ℕ
   pub node : Node
@@ -22,24 +24,31 @@ pub record Task (V G : Type 0) : Type 0 where
   pub values : List V
 
 abbrev pub task_of : {V G : Type 0} → ℕ → Node → G → List Key → List V → Task V G
-task_of claim node given keys values = record { claim = claim; node = node; given = given; keys = keys; values = values }
+task_of claim node given keys values =
+    record { claim = claim; node = node; given = given; keys = keys; values = values }
 
 -- the job that a return answers, with what it was given and its values
 abbrev pub task_answered : {V G : Type 0} → Return V G → Task V G
 task_answered r = task_of r.claim r.node r.given r.keys r.values
 
 -- a return's outputs are what running its node makes, with room for their names
-pub record IsAnswer {V G : Type 0} (makes : Making V G) (n : Node) (given : G) (keys : List Key) (values : List V) (outputs : List (Made (Shown V))) (names : Vec ℕ Global) : Type 0 where
+pub record IsAnswer {V G : Type 0} (makes : Making V G) (n : Node) (given : G) (keys : List Key)
+    (values : List V) (outputs : List (Made (Shown V))) (names : Vec ℕ Global) : Type 0 where
   pub computed : makes n given keys values (named_values (shown_outputs outputs))
   pub empty : vec_len names ≡ 0
   pub room : length outputs ≤ vec_capacity names
 
 -- a bench as plain data: its texts, its memos, what is out, and how many numbers are taken
 abbrev pub plain_bench : {T V : Type 0} → T → List (Slot V) → List (ℕ × Claim) → ℕ → Bench T V
-plain_bench texts memos claims taken = record { texts = texts; memos = as_memos memos; claims = open_claims claims; taken = taken }
+plain_bench texts memos claims taken =
+    record { texts = texts; memos = as_memos memos; claims = open_claims claims; taken = taken }
 
 -- its memos are right, its claims apart, its marks true
-pub record IsSoundBench {T E V G : Type 0} (means : Meaning T E V G) (texts : T) (memos : List (Slot V)) (claims : List (ℕ × Claim)) (taken : ℕ) : Type 0 where
-  pub right : means.is_valid texts × IsRight (IsCounted means.since means.net means.makes texts) (means.net texts) (as_memos memos) taken
-  pub fresh : IsFreshFrom (as_memos memos) (open_claims claims) × AreNumbered taken (open_claims claims)
+pub record IsSoundBench {T E V G : Type 0} (means : Meaning T E V G) (texts : T)
+    (memos : List (Slot V)) (claims : List (ℕ × Claim)) (taken : ℕ) : Type 0 where
+  pub right : means.is_valid texts
+      × IsRight (IsCounted means.since means.net means.makes texts) (means.net texts)
+      (as_memos memos) taken
+  pub fresh : IsFreshFrom (as_memos memos) (open_claims claims)
+      × AreNumbered taken (open_claims claims)
   pub marks : IsMarkedTo (means.net texts) memos []

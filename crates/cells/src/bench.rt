@@ -36,13 +36,17 @@ impl<K: StoreName, T: CellTexts> Model for Bench<K, T> {
 
     ghost Value = { Plain T T.Value };
 
-    ghost view = { λ b. plain_bench b.graph.texts b.graph.memos.entries b.graph.claims.entries b.graph.taken };
+    ghost view = { λ b.
+        plain_bench b.graph.texts b.graph.memos.entries b.graph.claims.entries b.graph.taken };
 
-    ghost invariant = { λ b. IsSoundBench (meaning T.net T.is_valid T.since T.makes T.keeps T.edited T.last) b.graph.texts b.graph.memos.entries b.graph.claims.entries b.graph.taken };
+    ghost invariant = { λ b. IsSoundBench
+        (meaning T.net T.is_valid T.since T.makes T.keeps T.edited T.last) b.graph.texts
+        b.graph.memos.entries b.graph.claims.entries b.graph.taken };
 }
 
 impl<K: StoreName, T: CellTexts> Bench<K, T> {
-    /// A bench without tests and models. It takes its store, so that no other bench has one of that name. Errors: want of memory.
+    /// A bench without tests and models. It takes its store, so that no other bench has one of that
+    /// name. Errors: want of memory.
     pub fn new(alloc: Global, store: Store<K, T::Value>) -> Result<Self, AllocError>
         ensures memos { IfOk result (λ bench. bench.memos ≡ []) }
         ensures claims { IfOk result (λ bench. bench.claims ≡ []) }
@@ -77,51 +81,70 @@ impl<K: StoreName, T: CellTexts> Bench<K, T> {
         &self.graph.texts
     }
 
-    /// Makes an edit, and gives its number. A refusal, by a rule or for want of memory, leaves all as it was.
+    /// Makes an edit, and gives its number. A refusal, by a rule or for want of memory, leaves all
+    /// as it was.
     pub fn edit(&mut self, alloc: Global, edit: T::Edit) -> Result<u64, T::Fault>
         ensures number { IfOk result (λ number. number ≡ self.old.taken + 1) }
-        ensures edited { OnOk result (Step (meaning T.net T.is_valid T.since T.makes T.keeps T.edited T.last) self.old (Edited edit) self.new) }
+        ensures edited { OnOk result (Step
+            (meaning T.net T.is_valid T.since T.makes T.keeps T.edited T.last) self.old
+            (Edited edit) self.new) }
         ensures unspent { OnOk result (self.old.taken < LAST) }
-        ensures fault { IfErr result (λ fault. T.refuses self.old.texts edit (leb LAST self.old.taken) fault) }
+        ensures fault { IfErr result (λ fault.
+            T.refuses self.old.texts edit (leb LAST self.old.taken) fault) }
         ensures last { OnErr result (T.last self.new.texts ≡ T.last self.old.texts) }
-        ensures refused { OnErr result (Step (meaning T.net T.is_valid T.since T.makes T.keeps T.edited T.last) self.old Refused self.new) }
+        ensures refused { OnErr result (Step
+            (meaning T.net T.is_valid T.since T.makes T.keeps T.edited T.last) self.old Refused
+            self.new) }
     {
         self.graph.edit(alloc, edit)
     }
 
-    /// Makes an edit as `edit` does, where the witness, who is told of it before it is put in place, does not hold it back.
-    /// None where the witness does: then all is as after a refusal.
+    /// Makes an edit as `edit` does, where the witness, who is told of it before it is put in
+    /// place, does not hold it back. None where the witness does: then all is as after a refusal.
     pub fn edit_told<W: Witness<T>>(
         &mut self,
         alloc: Global,
         edit: T::Edit,
         witness: &mut W,
     ) -> Result<Option<u64>, T::Fault>
-        requires may_tell { (t : T) (p : T.Prepared) → T.prepares self.old.texts edit p t → W.may_tell witness.old t p (self.old.taken + 1) }
+        requires may_tell { (t : T) (p : T.Prepared) → T.prepares self.old.texts edit p t
+            → W.may_tell witness.old t p (self.old.taken + 1) }
         ensures number { IfOk result (λ r. IfSome r (λ number. number ≡ self.old.taken + 1)) }
-        ensures edited { IfOk result (λ r. IfSome r (λ _. Step (meaning T.net T.is_valid T.since T.makes T.keeps T.edited T.last) self.old (Edited edit) self.new)) }
-        ensures told { IfOk result (λ r. IfSome r (λ number. IsTold T.prepares T.commits W.told self.old.texts edit number self.new.texts witness.old witness.new)) }
+        ensures edited { IfOk result (λ r. IfSome r (λ _. Step
+            (meaning T.net T.is_valid T.since T.makes T.keeps T.edited T.last) self.old
+            (Edited edit) self.new)) }
+        ensures told { IfOk result (λ r. IfSome r (λ number. IsTold T.prepares T.commits W.told
+            self.old.texts edit number self.new.texts witness.old witness.new)) }
         ensures unspent { OnOk result (self.old.taken < LAST) }
         ensures held { IfOk result (λ r. IfNone r (W.held witness.old witness.new)) }
-        ensures fault { IfErr result (λ fault. T.refuses self.old.texts edit (leb LAST self.old.taken) fault) }
+        ensures fault { IfErr result (λ fault.
+            T.refuses self.old.texts edit (leb LAST self.old.taken) fault) }
         ensures unseen { OnErr result (witness.new ≡ witness.old) }
         ensures last { OnNone result (T.last self.new.texts ≡ T.last self.old.texts) }
-        ensures refused { OnNone result (Step (meaning T.net T.is_valid T.since T.makes T.keeps T.edited T.last) self.old Refused self.new) }
+        ensures refused { OnNone result (Step
+            (meaning T.net T.is_valid T.since T.makes T.keeps T.edited T.last) self.old Refused
+            self.new) }
     {
         self.graph.edit_told(alloc, edit, witness)
     }
 
-    /// Gives out a job, if there is any work: a node that some cell needs, whose inputs are settled, which is not up to date
-    /// and not out with the present inputs. It makes the room for all that its return keeps. Errors: B1 where the numbers are
-    /// spent, want of memory.
+    /// Gives out a job, if there is any work: a node that some cell needs, whose inputs are
+    /// settled, which is not up to date and not out with the present inputs. It makes the room for
+    /// all that its return keeps. Errors: B1 where the numbers are spent, want of memory.
     pub fn claim(&mut self, alloc: Global) -> Result<Option<Job<K, T>>, ClaimFault>
         ensures texts { self.new.texts ≡ self.old.texts }
-        ensures given { IfOk result (λ r. IfSome r (λ j. Step (meaning T.net T.is_valid T.since T.makes T.keeps T.edited T.last) self.old (Claimed j.claim j.node j.given j.keys j.values) self.new)) }
-        ensures none { IfOk result (λ r. IfNone r (Step (meaning T.net T.is_valid T.since T.makes T.keeps T.edited T.last) self.old NoClaim self.new)) }
+        ensures given { IfOk result (λ r. IfSome r (λ j. Step
+            (meaning T.net T.is_valid T.since T.makes T.keeps T.edited T.last) self.old
+            (Claimed j.claim j.node j.given j.keys j.values) self.new)) }
+        ensures none { IfOk result (λ r. IfNone r (Step
+            (meaning T.net T.is_valid T.since T.makes T.keeps T.edited T.last) self.old
+            NoClaim self.new)) }
         ensures spent { LAST ≤ self.old.taken → result ≡ Err ClaimFault.Spent }
         ensures spent_only { result ≡ Err ClaimFault.Spent → LAST ≤ self.old.taken }
         ensures unspent { OnOk result (self.old.taken < LAST) }
-        ensures refused { OnErr result (Step (meaning T.net T.is_valid T.since T.makes T.keeps T.edited T.last) self.old Refused self.new) }
+        ensures refused { OnErr result (Step
+            (meaning T.net T.is_valid T.since T.makes T.keeps T.edited T.last) self.old Refused
+            self.new) }
     {
         match self.graph.claim(alloc) {
             Ok(Some(job)) => Ok(Some(Job { job })),
@@ -132,29 +155,35 @@ impl<K: StoreName, T: CellTexts> Bench<K, T> {
 
     /// Takes a return, by the first case that holds. It takes no memory.
     pub fn finish(&mut self, done: Done<K, T>) -> Finish
-        ensures { Step (meaning T.net T.is_valid T.since T.makes T.keeps T.edited T.last) self.old (Returned done result) self.new }
+        ensures { Step (meaning T.net T.is_valid T.since T.makes T.keeps T.edited T.last) self.old
+            (Returned done result) self.new }
     {
         self.graph.finish(done.into_done())
     }
 
     /// Closes a claim, and says whether it was out. It takes no memory.
     pub fn lose(&mut self, claim: u64) -> bool
-        ensures { Step (meaning T.net T.is_valid T.since T.makes T.keeps T.edited T.last) self.old (Lost claim result) self.new }
+        ensures { Step (meaning T.net T.is_valid T.since T.makes T.keeps T.edited T.last) self.old
+            (Lost claim result) self.new }
     {
         self.graph.lose(claim)
     }
 
     /// Forgets all that was computed, and closes every claim. It takes no memory.
     pub fn renew(&mut self)
-        ensures { Step (meaning T.net T.is_valid T.since T.makes T.keeps T.edited T.last) self.old Renewed self.new }
+        ensures { Step (meaning T.net T.is_valid T.since T.makes T.keeps T.edited T.last) self.old
+            Renewed self.new }
     {
         self.graph.renew();
     }
 
     /// What is shown of a test under a model. It takes no memory.
     pub fn shown(&self, test: &[u8], model: &[u8]) -> Shown<'_, T::Outcome>
-        ensures shown { IsShown T.net (cells T.verdict_of T.outcome_in T.from_scratch T.reaches) self.now test.now model.now result }
-        ensures from_scratch { ShowsFromScratch (cells T.verdict_of T.outcome_in T.from_scratch T.reaches) self.now.texts test.now model.now result }
+        ensures shown { IsShown T.net (cells T.verdict_of T.outcome_in T.from_scratch T.reaches)
+            self.now test.now model.now result }
+        ensures from_scratch { ShowsFromScratch
+            (cells T.verdict_of T.outcome_in T.from_scratch T.reaches) self.now.texts test.now
+            model.now result }
     {
         let verdict = match self.graph.texts.verdict_of(test, model) {
             Some(verdict) => verdict,

@@ -10,7 +10,8 @@ pub enum Event<E> {
     Edit(E),
     /// Gives out a job, which the list keeps.
     Claim,
-    /// Runs the job of that claim, if this list was given it, and returns what it makes: again as often as it stands there.
+    /// Runs the job of that claim, if this list was given it, and returns what it makes: again as
+    /// often as it stands there.
     Return(u64),
     /// Closes the claim of that number.
     Lose(u64),

@@ -32,7 +32,8 @@ impl<K: StoreName, T: CellTexts> Model for Job<K, T> {
 
     ghost Value = { Task T.Value T.Given };
 
-    ghost view = { λ j. task_of j.job.claim j.job.node j.job.given j.job.keys.items (shown_values j.job.values.items) };
+    ghost view = { λ j. task_of j.job.claim j.job.node j.job.given j.job.keys.items
+        (shown_values j.job.values.items) };
 }
 
 /// A return: what was computed, from which inputs with which values. Only `Job::run` makes it.
@@ -56,7 +57,8 @@ impl<K: StoreName, T: CellTexts> Model for Done<K, T> {
 
     ghost view = { λ d. return_from d.done };
 
-    ghost invariant = { λ d. IsAnswer T.makes d.done.node d.done.given d.done.keys.items (shown_values d.done.values.items) d.done.outputs.items d.done.names };
+    ghost invariant = { λ d. IsAnswer T.makes d.done.node d.done.given d.done.keys.items
+        (shown_values d.done.values.items) d.done.outputs.items d.done.names };
 }
 
 impl<K: StoreName, T: CellTexts> Job<K, T> {
@@ -67,12 +69,14 @@ impl<K: StoreName, T: CellTexts> Job<K, T> {
         self.job.claim
     }
 
-    /// Computes what its node makes, and puts it into the store. Where memory is refused or the store is full, the job comes
-    /// back as it was. It may wait while another thread grows the store. That a value which did
-    /// not change keeps its token is said of the job of `memo_bench`, which this runs.
+    /// Computes what its node makes, and puts it into the store. Where memory is refused or the
+    /// store is full, the job comes back as it was. It may wait while another thread grows the
+    /// store. That a value which did not change keeps its token is said of the job of `memo_bench`,
+    /// which this runs.
     pub fn run<R: Wait>(self, rt: &R, alloc: Global) -> Result<Done<K, T>, (Job<K, T>, RunFault)>
         ensures same { IfOk result (λ done. task_answered done ≡ self) }
-        ensures made { IfOk result (λ done. T.makes done.node done.given done.keys done.values done.outputs) }
+        ensures made { IfOk result (λ done.
+            T.makes done.node done.given done.keys done.values done.outputs) }
         ensures err { IfErr result (λ refusal. refusal.0 ≡ self) }
     {
         let Job { job } = self;

@@ -49,7 +49,10 @@ impl<K: StoreName, T: CellTexts> Bench<K, T> {
     /// Gives out a job, which is kept with the others, for which there is room.
     fn claim_next(&mut self, alloc: Global, jobs: &mut Vec<Option<Stage<K, T>>>) -> Reply<T::Fault>
         requires { vec_len jobs.old < vec_capacity jobs.old }
-        ensures answered { IsAnswered (meaning T.net T.is_valid T.since T.makes T.keeps T.edited T.last) T.refuses T.last self.old (tasks_in jobs.old.items) Event.Claim result self.new (tasks_in jobs.new.items) }
+        ensures answered { IsAnswered
+            (meaning T.net T.is_valid T.since T.makes T.keeps T.edited T.last) T.refuses T.last
+            self.old (tasks_in jobs.old.items) Event.Claim result self.new
+            (tasks_in jobs.new.items) }
         ensures len { vec_len jobs.new ≤ vec_len jobs.old + 1 }
         ensures capacity { vec_capacity jobs.old ≤ vec_capacity jobs.new }
     {
@@ -75,7 +78,9 @@ impl<K: StoreName, T: CellTexts> Bench<K, T> {
         claim: u64,
         jobs: &mut [Option<Stage<K, T>>],
     ) -> Reply<T::Fault>
-        ensures answered { IsAnswered (meaning T.net T.is_valid T.since T.makes T.keeps T.edited T.last) T.refuses T.last self.old (tasks_in jobs.old) (Event.Return claim) result self.new (tasks_in jobs.new) }
+        ensures answered { IsAnswered
+            (meaning T.net T.is_valid T.since T.makes T.keeps T.edited T.last) T.refuses T.last
+            self.old (tasks_in jobs.old) (Event.Return claim) result self.new (tasks_in jobs.new) }
     {
         match offer_of(rt, alloc, claim, jobs) {
             None => Reply::Returned(Ok(Finish::Unknown)),
@@ -93,7 +98,9 @@ impl<K: StoreName, T: CellTexts> Bench<K, T> {
         event: Event<T::Edit>,
     ) -> Reply<T::Fault>
         requires { vec_len jobs.old < vec_capacity jobs.old }
-        ensures answered { IsAnswered (meaning T.net T.is_valid T.since T.makes T.keeps T.edited T.last) T.refuses T.last self.old (tasks_in jobs.old.items) event result self.new (tasks_in jobs.new.items) }
+        ensures answered { IsAnswered
+            (meaning T.net T.is_valid T.since T.makes T.keeps T.edited T.last) T.refuses T.last
+            self.old (tasks_in jobs.old.items) event result self.new (tasks_in jobs.new.items) }
         ensures len { vec_len jobs.new ≤ vec_len jobs.old + 1 }
         ensures capacity { vec_capacity jobs.old ≤ vec_capacity jobs.new }
     {
@@ -122,7 +129,8 @@ impl<K: StoreName, T: CellTexts> Bench<K, T> {
         requires replies { vec_len replies.old ≡ 0 }
         requires jobs_fit { length events.items ≤ vec_capacity jobs.old }
         requires replies_fit { length events.items ≤ vec_capacity replies.old }
-        ensures { Answers (meaning T.net T.is_valid T.since T.makes T.keeps T.edited T.last) T.refuses T.last self.old events.items replies.new.items self.new }
+        ensures { Answers (meaning T.net T.is_valid T.since T.makes T.keeps T.edited T.last)
+            T.refuses T.last self.old events.items replies.new.items self.new }
     {
         for event in events {
             let reply = self.answer(rt, alloc, jobs, event);
@@ -133,15 +141,17 @@ impl<K: StoreName, T: CellTexts> Bench<K, T> {
         }
     }
 
-    /// Answers a list of events, one after another. The room for the replies is made first: where that is refused, nothing
-    /// changes. It may wait while another thread grows the store.
+    /// Answers a list of events, one after another. The room for the replies is made first: where
+    /// that is refused, nothing changes. It may wait while another thread grows the store.
     pub fn run_events<R: Wait>(
         &mut self,
         rt: &R,
         alloc: Global,
         events: &[Event<T::Edit>],
     ) -> Result<Vec<Reply<T::Fault>>, AllocError>
-        ensures answered { IfOk result (λ replies. Answers (meaning T.net T.is_valid T.since T.makes T.keeps T.edited T.last) T.refuses T.last self.old events.now replies.items self.new) }
+        ensures answered { IfOk result (λ replies. Answers
+            (meaning T.net T.is_valid T.since T.makes T.keeps T.edited T.last) T.refuses T.last
+            self.old events.now replies.items self.new) }
         ensures err { OnErr result (self.new ≡ self.old) }
     {
         let copies = copy_events::<T>(alloc, events)?;

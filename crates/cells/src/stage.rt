@@ -108,8 +108,10 @@ pub fn offer_of<R: Wait, K: StoreName, T: CellTexts>(
     jobs: &mut [Option<Stage<K, T>>],
 ) -> Option<Result<Done<K, T>, RunFault>>
     ensures tasks { tasks_in jobs.new ≡ tasks_in jobs.old }
-    ensures made { IfSome result (λ r. IfOk r (λ done. task_given claim (tasks_in jobs.old) ≡ Some (task_answered done))) }
-    ensures there { IfSome result (λ _. (t : Task T.Value T.Given) × (task_given claim (tasks_in jobs.old) ≡ Some t)) }
+    ensures made { IfSome result (λ r.
+        IfOk r (λ done. task_given claim (tasks_in jobs.old) ≡ Some (task_answered done))) }
+    ensures there { IfSome result (λ _. (t : Task T.Value T.Given)
+        × (task_given claim (tasks_in jobs.old) ≡ Some t)) }
     ensures none { IfNone result (task_given claim (tasks_in jobs.old) ≡ None) }
 {
     for i in 0..jobs.len() {

@@ -23,7 +23,8 @@ pub trait CellTexts: Texts {
     /// What evaluating the present test under the present model from nothing gives.
     ghost from_scratch: { Self → List ℕ → List ℕ → Self.Outcome → Type 0 };
 
-    /// Whether an edit, with the texts before it and after it, reaches the cell of a test and a model.
+    /// Whether an edit, with the texts before it and after it, reaches the cell of a test and a
+    /// model.
     ghost reaches: { Self → Self.Edit → Self → List ℕ → List ℕ → Type 0 };
 
     /// Whether there are no tests and no models, before the first edit.
@@ -52,20 +53,30 @@ pub trait CellTexts: Texts {
         ensures { IfOk result (λ copy. same_edit copy edit.now) };
 
     /// The same edit makes the same of texts.
-    ghost edited_same: { (t u : Self) (e f : Self.Edit) (number : ℕ) → same_edit e f → Self.edited t e number u → Self.edited t f number u };
+    ghost edited_same: { (t u : Self) (e f : Self.Edit) (number : ℕ) → same_edit e f
+        → Self.edited t e number u → Self.edited t f number u };
 
     /// It is refused alike.
-    ghost refused_same: { (t : Self) (e f : Self.Edit) (spent : Bool) (fault : Self.Fault) → same_edit e f → Self.refuses t e spent fault → Self.refuses t f spent fault };
+    ghost refused_same: { (t : Self) (e f : Self.Edit) (spent : Bool) (fault : Self.Fault)
+        → same_edit e f → Self.refuses t e spent fault → Self.refuses t f spent fault };
 
     /// Cells use their verdicts.
-    ghost verdict_used: { (t : Self) (test model : List ℕ) (n : NodeRecord) → Self.is_valid t → verdict_of t test model ≡ Some n → Has (Self.net t).used n };
+    ghost verdict_used: { (t : Self) (test model : List ℕ) (n : NodeRecord) → Self.is_valid t
+        → verdict_of t test model ≡ Some n → Has (Self.net t).used n };
 
     /// Each used node is one that the verdict of a cell stands on.
     ghost used_needed: { (t : Self) → Self.is_valid t → UsedIsNeeded (Self.net t) (verdict_of t) };
 
-    /// Where settled nodes hold what is made of the present, a settled verdict holds what evaluating from nothing gives.
-    ghost solved: { (t : Self) (test model : List ℕ) → Self.is_valid t → SolvedIsFromScratch Self.makes (Self.net t) outcome_in (verdict_of t test model) (from_scratch t test model) };
+    /// Where settled nodes hold what is made of the present, a settled verdict holds what
+    /// evaluating from nothing gives.
+    ghost solved: { (t : Self) (test model : List ℕ) → Self.is_valid t
+        → SolvedIsFromScratch Self.makes (Self.net t) outcome_in (verdict_of t test model)
+        (from_scratch t test model) };
 
-    /// An edit that does not reach a cell leaves it its verdict, and touches nothing that the verdict stands on.
-    ghost unreached: { (t u : Self) (e : Self.Edit) (number : ℕ) (test model : List ℕ) → Self.is_valid t → Self.edited t e number u → (reaches t e u test model → ⊥) → UnreachedIsUntouched (Self.keeps u) (Self.net t) (Self.net u) (verdict_of t test model) (verdict_of u test model) };
+    /// An edit that does not reach a cell leaves it its verdict, and touches nothing that the
+    /// verdict stands on.
+    ghost unreached: { (t u : Self) (e : Self.Edit) (number : ℕ) (test model : List ℕ)
+        → Self.is_valid t → Self.edited t e number u → (reaches t e u test model → ⊥)
+        → UnreachedIsUntouched (Self.keeps u) (Self.net t) (Self.net u) (verdict_of t test model)
+        (verdict_of u test model) };
 }

@@ -14,17 +14,23 @@ use Rattle.cat_eval.specs.Columns.{HasValue}
 use Rattle.cat_eval.specs.Executions.{events_of, EventsAt, PairsAt}
 use Rattle.cat_eval.specs.Values.{IsFor, IsMeant, column_len}
 
--- in the candidate of number k, the column has what the code means, where the names of other items have the values of the inputs
+-- in the candidate of number k, the column has what the code means, where the names of other items
+-- have the values of the inputs
 abbrev pub IsValueAt : Code → List (Bor Column) → Column → ℕ → Candidate → Type 0
 IsValueAt code inputs column k one =
     (s : Events) × (r : Relation) × HasValue column k s r
-    × IsMeant code.kind code.steps.items (events_of one) (EventsAt (events_of one) one inputs k) (PairsAt (events_of one) one inputs k) s r
+    × IsMeant code.kind code.steps.items (events_of one) (EventsAt (events_of one) one inputs k)
+    (PairsAt (events_of one) one inputs k) s r
 
--- the column has a value of the code's kind for each candidate of the space, and it is what the code means there
-pub record AreValues (code : Code) (inputs : List (Bor Column)) (space : Space) (column : Column) : Type 0 where
+-- the column has a value of the code's kind for each candidate of the space, and it is what the
+-- code means there
+pub record AreValues (code : Code) (inputs : List (Bor Column)) (space : Space) (column : Column)
+    : Type 0 where
   pub suited : IsFor code.kind column
   pub long : column_len column ≡ length (candidates_in space.combinations.items)
-  pub values : (k : ℕ) (one : Candidate) → slice_get (candidates_in space.combinations.items) k ≡ Some one → IsValueAt code inputs column k one
+  pub values : (k : ℕ) (one : Candidate)
+      → slice_get (candidates_in space.combinations.items) k ≡ Some one
+      → IsValueAt code inputs column k one
 
 -- a group of one name, which stands for what the code means
 pub record IsGroupOf (code : Code) (role : Role) : Type 0 where

@@ -1,4 +1,5 @@
--- Why a check refuses a candidate. Read first: `Meaning` and `Checks` of cat_eval, `Cycles` of relation_cycles.
+-- Why a check refuses a candidate. Read first: `Meaning` and `Checks` of cat_eval, `Cycles` of
+-- relation_cycles.
 use Rattle.std.specs.Prelude.{ℕ, ◌≡◌, ◌<◌, List, [], Bool, true, false, Option, Some, None}
 use Rattle.relation_cycles.specs.Cycles.{IsShortestCycle, IsFirstReflexive, IsLeastPair}
 use Rattle.text_values.specs.declared.model.CheckWord.{CheckWord}
@@ -20,8 +21,8 @@ pub record IsFirstMember (S : ℕ → Type 0) (a : ℕ) : Type 0 where
   pub member : S a
   pub least : (b : ℕ) → b < a → S b → ⊥
 
--- what shows that a relation does not meet the word: the first of the shortest cycles, the least event related to itself, the
--- least pair
+-- what shows that a relation does not meet the word: the first of the shortest cycles, the least
+-- event related to itself, the least pair
 abbrev pub Breaks : CheckWord → (ℕ → ℕ → Type 0) → Witness → Type 0
 Breaks words.Acyclic R (shown.Cycle events) = IsShortestCycle R events.items
 Breaks words.Irreflexive R (shown.Reflexive a) = IsFirstReflexive R a
@@ -38,8 +39,8 @@ abbrev pub IsMet : Witness → Type 0
 IsMet shown.Met = Unit {0}
 IsMet witness = ⊥
 
--- The check asks for this, or, where it is negated, that it does not hold. There is no witness just where the check holds; and
--- a witness shows that it does not.
+-- The check asks for this, or, where it is negated, that it does not hold. There is no witness just
+-- where the check holds; and a witness shows that it does not.
 abbrev pub IsExplanation : Bool → Type 0 → (Witness → Type 0) → Option Witness → Type 0
 IsExplanation false Asked Broken None = Asked
 IsExplanation false Asked Broken (Some w) = Broken w
@@ -47,13 +48,19 @@ IsExplanation true Asked Broken None = Asked → ⊥
 IsExplanation true Asked Broken (Some w) = Asked × IsMet w
 
 -- likewise of a check's expression, where the names have these events and pairs among n events
-abbrev pub IsExplained : CheckCode → ℕ → (Source → ℕ → Type 0) → (Source → ℕ → ℕ → Type 0) → Kind → Option Witness → Type 0
+abbrev pub IsExplained : CheckCode → ℕ → (Source → ℕ → Type 0) → (Source → ℕ → ℕ → Type 0) → Kind
+    → Option Witness → Type 0
 IsExplained check n sets outer kinds.OfSet found =
-    (t : SetTree) → check.code.steps.items ≡ set_code t [] → let S = MeansSet n sets t in IsExplanation check.negated (IsEmptySet S) (BreaksSet S) found
+    (t : SetTree) → check.code.steps.items ≡ set_code t [] → let S =
+    MeansSet n sets t in IsExplanation check.negated (IsEmptySet S) (BreaksSet S) found
 IsExplained check n sets outer kinds.OfRelation found =
-    (t : RelTree) → check.code.steps.items ≡ rel_code t [] → let R = Means n sets (WithOwn outer (Of n [])) t in IsExplanation check.negated (Holds check.word R) (Breaks check.word R) found
+    (t : RelTree) → check.code.steps.items ≡ rel_code t [] → let R =
+    Means n sets (WithOwn outer (Of n [])) t in IsExplanation check.negated (Holds check.word R)
+    (Breaks check.word R) found
 IsExplained check n sets outer kinds.OfAny found =
-    (t : RelTree) → check.code.steps.items ≡ rel_code t [] → let R = Means n sets (WithOwn outer (Of n [])) t in IsExplanation check.negated (Holds check.word R) (Breaks check.word R) found
+    (t : RelTree) → check.code.steps.items ≡ rel_code t [] → let R =
+    Means n sets (WithOwn outer (Of n [])) t in IsExplanation check.negated (Holds check.word R)
+    (Breaks check.word R) found
 
 -- ---- that there is one explanation
 

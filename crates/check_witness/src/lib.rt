@@ -1,5 +1,6 @@
-//! Why a check refuses a candidate: a shortest cycle, an event related to itself, a pair, a member. Read
-//! specs/Witnesses first: `IsExplained` says what is found, over the meaning of the check's expression. Law: `laws`.
+//! Why a check refuses a candidate: a shortest cycle, an event related to itself, a pair, a member.
+//! Read specs/Witnesses first: `IsExplained` says what is found, over the meaning of the check's
+//! expression. Law: `laws`.
 #![tactic(auto)]
 
 pub mod laws;

@@ -19,7 +19,8 @@ use text_values::CheckWord;
 /// Why a check refuses a candidate. Events go by their numbers.
 #[derive(Debug, Drop, PartialEq)]
 pub enum Witness {
-    /// A shortest cycle of the relation: each event is related to the next, and the last to the first.
+    /// A shortest cycle of the relation: each event is related to the next, and the last to the
+    /// first.
     Cycle(Vec<usize>),
     /// The least event that is related to itself.
     Reflexive(usize),
@@ -37,7 +38,8 @@ fn relation_witness(
     word: CheckWord,
     relation: &Rel,
 ) -> Result<Option<Witness>, AllocError>
-    ensures { IfOk result (λ found. MatchOption found (Holds word (Has relation.now)) (Breaks word (Has relation.now))) }
+    ensures { IfOk result (λ found.
+        MatchOption found (Holds word (Has relation.now)) (Breaks word (Has relation.now))) }
 {
     match word {
         CheckWord::Acyclic => match shortest_cycle(alloc, relation)? {
@@ -69,7 +71,8 @@ fn set_witness(set: &EventSet) -> Option<Witness>
 
 // Why a check that a set is empty refuses it.
 fn set_refusal(negated: bool, set: &EventSet) -> Option<Witness>
-    ensures { IsExplanation negated (IsEmptySet (IsMember set.now)) (BreaksSet (IsMember set.now)) result }
+    ensures { IsExplanation negated (IsEmptySet (IsMember set.now)) (BreaksSet (IsMember set.now))
+        result }
 {
     if !negated {
         return set_witness(set);
@@ -88,7 +91,8 @@ fn relation_refusal(
     word: CheckWord,
     relation: &Rel,
 ) -> Result<Option<Witness>, AllocError>
-    ensures { IfOk result (IsExplanation negated (Holds word (Has relation.now)) (Breaks word (Has relation.now))) }
+    ensures { IfOk result (IsExplanation negated (Holds word (Has relation.now))
+        (Breaks word (Has relation.now))) }
 {
     let found = relation_witness(alloc, word, relation)?;
     if !negated {
@@ -117,8 +121,8 @@ fn member_set(values: &SetRuns, candidate: usize) -> EventSet
     set
 }
 
-/// Why a check refuses the candidate of this number; none where it accepts it. `values` are the values
-/// of the check's expression in all candidates. Errors: want of memory.
+/// Why a check refuses the candidate of this number; none where it accepts it. `values` are the
+/// values of the check's expression in all candidates. Errors: want of memory.
 pub fn refusal_of(
     alloc: Global,
     check: &CheckCode,

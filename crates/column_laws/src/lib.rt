@@ -1,5 +1,6 @@
-//! Laws of columns and answers: they depend only on what an item says, on what the candidates of a space show, and on the
-//! values of the item's inputs. Read specs/Laws first, after `Columns` and `Values` of `cat_eval/specs`.
+//! Laws of columns and answers: they depend only on what an item says, on what the candidates of a
+//! space show, and on the values of the item's inputs. Read specs/Laws first, after `Columns` and
+//! `Values` of `cat_eval/specs`.
 #![tactic(auto)]
 
 ghost use Rattle.column_laws.specs.Laws.{KeepsColumns, KeepsAnswers};

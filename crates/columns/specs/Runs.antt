@@ -2,7 +2,8 @@
 use Rattle.std.specs.Prelude.{ℕ, zero, suc, ◌≡◌, ◌<◌, ◌-◌, List, [], ◌∷◌, ◌++◌, length, replicate, slice_index_or}
 use Rattle.bit_relations.specs.Relation.{Relation, Events, no_slot}
 
--- each value as often as its run is long: a run begins where the one before it ends, and the first at `at`
+-- each value as often as its run is long: a run begins where the one before it ends, and the first
+-- at `at`
 abbrev pub expand : {A : Type 0} → ℕ → List ℕ → List A → List A
 expand at [] vs = []
 expand at (e ∷ es) [] = []

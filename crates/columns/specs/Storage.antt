@@ -18,4 +18,6 @@ kept_values places words = unpacked (map (λ p. p.count) places) words
 
 -- the places are those of relations whose words stand one after another
 abbrev pub AreKept : List Place → List ℕ → Type 0
-AreKept places words = ArePacked (map (λ p. p.count) places) (map (λ p. p.start) places) words (kept_values places words)
+AreKept places words =
+    ArePacked (map (λ p. p.count) places) (map (λ p. p.start) places) words
+    (kept_values places words)

@@ -1,5 +1,5 @@
-//! Columns of values over the candidates of a space, as runs of equal neighbours. Read `specs/Runs.antt`: contracts see one value
-//! a candidate.
+//! Columns of values over the candidates of a space, as runs of equal neighbours. Read
+//! `specs/Runs.antt`: contracts see one value a candidate.
 #![tactic(auto)]
 
 mod places;

@@ -17,8 +17,8 @@ pub(crate) struct Place {
     count: u8,
 }
 
-/// The place of a relation whose words come next. Where the list has 2^32 words or more there is none,
-/// as where memory is out.
+/// The place of a relation whose words come next. Where the list has 2^32 words or more there is
+/// none, as where memory is out.
 pub(crate) fn next_place(words: &[u64], relation: &Rel) -> Result<Place, AllocError>
     ensures start { IfOk result (λ place. place.start ≡ length words.now) }
     ensures count { IfOk result (λ place. place.count ≡ relation.now.count) }
@@ -45,7 +45,8 @@ pub(crate) fn read_value(runs: &[Run<Place>], words: &[u64], run: usize, target:
 pub(crate) fn is_value(runs: &[Run<Place>], words: &[u64], run: usize, relation: &Rel) -> bool
     requires kept { AreKept (values_of runs.now) words.now }
     requires run { run < length runs.now }
-    ensures { IsTrue result ↔ (value_at (kept_values (values_of runs.now) words.now) run ≡ relation.now) }
+    ensures { IsTrue result
+        ↔ (value_at (kept_values (values_of runs.now) words.now) run ≡ relation.now) }
 {
     let place = runs[run].value;
     if place.count as usize != relation.count() {

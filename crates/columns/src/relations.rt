@@ -8,7 +8,8 @@ use bit_relations::Rel;
 use std::alloc::{AllocError, Global};
 use std::marker::Model;
 
-/// A relation for each candidate: neighbours with equal relations share one. Contracts see one relation a candidate.
+/// A relation for each candidate: neighbours with equal relations share one. Contracts see one
+/// relation a candidate.
 #[derive(Drop)]
 pub struct RunColumn {
     runs: Vec<Run<Place>>,
@@ -24,9 +25,12 @@ impl Model for RunColumn {
 
     ghost Value = { List Relation };
 
-    ghost view = { λ c. expand 0 (ends_of c.runs.items) (kept_values (values_of c.runs.items) c.words.items) };
+    ghost view = { λ c.
+        expand 0 (ends_of c.runs.items) (kept_values (values_of c.runs.items) c.words.items) };
 
-    ghost invariant = { λ c. AreRuns (ends_of c.runs.items) (kept_values (values_of c.runs.items) c.words.items) × AreKept (values_of c.runs.items) c.words.items };
+    ghost invariant = { λ c. AreRuns (ends_of c.runs.items)
+        (kept_values (values_of c.runs.items) c.words.items)
+        × AreKept (values_of c.runs.items) c.words.items };
 }
 
 impl RunColumn {
@@ -55,11 +59,12 @@ impl RunColumn {
         end_of(&self.runs)
     }
 
-    /// Gives one value to the next candidates, up to an end. Where memory is out, or the relations take 2^32 words or more
-    /// already, the column stays as it was.
+    /// Gives one value to the next candidates, up to an end. Where memory is out, or the relations
+    /// take 2^32 words or more already, the column stays as it was.
     pub fn push_run(&mut self, value: &Rel, end: usize) -> Result<(), AllocError>
         requires { length self.old < end }
-        ensures added { OnOk result (self.new ≡ self.old ++ replicate (end - length self.old) value.now) }
+        ensures added { OnOk result (self.new
+            ≡ self.old ++ replicate (end - length self.old) value.now) }
         ensures kept { OnErr result (self.new ≡ self.old) }
     {
         let count = self.runs.len();
@@ -74,8 +79,8 @@ impl RunColumn {
         Ok(())
     }
 
-    /// Gives a value to the next candidate. Where memory is out, or the relations take 2^32 words or more already, the
-    /// column stays as it was.
+    /// Gives a value to the next candidate. Where memory is out, or the relations take 2^32 words
+    /// or more already, the column stays as it was.
     pub fn push(&mut self, value: &Rel) -> Result<(), AllocError>
         ensures added { OnOk result (self.new ≡ self.old ++ value.now ∷ []) }
         ensures kept { OnErr result (self.new ≡ self.old) }
@@ -86,10 +91,11 @@ impl RunColumn {
         }
     }
 
-    /// Gives the last value to the next candidate too; a column of no candidate stays as it is. Where memory is out the
-    /// column stays as it was.
+    /// Gives the last value to the next candidate too; a column of no candidate stays as it is.
+    /// Where memory is out the column stays as it was.
     pub fn push_last(&mut self) -> Result<(), AllocError>
-        ensures added { OnOk result (0 < length self.old → self.new ≡ self.old ++ value_at self.old (length self.old - 1) ∷ []) }
+        ensures added { OnOk result (0 < length self.old
+            → self.new ≡ self.old ++ value_at self.old (length self.old - 1) ∷ []) }
         ensures none { OnOk result (self.old ≡ [] → self.new ≡ []) }
         ensures kept { OnErr result (self.new ≡ self.old) }
     {
@@ -117,7 +123,8 @@ impl RunColumn {
         end_at(runs, run_at(runs, 0, at))
     }
 
-    /// Writes the value of a candidate into `target`, and answers up to where the candidates after it have the same.
+    /// Writes the value of a candidate into `target`, and answers up to where the candidates after
+    /// it have the same.
     pub fn read(&self, cursor: &mut Cursor, at: usize, target: &mut Rel) -> usize
         requires { at < length self.now }
         ensures value { target.new ≡ value_at self.now at }

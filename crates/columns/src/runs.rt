@@ -16,7 +16,8 @@ impl Cursor {
     }
 }
 
-/// Neighbouring candidates that share a value. The first of them is the one at which the run before ends.
+/// Neighbouring candidates that share a value. The first of them is the one at which the run before
+/// ends.
 #[derive(Clone, Copy)]
 pub(crate) struct Run<V> {
     /// The candidate after the last of them.
@@ -54,8 +55,8 @@ pub(crate) fn set_end<V>(runs: &mut [Run<V>], run: usize, end: usize)
     runs[run].end = end;
 }
 
-/// The run that a candidate is in. It looks at one run first, and then at the one that the candidate would be in if all
-/// were equally long.
+/// The run that a candidate is in. It looks at one run first, and then at the one that the
+/// candidate would be in if all were equally long.
 pub(crate) fn run_at<V>(runs: &[Run<V>], first: usize, at: usize) -> usize
     requires rising { AreRising 0 (ends_of runs.now) }
     requires inside { at < last_end 0 (ends_of runs.now) }
@@ -79,7 +80,9 @@ pub(crate) fn run_at<V>(runs: &[Run<V>], first: usize, at: usize) -> usize
 
 /// Whether a candidate is in a run, if there is one of this number.
 fn is_in<V>(runs: &[Run<V>], run: usize, at: usize) -> bool
-    ensures { IsTrue result → (run < length runs.now) × (start_of 0 (ends_of runs.now) run ≤ at) × (at < slice_index (ends_of runs.now) run) }
+    ensures { IsTrue result
+        → (run < length runs.now) × (start_of 0 (ends_of runs.now) run ≤ at)
+        × (at < slice_index (ends_of runs.now) run) }
 {
     if runs.len() <= run || end_at(runs, run) <= at {
         return false;

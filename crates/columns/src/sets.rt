@@ -8,7 +8,8 @@ use bit_relations::EventSet;
 use std::alloc::{AllocError, Global};
 use std::marker::Model;
 
-/// A set for each candidate: neighbours with equal sets share one. Contracts see one set a candidate.
+/// A set for each candidate: neighbours with equal sets share one. Contracts see one set a
+/// candidate.
 #[derive(Drop)]
 pub struct SetRuns {
     runs: Vec<Run<EventSet>>,
@@ -51,10 +52,12 @@ impl SetRuns {
         end_of(&self.runs)
     }
 
-    /// Gives one value to the next candidates, up to an end. Where memory is out the column stays as it was.
+    /// Gives one value to the next candidates, up to an end. Where memory is out the column stays
+    /// as it was.
     pub fn push_run(&mut self, value: &EventSet, end: usize) -> Result<(), AllocError>
         requires { length self.old < end }
-        ensures added { OnOk result (self.new ≡ self.old ++ replicate (end - length self.old) value.now) }
+        ensures added { OnOk result (self.new
+            ≡ self.old ++ replicate (end - length self.old) value.now) }
         ensures kept { OnErr result (self.new ≡ self.old) }
     {
         let count = self.runs.len();
@@ -78,10 +81,11 @@ impl SetRuns {
         }
     }
 
-    /// Gives the last value to the next candidate too; a column of no candidate stays as it is. Where memory is out the
-    /// column stays as it was.
+    /// Gives the last value to the next candidate too; a column of no candidate stays as it is.
+    /// Where memory is out the column stays as it was.
     pub fn push_last(&mut self) -> Result<(), AllocError>
-        ensures added { OnOk result (0 < length self.old → self.new ≡ self.old ++ set_at self.old (length self.old - 1) ∷ []) }
+        ensures added { OnOk result (0 < length self.old
+            → self.new ≡ self.old ++ set_at self.old (length self.old - 1) ∷ []) }
         ensures none { OnOk result (self.old ≡ [] → self.new ≡ []) }
         ensures kept { OnErr result (self.new ≡ self.old) }
     {

@@ -1,5 +1,5 @@
--- What the words of a command line ask for. The first word is the program's own name. A word that begins with `-` and goes on
--- is no path, but behind `--`.
+-- What the words of a command line ask for. The first word is the program's own name. A word that
+-- begins with `-` and goes on is no path, but behind `--`.
 use Rattle.std.specs.Prelude.{ℕ, ◌+◌, ◌-◌, ◌==◌, ◌&&◌, ◌||◌, List, [], Bool, true, false, not, Option, Some, None, if◌then◌else◌, nat_eq, nat_lt, nat_le, length, map, take, drop, slice_index, slice_index_or, codes, option_map}
 use Rattle.std.specs.Cmp.Lexicographic.{pointwise}
 use Rattle.std.specs.List.{list_all, position_or_len}
@@ -10,9 +10,10 @@ use Rattle.command_line.specs.declared.form.Form.TheVariants as forms
 use Rattle.command_line.specs.declared.form.Drawn.{Drawn}
 use Rattle.command_line.specs.declared.form.Drawn.TheVariants as drawns
 
--- a model and a test on standard input; a model and a test in files; a table of tests under models; where two models tell tests
--- apart; a session of a file's script, or of standard input's, with so many workers; why a model forbids what a test asks for, by
--- a forbidden execution and in depth where these are asked for; the tests of files under a model as the files change, with so many
+-- a model and a test on standard input; a model and a test in files; a table of tests under models;
+-- where two models tell tests apart; a session of a file's script, or of standard input's, with so
+-- many workers; why a model forbids what a test asks for, by a forbidden execution and in depth
+-- where these are asked for; the tests of files under a model as the files change, with so many
 -- workers; pictures of these executions, so many at most
 pub data Asked : Type 0 where
   Stream : Asked
@@ -62,16 +63,19 @@ asked_if false asked = None
 
 -- MODEL TEST
 abbrev pub eval_of : List (List ℕ) → Option Asked
-eval_of words = asked_if ((length words == 2) && are_paths words) (Eval (word_at words 0) (word_at words 1))
+eval_of words =
+    asked_if ((length words == 2) && are_paths words) (Eval (word_at words 0) (word_at words 1))
 
 -- MODEL .. -- TEST ..
 abbrev pub table_of : List (List ℕ) → ℕ → Option Asked
 table_of words split =
-    asked_if (nat_lt 0 split && nat_lt (split + 1) (length words) && are_paths (take split words)) (Table (take split words) (drop (split + 1) words))
+    asked_if (nat_lt 0 split && nat_lt (split + 1) (length words) && are_paths (take split words))
+    (Table (take split words) (drop (split + 1) words))
 
 -- MODEL MODEL TEST ..
 abbrev pub diff_of : List (List ℕ) → Option Asked
-diff_of words = asked_if (nat_lt 2 (length words) && are_paths words) (Diff (take 2 words) (drop 2 words))
+diff_of words =
+    asked_if (nat_lt 2 (length words) && are_paths words) (Diff (take 2 words) (drop 2 words))
 
 -- the number below 2^64 that the digits of a word make; the empty word makes none
 abbrev pub number_in : List ℕ → Option ℕ
@@ -106,19 +110,23 @@ workers_in word = number_behind word (codes "--workers=")
 
 -- --workers=N, or SCRIPT
 abbrev pub session_of_one : List ℕ → Option Asked
-session_of_one word = if sets_workers word then session_with None (workers_in word) else session_in word (Some 0)
+session_of_one word =
+    if sets_workers word then session_with None (workers_in word) else session_in word (Some 0)
 
 -- --workers N, or --workers=N before a script or behind it
 abbrev pub session_of_two : List ℕ → List ℕ → Option Asked
 session_of_two first second =
     if is_workers first then session_with None (number_in second)
-    else (if sets_workers first then session_in second (workers_in first) else (if sets_workers second then session_in first (workers_in second) else None))
+    else (if sets_workers first then session_in second (workers_in first)
+    else (if sets_workers second then session_in first (workers_in second) else None))
 
 -- --workers N, before a script or behind it
 abbrev pub session_of_three : List (List ℕ) → Option Asked
 session_of_three words =
     if is_workers (word_at words 0) then session_in (word_at words 2) (number_in (word_at words 1))
-    else (if is_workers (word_at words 1) then session_in (word_at words 0) (number_in (word_at words 2)) else None)
+    else (if is_workers (word_at words 1) then session_in (word_at words 0)
+    (number_in (word_at words 2))
+    else None)
 
 -- nothing, SCRIPT, a number of workers, or both
 abbrev pub session_of : List (List ℕ) → Option Asked
@@ -146,34 +154,45 @@ count_of a b = if a then (if b then 2 else 1) else (if b then 1 else 0)
 -- MODEL TEST, with these options of which there are so many in all
 abbrev pub why_with : List (List ℕ) → ℕ → Bool → Bool → Option Asked
 why_with paths count is_forbidden is_deep =
-    asked_if (are_paths paths && (count == count_of is_forbidden is_deep)) (Why (word_at paths 0) (word_at paths 1) is_forbidden is_deep)
+    asked_if (are_paths paths && (count == count_of is_forbidden is_deep))
+    (Why (word_at paths 0) (word_at paths 1) is_forbidden is_deep)
 
 -- MODEL TEST, with --forbidden and --deep, each once at most, before or behind them
 abbrev pub why_of : List (List ℕ) → Option Asked
 why_of words =
     if nat_lt (length words) 2 then None
-    else why_with (paths_of words) (length (options_of words)) (has_option (options_of words) (codes "--forbidden")) (has_option (options_of words) (codes "--deep"))
+    else why_with (paths_of words) (length (options_of words))
+    (has_option (options_of words) (codes "--forbidden"))
+    (has_option (options_of words) (codes "--deep"))
 
 -- MODEL TEST .., with so many workers
 abbrev pub watch_with : List (List ℕ) → Option ℕ → Option Asked
 watch_with words None = None
-watch_with words (Some n) = asked_if (nat_lt 1 (length words) && are_paths words && nat_le n 32) (Watch (word_at words 0) (drop 1 words) n)
+watch_with words (Some n) =
+    asked_if (nat_lt 1 (length words) && are_paths words && nat_le n 32)
+    (Watch (word_at words 0) (drop 1 words) n)
 
 -- MODEL TEST .., or --workers N or --workers=N before them
 abbrev pub watch_of : List (List ℕ) → Option Asked
 watch_of words =
-    if is_workers (word_at words 0) then (if nat_lt (length words) 2 then None else watch_with (drop 2 words) (number_in (word_at words 1)))
-    else (if sets_workers (word_at words 0) then watch_with (drop 1 words) (workers_in (word_at words 0)) else watch_with words (Some 0))
+    if is_workers (word_at words 0) then (if nat_lt (length words) 2 then None
+    else watch_with (drop 2 words) (number_in (word_at words 1)))
+    else (if sets_workers (word_at words 0) then watch_with (drop 1 words)
+    (workers_in (word_at words 0))
+    else watch_with words (Some 0))
 
 -- --shown, --forbidden or --all
 abbrev pub drawn_of : List ℕ → Option Drawn
 drawn_of word =
     if is_word word (codes "--shown") then Some drawns.Shown
-    else (if is_word word (codes "--forbidden") then Some drawns.Forbidden else (if is_word word (codes "--all") then Some drawns.All else None))
+    else (if is_word word (codes "--forbidden") then Some drawns.Forbidden
+    else (if is_word word (codes "--all") then Some drawns.All else None))
 
 -- a number of pictures is a decimal number from 1 to 64
 abbrev pub draw_with : List (List ℕ) → Option Drawn → Option ℕ → Option Asked
-draw_with paths (Some drawn) (Some n) = asked_if (are_paths paths && nat_le 1 n && nat_le n 64) (Draw (word_at paths 0) (word_at paths 1) drawn n)
+draw_with paths (Some drawn) (Some n) =
+    asked_if (are_paths paths && nat_le 1 n && nat_le n 64)
+    (Draw (word_at paths 0) (word_at paths 1) drawn n)
 draw_with paths (Some drawn) None = None
 draw_with paths None most = None
 
@@ -189,7 +208,9 @@ most_in word = number_behind word (codes "--most=")
 
 -- --most=N, or one of the three
 abbrev pub draw_of_one : List (List ℕ) → List ℕ → Option Asked
-draw_of_one paths option = if sets_most option then draw_with paths (Some drawns.Shown) (most_in option) else draw_with paths (drawn_of option) (Some 16)
+draw_of_one paths option =
+    if sets_most option then draw_with paths (Some drawns.Shown) (most_in option)
+    else draw_with paths (drawn_of option) (Some 16)
 
 -- --most N, or --most=N before one of the three or behind it
 abbrev pub draw_of_two : List (List ℕ) → List ℕ → List ℕ → Option Asked
@@ -201,8 +222,11 @@ draw_of_two paths first second =
 -- --most N, before one of the three or behind it
 abbrev pub draw_of_three : List (List ℕ) → List (List ℕ) → Option Asked
 draw_of_three paths options =
-    if is_most (word_at options 0) then draw_with paths (drawn_of (word_at options 2)) (number_in (word_at options 1))
-    else (if is_most (word_at options 1) then draw_with paths (drawn_of (word_at options 0)) (number_in (word_at options 2)) else None)
+    if is_most (word_at options 0) then draw_with paths (drawn_of (word_at options 2))
+    (number_in (word_at options 1))
+    else (if is_most (word_at options 1) then draw_with paths (drawn_of (word_at options 0))
+    (number_in (word_at options 2))
+    else None)
 
 -- nothing, one of the three, a number of pictures, or both
 abbrev pub draw_by : List (List ℕ) → List (List ℕ) → Option Asked
@@ -214,7 +238,8 @@ draw_by paths options =
 
 -- MODEL TEST, with options before or behind them
 abbrev pub draw_of : List (List ℕ) → Option Asked
-draw_of words = if nat_lt (length words) 2 then None else draw_by (paths_of words) (options_of words)
+draw_of words =
+    if nat_lt (length words) 2 then None else draw_by (paths_of words) (options_of words)
 
 abbrev pub by_command : List ℕ → List (List ℕ) → Option Asked
 by_command command words =
@@ -228,4 +253,5 @@ by_command command words =
 
 -- what these words ask for, if they have a form
 abbrev pub asked_in : List (List ℕ) → Option Asked
-asked_in words = if nat_lt (length words) 2 then Some Stream else by_command (word_at words 1) (drop 2 words)
+asked_in words =
+    if nat_lt (length words) 2 then Some Stream else by_command (word_at words 1) (drop 2 words)

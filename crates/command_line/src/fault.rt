@@ -14,7 +14,8 @@ pub enum SessionFault {
     /// A growth was refused.
     #[error("memory")]
     Memory,
-    /// A desk refuses what its session accepts, has no number left, or shows edits that are not the session's.
+    /// A desk refuses what its session accepts, has no number left, or shows edits that are not the
+    /// session's.
     #[error("shared")]
     Shared,
 }

@@ -52,7 +52,8 @@ pub enum Form<'a> {
         models: &'a [&'a str],
         tests: &'a [&'a str],
     },
-    /// A script stands in a file, or on standard input: its commands are answered one after another, with so many workers.
+    /// A script stands in a file, or on standard input: its commands are answered one after
+    /// another, with so many workers.
     Session {
         script: Option<&'a str>,
         workers: u64,
@@ -65,7 +66,8 @@ pub enum Form<'a> {
         is_forbidden: bool,
         is_deep: bool,
     },
-    /// The tests of some files under the model of another, again whenever a file changes, with so many workers.
+    /// The tests of some files under the model of another, again whenever a file changes, with so
+    /// many workers.
     Watch {
         model: &'a str,
         tests: &'a [&'a str],
@@ -134,7 +136,8 @@ fn eval_form<'a>(words: &'a [&'a str]) -> Option<Form<'a>>
 }
 
 fn table_form<'a>(words: &'a [&'a str]) -> Option<Form<'a>>
-    ensures { option_map asked_by result ≡ table_of (texts_of words.now) (dashes (texts_of words.now)) }
+    ensures { option_map asked_by result
+        ≡ table_of (texts_of words.now) (dashes (texts_of words.now)) }
 {
     let split = dashes(words);
     if split == 0 || words.len() - split < 2 {
@@ -312,7 +315,8 @@ fn why_with<'a>(
     is_forbidden: bool,
     is_deep: bool,
 ) -> Option<Form<'a>>
-    ensures { option_map asked_by result ≡ why_with (texts_of paths.now) count is_forbidden is_deep }
+    ensures { option_map asked_by result
+        ≡ why_with (texts_of paths.now) count is_forbidden is_deep }
 {
     if are_paths(paths) && count == count_of(is_forbidden, is_deep) {
         let model = word_at(paths, 0);
@@ -432,7 +436,8 @@ fn draw_of_two<'a>(paths: &[&'a str], first: &str, second: &str) -> Option<Form<
 }
 
 fn draw_of_three<'a>(paths: &[&'a str], options: &[&str]) -> Option<Form<'a>>
-    ensures { option_map asked_by result ≡ draw_of_three (texts_of paths.now) (texts_of options.now) }
+    ensures { option_map asked_by result
+        ≡ draw_of_three (texts_of paths.now) (texts_of options.now) }
 {
     let first = word_at(options, 0);
     let second = word_at(options, 1);

@@ -1,5 +1,5 @@
-//! The command line: what its words ask for, why a run stops before its end, and the exit statuses. Read specs/Forms
-//! first, then Statuses.
+//! The command line: what its words ask for, why a run stops before its end, and the exit statuses.
+//! Read specs/Forms first, then Statuses.
 #![tactic(auto)]
 
 mod fault;

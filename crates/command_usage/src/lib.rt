@@ -321,7 +321,8 @@ fn refusal<'a>(alloc: Global, words: &'a [&'a str]) -> Result<Error, AllocError>
     }
 }
 
-/// Clap's usage, help or version for the words of a command line that have no form, the program's own name first.
+/// Clap's usage, help or version for the words of a command line that have no form, the program's
+/// own name first.
 pub fn usage<'a>(alloc: Global, words: &'a [&'a str]) -> Error {
     match refusal(alloc, words) {
         Ok(error) => error,

@@ -1,4 +1,5 @@
--- What a cell shows, and how a cell is told on one line: read this first, then Log, Columns and Differences.
+-- What a cell shows, and how a cell is told on one line: read this first, then Log, Columns and
+-- Differences.
 use Rattle.std.specs.Prelude.{ℕ, List, [], ◌++◌, Bool, true, false, decimal, codes}
 use Rattle.std.specs.List.{flat_map}
 use Rattle.verdict.specs.declared.answer.CountedState.{CountedState}

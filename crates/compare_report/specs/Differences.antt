@@ -35,7 +35,8 @@ abbrev pub of_both : CountedState → CountedState → SharedState
 of_both s t = record { text = s.text; first = s.count; second = t.count }
 
 -- the lesser of two first states goes before the states behind it; two equal ones are one
-abbrev pub by_order : Ordering → CountedState → CountedState → List SharedState → List SharedState → List SharedState → List SharedState
+abbrev pub by_order : Ordering → CountedState → CountedState → List SharedState → List SharedState
+    → List SharedState → List SharedState
 by_order Less s t behind_first behind_both behind_second = of_first s ∷ behind_first
 by_order Equal s t behind_first behind_both behind_second = of_both s t ∷ behind_both
 by_order Greater s t behind_first behind_both behind_second = of_second t ∷ behind_second
@@ -45,7 +46,8 @@ abbrev pub merged : List CountedState → List CountedState → List SharedState
 merged [] second = map of_second second
 merged (s ∷ first) [] = map of_first (s ∷ first)
 merged (s ∷ first) (t ∷ second) =
-    by_order (state_cmp s.values t.values) s t (merged first (t ∷ second)) (merged first second) (merged (s ∷ first) second)
+    by_order (state_cmp s.values t.values) s t (merged first (t ∷ second)) (merged first second)
+    (merged (s ∷ first) second)
 
 -- ---- the cells of a test
 
@@ -77,7 +79,8 @@ flag_lines e = flat_map flag_line e.flags
 -- whether a state's counts differ, or the flags
 abbrev pub evaluations_differ : Evaluation → Evaluation → Bool
 evaluations_differ e f =
-    list_any has_other_count (merged e.states f.states) || not (pointwise nat_eq (flag_lines e) (flag_lines f))
+    list_any has_other_count (merged e.states f.states)
+    || not (pointwise nat_eq (flag_lines e) (flag_lines f))
 
 -- whether two outcomes of a test differ
 abbrev pub results_differ : OutcomeResult → OutcomeResult → Bool
@@ -107,14 +110,17 @@ pub record Pair : Type 0 where
   pub second : Cell
 
 abbrev pub pair_of : TestPair → Pair
-pair_of test = record { name = test.name.now; first = cell_of test.first; second = cell_of test.second }
+pair_of test =
+    record { name = test.name.now; first = cell_of test.first; second = cell_of test.second }
 
 abbrev pub is_told_apart : Pair → Bool
 is_told_apart test = cells_differ test.first test.second
 
 -- a state with its two counts, on a line
 abbrev pub shared_line : SharedState → List ℕ
-shared_line s = codes "  " ++ decimal s.first ++ codes " " ++ decimal s.second ++ codes " " ++ s.text ++ line_end
+shared_line s =
+    codes "  " ++ decimal s.first ++ codes " " ++ decimal s.second ++ codes " " ++ s.text
+    ++ line_end
 
 -- nothing where the counts are the same
 abbrev pub state_difference : Bool → SharedState → List ℕ
@@ -125,10 +131,13 @@ abbrev pub state_differences : List SharedState → List ℕ
 state_differences states = flat_map (λ s. state_difference (has_other_count s) s) states
 
 abbrev pub pair_line : Pair → List ℕ
-pair_line test = test.name ++ codes ": " ++ cell_field test.first ++ codes " / " ++ cell_field test.second ++ line_end
+pair_line test =
+    test.name ++ codes ": " ++ cell_field test.first ++ codes " / " ++ cell_field test.second
+    ++ line_end
 
 abbrev pub test_difference : Bool → Pair → List ℕ
-test_difference true test = pair_line test ++ state_differences (shared_states test.first test.second)
+test_difference true test =
+    pair_line test ++ state_differences (shared_states test.first test.second)
 test_difference false test = []
 
 -- how many of so many tests are told apart
@@ -137,4 +146,5 @@ difference_line some all = decimal some ++ codes " of " ++ decimal all ++ codes 
 
 abbrev pub difference_of : List Pair → List ℕ
 difference_of tests =
-    flat_map (λ t. test_difference (is_told_apart t) t) tests ++ difference_line (length (filter is_told_apart tests)) (length tests)
+    flat_map (λ t. test_difference (is_told_apart t) t) tests
+    ++ difference_line (length (filter is_told_apart tests)) (length tests)

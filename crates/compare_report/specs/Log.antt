@@ -45,16 +45,21 @@ flag_line name = codes "Flag " ++ name ++ line_end
 
 -- the states and how many they are
 unfoldable pub state_lines : List CountedState → List ℕ
-state_lines states = codes "States " ++ decimal (length states) ++ line_end ++ flat_map state_line states
+state_lines states =
+    codes "States " ++ decimal (length states) ++ line_end ++ flat_map state_line states
 
 -- what the condition found
 unfoldable pub witness_lines : Bool → ℕ → ℕ → List ℕ
 witness_lines ok positive negative =
-    met_word ok ++ codes "\nWitnesses\nPositive: " ++ decimal positive ++ codes " Negative: " ++ decimal negative ++ line_end
+    met_word ok ++ codes "\nWitnesses\nPositive: " ++ decimal positive ++ codes " Negative: "
+    ++ decimal negative ++ line_end
 
--- the word of the observation, how many kept candidates satisfy the proposition, and how many do not
+-- the word of the observation, how many kept candidates satisfy the proposition, and how many do
+-- not
 unfoldable pub observation_text : Evaluation → List ℕ
-observation_text e = observation_word e.observation ++ codes " " ++ decimal e.positive ++ codes " " ++ decimal e.negative
+observation_text e =
+    observation_word e.observation ++ codes " " ++ decimal e.positive ++ codes " "
+    ++ decimal e.negative
 
 unfoldable pub observation_label : List ℕ → List ℕ
 observation_label name = codes "Observation " ++ name ++ codes " "
@@ -68,7 +73,8 @@ condition_line condition = codes "Condition " ++ condition ++ line_end
 -- an evaluation, of a test of this name and this printed condition
 abbrev pub evaluation_lines : List ℕ → List ℕ → Evaluation → List ℕ
 evaluation_lines name condition e =
-    state_lines e.states ++ witness_lines e.ok e.positive e.negative ++ flat_map flag_line e.flags ++ condition_line condition ++ observation_line name e
+    state_lines e.states ++ witness_lines e.ok e.positive e.negative ++ flat_map flag_line e.flags
+    ++ condition_line condition ++ observation_line name e
 
 unfoldable pub head_line : List ℕ → Quantifier → List ℕ
 head_line name kind = codes "Test " ++ name ++ codes " " ++ kind_word kind ++ line_end

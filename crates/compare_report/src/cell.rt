@@ -40,8 +40,8 @@ pub fn put_cell(text: &mut Vec<u8>, cell: Shown<'_>) -> Result<(), AllocError>
     }
 }
 
-/// The log of a cell of a test of this name: that of its outcome, `Open`, or nothing without a cell.
-/// Errors: want of memory.
+/// The log of a cell of a test of this name: that of its outcome, `Open`, or nothing without a
+/// cell. Errors: want of memory.
 pub fn log_text(alloc: Global, name: &[u8], cell: Shown<'_>) -> Result<Vec<u8>, AllocError>
     ensures { IfOk result (λ v. v.items ≡ cell_log name.now (cell_of cell.entry)) }
 {

@@ -86,8 +86,10 @@ struct LeastState<'a> {
 fn least_of_both<'a>(first: &'a [CountedState], second: &'a [CountedState]) -> LeastState<'a>
     requires first { 0 < length first.now }
     requires second { 0 < length second.now }
-    ensures value { merged first.now second.now ≡ result.state ∷ merged result.first.now result.second.now }
-    ensures shorter { length result.first.now + length result.second.now < length first.now + length second.now }
+    ensures value { merged first.now second.now
+        ≡ result.state ∷ merged result.first.now result.second.now }
+    ensures shorter { length result.first.now + length result.second.now
+        < length first.now + length second.now }
 {
     let state = &first[0];
     let other = &second[0];
@@ -111,8 +113,10 @@ fn least_of_both<'a>(first: &'a [CountedState], second: &'a [CountedState]) -> L
 }
 
 fn least_state<'a>(first: &'a [CountedState], second: &'a [CountedState]) -> Option<LeastState<'a>>
-    ensures value { MatchOption result (merged first.now second.now ≡ []) (λ l. merged first.now second.now ≡ l.state ∷ merged l.first.now l.second.now) }
-    ensures shorter { IfSome result (λ l. length l.first.now + length l.second.now < length first.now + length second.now) }
+    ensures value { MatchOption result (merged first.now second.now ≡ [])
+        (λ l. merged first.now second.now ≡ l.state ∷ merged l.first.now l.second.now) }
+    ensures shorter { IfSome result (λ l. length l.first.now + length l.second.now
+        < length first.now + length second.now) }
 {
     if first.is_empty() {
         if second.is_empty() {
@@ -255,7 +259,8 @@ fn put_shared(text: &mut Vec<u8>, state: &SharedState<'_>) -> Result<(), AllocEr
 }
 
 fn put_state(text: &mut Vec<u8>, state: &SharedState<'_>) -> Result<(), AllocError>
-    ensures { OnOk result (text.new.items ≡ text.old.items ++ state_difference (has_other_count state.now) state.now) }
+    ensures { OnOk result (text.new.items
+        ≡ text.old.items ++ state_difference (has_other_count state.now) state.now) }
 {
     if has_other_count(state) {
         put_shared(text, state)
@@ -286,7 +291,9 @@ fn put_pair(text: &mut Vec<u8>, test: &TestPair<'_>) -> Result<(), AllocError>
 
 // The lines of a test, and whether it is told apart.
 fn put_test(alloc: Global, text: &mut Vec<u8>, test: &TestPair<'_>) -> Result<bool, AllocError>
-    ensures { let pair = pair_of test.now in IfOk result (λ b. (b ≡ is_told_apart pair) × (text.new.items ≡ text.old.items ++ test_difference (is_told_apart pair) pair)) }
+    ensures { let pair = pair_of test.now in
+        IfOk result (λ b. (b ≡ is_told_apart pair)
+        × (text.new.items ≡ text.old.items ++ test_difference (is_told_apart pair) pair)) }
 {
     if !cells_differ(alloc, test.first, test.second)? {
         return Ok(false);
@@ -299,7 +306,11 @@ fn put_test(alloc: Global, text: &mut Vec<u8>, test: &TestPair<'_>) -> Result<bo
 
 // The lines of the tests, and how many are told apart.
 fn put_tests(alloc: Global, text: &mut Vec<u8>, tests: &[TestPair<'_>]) -> Result<u64, AllocError>
-    ensures { let pairs = map pair_of tests.now in IfOk result (λ n. (n ≡ length (filter is_told_apart pairs)) × (text.new.items ≡ text.old.items ++ flat_map (λ t. test_difference (is_told_apart t) t) pairs)) }
+    ensures { let pairs = map pair_of tests.now in
+        IfOk result (λ n. (n ≡ length (filter is_told_apart pairs))
+        × (text.new.items
+        ≡ text.old.items
+        ++ flat_map (λ t. test_difference (is_told_apart t) t) pairs)) }
 {
     let mut count: u64 = 0;
     for test in tests {
@@ -321,8 +332,8 @@ fn put_last_line(text: &mut Vec<u8>, count: u64, all: usize) -> Result<(), Alloc
 }
 
 /// Where the cells of the tests differ: for each test that is told apart its name and both cells,
-/// then each state whose counts differ with both counts, rising; and last how many of how many tests
-/// are told apart. Errors: want of memory.
+/// then each state whose counts differ with both counts, rising; and last how many of how many
+/// tests are told apart. Errors: want of memory.
 pub fn difference_text(alloc: Global, tests: &[TestPair<'_>]) -> Result<Vec<u8>, AllocError>
     ensures { IfOk result (λ v. v.items ≡ difference_of (map pair_of tests.now)) }
 {

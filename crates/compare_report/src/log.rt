@@ -107,7 +107,8 @@ fn put_witnesses(
 }
 
 fn put_found(text: &mut Vec<u8>, found: &Evaluation) -> Result<(), AllocError>
-    ensures { OnOk result (text.new.items ≡ text.old.items ++ witness_lines found.now.ok found.now.positive found.now.negative) }
+    ensures { OnOk result (text.new.items
+        ≡ text.old.items ++ witness_lines found.now.ok found.now.positive found.now.negative) }
 {
     put_witnesses(text, found.ok, found.positive, found.negative)
 }
@@ -178,7 +179,8 @@ fn put_evaluation(
     condition: &[u8],
     found: &Evaluation,
 ) -> Result<(), AllocError>
-    ensures { OnOk result (text.new.items ≡ text.old.items ++ evaluation_lines name.now condition.now found.now) }
+    ensures { OnOk result (text.new.items
+        ≡ text.old.items ++ evaluation_lines name.now condition.now found.now) }
 {
     put_states(text, &found.states)?;
     put_found(text, found)?;

@@ -43,7 +43,8 @@ fn push_name(fields: &mut Vec<Name>, alloc: Global, name: &[u8]) -> Result<(), A
 
 // A cell as a field.
 fn push_cell(fields: &mut Vec<Name>, alloc: Global, cell: Shown<'_>) -> Result<(), AllocError>
-    ensures { OnOk result (fields.new.items ≡ fields.old.items ++ cell_field (cell_of cell.entry) ∷ []) }
+    ensures { OnOk result (fields.new.items
+        ≡ fields.old.items ++ cell_field (cell_of cell.entry) ∷ []) }
 {
     let mut text = Vec::new(alloc);
     put_cell(&mut text, cell)?;
@@ -73,7 +74,8 @@ fn row_line(alloc: Global, row: &TestRow<'_>) -> Result<Line, AllocError>
 }
 
 fn lines(alloc: Global, models: &[Name], rows: &[TestRow<'_>]) -> Result<Vec<Line>, AllocError>
-    ensures { IfOk result (λ v. v.items ≡ head_fields models.now ∷ map row_fields (map row_of rows.now)) }
+    ensures { IfOk result (λ v. v.items
+        ≡ head_fields models.now ∷ map row_fields (map row_of rows.now)) }
 {
     let mut lines = Vec::with_capacity(alloc, rows.len())?;
     lines.push(head_line(alloc, models)?)?;
@@ -96,8 +98,10 @@ fn width_at(widths: &[usize], column: usize) -> usize
 // Widens a column to a width.
 fn widen_column(widths: &mut Vec<usize>, column: usize, width: usize) -> Result<(), AllocError>
     requires { column ≤ length widths.old.items }
-    ensures here { OnOk result (slice_index widths.new.items column ≡ max (slice_index widths.old.items column) width) }
-    ensures others { OnOk result ((k : ℕ) → (k ≡ column → ⊥) → slice_index widths.new.items k ≡ slice_index widths.old.items k) }
+    ensures here { OnOk result (slice_index widths.new.items column
+        ≡ max (slice_index widths.old.items column) width) }
+    ensures others { OnOk result ((k : ℕ) → (k ≡ column → ⊥)
+        → slice_index widths.new.items k ≡ slice_index widths.old.items k) }
     ensures count { OnOk result (column < length widths.new.items) }
 {
     if column < widths.len() {
@@ -110,7 +114,9 @@ fn widen_column(widths: &mut Vec<usize>, column: usize, width: usize) -> Result<
 
 // Widens the columns to the fields of a line.
 fn widen(widths: &mut Vec<usize>, line: &Line) -> Result<(), AllocError>
-    ensures { OnOk result ((k : ℕ) → slice_index widths.new.items k ≡ max (slice_index widths.old.items k) (field_width line.now k)) }
+    ensures { OnOk result ((k : ℕ)
+        → slice_index widths.new.items k
+        ≡ max (slice_index widths.old.items k) (field_width line.now k)) }
 {
     for (column, field) in line.fields.iter().enumerate() {
         widen_column(widths, column, field.as_bytes().len())?;
@@ -155,7 +161,8 @@ fn put_field(
 }
 
 fn put_line(text: &mut Vec<u8>, line: &Line, widths: &[usize]) -> Result<(), AllocError>
-    ensures { OnOk result (text.new.items ≡ text.old.items ++ line_from (slice_index widths.now) 0 line.now) }
+    ensures { OnOk result (text.new.items
+        ≡ text.old.items ++ line_from (slice_index widths.now) 0 line.now) }
 {
     let count = line.fields.len();
     for (column, field) in line.fields.iter().enumerate() {
@@ -166,7 +173,8 @@ fn put_line(text: &mut Vec<u8>, line: &Line, widths: &[usize]) -> Result<(), All
 }
 
 fn put_lines(text: &mut Vec<u8>, lines: &[Line], widths: &[usize]) -> Result<(), AllocError>
-    ensures { OnOk result (text.new.items ≡ text.old.items ++ flat_map (line_from (slice_index widths.now) 0) lines.now) }
+    ensures { OnOk result (text.new.items
+        ≡ text.old.items ++ flat_map (line_from (slice_index widths.now) 0) lines.now) }
 {
     for line in lines {
         put_line(text, line, widths)?;
@@ -175,8 +183,8 @@ fn put_lines(text: &mut Vec<u8>, lines: &[Line], widths: &[usize]) -> Result<(),
 }
 
 /// The table of these rows under the models of these names: a line `Test` and the names of the
-/// models, then a line a test, the fields parted by ` | ` and all but the last filled with spaces to
-/// the widest of their column. Errors: want of memory.
+/// models, then a line a test, the fields parted by ` | ` and all but the last filled with spaces
+/// to the widest of their column. Errors: want of memory.
 pub fn table_text(
     alloc: Global,
     models: &[Name],

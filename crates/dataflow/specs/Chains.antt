@@ -77,25 +77,29 @@ pub record IsLastWriter (at : Executed) (p : Place) (i j : ℕ) : Type 0 where
   pub writes : IsWritten (at i) p
   pub last : (k : ℕ) → i < k → k < j → IsWritten (at k) p → ⊥
 
--- the second instruction reads, as one of its operands, what the first wrote, and is of the kind that passes it on
+-- the second instruction reads, as one of its operands, what the first wrote, and is of the kind
+-- that passes it on
 abbrev pub FeedsOnward : (Instruction → Bool) → Executed → ℕ → ℕ → Type 0
 FeedsOnward passes at i j =
     IsTrue (passes (at j)) × ((p : Place) × IsOperand (at j) p × IsLastWriter at p i j)
 
--- a chain from one instruction to another, through those of the list in order, the last one included
+-- a chain from one instruction to another, through those of the list in order, the last one
+-- included
 abbrev pub Chain : (ℕ → ℕ → Type 0) → ℕ → List ℕ → ℕ → Type 0
 Chain Feeds i [] j = i ≡ j
 Chain Feeds i (k ∷ ks) j = Feeds i k × Chain Feeds k ks j
 
 -- what the instruction wrote reaches a place, as it is read at the second, by a chain
-pub record Reaches (passes : Instruction → Bool) (at : Executed) (i : ℕ) (p : Place) (j : ℕ) : Type 0 where
+pub record Reaches (passes : Instruction → Bool) (at : Executed) (i : ℕ) (p : Place) (j : ℕ)
+    : Type 0 where
   pub writer : ℕ
   pub through : List ℕ
   pub chain : Chain (FeedsOnward passes at) i through writer
   pub writes : IsLastWriter at p writer j
 
 -- a load reaches one of the places that the second instruction reads so
-abbrev pub LoadReaches : (Instruction → Bool) → (Instruction → Place → Type 0) → Executed → ℕ → ℕ → Type 0
+abbrev pub LoadReaches : (Instruction → Bool) → (Instruction → Place → Type 0) → Executed → ℕ → ℕ
+    → Type 0
 LoadReaches passes Reads at i j =
     IsTrue (is_load (at i))
     × ((p : Place) × Reads (at j) p × Reaches passes at i p j)
@@ -135,9 +139,12 @@ abbrev pub IsPairBefore : ℕ × ℕ → ℕ × ℕ → Type 0
 IsPairBefore p q = (p.0 < q.0) ⊎ ((p.0 ≡ q.0) × (p.1 < q.1))
 
 abbrev pub IsRising : List (ℕ × ℕ) → Type 0
-IsRising ps = (i j : ℕ) → i < j → j < length ps → IsPairBefore (slice_index_or ps i (0, 0)) (slice_index_or ps j (0, 0))
+IsRising ps =
+    (i j : ℕ) → i < j → j < length ps
+    → IsPairBefore (slice_index_or ps i (0, 0)) (slice_index_or ps j (0, 0))
 
 -- the list has just the pairs of the relation, in rising order
-pub record IsListOf (R : Executed → ℕ → ℕ → Type 0) (at : Executed) (ps : List (ℕ × ℕ)) : Type 0 where
+pub record IsListOf (R : Executed → ℕ → ℕ → Type 0) (at : Executed) (ps : List (ℕ × ℕ))
+    : Type 0 where
   pub rising : IsRising ps
   pub exact : (p : ℕ × ℕ) → Contains ps p ↔ OfEvents R at p

@@ -7,13 +7,14 @@ use Rattle.dataflow.specs.Taints.{operand_word, noted, clean_taints}
 use Rattle.dataflow.specs.declared.pass.Control.{Control}
 use Rattle.dataflow.specs.Chains.{Executed, IsCtrl, IsCtrlIsync, is_isync}
 
--- what is known of the loads after an instruction: those that reach the CR0 of a conditional branch, and those that
--- did so before an `isync`
+-- what is known of the loads after an instruction: those that reach the CR0 of a conditional
+-- branch, and those that did so before an `isync`
 abbrev pub branched_after : Instruction → Taints → ℕ → ℕ
 branched_after i t branched = if is_branch i then bit_or branched (operand_word i t) else branched
 
 abbrev pub synchronised_after : Instruction → ℕ → ℕ → ℕ
-synchronised_after i branched synchronised = if is_isync i then bit_or synchronised branched else synchronised
+synchronised_after i branched synchronised =
+    if is_isync i then bit_or synchronised branched else synchronised
 
 abbrev pub steered : Instruction → ℕ → Control → Control
 steered i index c = record {

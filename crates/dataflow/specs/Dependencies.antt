@@ -21,4 +21,5 @@ pub record HasNoLinks (links : Links) : Type 0 where
 -- the pairs of an index whose bit a word has, and the index of the word
 pub record ArePairs (words : List ℕ) (count : ℕ) (ps : List (ℕ × ℕ)) : Type 0 where
   pub rising : IsRising ps
-  pub exact : (p : ℕ × ℕ) → Contains ps p ↔ ((p.0 < count) × (p.1 < count) × Bit (slice_index words p.1) p.0)
+  pub exact : (p : ℕ × ℕ)
+      → Contains ps p ↔ ((p.0 < count) × (p.1 < count) × Bit (slice_index words p.1) p.0)

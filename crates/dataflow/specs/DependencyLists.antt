@@ -20,10 +20,11 @@ dependency_lists d = record {
 abbrev pub no_dependencies : DependencyLists
 no_dependencies = record { addr_pairs = []; data_pairs = []; ctrl_pairs = []; ctrlisync_pairs = [] }
 
--- pairs of events of a run, by the numbers that they have where its first event has the number `base`, up to the
--- greatest number that there is
+-- pairs of events of a run, by the numbers that they have where its first event has the number
+-- `base`, up to the greatest number that there is
 abbrev pub renumbered_pairs : ℕ → List (ℕ × ℕ) → List (ℕ × ℕ)
-renumbered_pairs base ps = map (λ p. (min (base + p.0) (2 ^ 64 - 1), min (base + p.1) (2 ^ 64 - 1))) ps
+renumbered_pairs base ps =
+    map (λ p. (min (base + p.0) (2 ^ 64 - 1), min (base + p.1) (2 ^ 64 - 1))) ps
 
 -- with those of such a run
 abbrev pub with_dependencies : ℕ → DependencyLists → DependencyLists → DependencyLists

@@ -53,7 +53,8 @@ IsReadFrom e initial threads (From t j) v = Contains threads (e.ran t).thread ×
 -- the second load reads from a store that needs the first
 abbrev pub Precedes : Execution → ℕ → ℕ → Type 0
 Precedes e m l =
-    (j : ℕ) × ((e.load l).source ≡ From (e.load m).thread j) × IsNeed (executed_by e (e.load m).thread) (e.load m).index j
+    (j : ℕ) × ((e.load l).source ≡ From (e.load m).thread j)
+    × IsNeed (executed_by e (e.load m).thread) (e.load m).index j
 
 -- an event of the graph of `rf` and `need`: a load by its number, a store by its thread and index
 pub data Node : Type 0 where
@@ -63,7 +64,8 @@ pub data Node : Type 0 where
 -- a store leads to the loads that read from it, and a load to the stores that need it
 abbrev pub Leads : Execution → Node → Node → Type 0
 Leads e (StoreNode t j) (LoadNode l) = (e.load l).source ≡ From t j
-Leads e (LoadNode m) (StoreNode t j) = ((e.load m).thread ≡ t) × IsNeed (executed_by e t) (e.load m).index j
+Leads e (LoadNode m) (StoreNode t j) =
+    ((e.load m).thread ≡ t) × IsNeed (executed_by e t) (e.load m).index j
 Leads e _ _ = ⊥
 
 abbrev pub Way : {X : Type 0} → (X → X → Type 0) → X → List X → X → Type 0
@@ -72,14 +74,19 @@ Way R a (c ∷ cs) b = R a c × Way R c cs b
 
 -- what must hold of an execution, its loads having any values
 pub record IsExecution (initial : List Value) (threads : List Thread) (e : Execution) : Type 0 where
-  pub runs : (t : ℕ) → Contains threads (e.ran t).thread → run_of (e.ran t).thread.lines (e.ran t).thread.first (e.ran t).values ≡ Some (e.ran t).outcome
-  pub numbered : (t i : ℕ) → IsTrue (is_load (executed_by e t i)) → (m : ℕ) × (m < e.count) × ((e.load m).thread ≡ t) × ((e.load m).index ≡ i)
+  pub runs : (t : ℕ) → Contains threads (e.ran t).thread
+      → run_of (e.ran t).thread.lines (e.ran t).thread.first (e.ran t).values
+      ≡ Some (e.ran t).outcome
+  pub numbered : (t i : ℕ) → IsTrue (is_load (executed_by e t i))
+      → (m : ℕ) × (m < e.count) × ((e.load m).thread ≡ t) × ((e.load m).index ≡ i)
   pub proper : (l : ℕ) → l < e.count → value_read e l ≡ NoValue → ⊥
-  pub reads : (l : ℕ) → l < e.count → IsReadFrom e initial threads (e.load l).source (value_read e l)
+  pub reads : (l : ℕ) → l < e.count
+      → IsReadFrom e initial threads (e.load l).source (value_read e l)
   pub acyclic : (x : Node) (through : List Node) → Way (Leads e) x through x → ⊥
   pub some_initial : (v : Value) × Contains initial v
 
 -- each value that is read is in the domain, after as many rounds as there are loads
 abbrev pub LosesNothing : List Value → List Thread → Execution → Type 0
 LosesNothing initial threads e =
-    IsExecution initial threads e → (l : ℕ) → l < e.count → InDomain initial threads e.count (value_read e l)
+    IsExecution initial threads e → (l : ℕ) → l < e.count
+    → InDomain initial threads e.count (value_read e l)

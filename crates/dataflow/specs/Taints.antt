@@ -9,7 +9,8 @@ use Rattle.bit_relations.specs.Relation.{Bit}
 
 -- some load with this index among the events reaches the place
 abbrev pub TaintOf : (Instruction → Bool) → Executed → ℕ → Place → ℕ → Type 0
-TaintOf passes at n p e = (i : ℕ) × IsTrue (is_load (at i)) × (event_place at i ≡ e) × Reaches passes at i p n
+TaintOf passes at n p e =
+    (i : ℕ) × IsTrue (is_load (at i)) × (event_place at i ≡ e) × Reaches passes at i p n
 
 abbrev pub word_of : Taints → Place → ℕ
 word_of t (Register r) = slice_index t.registers r
@@ -31,7 +32,8 @@ passes_of false i = is_plain i
 -- the bits of what an instruction writes: a load's own, or those of its operands
 abbrev pub IsOrigin : Bool → Instruction → ℕ → Taints → ℕ → Type 0
 IsOrigin narrow i index t e =
-    (IsTrue (is_load i) × (index ≡ e)) ⊎ (IsTrue (passes_of narrow i) × ((a : Place) × IsOperand i a × Bit (word_of t a) e))
+    (IsTrue (is_load i) × (index ≡ e))
+    ⊎ (IsTrue (passes_of narrow i) × ((a : Place) × IsOperand i a × Bit (word_of t a) e))
 
 -- a place that is within the file of registers
 abbrev pub IsPlace : Place → Type 0
@@ -53,7 +55,8 @@ abbrev pub bit_word : ℕ → ℕ
 bit_word index = 1 * 2 ^ index % 2 ^ 128
 
 abbrev pub origin_word : Bool → Instruction → ℕ → Taints → ℕ
-origin_word narrow i index t = if is_load i then bit_word index else if passes_of narrow i then operand_word i t else 0
+origin_word narrow i index t =
+    if is_load i then bit_word index else if passes_of narrow i then operand_word i t else 0
 
 abbrev pub with_word : Instruction → ℕ → Taints → Taints
 with_word (Immediate d n) w t = record t { registers = slice_set t.registers d w }
@@ -71,17 +74,21 @@ noted narrow i index t = with_word i (origin_word narrow i index t) t
 
 -- after an instruction: what it writes has its operands' bits, or a load's own
 pub record IsStep (narrow : Bool) (i : Instruction) (index : ℕ) (old new : Taints) : Type 0 where
-  pub written : (p : Place) → IsPlace p → IsWritten i p → (e : ℕ) → Bit (word_of new p) e ↔ IsOrigin narrow i index old e
+  pub written : (p : Place) → IsPlace p → IsWritten i p → (e : ℕ)
+      → Bit (word_of new p) e ↔ IsOrigin narrow i index old e
   pub kept : (p : Place) → (IsWritten i p → ⊥) → word_of new p ≡ word_of old p
 
--- a word that is not 0 is that of a place that some instruction writes, from the first index on, before the second
+-- a word that is not 0 is that of a place that some instruction writes, from the first index on,
+-- before the second
 pub record IsWrittenBetween (at : Executed) (from to : ℕ) (t : Taints) : Type 0 where
   pub height : length t.registers ≡ 256
-  pub writers : (p : Place) → IsPlace p → (word_of t p ≡ 0) ⊎ ((j : ℕ) × (from ≤ j) × (j < to) × IsWritten (at j) p)
+  pub writers : (p : Place) → IsPlace p
+      → (word_of t p ≡ 0) ⊎ ((j : ℕ) × (from ≤ j) × (j < to) × IsWritten (at j) p)
 
 -- the words are those of the loads that reach each place
 abbrev pub AreTaints : (Instruction → Bool) → Executed → ℕ → Taints → Type 0
-AreTaints passes at n t = (p : Place) → IsPlace p → (e : ℕ) → Bit (word_of t p) e ↔ TaintOf passes at n p e
+AreTaints passes at n t =
+    (p : Place) → IsPlace p → (e : ℕ) → Bit (word_of t p) e ↔ TaintOf passes at n p e
 
 -- how an access reads: the address, or what it stores
 abbrev pub reads_of : Bool → Instruction → Place → Type 0
@@ -103,7 +110,8 @@ pub record IsWithinFile (i : Instruction) : Type 0 where
   pub addresses : (p : Place) → IsAddressRegister i p → IsPlace p
   pub stored : (p : Place) → IsStoredRegister i p → IsPlace p
 
--- at each event, the word has the loads of which the relation holds, by their indexes among the events
+-- at each event, the word has the loads of which the relation holds, by their indexes among the
+-- events
 abbrev pub AreColumnsOf : (Executed → ℕ → ℕ → Type 0) → Executed → ℕ → List ℕ → Type 0
 AreColumnsOf R at n words = (j : ℕ) → j < n → IsTrue (is_event (at j)) → (e : ℕ)
     → Bit (slice_index words (event_place at j)) e ↔ ((i : ℕ) × (event_place at i ≡ e) × R at i j)

@@ -6,5 +6,6 @@ ghost use Rattle.dataflow.specs.Execution.{Execution, LosesNothing};
 
 /// Whatever values its loads have, an execution reads only values of the domain.
 pub fn domain_loses_nothing()
-    ensures { (initial : List Value) (threads : List Thread) (e : Execution) → LosesNothing initial threads e }
+    ensures { (initial : List Value) (threads : List Thread) (e : Execution)
+        → LosesNothing initial threads e }
 {}

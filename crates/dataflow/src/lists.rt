@@ -76,7 +76,8 @@ impl Dependencies {
 
     /// Adds those of a run whose first event has the number `base`. Errors: want of memory.
     pub fn add(&mut self, more: &Dependencies, base: usize) -> Result<(), AllocError>
-        ensures { OnOk result (dependency_lists self.new ≡ with_dependencies base (dependency_lists more.now) (dependency_lists self.old)) }
+        ensures { OnOk result (dependency_lists self.new
+            ≡ with_dependencies base (dependency_lists more.now) (dependency_lists self.old)) }
     {
         add_pairs(&mut self.addr_pairs, &more.addr_pairs, base)?;
         add_pairs(&mut self.data_pairs, &more.data_pairs, base)?;

@@ -90,7 +90,8 @@ fn control_columns(
 )
     requires few { chains.event_place (runs.executed steps.now) (length steps.now) ≤ 128 }
     requires clean { control.old ≡ steering.clean_control }
-    ensures columns { taint.AreColumnsOf (steering.control_of synchronised) (runs.executed steps.now) (length steps.now) columns.new }
+    ensures columns { taint.AreColumnsOf (steering.control_of synchronised)
+        (runs.executed steps.now) (length steps.now) columns.new }
     ensures clean { control.new ≡ steering.clean_control }
 {
     let mut index = 0;
@@ -164,14 +165,19 @@ impl Workspace {
         }
     }
 
-    /// How the loads of the run reach its events: along chains of instructions that are no accesses,
-    /// each of which reads a register, or CR0, that was last written by the one before. An exclusive
-    /// or, or a difference, of a register with itself carries all but `need`. A run of over 128 events
-    /// has no links. Errors: want of memory.
+    /// How the loads of the run reach its events: along chains of instructions that are no
+    /// accesses, each of which reads a register, or CR0, that was last written by the one before.
+    /// An exclusive or, or a difference, of a register with itself carries all but `need`. A run of
+    /// over 128 events has no links. Errors: want of memory.
     pub fn links(&mut self, alloc: Global, run: &Run) -> Result<Links, AllocError>
-        ensures within { IfOk result (IsWithin (chains.event_place (runs.executed run.now.steps.items) (length run.now.steps.items))) }
-        ensures exact { chains.event_place (runs.executed run.now.steps.items) (length run.now.steps.items) ≤ 128 → IfOk result (found.AreLinks (runs.executed run.now.steps.items)) }
-        ensures none { 128 < chains.event_place (runs.executed run.now.steps.items) (length run.now.steps.items) → IfOk result found.HasNoLinks }
+        ensures within { IfOk result (IsWithin (chains.event_place
+            (runs.executed run.now.steps.items) (length run.now.steps.items))) }
+        ensures exact { chains.event_place (runs.executed run.now.steps.items)
+            (length run.now.steps.items) ≤ 128
+            → IfOk result (found.AreLinks (runs.executed run.now.steps.items)) }
+        ensures none { 128
+            < chains.event_place (runs.executed run.now.steps.items)
+            (length run.now.steps.items) → IfOk result found.HasNoLinks }
     {
         let steps = &run.steps;
         let count = event_count(steps);
@@ -202,9 +208,14 @@ impl Workspace {
 
 /// The links of a run, in a workspace of its own. Errors: want of memory.
 pub fn links(alloc: Global, run: &Run) -> Result<Links, AllocError>
-    ensures within { IfOk result (IsWithin (chains.event_place (runs.executed run.now.steps.items) (length run.now.steps.items))) }
-    ensures exact { chains.event_place (runs.executed run.now.steps.items) (length run.now.steps.items) ≤ 128 → IfOk result (found.AreLinks (runs.executed run.now.steps.items)) }
-    ensures none { 128 < chains.event_place (runs.executed run.now.steps.items) (length run.now.steps.items) → IfOk result found.HasNoLinks }
+    ensures within { IfOk result (IsWithin (chains.event_place (runs.executed run.now.steps.items)
+        (length run.now.steps.items))) }
+    ensures exact { chains.event_place (runs.executed run.now.steps.items)
+        (length run.now.steps.items) ≤ 128
+        → IfOk result (found.AreLinks (runs.executed run.now.steps.items)) }
+    ensures none { 128
+        < chains.event_place (runs.executed run.now.steps.items) (length run.now.steps.items)
+        → IfOk result found.HasNoLinks }
 {
     let mut workspace = Workspace::new();
     workspace.links(alloc, run)

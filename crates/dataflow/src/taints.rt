@@ -7,7 +7,8 @@ ghost use Rattle.dataflow.specs.Taints as taint;
 
 use thread_runs::{Instruction, RunStep, cancels, is_load};
 
-/// For each register, and for CR0, the loads that reach it: bits, by their indexes among the events.
+/// For each register, and for CR0, the loads that reach it: bits, by their indexes among the
+/// events.
 #[derive(Clone, Copy)]
 pub struct Taints {
     /// By the register's number.
@@ -159,7 +160,8 @@ pub fn is_event(instruction: Instruction) -> bool
 /// Every register is within the file of registers: nothing is done, and the contract says it.
 pub fn registers_fit(instruction: Instruction)
     ensures operands { (p : chains.Place) → chains.IsOperand instruction p → taint.IsPlace p }
-    ensures addresses { (p : chains.Place) → chains.IsAddressRegister instruction p → taint.IsPlace p }
+    ensures addresses { (p : chains.Place) → chains.IsAddressRegister instruction p
+        → taint.IsPlace p }
     ensures stored { (p : chains.Place) → chains.IsStoredRegister instruction p → taint.IsPlace p }
 {
     match instruction {
@@ -190,7 +192,8 @@ pub fn reach(
 )
     requires few { chains.event_place (runs.executed steps.now) (length steps.now) ≤ 128 }
     requires clean { taints.old ≡ taint.clean_taints }
-    ensures columns { taint.AreColumns narrow stored (runs.executed steps.now) (length steps.now) columns.new }
+    ensures columns { taint.AreColumns narrow stored (runs.executed steps.now) (length steps.now)
+        columns.new }
     ensures clean { taints.new ≡ taint.clean_taints }
 {
     let mut index = 0;

@@ -24,7 +24,8 @@ with_outcome zero o (c ∷ cs) = settled_with o c ∷ cs
 with_outcome (suc i) o (c ∷ cs) = c ∷ with_outcome i o cs
 
 -- the cell of a test and a model is among these, and settled
-pub record IsSettledOn {O : Type 0} (cells : List (BoardCell O)) (test model : List ℕ) : Type 0 where
+pub record IsSettledOn {O : Type 0} (cells : List (BoardCell O)) (test model : List ℕ)
+    : Type 0 where
   pub index : ℕ
   pub cell : BoardCell O
   pub there : slice_get cells index ≡ Some cell
@@ -34,14 +35,19 @@ pub record IsSettledOn {O : Type 0} (cells : List (BoardCell O)) (test model : L
 
 -- every cell is settled
 abbrev pub AreSettled : {O : Type 0} → List (BoardCell O) → Type 0
-AreSettled {O} cells = (index : ℕ) (cell : BoardCell O) → slice_get cells index ≡ Some cell → IsSome cell.outcome
+AreSettled {O} cells =
+    (index : ℕ) (cell : BoardCell O) → slice_get cells index ≡ Some cell → IsSome cell.outcome
 
 -- each cell that is settled on the bench is settled among these
-abbrev pub ArePosted : {T E V G O : Type 0} → (T → Net G) → Cells T E V O → Bench T V → List (BoardCell O) → Type 0
-ArePosted {T} {E} {V} {G} {O} net of bench cells = (test model : List ℕ) (o : O) → IsSettledCell net of bench test model o → IsSettledOn cells test model
+abbrev pub ArePosted : {T E V G O : Type 0} → (T → Net G) → Cells T E V O → Bench T V
+    → List (BoardCell O) → Type 0
+ArePosted {T} {E} {V} {G} {O} net of bench cells =
+    (test model : List ℕ) (o : O) → IsSettledCell net of bench test model o
+    → IsSettledOn cells test model
 
 -- a cell of these names is among these, at an index of the range
-pub record IsListedWithin {O : Type 0} (cells : List (BoardCell O)) (first end : ℕ) (test model : List ℕ) : Type 0 where
+pub record IsListedWithin {O : Type 0} (cells : List (BoardCell O)) (first end : ℕ)
+    (test model : List ℕ) : Type 0 where
   pub index : ℕ
   pub from_first : first ≤ index
   pub before_end : index < end
@@ -51,30 +57,40 @@ pub record IsListedWithin {O : Type 0} (cells : List (BoardCell O)) (first end :
   pub model_is : cell.model ≡ model
 
 -- the cells whose verdicts stand on the node are among these, at indexes of the range
-abbrev pub HoldsAbove : {G O : Type 0} → Net G → (List ℕ → List ℕ → Option Node) → Node → List (BoardCell O) → (first end : ℕ) → Type 0
+abbrev pub HoldsAbove : {G O : Type 0} → Net G → (List ℕ → List ℕ → Option Node) → Node
+    → List (BoardCell O) → (first end : ℕ) → Type 0
 HoldsAbove net verdict_of node cells first end =
-    (test model : List ℕ) (verdict : Node) → verdict_of test model ≡ Some verdict → StandsOn net verdict node → IsListedWithin cells first end test model
+    (test model : List ℕ) (verdict : Node) → verdict_of test model ≡ Some verdict
+    → StandsOn net verdict node → IsListedWithin cells first end test model
 
 -- so it is for each cell, where no node is given
-abbrev pub HoldsFor : {G O : Type 0} → Net G → (List ℕ → List ℕ → Option Node) → Option Node → List (BoardCell O) → (first end : ℕ) → Type 0
+abbrev pub HoldsFor : {G O : Type 0} → Net G → (List ℕ → List ℕ → Option Node) → Option Node
+    → List (BoardCell O) → (first end : ℕ) → Type 0
 HoldsFor net verdict_of None cells first end =
-    (test model : List ℕ) (verdict : Node) → verdict_of test model ≡ Some verdict → IsListedWithin cells first end test model
+    (test model : List ℕ) (verdict : Node) → verdict_of test model ≡ Some verdict
+    → IsListedWithin cells first end test model
 HoldsFor net verdict_of (Some node) cells first end = HoldsAbove net verdict_of node cells first end
 
--- each cell whose verdict stands on the node, and that is settled on the bench, is settled among these
-abbrev pub ArePostedAbove : {T E V G O : Type 0} → (T → Net G) → Cells T E V O → Bench T V → Node → List (BoardCell O) → Type 0
+-- each cell whose verdict stands on the node, and that is settled on the bench, is settled among
+-- these
+abbrev pub ArePostedAbove : {T E V G O : Type 0} → (T → Net G) → Cells T E V O → Bench T V → Node
+    → List (BoardCell O) → Type 0
 ArePostedAbove {T} {E} {V} {G} {O} net of bench node cells =
-    (test model : List ℕ) (o : O) (s : IsSettledCell net of bench test model o) → StandsOn (net bench.texts) s.verdict node → IsSettledOn cells test model
+    (test model : List ℕ) (o : O) (s : IsSettledCell net of bench test model o)
+    → StandsOn (net bench.texts) s.verdict node → IsSettledOn cells test model
 
 -- so it is for each cell, where no node is given
-abbrev pub ArePostedFor : {T E V G O : Type 0} → (T → Net G) → Cells T E V O → Bench T V → Option Node → List (BoardCell O) → Type 0
+abbrev pub ArePostedFor : {T E V G O : Type 0} → (T → Net G) → Cells T E V O → Bench T V
+    → Option Node → List (BoardCell O) → Type 0
 ArePostedFor net of bench None cells = ArePosted net of bench cells
 ArePostedFor net of bench (Some node) cells = ArePostedAbove net of bench node cells
 
 -- each cell that is settled on the bench is settled among these, or its verdict stands on the node
-abbrev pub ArePostedBut : {T E V G O : Type 0} → (T → Net G) → Cells T E V O → Bench T V → Node → List (BoardCell O) → Type 0
+abbrev pub ArePostedBut : {T E V G O : Type 0} → (T → Net G) → Cells T E V O → Bench T V → Node
+    → List (BoardCell O) → Type 0
 ArePostedBut {T} {E} {V} {G} {O} net of bench node cells =
-    (test model : List ℕ) (o : O) (s : IsSettledCell net of bench test model o) → IsSettledOn cells test model ⊎ StandsOn (net bench.texts) s.verdict node
+    (test model : List ℕ) (o : O) (s : IsSettledCell net of bench test model o)
+    → IsSettledOn cells test model ⊎ StandsOn (net bench.texts) s.verdict node
 
 -- the later cell is of the same test and model, and settled where the earlier one was
 pub record IsKept {O : Type 0} (c d : BoardCell O) : Type 0 where
@@ -84,4 +100,6 @@ pub record IsKept {O : Type 0} (c d : BoardCell O) : Type 0 where
 
 -- each cell stands at its index, and what was settled is so
 abbrev pub AreKept : {O : Type 0} → (old new : List (BoardCell O)) → Type 0
-AreKept {O} old new = (index : ℕ) (c : BoardCell O) → slice_get old index ≡ Some c → (d : BoardCell O) × (slice_get new index ≡ Some d) × IsKept c d
+AreKept {O} old new =
+    (index : ℕ) (c : BoardCell O) → slice_get old index ≡ Some c
+    → (d : BoardCell O) × (slice_get new index ≡ Some d) × IsKept c d

@@ -20,31 +20,47 @@ pub record Held (T V O : Type 0) : Type 0 where
   pub published : List O  -- what readers see
   pub spare : ℕ  -- how many viewers are left to give
   pub closed : Bool
-  -- false only where readers see all operations, and each cell that is settled on the bench is settled there; where it is true, the
-  -- next call tries again
+  -- false only where readers see all operations, and each cell that is settled on the bench is
+  -- settled there; where it is true, the next call tries again
   pub owes : Bool
 
 abbrev pub held : {T V O : Type 0} → Bench T V → List O → List O → ℕ → Bool → Bool → Held T V O
-held bench all published spare closed owes = record { bench = bench; all = all; published = published; spare = spare; closed = closed; owes = owes }
+held bench all published spare closed owes =
+    record {
+      bench = bench;
+      all = all;
+      published = published;
+      spare = spare;
+      closed = closed;
+      owes = owes;
+    }
 
--- where nothing is owed, all is published, and each cell that is settled on the bench is settled there
-abbrev pub IsShownOrOwed : {T V O : Type 0} → (are_posted : Bench T V → List O → Type 0) → Held T V O → Type 0
-IsShownOrOwed are_posted desk = desk.owes ≡ false → (desk.published ≡ desk.all) × are_posted desk.bench desk.published
+-- where nothing is owed, all is published, and each cell that is settled on the bench is settled
+-- there
+abbrev pub IsShownOrOwed : {T V O : Type 0} → (are_posted : Bench T V → List O → Type 0)
+    → Held T V O → Type 0
+IsShownOrOwed are_posted desk =
+    desk.owes ≡ false → (desk.published ≡ desk.all) × are_posted desk.bench desk.published
 
 abbrev pub number_of : Accepted → ℕ
 number_of (Now number) = number
 number_of (Later number) = number
 
--- operations that settle cells were appended, and nothing else changed but the bench and what is published
-pub record Appends {T V O : Type 0} (is_settle : O → Type 0) (before : List O) (old new : Held T V O) : Type 0 where
+-- operations that settle cells were appended, and nothing else changed but the bench and what is
+-- published
+pub record Appends {T V O : Type 0} (is_settle : O → Type 0) (before : List O)
+    (old new : Held T V O) : Type 0 where
   pub settles : List O
   pub are_settles : Each is_settle settles
   pub all : new.all ≡ before ++ settles
   pub spare : new.spare ≡ old.spare
   pub closed : new.closed ≡ old.closed
 
--- one edit was made under the next number, and its operation, which is that of the edit after these, appended
-pub record IsMade {T E V G O : Type 0} (means : Meaning T E V G) (is_edit : List O → O → E → ℕ → Type 0) (e : E) (old new : Bench T V) (before after : List O) (number : ℕ) : Type 0 where
+-- one edit was made under the next number, and its operation, which is that of the edit after
+-- these, appended
+pub record IsMade {T E V G O : Type 0} (means : Meaning T E V G)
+    (is_edit : List O → O → E → ℕ → Type 0) (e : E) (old new : Bench T V) (before after : List O)
+    (number : ℕ) : Type 0 where
   pub step : Step means old (core.Edit e) new
   pub number_is : number ≡ old.taken + 1
   pub op : O
@@ -52,18 +68,25 @@ pub record IsMade {T E V G O : Type 0} (means : Meaning T E V G) (is_edit : List
   pub list : after ≡ before ++ op ∷ []
 
 -- so it is, and settled cells were appended after it
-pub record IsEditTurn {T E V G O : Type 0} (means : Meaning T E V G) (is_edit : List O → O → E → ℕ → Type 0) (is_settle : O → Type 0) (e : E) (old new : Held T V O) (number : ℕ) : Type 0 where
+pub record IsEditTurn {T E V G O : Type 0} (means : Meaning T E V G)
+    (is_edit : List O → O → E → ℕ → Type 0) (is_settle : O → Type 0) (e : E) (old new : Held T V O)
+    (number : ℕ) : Type 0 where
   pub list : List O
   pub made : IsMade means is_edit e old.bench new.bench old.all list number
   pub appends : Appends is_settle list old new
 
--- all is published and the viewer was told; or readers see what they saw, and the viewer knows what it knew
-abbrev pub Publishes : {T V O : Type 0} → (old new : Held T V O) → (me me' : List O) → Accepted → Type 0
+-- all is published and the viewer was told; or readers see what they saw, and the viewer knows what
+-- it knew
+abbrev pub Publishes : {T V O : Type 0} → (old new : Held T V O) → (me me' : List O) → Accepted
+    → Type 0
 Publishes old new me me' (Now number) = (new.published ≡ new.all) × (me' ≡ new.all)
 Publishes old new me me' (Later number) = (new.published ≡ old.published) × (me' ≡ me)
 
--- the later list is legal: it goes on from the earlier one, has the edit at its number, and ends with what was appended after it
-pub record HasEdit {E O : Type 0} (is_legal : List O → Type 0) (is_edit : List O → O → E → ℕ → Type 0) (is_settle : O → Type 0) (e : E) (number : ℕ) (me me' : List O) : Type 0 where
+-- the later list is legal: it goes on from the earlier one, has the edit at its number, and ends
+-- with what was appended after it
+pub record HasEdit {E O : Type 0} (is_legal : List O → Type 0)
+    (is_edit : List O → O → E → ℕ → Type 0) (is_settle : O → Type 0) (e : E) (number : ℕ)
+    (me me' : List O) : Type 0 where
   pub between : List O
   pub op : O
   pub is : is_edit (me ++ between) op e number
@@ -72,16 +95,21 @@ pub record HasEdit {E O : Type 0} (is_legal : List O → Type 0) (is_edit : List
   pub list : me' ≡ ((me ++ between) ++ op ∷ []) ++ settles
   pub legal : is_legal me'
 
--- the viewer was told a list that has the edit; or it knows what it knew, and there is such a list, which is published next
-abbrev pub Tells : {E O : Type 0} → (List O → Type 0) → (List O → O → E → ℕ → Type 0) → (O → Type 0) → E → (me me' : List O) → Accepted → Type 0
-Tells {O = O} is_legal is_edit is_settle e me me' (Now number) = HasEdit is_legal is_edit is_settle e number me me'
-Tells {O = O} is_legal is_edit is_settle e me me' (Later number) = (me' ≡ me) × ((later : List O) × HasEdit is_legal is_edit is_settle e number me later)
+-- the viewer was told a list that has the edit; or it knows what it knew, and there is such a list,
+-- which is published next
+abbrev pub Tells : {E O : Type 0} → (List O → Type 0) → (List O → O → E → ℕ → Type 0) → (O → Type 0)
+    → E → (me me' : List O) → Accepted → Type 0
+Tells {O = O} is_legal is_edit is_settle e me me' (Now number) =
+    HasEdit is_legal is_edit is_settle e number me me'
+Tells {O = O} is_legal is_edit is_settle e me me' (Later number) =
+    (me' ≡ me) × ((later : List O) × HasEdit is_legal is_edit is_settle e number me later)
 
 -- readers see all operations, or what they saw
 abbrev pub ShowsAllOrAsBefore : {T V O : Type 0} → (old new : Held T V O) → Type 0
 ShowsAllOrAsBefore old new = (new.published ≡ new.all) ⊎ (new.published ≡ old.published)
 
--- the desk is closed, and what was owed was tried once more: operations that settle cells may have been appended
+-- the desk is closed, and what was owed was tried once more: operations that settle cells may have
+-- been appended
 pub record IsClosing {T V O : Type 0} (is_settle : O → Type 0) (old new : Held T V O) : Type 0 where
   pub settles : List O
   pub are_settles : Each is_settle settles
@@ -90,14 +118,18 @@ pub record IsClosing {T V O : Type 0} (is_settle : O → Type 0) (old new : Held
   pub spare : new.spare ≡ old.spare
   pub closed : new.closed ≡ true
 
--- all is published, each cell that is settled on the bench is settled there, and nothing is owed; or readers see what they saw, and
--- the rest is owed
-abbrev pub PublishesOr : {T V O : Type 0} → (Bench T V → List O → Type 0) → (old new : Held T V O) → Posted → Type 0
-PublishesOr are_posted old new posts.Now = (new.published ≡ new.all) × are_posted new.bench new.published × (new.owes ≡ false)
+-- all is published, each cell that is settled on the bench is settled there, and nothing is owed;
+-- or readers see what they saw, and the rest is owed
+abbrev pub PublishesOr : {T V O : Type 0} → (Bench T V → List O → Type 0) → (old new : Held T V O)
+    → Posted → Type 0
+PublishesOr are_posted old new posts.Now =
+    (new.published ≡ new.all) × are_posted new.bench new.published × (new.owes ≡ false)
 PublishesOr are_posted old new posts.Later = (new.published ≡ old.published) × (new.owes ≡ true)
 
--- the viewer was told all that is published, which goes on from what it knew, and there every cell is settled; nothing is owed
-pub record IsDone {T V O : Type 0} (is_legal : List O → Type 0) (are_settled : List O → Type 0) (new : Held T V O) (me me' : List O) : Type 0 where
+-- the viewer was told all that is published, which goes on from what it knew, and there every cell
+-- is settled; nothing is owed
+pub record IsDone {T V O : Type 0} (is_legal : List O → Type 0) (are_settled : List O → Type 0)
+    (new : Held T V O) (me me' : List O) : Type 0 where
   pub list : me' ≡ new.published
   pub whole : new.published ≡ new.all
   pub begins : IsPrefix me me'
@@ -105,42 +137,57 @@ pub record IsDone {T V O : Type 0} (is_legal : List O → Type 0) (are_settled :
   pub legal : is_legal me'
   pub owes : new.owes ≡ false
 
--- all operations are published, as many as are counted; each cell that is settled on the bench is settled among them; nothing is
--- owed; and the viewer knows what it knew
-pub record IsWaiting {T V O : Type 0} (are_posted : Bench T V → List O → Type 0) (new : Held T V O) (me me' : List O) (changes : ℕ) : Type 0 where
+-- all operations are published, as many as are counted; each cell that is settled on the bench is
+-- settled among them; nothing is owed; and the viewer knows what it knew
+pub record IsWaiting {T V O : Type 0} (are_posted : Bench T V → List O → Type 0) (new : Held T V O)
+    (me me' : List O) (changes : ℕ) : Type 0 where
   pub told : me' ≡ me
   pub whole : new.published ≡ new.all
   pub posted : are_posted new.bench new.published
   pub count : changes ≡ length new.published
   pub owes : new.owes ≡ false
 
-abbrev pub Settles : {T V O : Type 0} → (is_legal are_settled : List O → Type 0) → (are_posted : Bench T V → List O → Type 0) → (new : Held T V O) → (me me' : List O) → Settling → Type 0
+abbrev pub Settles : {T V O : Type 0} → (is_legal are_settled : List O → Type 0)
+    → (are_posted : Bench T V → List O → Type 0) → (new : Held T V O) → (me me' : List O) → Settling
+    → Type 0
 Settles is_legal are_settled are_posted new me me' Done = IsDone is_legal are_settled new me me'
-Settles is_legal are_settled are_posted new me me' (Waits changes) = IsWaiting are_posted new me me' changes
+Settles is_legal are_settled are_posted new me me' (Waits changes) =
+    IsWaiting are_posted new me me' changes
 Settles is_legal are_settled are_posted new me me' Refused = (me' ≡ me) × (new.owes ≡ true)
 
--- what the viewer of a turn of settling is told: all that it knew and what goes on from there, where every cell is settled; or nothing
-abbrev pub TellsSettled : {O : Type 0} → (is_legal : List O → Type 0) → (are_settled : List O → Type 0) → (me me' : List O) → Settling → Type 0
+-- what the viewer of a turn of settling is told: all that it knew and what goes on from there,
+-- where every cell is settled; or nothing
+abbrev pub TellsSettled : {O : Type 0} → (is_legal : List O → Type 0)
+    → (are_settled : List O → Type 0) → (me me' : List O) → Settling → Type 0
 TellsSettled is_legal are_settled me me' Done = IsPrefix me me' × are_settled me' × is_legal me'
 TellsSettled is_legal are_settled me me' (Waits changes) = me' ≡ me
 TellsSettled is_legal are_settled me me' Refused = me' ≡ me
 
--- the call was refused: the texts of the bench may have more room, the desk may owe what it did not, and nothing else changed
+-- the call was refused: the texts of the bench may have more room, the desk may owe what it did
+-- not, and nothing else changed
 abbrev pub IsRefusedTurn : {T E V G O : Type 0} → Meaning T E V G → (old new : Held T V O) → Type 0
-IsRefusedTurn means old new = Step means old.bench core.Refused new.bench × (new ≡ held new.bench old.all old.published old.spare old.closed new.owes)
+IsRefusedTurn means old new =
+    Step means old.bench core.Refused new.bench
+    × (new ≡ held new.bench old.all old.published old.spare old.closed new.owes)
 
--- Why an edit is refused: by the bench for that fault, which is not want of memory, or by the desk for a viewer that has seen more.
--- That the desk is closed and that memory is wanted are said apart.
-abbrev pub IsRefusedBy : {F : Type 0} → (refuses is_want_of_memory : F → Type 0) → (is_ahead : Type 0) → DeskFault F → Type 0
-IsRefusedBy refuses is_want_of_memory is_ahead (faults.Edit fault) = refuses fault × (is_want_of_memory fault → ⊥)
+-- Why an edit is refused: by the bench for that fault, which is not want of memory, or by the desk
+-- for a viewer that has seen more. That the desk is closed and that memory is wanted are said
+-- apart.
+abbrev pub IsRefusedBy : {F : Type 0} → (refuses is_want_of_memory : F → Type 0)
+    → (is_ahead : Type 0) → DeskFault F → Type 0
+IsRefusedBy refuses is_want_of_memory is_ahead (faults.Edit fault) =
+    refuses fault × (is_want_of_memory fault → ⊥)
 IsRefusedBy refuses is_want_of_memory is_ahead (faults.Claim fault) = ⊥
 IsRefusedBy refuses is_want_of_memory is_ahead faults.OutOfMemory = Unit {0}
 IsRefusedBy refuses is_want_of_memory is_ahead faults.Closed = Unit {0}
 IsRefusedBy refuses is_want_of_memory is_ahead faults.NoSeat = is_ahead
 
--- The edit is refused for this fault by texts that come after a legal list of operations, which begins with all that the viewer
--- knew. So many numbers are taken then, those of the edits in the list among them.
-pub record IsRefusedAfter {T F O : Type 0} (is_legal : List O → Type 0) (is_valid : T → Type 0) (are_after : T → List O → Type 0) (last_number : List O → ℕ) (refuses : T → ℕ → F → Type 0) (me : List O) (fault : F) : Type 0 where
+-- The edit is refused for this fault by texts that come after a legal list of operations, which
+-- begins with all that the viewer knew. So many numbers are taken then, those of the edits in the
+-- list among them.
+pub record IsRefusedAfter {T F O : Type 0} (is_legal : List O → Type 0) (is_valid : T → Type 0)
+    (are_after : T → List O → Type 0) (last_number : List O → ℕ) (refuses : T → ℕ → F → Type 0)
+    (me : List O) (fault : F) : Type 0 where
   pub ops : List O
   pub begins : IsPrefix me ops
   pub legal : is_legal ops
@@ -151,8 +198,8 @@ pub record IsRefusedAfter {T F O : Type 0} (is_legal : List O → Type 0) (is_va
   pub last : last_number ops ≤ taken
   pub refuses_it : refuses texts taken fault
 
--- Why a claim is refused: for spent numbers, and only where they are spent. That the desk is closed and that memory is wanted
--- are said apart.
+-- Why a claim is refused: for spent numbers, and only where they are spent. That the desk is closed
+-- and that memory is wanted are said apart.
 abbrev pub IsClaimRefusedBy : {F : Type 0} → (is_spent : Type 0) → DeskFault F → Type 0
 IsClaimRefusedBy is_spent (faults.Claim fault) = (fault ≡ Spent) × is_spent
 IsClaimRefusedBy is_spent (faults.Edit fault) = ⊥

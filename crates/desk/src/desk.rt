@@ -54,7 +54,8 @@ impl<J: Naming + StoreName, X: BoardTexts, R: Wait + Drop> Desk<J, X, R> {
         }
     }
 
-    // Takes the lock. As others have it for some microseconds only, it is tried for so long before the thread sleeps.
+    // Takes the lock. As others have it for some microseconds only, it is tried for so long before
+    // the thread sleeps.
     fn lock<W: Wait>(&self, rt: &W) -> MutexGuard<DeskState<J, X, R>> {
         for _ in 0..TRIES {
             if let Some(state) = self.state.try_lock() {
@@ -65,7 +66,8 @@ impl<J: Naming + StoreName, X: BoardTexts, R: Wait + Drop> Desk<J, X, R> {
         self.state.lock(rt)
     }
 
-    // Leaves the lock. Wakes one who waits for a job and, if the board changed since, those who wait for that.
+    // Leaves the lock. Wakes one who waits for a job and, if the board changed since, those who
+    // wait for that.
     fn leave(&self, state: MutexGuard<DeskState<J, X, R>>, changes: u64) {
         let is_changed = !state.is_unchanged(changes);
         drop(state);
@@ -75,8 +77,8 @@ impl<J: Naming + StoreName, X: BoardTexts, R: Wait + Drop> Desk<J, X, R> {
         }
     }
 
-    /// Makes an edit, publishes it and tells this viewer. Errors: K1, K2 if the viewer has seen more than this desk has, the
-    /// bench's refusals, want of memory.
+    /// Makes an edit, publishes it and tells this viewer. Errors: K1, K2 if the viewer has seen
+    /// more than this desk has, the bench's refusals, want of memory.
     pub fn edit<W: Wait>(
         &self,
         rt: &W,
@@ -84,8 +86,13 @@ impl<J: Naming + StoreName, X: BoardTexts, R: Wait + Drop> Desk<J, X, R> {
         edit: X::Edit,
     ) -> Result<Accepted, DeskFault<X::Fault>>
         ensures err { OnErr result (me.new ≡ me.old) }
-        ensures fault { IfErr result (IsRefusedBy (IsRefusedAfter X.is_legal X.is_valid X.are_after X.last_number (λ texts taken fault. X.refuses texts edit (leb LAST taken) fault) me.old) X.is_want_of_memory (me.old ≢ [])) }
-        ensures told { IfOk result (λ a. Tells X.is_legal X.is_edit X.is_settle edit me.old me.new a) }
+        ensures fault { IfErr result (IsRefusedBy
+            (IsRefusedAfter X.is_legal X.is_valid X.are_after X.last_number
+            (λ texts taken fault. X.refuses texts edit (leb LAST taken) fault) me.old)
+            X.is_want_of_memory
+            (me.old ≢ [])) }
+        ensures told { IfOk result (λ a.
+            Tells X.is_legal X.is_edit X.is_settle edit me.old me.new a) }
     {
         let mut state = self.lock(rt);
         let changes = state.change_count();
@@ -171,7 +178,8 @@ impl<J: Naming + StoreName, X: BoardTexts, R: Wait + Drop> Desk<J, X, R> {
         answer
     }
 
-    /// One of the viewers, which is not given again. It has seen nothing. Errors: K1, and K2 where none is left.
+    /// One of the viewers, which is not given again. It has seen nothing. Errors: K1, and K2 where
+    /// none is left.
     #[tactic(auto, using(crate::proofs::Refusing::own_refusal))]
     pub fn viewer<W: Wait>(&self, rt: &W) -> Result<Viewer<J, X>, DeskFault<X::Fault>>
         ensures given { IfOk result (λ v. v ≡ []) }
@@ -180,8 +188,8 @@ impl<J: Naming + StoreName, X: BoardTexts, R: Wait + Drop> Desk<J, X, R> {
         self.lock(rt).viewer()
     }
 
-    /// Tells this viewer all that is published, if each cell of it is settled. Errors: K1, and K2 if the viewer has seen more
-    /// than this desk has.
+    /// Tells this viewer all that is published, if each cell of it is settled. Errors: K1, and K2
+    /// if the viewer has seen more than this desk has.
     pub fn settle_turn<W: Wait>(
         &self,
         rt: &W,
@@ -189,13 +197,14 @@ impl<J: Naming + StoreName, X: BoardTexts, R: Wait + Drop> Desk<J, X, R> {
     ) -> Result<Settling, DeskFault<X::Fault>>
         ensures err { OnErr result (me.new ≡ me.old) }
         ensures fault { IfErr result (λ fault. IsSome (number_of fault)) }
-        ensures told { IfOk result (λ r. TellsSettled X.is_legal (λ ops. AreSettled (X.cells (fold X.after X.none ops))) me.old me.new r) }
+        ensures told { IfOk result (λ r. TellsSettled X.is_legal
+            (λ ops. AreSettled (X.cells (fold X.after X.none ops))) me.old me.new r) }
     {
         self.lock(rt).settle(rt, me)
     }
 
-    /// Waits until the board has other changes than so many, something has to be tried again, or the desk is closed. It does
-    /// not wait where that is so.
+    /// Waits until the board has other changes than so many, something has to be tried again, or
+    /// the desk is closed. It does not wait where that is so.
     pub fn wait_past<W: Wait>(&self, rt: &W, changes: u64) {
         for _ in rt.forever() {
             let state = self.lock(rt);
@@ -206,11 +215,12 @@ impl<J: Naming + StoreName, X: BoardTexts, R: Wait + Drop> Desk<J, X, R> {
         }
     }
 
-    /// Waits until each cell is settled and published, and tells this viewer. Errors: K1, K2 as at a turn, and want of memory
-    /// after 16 refusals in a row.
+    /// Waits until each cell is settled and published, and tells this viewer. Errors: K1, K2 as at
+    /// a turn, and want of memory after 16 refusals in a row.
     pub fn settle<W: Wait>(&self, rt: &W, me: &mut Viewer<J, X>) -> Result<(), DeskFault<X::Fault>>
         ensures err { OnErr result (me.new ≡ me.old) }
-        ensures fault { IfErr result (λ fault. IsSome (number_of fault) ⊎ (fault ≡ DeskFault.OutOfMemory)) }
+        ensures fault { IfErr result (λ fault. IsSome (number_of fault)
+            ⊎ (fault ≡ DeskFault.OutOfMemory)) }
         ensures begins { OnOk result (IsPrefix me.old me.new) }
         ensures settled { OnOk result (AreSettled (X.cells (fold X.after X.none me.new))) }
         ensures legal { OnOk result (X.is_legal me.new) }

@@ -27,8 +27,8 @@ pub enum DeskFault<F> {
 }
 
 impl<F> DeskFault<F> {
-    /// The number of a refusal by the desk: 1 for K1 and 2 for K2. A refusal by the bench has a number of its own, and want of
-    /// memory has none.
+    /// The number of a refusal by the desk: 1 for K1 and 2 for K2. A refusal by the bench has a
+    /// number of its own, and want of memory has none.
     pub fn number(&self) -> Option<u8>
         ensures { result ≡ number_of self.now }
     {

@@ -18,7 +18,8 @@ use std::marker::Model;
 use std::sync::Wait;
 use value_store::StoreName;
 
-/// The press of a desk. It is told of each edit, and appends its operation before the edit is put in place.
+/// The press of a desk. It is told of each edit, and appends its operation before the edit is put
+/// in place.
 pub(crate) struct Ledger<J: Naming, X: BoardTexts>
 where
     Plate<J, X>: Absorb<Entry<J, X>, State = [X::Op; 0]>,
@@ -51,7 +52,8 @@ impl<J: Naming, X: BoardTexts> Ledger<J, X> {
     #[tactic(auto, using(crate::proofs::Growing::grown_by))]
     pub(crate) fn publish<W: Wait>(&mut self, rt: &W) -> bool
         ensures all { self.new.all ≡ self.old.all }
-        ensures published { MatchBool result (self.new.published ≡ self.old.all) (self.new.published ≡ self.old.published) }
+        ensures published { MatchBool result (self.new.published ≡ self.old.all)
+            (self.new.published ≡ self.old.published) }
         ensures grows { IsPrefix self.old.published self.new.published }
         ensures legal { X.is_legal self.new.all }
     {
@@ -59,8 +61,8 @@ impl<J: Naming, X: BoardTexts> Ledger<J, X> {
         self.press.publish(rt)
     }
 
-    /// Appends the cells that are settled on the bench, as far as it can: those whose verdicts stand on a node, or all where none
-    /// is given. True where none of these is left.
+    /// Appends the cells that are settled on the bench, as far as it can: those whose verdicts
+    /// stand on a node, or all where none is given. True where none of these is left.
     pub(crate) fn post<K: StoreName>(
         &mut self,
         alloc: Global,
@@ -69,9 +71,13 @@ impl<J: Naming, X: BoardTexts> Ledger<J, X> {
     ) -> bool
         requires valid { X.is_valid bench.now.texts }
         requires after { X.are_after bench.now.texts self.old.all }
-        ensures posts { Posts X.is_settle X.are_after X.last_number (λ ops. length (X.cells (fold X.after X.none ops))) bench.now.texts self.old self.new }
-        ensures posted { IsTrue result → ArePostedFor X.net (cells_of X.verdict_of X.outcome_in X.from_scratch X.reaches) bench.now above (X.cells (fold X.after X.none self.new.all)) }
-        ensures stays { AreKept (X.cells (fold X.after X.none self.old.all)) (X.cells (fold X.after X.none self.new.all)) }
+        ensures posts { Posts X.is_settle X.are_after X.last_number
+            (λ ops. length (X.cells (fold X.after X.none ops))) bench.now.texts self.old self.new }
+        ensures posted { IsTrue result
+            → ArePostedFor X.net (cells_of X.verdict_of X.outcome_in X.from_scratch X.reaches)
+            bench.now above (X.cells (fold X.after X.none self.new.all)) }
+        ensures stays { AreKept (X.cells (fold X.after X.none self.old.all))
+            (X.cells (fold X.after X.none self.new.all)) }
     {
         post_settled(alloc, bench, &mut self.press, above)
     }
@@ -110,9 +116,11 @@ impl<J: Naming, X: BoardTexts> Witness<X> for Ledger<J, X> {
     ghost use Rattle.std.specs.Prelude.{◌≡◌};
     ghost use Rattle.desk.specs.Told.{IsTellable, IsAppended};
 
-    ghost may_tell = { λ old texts prepared number. IsTellable X.prepares X.announces X.may_follow old.all texts prepared number };
+    ghost may_tell = { λ old texts prepared number.
+        IsTellable X.prepares X.announces X.may_follow old.all texts prepared number };
 
-    ghost told = { λ old texts prepared number new. IsAppended X.announces old texts prepared number new };
+    ghost told = { λ old texts prepared number new.
+        IsAppended X.announces old texts prepared number new };
 
     ghost held = { λ old new. new ≡ old };
 

@@ -1,4 +1,5 @@
-//! A bench of cells under a lock, with a board that viewers read without it. Read `specs/Boards` first, then `specs/Held`.
+//! A bench of cells under a lock, with a board that viewers read without it. Read `specs/Boards`
+//! first, then `specs/Held`.
 #![tactic(auto)]
 
 mod answer;

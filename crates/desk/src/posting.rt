@@ -13,7 +13,8 @@ use memo_core::keys::Node;
 use std::alloc::{AllocError, Global};
 use value_store::StoreName;
 
-// The operation that settles the cell at an index, if the bench shows its outcome and the board does not.
+// The operation that settles the cell at an index, if the bench shows its outcome and the board
+// does not.
 fn settle_of<K: StoreName, X: BoardTexts>(
     alloc: Global,
     bench: &Bench<K, X>,
@@ -21,8 +22,11 @@ fn settle_of<K: StoreName, X: BoardTexts>(
     index: usize,
 ) -> Result<Option<X::Op>, AllocError>
     requires { index < length (X.cells board.now) }
-    ensures made { IfOk result (λ r. IfSome r (λ op. SettlesRight X.settles (X.from_scratch bench.now.texts) board.now (X.cells board.now) index op)) }
-    ensures none { IfOk result (λ r. IfNone r (IsPosted X.net (cells_of X.verdict_of X.outcome_in X.from_scratch X.reaches) bench.now (X.cells board.now) index)) }
+    ensures made { IfOk result (λ r. IfSome r (λ op. SettlesRight X.settles
+        (X.from_scratch bench.now.texts) board.now (X.cells board.now) index op)) }
+    ensures none { IfOk result (λ r. IfNone r (IsPosted X.net
+        (cells_of X.verdict_of X.outcome_in X.from_scratch X.reaches) bench.now
+        (X.cells board.now) index)) }
 {
     let Some(names) = X::open_cell(board, index) else {
         return Ok(None);
@@ -34,7 +38,8 @@ fn settle_of<K: StoreName, X: BoardTexts>(
     }
 }
 
-// Appends the cell at an index, if it is settled on the bench and open on the board. False where it could not.
+// Appends the cell at an index, if it is settled on the bench and open on the board. False where it
+// could not.
 fn post<J: Naming, K: StoreName, X: BoardTexts>(
     alloc: Global,
     bench: &Bench<K, X>,
@@ -44,11 +49,18 @@ fn post<J: Naming, K: StoreName, X: BoardTexts>(
     requires valid { X.is_valid bench.now.texts }
     requires after { X.are_after bench.now.texts press.old.all }
     requires at { index < length (X.cells (fold X.after X.none press.old.all)) }
-    ensures posts { Posts X.is_settle X.are_after X.last_number (λ ops. length (X.cells (fold X.after X.none ops))) bench.now.texts press.old press.new }
-    ensures posted { IsTrue result → IsPosted X.net (cells_of X.verdict_of X.outcome_in X.from_scratch X.reaches) bench.now (X.cells (fold X.after X.none press.new.all)) index }
-    ensures kept { (k : ℕ) → IsPosted X.net (cells_of X.verdict_of X.outcome_in X.from_scratch X.reaches) bench.now (X.cells (fold X.after X.none press.old.all)) k
-        → IsPosted X.net (cells_of X.verdict_of X.outcome_in X.from_scratch X.reaches) bench.now (X.cells (fold X.after X.none press.new.all)) k }
-    ensures stays { AreKept (X.cells (fold X.after X.none press.old.all)) (X.cells (fold X.after X.none press.new.all)) }
+    ensures posts { Posts X.is_settle X.are_after X.last_number
+        (λ ops. length (X.cells (fold X.after X.none ops))) bench.now.texts press.old press.new }
+    ensures posted { IsTrue result
+        → IsPosted X.net (cells_of X.verdict_of X.outcome_in X.from_scratch X.reaches) bench.now
+        (X.cells (fold X.after X.none press.new.all)) index }
+    ensures kept { (k : ℕ)
+        → IsPosted X.net (cells_of X.verdict_of X.outcome_in X.from_scratch X.reaches) bench.now
+        (X.cells (fold X.after X.none press.old.all)) k
+        → IsPosted X.net (cells_of X.verdict_of X.outcome_in X.from_scratch X.reaches) bench.now
+        (X.cells (fold X.after X.none press.new.all)) k }
+    ensures stays { AreKept (X.cells (fold X.after X.none press.old.all))
+        (X.cells (fold X.after X.none press.new.all)) }
 {
     let made = match press.board() {
         Some(board) => settle_of(alloc, bench, board, index),
@@ -71,9 +83,13 @@ fn post_range<J: Naming, K: StoreName, X: BoardTexts>(
     requires valid { X.is_valid bench.now.texts }
     requires after { X.are_after bench.now.texts press.old.all }
     requires end { range.end ≤ length (X.cells (fold X.after X.none press.old.all)) }
-    ensures posts { Posts X.is_settle X.are_after X.last_number (λ ops. length (X.cells (fold X.after X.none ops))) bench.now.texts press.old press.new }
-    ensures posted { IsTrue result → (k : ℕ) → range.first ≤ k → k < range.end → IsPosted X.net (cells_of X.verdict_of X.outcome_in X.from_scratch X.reaches) bench.now (X.cells (fold X.after X.none press.new.all)) k }
-    ensures stays { AreKept (X.cells (fold X.after X.none press.old.all)) (X.cells (fold X.after X.none press.new.all)) }
+    ensures posts { Posts X.is_settle X.are_after X.last_number
+        (λ ops. length (X.cells (fold X.after X.none ops))) bench.now.texts press.old press.new }
+    ensures posted { IsTrue result → (k : ℕ) → range.first ≤ k → k < range.end
+        → IsPosted X.net (cells_of X.verdict_of X.outcome_in X.from_scratch X.reaches) bench.now
+        (X.cells (fold X.after X.none press.new.all)) k }
+    ensures stays { AreKept (X.cells (fold X.after X.none press.old.all))
+        (X.cells (fold X.after X.none press.new.all)) }
 {
     for index in range.first..range.end {
         if !post(alloc, bench, press, index) {
@@ -83,8 +99,8 @@ fn post_range<J: Naming, K: StoreName, X: BoardTexts>(
     true
 }
 
-// Where the cells stand whose verdicts stand on a node, or all cells where none is given. None where memory for the board was
-// refused.
+// Where the cells stand whose verdicts stand on a node, or all cells where none is given. None
+// where memory for the board was refused.
 fn range_for<J: Naming, K: StoreName, X: BoardTexts>(
     bench: &Bench<K, X>,
     press: &Press<J, X>,
@@ -92,8 +108,11 @@ fn range_for<J: Naming, K: StoreName, X: BoardTexts>(
 ) -> Option<CellRange>
     requires valid { X.is_valid bench.now.texts }
     requires after { X.are_after bench.now.texts press.now.all }
-    ensures end { IfSome result (λ r. r.end ≤ length (X.cells (fold X.after X.none press.now.all))) }
-    ensures holds { IfSome result (λ r. HoldsFor (X.net bench.now.texts) (X.verdict_of bench.now.texts) above (X.cells (fold X.after X.none press.now.all)) r.first r.end) }
+    ensures end { IfSome result (λ r. r.end
+        ≤ length (X.cells (fold X.after X.none press.now.all))) }
+    ensures holds { IfSome result (λ r. HoldsFor (X.net bench.now.texts)
+        (X.verdict_of bench.now.texts) above (X.cells (fold X.after X.none press.now.all))
+        r.first r.end) }
 {
     let Some(board) = press.board() else {
         return None;
@@ -107,8 +126,8 @@ fn range_for<J: Naming, K: StoreName, X: BoardTexts>(
     }
 }
 
-/// Appends such cells, those whose verdicts stand on a node or all where none is given, as far as it can. True where none of them
-/// is left.
+/// Appends such cells, those whose verdicts stand on a node or all where none is given, as far as
+/// it can. True where none of them is left.
 pub(crate) fn post_settled<J: Naming, K: StoreName, X: BoardTexts>(
     alloc: Global,
     bench: &Bench<K, X>,
@@ -117,9 +136,13 @@ pub(crate) fn post_settled<J: Naming, K: StoreName, X: BoardTexts>(
 ) -> bool
     requires valid { X.is_valid bench.now.texts }
     requires after { X.are_after bench.now.texts press.old.all }
-    ensures posts { Posts X.is_settle X.are_after X.last_number (λ ops. length (X.cells (fold X.after X.none ops))) bench.now.texts press.old press.new }
-    ensures posted { IsTrue result → ArePostedFor X.net (cells_of X.verdict_of X.outcome_in X.from_scratch X.reaches) bench.now above (X.cells (fold X.after X.none press.new.all)) }
-    ensures stays { AreKept (X.cells (fold X.after X.none press.old.all)) (X.cells (fold X.after X.none press.new.all)) }
+    ensures posts { Posts X.is_settle X.are_after X.last_number
+        (λ ops. length (X.cells (fold X.after X.none ops))) bench.now.texts press.old press.new }
+    ensures posted { IsTrue result
+        → ArePostedFor X.net (cells_of X.verdict_of X.outcome_in X.from_scratch X.reaches) bench.now
+        above (X.cells (fold X.after X.none press.new.all)) }
+    ensures stays { AreKept (X.cells (fold X.after X.none press.old.all))
+        (X.cells (fold X.after X.none press.new.all)) }
 {
     press.catch_up();
     let Some(range) = range_for(bench, press, above) else {

@@ -22,7 +22,8 @@ impl Refusals {
         Refusals { count: 0 }
     }
 
-    /// Notes whether a call was refused. True from the 16th refusal in a row on, until a call is not refused.
+    /// Notes whether a call was refused. True from the 16th refusal in a row on, until a call is
+    /// not refused.
     pub fn note(&mut self, refused: bool) -> bool
         ensures count { self.new.count ≡ count_after refused self.old.count }
         ensures many { result ≡ are_too_many self.new.count }

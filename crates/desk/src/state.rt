@@ -25,7 +25,8 @@ use std::marker::Model;
 use std::sync::Wait;
 use value_store::StoreName;
 
-/// A bench, the operations of its board with those that readers see, and the viewers that are left to give.
+/// A bench, the operations of its board with those that readers see, and the viewers that are left
+/// to give.
 pub struct DeskState<J: Naming + StoreName, X: BoardTexts, R: Wait + Drop>
 where
     Plate<J, X>: Absorb<Entry<J, X>, State = [X::Op; 0]>,
@@ -34,7 +35,8 @@ where
     ledger: Ledger<J, X>,
     seats: Seats<J, X>,
     closed: bool,
-    // Whether a settled cell may be open on the board, or readers may not see all: the next call tries again.
+    // Whether a settled cell may be open on the board, or readers may not see all: the next call
+    // tries again.
     owes: bool,
     alloc: Global,
     // Its drop waits for the viewers.
@@ -54,8 +56,12 @@ where
 
     ghost view = { λ s. held s.bench s.ledger.all s.ledger.published s.seats s.closed s.owes };
 
-    ghost invariant = { λ s. X.is_valid s.bench.texts × X.are_after s.bench.texts s.ledger.all × (X.last_number s.ledger.all ≤ s.bench.taken)
-        × (s.owes ≡ false → (s.ledger.published ≡ s.ledger.all) × ArePosted X.net (cells_of X.verdict_of X.outcome_in X.from_scratch X.reaches) s.bench (X.cells (fold X.after X.none s.ledger.all))) };
+    ghost invariant = { λ s. X.is_valid s.bench.texts × X.are_after s.bench.texts s.ledger.all
+        × (X.last_number s.ledger.all ≤ s.bench.taken)
+        × (s.owes ≡ false
+        → (s.ledger.published ≡ s.ledger.all)
+        × ArePosted X.net (cells_of X.verdict_of X.outcome_in X.from_scratch X.reaches)
+        s.bench (X.cells (fold X.after X.none s.ledger.all))) };
 }
 
 // Makes an edit on the bench, and appends its operation before it is put in place.
@@ -69,14 +75,20 @@ fn make_edit<J: Naming + StoreName, X: BoardTexts>(
     requires after { X.are_after bench.old.texts ledger.old.all }
     requires last { X.last_number ledger.old.all ≤ bench.old.taken }
     ensures open { result ≢ Err DeskFault.Closed }
-    ensures fault { IfErr result (λ fault. IsRefusedBy (X.refuses bench.old.texts edit (leb LAST bench.old.taken)) X.is_want_of_memory ⊥ fault) }
+    ensures fault { IfErr result (λ fault. IsRefusedBy
+        (X.refuses bench.old.texts edit (leb LAST bench.old.taken)) X.is_want_of_memory ⊥
+        fault) }
     ensures valid { X.is_valid bench.new.texts }
     ensures after { X.are_after bench.new.texts ledger.new.all }
     ensures last { X.last_number ledger.new.all ≤ bench.new.taken }
     ensures published { ledger.new.published ≡ ledger.old.published }
-    ensures made { IfOk result (λ number. IsMade (meaning X.net X.is_valid X.since X.makes X.keeps X.edited X.last) X.is_edit edit bench.old bench.new ledger.old.all ledger.new.all number) }
+    ensures made { IfOk result (λ number. IsMade
+        (meaning X.net X.is_valid X.since X.makes X.keeps X.edited X.last) X.is_edit edit
+        bench.old bench.new ledger.old.all ledger.new.all number) }
     ensures unspent { OnOk result (bench.old.taken < LAST) }
-    ensures err { OnErr result (Step (meaning X.net X.is_valid X.since X.makes X.keeps X.edited X.last) bench.old Refused bench.new × (ledger.new ≡ ledger.old)) }
+    ensures err { OnErr result (Step
+        (meaning X.net X.is_valid X.since X.makes X.keeps X.edited X.last) bench.old Refused
+        bench.new × (ledger.new ≡ ledger.old)) }
 {
     match bench.edit_told(alloc, edit, ledger) {
         Ok(Some(number)) => Ok(number),
@@ -118,9 +130,9 @@ impl<J: Naming + StoreName, X: BoardTexts, R: Wait + Drop> DeskState<J, X, R> {
         }
     }
 
-    /// Whether it was closed. What it keeps at all times: the published operations and then the pending ones are legal, and
-    /// the texts of the bench are those after them. Where nothing is owed, all is published, and each cell that is settled on
-    /// the bench is settled there.
+    /// Whether it was closed. What it keeps at all times: the published operations and then the
+    /// pending ones are legal, and the texts of the bench are those after them. Where nothing is
+    /// owed, all is published, and each cell that is settled on the bench is settled there.
     pub fn is_closed(&self) -> bool
         ensures closed { result ≡ self.now.closed }
         ensures legal { X.is_legal self.now.all }
@@ -128,14 +140,18 @@ impl<J: Naming + StoreName, X: BoardTexts, R: Wait + Drop> DeskState<J, X, R> {
         ensures valid { X.is_valid self.now.bench.texts }
         ensures after { X.are_after self.now.bench.texts self.now.all }
         ensures last { X.last_number self.now.all ≤ self.now.bench.taken }
-        ensures shown { IsShownOrOwed (λ bench ops. ArePosted X.net (cells_of X.verdict_of X.outcome_in X.from_scratch X.reaches) bench (X.cells (fold X.after X.none ops))) self.now }
+        ensures shown { IsShownOrOwed
+            (λ bench ops. ArePosted X.net
+            (cells_of X.verdict_of X.outcome_in X.from_scratch X.reaches) bench
+            (X.cells (fold X.after X.none ops))) self.now }
     {
         let _legal = self.ledger.front();
         self.closed
     }
 
-    /// Makes an edit, publishes it and tells this viewer. Errors: K1 if the desk is closed, K2 if the viewer has seen more than
-    /// this desk has, the bench's refusals, want of memory; the viewer's list and the operations stay what they are.
+    /// Makes an edit, publishes it and tells this viewer. Errors: K1 if the desk is closed, K2 if
+    /// the viewer has seen more than this desk has, the bench's refusals, want of memory; the
+    /// viewer's list and the operations stay what they are.
     pub fn edit<W: Wait>(
         &mut self,
         rt: &W,
@@ -143,14 +159,27 @@ impl<J: Naming + StoreName, X: BoardTexts, R: Wait + Drop> DeskState<J, X, R> {
         edit: X::Edit,
     ) -> Result<Accepted, DeskFault<X::Fault>>
         ensures closed { (result ≡ Err DeskFault.Closed) ↔ (self.old.closed ≡ true) }
-        ensures no_seat { (result ≡ Err DeskFault.NoSeat) ↔ ((self.old.closed ≡ false) × (length self.old.all < length me.old)) }
-        ensures fault { IfErr result (IsRefusedBy (λ fault. IsPrefix me.old self.old.all × X.refuses self.old.bench.texts edit (leb LAST self.old.bench.taken) fault) X.is_want_of_memory (length self.old.all < length me.old)) }
-        ensures err { OnErr result (IsRefusedTurn (meaning X.net X.is_valid X.since X.makes X.keeps X.edited X.last) self.old self.new × (me.new ≡ me.old)) }
+        ensures no_seat { (result ≡ Err DeskFault.NoSeat)
+            ↔ ((self.old.closed ≡ false) × (length self.old.all < length me.old)) }
+        ensures fault { IfErr result (IsRefusedBy
+            (λ fault. IsPrefix me.old self.old.all
+            × X.refuses self.old.bench.texts edit (leb LAST self.old.bench.taken) fault)
+            X.is_want_of_memory
+            (length self.old.all < length me.old)) }
+        ensures err { OnErr result (IsRefusedTurn
+            (meaning X.net X.is_valid X.since X.makes X.keeps X.edited X.last) self.old
+            self.new × (me.new ≡ me.old)) }
         ensures unspent { OnOk result (self.old.bench.taken < LAST) }
-        ensures turn { IfOk result (λ a. IsEditTurn (meaning X.net X.is_valid X.since X.makes X.keeps X.edited X.last) X.is_edit X.is_settle edit self.old self.new (number_of a)) }
+        ensures turn { IfOk result (λ a. IsEditTurn
+            (meaning X.net X.is_valid X.since X.makes X.keeps X.edited X.last) X.is_edit
+            X.is_settle edit self.old self.new (number_of a)) }
         ensures published { IfOk result (λ a. Publishes self.old self.new me.old me.new a) }
-        ensures told { IfOk result (λ a. Tells X.is_legal X.is_edit X.is_settle edit me.old me.new a) }
-        ensures shown { OnOk result (IsShownOrOwed (λ bench ops. ArePosted X.net (cells_of X.verdict_of X.outcome_in X.from_scratch X.reaches) bench (X.cells (fold X.after X.none ops))) self.new) }
+        ensures told { IfOk result (λ a.
+            Tells X.is_legal X.is_edit X.is_settle edit me.old me.new a) }
+        ensures shown { OnOk result (IsShownOrOwed
+            (λ bench ops. ArePosted X.net
+            (cells_of X.verdict_of X.outcome_in X.from_scratch X.reaches) bench
+            (X.cells (fold X.after X.none ops))) self.new) }
     {
         if self.closed {
             return Err(DeskFault::Closed);
@@ -169,14 +198,20 @@ impl<J: Naming + StoreName, X: BoardTexts, R: Wait + Drop> DeskState<J, X, R> {
         Ok(Accepted::Now(number))
     }
 
-    // Appends the cells that are settled, and publishes. Where a node is given, all are posted but those whose verdicts stand on it.
+    // Appends the cells that are settled, and publishes. Where a node is given, all are posted but
+    // those whose verdicts stand on it.
     #[tactic(auto, using(crate::proofs::Growing::prefix_same, crate::proofs::Growing::grown_from))]
     fn catch_up<W: Wait>(&mut self, rt: &W, above: Option<Node>) -> Posted
-        requires rest { IfSome above (λ node. ArePostedBut X.net (cells_of X.verdict_of X.outcome_in X.from_scratch X.reaches) self.old.bench node (X.cells (fold X.after X.none self.old.all))) }
+        requires rest { IfSome above (λ node. ArePostedBut X.net
+            (cells_of X.verdict_of X.outcome_in X.from_scratch X.reaches) self.old.bench node
+            (X.cells (fold X.after X.none self.old.all))) }
         ensures bench { self.new.bench ≡ self.old.bench }
         ensures appends { Appends X.is_settle self.old.all self.old self.new }
         ensures grows { IsPrefix self.old.published self.new.published }
-        ensures posted { PublishesOr (λ bench ops. ArePosted X.net (cells_of X.verdict_of X.outcome_in X.from_scratch X.reaches) bench (X.cells (fold X.after X.none ops))) self.old self.new result }
+        ensures posted { PublishesOr
+            (λ bench ops. ArePosted X.net
+            (cells_of X.verdict_of X.outcome_in X.from_scratch X.reaches) bench
+            (X.cells (fold X.after X.none ops))) self.old self.new result }
     {
         self.owes = true;
         if !self.ledger.post(self.alloc, &self.bench, above) {
@@ -196,7 +231,10 @@ impl<J: Naming + StoreName, X: BoardTexts, R: Wait + Drop> DeskState<J, X, R> {
         ensures appends { Appends X.is_settle self.old.all self.old self.new }
         ensures grows { IsPrefix self.old.published self.new.published }
         ensures whole { ShowsAllOrAsBefore self.old self.new }
-        ensures shown { IsShownOrOwed (λ bench ops. ArePosted X.net (cells_of X.verdict_of X.outcome_in X.from_scratch X.reaches) bench (X.cells (fold X.after X.none ops))) self.new }
+        ensures shown { IsShownOrOwed
+            (λ bench ops. ArePosted X.net
+            (cells_of X.verdict_of X.outcome_in X.from_scratch X.reaches) bench
+            (X.cells (fold X.after X.none ops))) self.new }
         ensures still { self.old.owes ≡ false → self.new ≡ self.old }
     {
         if self.owes {
@@ -204,33 +242,51 @@ impl<J: Naming + StoreName, X: BoardTexts, R: Wait + Drop> DeskState<J, X, R> {
         }
     }
 
-    // Tries again what may be left. True where nothing is: readers see all operations, and each settled cell among them.
+    // Tries again what may be left. True where nothing is: readers see all operations, and each
+    // settled cell among them.
     fn show_all<W: Wait>(&mut self, rt: &W) -> bool
         ensures bench { self.new.bench ≡ self.old.bench }
         ensures appends { Appends X.is_settle self.old.all self.old self.new }
         ensures grows { IsPrefix self.old.published self.new.published }
         ensures whole { ShowsAllOrAsBefore self.old self.new }
         ensures owes { result ≡ not self.new.owes }
-        ensures shown { IsShownOrOwed (λ bench ops. ArePosted X.net (cells_of X.verdict_of X.outcome_in X.from_scratch X.reaches) bench (X.cells (fold X.after X.none ops))) self.new }
+        ensures shown { IsShownOrOwed
+            (λ bench ops. ArePosted X.net
+            (cells_of X.verdict_of X.outcome_in X.from_scratch X.reaches) bench
+            (X.cells (fold X.after X.none ops))) self.new }
     {
         self.try_again(rt);
         !self.owes
     }
 
-    /// Gives out a job, if there is any work. Where nothing was owed, nothing but the bench changes. Errors: K1, B1, want of
-    /// memory; nothing is appended then.
+    /// Gives out a job, if there is any work. Where nothing was owed, nothing but the bench
+    /// changes. Errors: K1, B1, want of memory; nothing is appended then.
     pub fn claim<W: Wait>(&mut self, rt: &W) -> Result<Option<Job<J, X>>, DeskFault<X::Fault>>
         ensures closed { (result ≡ Err DeskFault.Closed) ↔ (self.old.closed ≡ true) }
         ensures fault { IfErr result (IsClaimRefusedBy (LAST ≤ self.old.bench.taken)) }
-        ensures spent { self.old.closed ≡ false → LAST ≤ self.old.bench.taken → result ≡ Err (DeskFault.Claim ClaimFault.Spent) }
-        ensures err { OnErr result (IsRefusedTurn (meaning X.net X.is_valid X.since X.makes X.keeps X.edited X.last) self.old self.new) }
-        ensures given { IfOk result (λ r. IfSome r (λ j. Step (meaning X.net X.is_valid X.since X.makes X.keeps X.edited X.last) self.old.bench (Claimed j.claim j.node j.given j.keys j.values) self.new.bench)) }
-        ensures none { IfOk result (λ r. IfNone r (Step (meaning X.net X.is_valid X.since X.makes X.keeps X.edited X.last) self.old.bench NoClaim self.new.bench)) }
+        ensures spent { self.old.closed ≡ false → LAST ≤ self.old.bench.taken
+            → result ≡ Err (DeskFault.Claim ClaimFault.Spent) }
+        ensures err { OnErr result (IsRefusedTurn
+            (meaning X.net X.is_valid X.since X.makes X.keeps X.edited X.last) self.old
+            self.new) }
+        ensures given { IfOk result (λ r. IfSome r (λ j. Step
+            (meaning X.net X.is_valid X.since X.makes X.keeps X.edited X.last)
+            self.old.bench (Claimed j.claim j.node j.given j.keys j.values)
+            self.new.bench)) }
+        ensures none { IfOk result (λ r. IfNone r (Step
+            (meaning X.net X.is_valid X.since X.makes X.keeps X.edited X.last)
+            self.old.bench NoClaim self.new.bench)) }
         ensures appends { OnOk result (Appends X.is_settle self.old.all self.old self.new) }
         ensures grows { OnOk result (IsPrefix self.old.published self.new.published) }
         ensures whole { OnOk result (ShowsAllOrAsBefore self.old self.new) }
-        ensures shown { OnOk result (IsShownOrOwed (λ bench ops. ArePosted X.net (cells_of X.verdict_of X.outcome_in X.from_scratch X.reaches) bench (X.cells (fold X.after X.none ops))) self.new) }
-        ensures still { OnOk result (self.old.owes ≡ false → self.new ≡ held self.new.bench self.old.all self.old.published self.old.spare self.old.closed false) }
+        ensures shown { OnOk result (IsShownOrOwed
+            (λ bench ops. ArePosted X.net
+            (cells_of X.verdict_of X.outcome_in X.from_scratch X.reaches) bench
+            (X.cells (fold X.after X.none ops))) self.new) }
+        ensures still { OnOk result (self.old.owes ≡ false
+            → self.new
+            ≡ held self.new.bench self.old.all self.old.published self.old.spare
+            self.old.closed false) }
     {
         if self.closed {
             return Err(DeskFault::Closed);
@@ -256,10 +312,15 @@ impl<J: Naming + StoreName, X: BoardTexts, R: Wait + Drop> DeskState<J, X, R> {
         ensures closed { (result ≡ Err DeskFault.Closed) ↔ (self.old.closed ≡ true) }
         ensures only { OnErr result (self.old.closed ≡ true) }
         ensures err { OnErr result (self.new ≡ self.old) }
-        ensures step { IfOk result (λ r. Step (meaning X.net X.is_valid X.since X.makes X.keeps X.edited X.last) self.old.bench (Returned done r.finish) self.new.bench) }
+        ensures step { IfOk result (λ r. Step
+            (meaning X.net X.is_valid X.since X.makes X.keeps X.edited X.last) self.old.bench
+            (Returned done r.finish) self.new.bench) }
         ensures appends { OnOk result (Appends X.is_settle self.old.all self.old self.new) }
         ensures grows { OnOk result (IsPrefix self.old.published self.new.published) }
-        ensures posted { IfOk result (λ r. PublishesOr (λ bench ops. ArePosted X.net (cells_of X.verdict_of X.outcome_in X.from_scratch X.reaches) bench (X.cells (fold X.after X.none ops))) self.old self.new r.posted) }
+        ensures posted { IfOk result (λ r. PublishesOr
+            (λ bench ops. ArePosted X.net
+            (cells_of X.verdict_of X.outcome_in X.from_scratch X.reaches) bench
+            (X.cells (fold X.after X.none ops))) self.old self.new r.posted) }
     {
         if self.closed {
             return Err(DeskFault::Closed);
@@ -276,11 +337,16 @@ impl<J: Naming + StoreName, X: BoardTexts, R: Wait + Drop> DeskState<J, X, R> {
         ensures closed { (result ≡ Err DeskFault.Closed) ↔ (self.old.closed ≡ true) }
         ensures only { OnErr result (self.old.closed ≡ true) }
         ensures err { OnErr result (self.new ≡ self.old) }
-        ensures step { IfOk result (λ r. Step (meaning X.net X.is_valid X.since X.makes X.keeps X.edited X.last) self.old.bench (Lost claim r) self.new.bench) }
+        ensures step { IfOk result (λ r. Step
+            (meaning X.net X.is_valid X.since X.makes X.keeps X.edited X.last) self.old.bench
+            (Lost claim r) self.new.bench) }
         ensures appends { OnOk result (Appends X.is_settle self.old.all self.old self.new) }
         ensures grows { OnOk result (IsPrefix self.old.published self.new.published) }
         ensures whole { OnOk result (ShowsAllOrAsBefore self.old self.new) }
-        ensures shown { OnOk result (IsShownOrOwed (λ bench ops. ArePosted X.net (cells_of X.verdict_of X.outcome_in X.from_scratch X.reaches) bench (X.cells (fold X.after X.none ops))) self.new) }
+        ensures shown { OnOk result (IsShownOrOwed
+            (λ bench ops. ArePosted X.net
+            (cells_of X.verdict_of X.outcome_in X.from_scratch X.reaches) bench
+            (X.cells (fold X.after X.none ops))) self.new) }
     {
         if self.closed {
             return Err(DeskFault::Closed);
@@ -296,11 +362,16 @@ impl<J: Naming + StoreName, X: BoardTexts, R: Wait + Drop> DeskState<J, X, R> {
         ensures closed { (result ≡ Err DeskFault.Closed) ↔ (self.old.closed ≡ true) }
         ensures only { OnErr result (self.old.closed ≡ true) }
         ensures err { OnErr result (self.new ≡ self.old) }
-        ensures step { OnOk result (Step (meaning X.net X.is_valid X.since X.makes X.keeps X.edited X.last) self.old.bench Renewed self.new.bench) }
+        ensures step { OnOk result (Step
+            (meaning X.net X.is_valid X.since X.makes X.keeps X.edited X.last) self.old.bench
+            Renewed self.new.bench) }
         ensures appends { OnOk result (Appends X.is_settle self.old.all self.old self.new) }
         ensures grows { OnOk result (IsPrefix self.old.published self.new.published) }
         ensures whole { OnOk result (ShowsAllOrAsBefore self.old self.new) }
-        ensures shown { OnOk result (IsShownOrOwed (λ bench ops. ArePosted X.net (cells_of X.verdict_of X.outcome_in X.from_scratch X.reaches) bench (X.cells (fold X.after X.none ops))) self.new) }
+        ensures shown { OnOk result (IsShownOrOwed
+            (λ bench ops. ArePosted X.net
+            (cells_of X.verdict_of X.outcome_in X.from_scratch X.reaches) bench
+            (X.cells (fold X.after X.none ops))) self.new) }
     {
         if self.closed {
             return Err(DeskFault::Closed);
@@ -311,23 +382,29 @@ impl<J: Naming + StoreName, X: BoardTexts, R: Wait + Drop> DeskState<J, X, R> {
         Ok(())
     }
 
-    /// Publishes, and tells the viewer once each cell is settled. Where it waits, it says how many operations are published, and
-    /// each cell that is settled on the bench is settled there. Errors: K1, and K2 if the viewer has seen more than this desk
-    /// has.
+    /// Publishes, and tells the viewer once each cell is settled. Where it waits, it says how many
+    /// operations are published, and each cell that is settled on the bench is settled there.
+    /// Errors: K1, and K2 if the viewer has seen more than this desk has.
     pub fn settle<W: Wait>(
         &mut self,
         rt: &W,
         me: &mut Viewer<J, X>,
     ) -> Result<Settling, DeskFault<X::Fault>>
         ensures closed { (result ≡ Err DeskFault.Closed) ↔ (self.old.closed ≡ true) }
-        ensures no_seat { (result ≡ Err DeskFault.NoSeat) ↔ ((self.old.closed ≡ false) × (length self.old.all < length me.old)) }
-        ensures only { OnErr result (self.old.closed ≡ false → length self.old.all < length me.old) }
+        ensures no_seat { (result ≡ Err DeskFault.NoSeat)
+            ↔ ((self.old.closed ≡ false) × (length self.old.all < length me.old)) }
+        ensures only { OnErr result (self.old.closed ≡ false
+            → length self.old.all < length me.old) }
         ensures err { OnErr result ((self.new ≡ self.old) × (me.new ≡ me.old)) }
         ensures bench { self.new.bench ≡ self.old.bench }
         ensures appends { OnOk result (Appends X.is_settle self.old.all self.old self.new) }
         ensures grows { OnOk result (IsPrefix self.old.published self.new.published) }
         ensures whole { OnOk result (ShowsAllOrAsBefore self.old self.new) }
-        ensures settles { IfOk result (λ r. Settles X.is_legal (λ ops. AreSettled (X.cells (fold X.after X.none ops))) (λ bench ops. ArePosted X.net (cells_of X.verdict_of X.outcome_in X.from_scratch X.reaches) bench (X.cells (fold X.after X.none ops))) self.new me.old me.new r) }
+        ensures settles { IfOk result (λ r. Settles X.is_legal
+            (λ ops. AreSettled (X.cells (fold X.after X.none ops)))
+            (λ bench ops. ArePosted X.net
+            (cells_of X.verdict_of X.outcome_in X.from_scratch X.reaches) bench
+            (X.cells (fold X.after X.none ops))) self.new me.old me.new r) }
     {
         if self.closed {
             return Err(DeskFault::Closed);
@@ -345,13 +422,18 @@ impl<J: Naming + StoreName, X: BoardTexts, R: Wait + Drop> DeskState<J, X, R> {
         Ok(Settling::Done)
     }
 
-    /// One of the viewers, which is not given again. It has seen nothing. Errors: K1, and K2 where none is left.
+    /// One of the viewers, which is not given again. It has seen nothing. Errors: K1, and K2 where
+    /// none is left.
     pub fn viewer(&mut self) -> Result<Viewer<J, X>, DeskFault<X::Fault>>
         ensures closed { (result ≡ Err DeskFault.Closed) ↔ (self.old.closed ≡ true) }
-        ensures no_seat { (result ≡ Err DeskFault.NoSeat) ↔ ((self.old.closed ≡ false) × (self.old.spare ≡ 0)) }
+        ensures no_seat { (result ≡ Err DeskFault.NoSeat)
+            ↔ ((self.old.closed ≡ false) × (self.old.spare ≡ 0)) }
         ensures only { OnErr result (self.old.closed ≡ false → self.old.spare ≡ 0) }
         ensures err { OnErr result (self.new ≡ self.old) }
-        ensures given { IfOk result (λ v. (v ≡ []) × (self.new.spare + 1 ≡ self.old.spare) × (self.new ≡ held self.old.bench self.old.all self.old.published self.new.spare self.old.closed self.old.owes)) }
+        ensures given { IfOk result (λ v. (v ≡ []) × (self.new.spare + 1 ≡ self.old.spare)
+            × (self.new
+            ≡ held self.old.bench self.old.all self.old.published self.new.spare
+            self.old.closed self.old.owes)) }
     {
         if self.closed {
             return Err(DeskFault::Closed);
@@ -362,7 +444,8 @@ impl<J: Naming + StoreName, X: BoardTexts, R: Wait + Drop> DeskState<J, X, R> {
         }
     }
 
-    /// From now on each call is refused. What was owed to the readers is tried once more before. Errors: K1, if it was closed.
+    /// From now on each call is refused. What was owed to the readers is tried once more before.
+    /// Errors: K1, if it was closed.
     pub fn close<W: Wait>(&mut self, rt: &W) -> Result<(), DeskFault<X::Fault>>
         ensures closed { (result ≡ Err DeskFault.Closed) ↔ (self.old.closed ≡ true) }
         ensures only { OnErr result (self.old.closed ≡ true) }
@@ -370,7 +453,10 @@ impl<J: Naming + StoreName, X: BoardTexts, R: Wait + Drop> DeskState<J, X, R> {
         ensures closes { OnOk result (IsClosing X.is_settle self.old self.new) }
         ensures grows { OnOk result (IsPrefix self.old.published self.new.published) }
         ensures whole { OnOk result (ShowsAllOrAsBefore self.old self.new) }
-        ensures shown { OnOk result (IsShownOrOwed (λ bench ops. ArePosted X.net (cells_of X.verdict_of X.outcome_in X.from_scratch X.reaches) bench (X.cells (fold X.after X.none ops))) self.new) }
+        ensures shown { OnOk result (IsShownOrOwed
+            (λ bench ops. ArePosted X.net
+            (cells_of X.verdict_of X.outcome_in X.from_scratch X.reaches) bench
+            (X.cells (fold X.after X.none ops))) self.new) }
     {
         if self.closed {
             return Err(DeskFault::Closed);
@@ -387,7 +473,8 @@ impl<J: Naming + StoreName, X: BoardTexts, R: Wait + Drop> DeskState<J, X, R> {
         self.ledger.front().len()
     }
 
-    /// Whether the board is as it was after so many changes, nothing has to be tried again, and the desk is open.
+    /// Whether the board is as it was after so many changes, nothing has to be tried again, and the
+    /// desk is open.
     pub(crate) fn is_unchanged(&self, changes: u64) -> bool {
         self.change_count() == changes && !self.owes && !self.closed
     }

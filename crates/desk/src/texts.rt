@@ -1,4 +1,5 @@
-//! What the desk asks of texts, beside what the bench asks: how edits and outcomes become operations on boards.
+//! What the desk asks of texts, beside what the bench asks: how edits and outcomes become
+//! operations on boards.
 
 ghost use Rattle.std.specs.Prelude.{◌≡◌, ◌<◌, ◌≤◌, ◌↔◌, ℕ, List, [], ◌∷◌, ◌++◌, Some, IfOk, IfSome, IfNone, IsSome, IsTrue, length, slice_get, fold};
 ghost use Rattle.memo_core.specs.declared.keys.Node.{Node as NodeRecord};
@@ -67,7 +68,8 @@ pub trait BoardTexts: CellTexts + Operations {
         prepared: &Self::Prepared,
         number: u64,
     ) -> Result<Self::Op, AllocError>
-        requires { (before : Self) × (edit : Self.Edit) × Self.prepares before edit prepared.now self.now }
+        requires { (before : Self) × (edit : Self.Edit)
+            × Self.prepares before edit prepared.now self.now }
         ensures { IfOk result (λ op. announces self.now prepared.now number op) };
 
     /// Whether an edit was refused for want of memory.
@@ -81,15 +83,19 @@ pub trait BoardTexts: CellTexts + Operations {
     /// The names of the cell at an index, if it is open.
     fn open_cell(board: &Self::Board, index: usize) -> Option<CellNames<'_>>
         requires { index < length (cells board.now) }
-        ensures open { IfSome result (λ c. slice_get (cells board.now) index ≡ Some (open_of c.test.now c.model.now)) }
-        ensures settled { IfNone result ((c : BoardCell Self.Outcome) → slice_get (cells board.now) index ≡ Some c → IsSome c.outcome) };
+        ensures open { IfSome result (λ c. slice_get (cells board.now) index
+            ≡ Some (open_of c.test.now c.model.now)) }
+        ensures settled { IfNone result ((c : BoardCell Self.Outcome)
+            → slice_get (cells board.now) index ≡ Some c → IsSome c.outcome) };
 
     /// Where on the board of these texts the cells stand whose verdicts stand on a node.
     fn cells_above(&self, board: &Self::Board, node: Node) -> CellRange
         requires valid { Self.is_valid self.now }
-        requires after { (ops : List Self.Op) × are_after self.now ops × (board.now ≡ fold Self.after Self.none ops) }
+        requires after { (ops : List Self.Op) × are_after self.now ops
+            × (board.now ≡ fold Self.after Self.none ops) }
         ensures end { result.end ≤ length (cells board.now) }
-        ensures holds { HoldsAbove (Self.net self.now) (Self.verdict_of self.now) node (cells board.now) result.first result.end };
+        ensures holds { HoldsAbove (Self.net self.now) (Self.verdict_of self.now) node
+            (cells board.now) result.first result.end };
 
     /// The operation that settles the cell at an index with an outcome. Errors: want of memory.
     fn settle(
@@ -102,35 +108,58 @@ pub trait BoardTexts: CellTexts + Operations {
         ensures { IfOk result (λ op. settles board.now index outcome.now op) };
 
     /// Texts are after the same operations as those that they came of without an edit.
-    ghost after_same: { (t u : Self) (ops : List Self.Op) → Self.is_valid t → Self.last u ≡ Self.last t → Self.since t u → are_after t ops → are_after u ops };
+    ghost after_same: { (t u : Self) (ops : List Self.Op) → Self.is_valid t
+        → Self.last u ≡ Self.last t → Self.since t u → are_after t ops → are_after u ops };
 
     /// No operation has a number above 0.
     ghost number_none: { last_number [] ≡ 0 };
 
     /// The operation of an edit may come next, if its number is later.
-    ghost edit_follows: { (t u : Self) (e : Self.Edit) (p : Self.Prepared) (number : ℕ) (op : Self.Op) (ops : List Self.Op) → Self.is_valid t → are_after t ops → last_number ops < number → Self.prepares t e p u → announces u p number op → Self.may_follow ops op };
+    ghost edit_follows: { (t u : Self) (e : Self.Edit) (p : Self.Prepared) (number : ℕ)
+        (op : Self.Op) (ops : List Self.Op) → Self.is_valid t → are_after t ops
+        → last_number ops < number → Self.prepares t e p u → announces u p number op
+        → Self.may_follow ops op };
 
     /// After it the texts are those with the edit.
-    ghost edit_after: { (t u w : Self) (e : Self.Edit) (p : Self.Prepared) (number : ℕ) (op : Self.Op) (ops : List Self.Op) → Self.is_valid t → are_after t ops → Self.prepares t e p u → announces u p number op → Self.commits u p number w → are_after w (ops ++ op ∷ []) };
+    ghost edit_after: { (t u w : Self) (e : Self.Edit) (p : Self.Prepared) (number : ℕ)
+        (op : Self.Op) (ops : List Self.Op) → Self.is_valid t → are_after t ops
+        → Self.prepares t e p u → announces u p number op → Self.commits u p number w
+        → are_after w (ops ++ op ∷ []) };
 
     /// It is the operation of that edit, whose number is then the last.
-    ghost edit_named: { (t u : Self) (e : Self.Edit) (p : Self.Prepared) (number : ℕ) (op : Self.Op) (ops : List Self.Op) → Self.is_valid t → are_after t ops → Self.prepares t e p u → announces u p number op → is_edit ops op e number };
+    ghost edit_named: { (t u : Self) (e : Self.Edit) (p : Self.Prepared) (number : ℕ) (op : Self.Op)
+        (ops : List Self.Op) → Self.is_valid t → are_after t ops → Self.prepares t e p u
+        → announces u p number op → is_edit ops op e number };
 
-    ghost edit_number: { (u : Self) (p : Self.Prepared) (number : ℕ) (op : Self.Op) (ops : List Self.Op) → announces u p number op → last_number (ops ++ op ∷ []) ≡ number };
+    ghost edit_number: { (u : Self) (p : Self.Prepared) (number : ℕ) (op : Self.Op)
+        (ops : List Self.Op) → announces u p number op
+        → last_number (ops ++ op ∷ []) ≡ number };
 
     /// What settles a cell with what evaluating it from nothing gives may come next.
-    ghost settle_follows: { (t : Self) (ops : List Self.Op) (index : ℕ) (c : BoardCell Self.Outcome) (o : Self.Outcome) (op : Self.Op) → Self.is_valid t → are_after t ops → slice_get (cells (fold Self.after Self.none ops)) index ≡ Some c → Self.from_scratch t c.test c.model o → settles (fold Self.after Self.none ops) index o op → Self.may_follow ops op };
+    ghost settle_follows: { (t : Self) (ops : List Self.Op) (index : ℕ) (c : BoardCell Self.Outcome)
+        (o : Self.Outcome) (op : Self.Op) → Self.is_valid t → are_after t ops
+        → slice_get (cells (fold Self.after Self.none ops)) index ≡ Some c
+        → Self.from_scratch t c.test c.model o → settles (fold Self.after Self.none ops) index o op
+        → Self.may_follow ops op };
 
     /// It changes no text and has no number.
-    ghost settle_named: { (b : Self.Board) (index : ℕ) (o : Self.Outcome) (op : Self.Op) → settles b index o op → is_settle op };
+    ghost settle_named: { (b : Self.Board) (index : ℕ) (o : Self.Outcome) (op : Self.Op)
+        → settles b index o op → is_settle op };
 
-    ghost settle_after: { (t : Self) (ops : List Self.Op) (op : Self.Op) → are_after t ops → is_settle op → are_after t (ops ++ op ∷ []) };
+    ghost settle_after: { (t : Self) (ops : List Self.Op) (op : Self.Op) → are_after t ops
+        → is_settle op → are_after t (ops ++ op ∷ []) };
 
-    ghost settle_number: { (ops : List Self.Op) (op : Self.Op) → is_settle op → last_number (ops ++ op ∷ []) ≡ last_number ops };
+    ghost settle_number: { (ops : List Self.Op) (op : Self.Op) → is_settle op
+        → last_number (ops ++ op ∷ []) ≡ last_number ops };
 
     /// It settles that cell alone.
-    ghost settle_shows: { (b : Self.Board) (index : ℕ) (o : Self.Outcome) (op : Self.Op) → settles b index o op → cells (Self.after b op) ≡ with_outcome index o (cells b) };
+    ghost settle_shows: { (b : Self.Board) (index : ℕ) (o : Self.Outcome) (op : Self.Op)
+        → settles b index o op → cells (Self.after b op) ≡ with_outcome index o (cells b) };
 
     /// Each cell of the texts is a cell of the board.
-    ghost cells_known: { (t : Self) (ops : List Self.Op) (test model : List ℕ) (n : NodeRecord) → Self.is_valid t → are_after t ops → Self.verdict_of t test model ≡ Some n → (index : ℕ) × (c : BoardCell Self.Outcome) × (slice_get (cells (fold Self.after Self.none ops)) index ≡ Some c) × (c.test ≡ test) × (c.model ≡ model) };
+    ghost cells_known: { (t : Self) (ops : List Self.Op) (test model : List ℕ) (n : NodeRecord)
+        → Self.is_valid t → are_after t ops → Self.verdict_of t test model ≡ Some n
+        → (index : ℕ) × (c : BoardCell Self.Outcome)
+        × (slice_get (cells (fold Self.after Self.none ops)) index ≡ Some c) × (c.test ≡ test)
+        × (c.model ≡ model) };
 }

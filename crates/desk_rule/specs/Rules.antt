@@ -2,7 +2,8 @@
 use Rattle.std.specs.Prelude.{ℕ, ◌≡◌, true, List, [], ◌∷◌, ◌++◌, length}
 use Rattle.logbook.specs.Pages.{Cell, Step, View, Book, Named}
 
--- The first word is the length of the history. A book has two words, of which this one leaves the second at 0.
+-- The first word is the length of the history. A book has two words, of which this one leaves the
+-- second at 0.
 abbrev pub IsCounted : {O : Type 0} → List Cell → List O → Type 0
 IsCounted cells log = cells ≡ (length log, true) ∷ (0, true) ∷ []
 

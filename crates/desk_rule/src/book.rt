@@ -1,4 +1,5 @@
-//! One history of operations, which only grows. It exists in the proofs alone; in the code it is its length.
+//! One history of operations, which only grows. It exists in the proofs alone; in the code it is
+//! its length.
 
 ghost use Rattle.std.specs.Prelude.{◌≡◌, ◌<◌, ◌≤◌, ◌^◌, ◌++◌, ◌∷◌, ◌↔◌, [], length, MatchBool, IsTrue};
 ghost use mathlib.Core.List.{IsPrefix};
@@ -127,7 +128,8 @@ impl<J: Naming, L: Operations> Model for Front<J, L> {
 
     ghost view = { λ f. f.seen.log };
 
-    ghost invariant = { λ f. (f.count ≡ length f.seen.log) × (f.seen.book ≡ J.book) × L.is_legal f.seen.log };
+    ghost invariant = { λ f. (f.count ≡ length f.seen.log) × (f.seen.book ≡ J.book)
+        × L.is_legal f.seen.log };
 }
 
 impl<J: Naming, L: Operations> Front<J, L> {
@@ -160,7 +162,8 @@ impl<J: Naming, L: Operations> Front<J, L> {
         other.count <= self.count
     }
 
-    /// Adds an operation to all that was seen. It does not where the history is longer, and then nothing changes.
+    /// Adds an operation to all that was seen. It does not where the history is longer, and then
+    /// nothing changes.
     pub fn add(&mut self, book: &Book<J, L>, op: &L::Op) -> bool
         requires room { length self.old < 2 ^ 62 }
         requires follows { L.may_follow self.old op.now }

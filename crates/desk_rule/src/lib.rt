@@ -1,5 +1,5 @@
-//! A history of operations that only grows, the board that they make, a writer that publishes it and viewers that read it
-//! without waiting. Read `specs/Histories` first, then `specs/Rules`.
+//! A history of operations that only grows, the board that they make, a writer that publishes it
+//! and viewers that read it without waiting. Read `specs/Histories` first, then `specs/Rules`.
 #![tactic(auto)]
 
 mod book;

@@ -30,11 +30,13 @@ pub trait Operations {
 
     /// Makes one change of a board. Errors: want of memory, and then the board is as it was.
     fn apply(alloc: Global, board: &mut Self::Board, op: &Self::Op) -> Result<(), AllocError>
-        ensures { MatchResult result (λ _. board.new ≡ after board.old op.now) (λ _. board.new ≡ board.old) };
+        ensures { MatchResult result (λ _. board.new ≡ after board.old op.now)
+            (λ _. board.new ≡ board.old) };
 
     /// No operations are a legal list.
     ghost legal_none: { is_legal [] };
 
     /// A legal list goes on with an operation that may come next.
-    ghost legal_more: { (ops : List Self.Op) (op : Self.Op) → is_legal ops → may_follow ops op → is_legal (ops ++ op ∷ []) };
+    ghost legal_more: { (ops : List Self.Op) (op : Self.Op) → is_legal ops → may_follow ops op
+        → is_legal (ops ++ op ∷ []) };
 }

@@ -89,7 +89,8 @@ impl<J: Naming, L: Operations> Plate<J, L> {
         &self.board
     }
 
-    /// Takes in one operation after those that it has. Errors: want of memory, and then nothing changes.
+    /// Takes in one operation after those that it has. Errors: want of memory, and then nothing
+    /// changes.
     pub(crate) fn take_in(&mut self, entry: &Entry<J, L>) -> Result<(), AllocError>
         ensures { MatchResult result (λ _. self.new ≡ entry.now) (λ _. self.new ≡ self.old) }
     {

@@ -20,8 +20,8 @@ use std::sync::Wait;
 /// No more operations than these are appended.
 const MOST: u64 = 1 << 62;
 
-/// Readers see what its writer published last. Contracts see the operations that were appended, and those that are published.
-/// It is not `Drop`: it ends by `close`, which waits for the readers.
+/// Readers see what its writer published last. Contracts see the operations that were appended, and
+/// those that are published. It is not `Drop`: it ends by `close`, which waits for the readers.
 pub struct Press<J: Naming, L: Operations>
 where
     Plate<J, L>: Absorb<Entry<J, L>, State = [L::Op; 0]>,
@@ -47,7 +47,9 @@ where
 
     ghost view = { λ p. record { all = p.front; published = p.writer.desk.shown.value } };
 
-    ghost invariant = { λ p. (latest p.writer.desk.shown.value (without p.writer.behind p.writer.log.items ++ p.queue.items) ≡ p.front) × IsPrefix p.writer.desk.shown.value p.front };
+    ghost invariant = { λ p. (latest p.writer.desk.shown.value (without p.writer.behind
+        p.writer.log.items ++ p.queue.items) ≡ p.front)
+        × IsPrefix p.writer.desk.shown.value p.front };
 }
 
 // Brings a board up to the history, as far as memory allows.
@@ -68,7 +70,8 @@ fn hand_over<J: Naming, L: Operations>(
     writer: &mut Writer<Plate<J, L>, Entry<J, L>, (), Unruled>,
 ) -> bool
     ensures desk { writer.new.desk ≡ writer.old.desk }
-    ensures waits { without writer.new.behind writer.new.log.items ++ queue.new.items ≡ without writer.old.behind writer.old.log.items ++ queue.old.items }
+    ensures waits { without writer.new.behind writer.new.log.items ++ queue.new.items
+        ≡ without writer.old.behind writer.old.log.items ++ queue.old.items }
     ensures done { IsTrue result → queue.new.items ≡ [] }
 {
     while let Some(entry) = queue.pop_front() {
@@ -86,8 +89,12 @@ fn turn<J: Naming, L: Operations, R: Wait>(
     rt: &R,
 ) -> (Writer<Plate<J, L>, Entry<J, L>, (), Unruled>, bool)
     ensures { MatchBool result.1
-        ((result.0.desk.shown.value ≡ latest writer.desk.shown.value (without writer.behind writer.log.items)) × (without result.0.behind result.0.log.items ≡ []))
-        ((result.0.desk.shown.value ≡ writer.desk.shown.value) × (without result.0.behind result.0.log.items ≡ without writer.behind writer.log.items)) }
+        ((result.0.desk.shown.value
+        ≡ latest writer.desk.shown.value (without writer.behind writer.log.items))
+        × (without result.0.behind result.0.log.items ≡ []))
+        ((result.0.desk.shown.value ≡ writer.desk.shown.value)
+        × (without result.0.behind result.0.log.items
+        ≡ without writer.behind writer.log.items)) }
 {
     let (writer, published) = writer.publish_as::<Unruled, R>(rt);
     (writer, published.is_ok())
@@ -103,7 +110,8 @@ impl<J: Naming, L: Operations> Press<J, L> {
         writer: Writer<Plate<J, L>, Entry<J, L>, (), Unruled>,
     ) -> Press<J, L>
         requires front { front ≡ [] }
-        requires writer { (writer.desk.shown.value ≡ []) × (without writer.behind writer.log.items ≡ []) }
+        requires writer { (writer.desk.shown.value ≡ [])
+            × (without writer.behind writer.log.items ≡ []) }
         ensures { result ≡ record { all = []; published = [] } }
     {
         Press {
@@ -137,7 +145,8 @@ impl<J: Naming, L: Operations> Press<J, L> {
         }
     }
 
-    /// Brings the board up to all operations, where memory for it was refused before, as far as it is given now.
+    /// Brings the board up to all operations, where memory for it was refused before, as far as it
+    /// is given now.
     pub fn catch_up(&mut self)
         ensures { self.new ≡ self.old }
     {
@@ -148,7 +157,8 @@ impl<J: Naming, L: Operations> Press<J, L> {
     pub fn append(&mut self, op: L::Op) -> Result<(), AllocError>
         requires { L.may_follow self.old.all op }
         ensures published { self.new.published ≡ self.old.published }
-        ensures all { MatchResult result (λ _. self.new.all ≡ self.old.all ++ op ∷ []) (λ _. self.new.all ≡ self.old.all) }
+        ensures all { MatchResult result (λ _. self.new.all ≡ self.old.all ++ op ∷ [])
+            (λ _. self.new.all ≡ self.old.all) }
     {
         if self.front.len() >= MOST {
             return Err(AllocError);
@@ -172,11 +182,12 @@ impl<J: Naming, L: Operations> Press<J, L> {
         !self.queue.is_empty() || self.writer.has_pending_operations()
     }
 
-    /// Shows readers all operations, at once. It waits for those that read the older copy. False where memory is refused:
-    /// readers see what they saw.
+    /// Shows readers all operations, at once. It waits for those that read the older copy. False
+    /// where memory is refused: readers see what they saw.
     pub fn publish<R: Wait>(&mut self, rt: &R) -> bool
         ensures all { self.new.all ≡ self.old.all }
-        ensures published { MatchBool result (self.new.published ≡ self.old.all) (self.new.published ≡ self.old.published) }
+        ensures published { MatchBool result (self.new.published ≡ self.old.all)
+            (self.new.published ≡ self.old.published) }
     {
         if !self.is_pending() {
             return true;

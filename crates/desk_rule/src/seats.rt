@@ -26,7 +26,8 @@ pub enum OpenFault {
     /// A growth was refused.
     #[error("out of memory")]
     OutOfMemory,
-    /// No reader is left to give: the kit found no free slot for one, or it has more owners than it can count.
+    /// No reader is left to give: the kit found no free slot for one, or it has more owners than it
+    /// can count.
     #[error("no reader is left")]
     NoSeat,
 }
@@ -103,8 +104,8 @@ fn writer<J: Naming, L: Operations>(
     Writer::new(alloc, first, second, SEATS)
 }
 
-/// A press whose boards show nothing, over a book that was opened. It waits for nobody who reads. Errors: want of memory, and
-/// `NoSeat` where the kit refuses one of the readers.
+/// A press whose boards show nothing, over a book that was opened. It waits for nobody who reads.
+/// Errors: want of memory, and `NoSeat` where the kit refuses one of the readers.
 pub fn open<J: Naming, L: Operations, R: Wait>(
     rt: &R,
     alloc: Global,

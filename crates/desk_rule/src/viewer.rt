@@ -25,8 +25,8 @@ impl<J: Naming, L: Operations> Model for Viewer<J, L> {
     ghost view = { λ v. v.front };
 }
 
-/// A viewer that holds the board which was published last. Contracts see it as the operations that made that board.
-/// It is not `Drop`: it ends by `leave`. While it is held, publishing may wait.
+/// A viewer that holds the board which was published last. Contracts see it as the operations that
+/// made that board. It is not `Drop`: it ends by `leave`. While it is held, publishing may wait.
 pub struct View<J: Naming, L: Operations> {
     reading: Reading<Plate<J, L>, (), Unruled>,
     front: Front<J, L>,
@@ -58,7 +58,8 @@ impl<J: Naming, L: Operations> Viewer<J, L> {
         front.begins_with(&self.front)
     }
 
-    /// Lets it know these operations, where they go on from what it knows; else it keeps what it knows.
+    /// Lets it know these operations, where they go on from what it knows; else it keeps what it
+    /// knows.
     pub fn tell(&mut self, front: &Front<J, L>)
         ensures told { IsPrefix self.old front.now → self.new ≡ front.now }
         ensures kept { (IsPrefix self.old front.now → ⊥) → self.new ≡ self.old }
@@ -69,8 +70,8 @@ impl<J: Naming, L: Operations> Viewer<J, L> {
         }
     }
 
-    /// Takes the board that was published last. It takes no memory and waits for nobody. The viewer comes back where there is
-    /// no board that goes on from its operations.
+    /// Takes the board that was published last. It takes no memory and waits for nobody. The viewer
+    /// comes back where there is no board that goes on from its operations.
     pub fn read(self) -> Result<View<J, L>, Viewer<J, L>>
         ensures ok { IfOk result (λ v. IsPrefix self v × L.is_legal v) }
         ensures err { IfErr result (λ v. v ≡ self) }

@@ -1,5 +1,5 @@
--- What a cell has of its model (`HaveSameCells`), and an edit that leaves it (`LeavesCell`). Read it after stamped_parts' specs/Written
--- and `Kept`.
+-- What a cell has of its model (`HaveSameCells`), and an edit that leaves it (`LeavesCell`). Read
+-- it after stamped_parts' specs/Written and `Kept`.
 use Rattle.std.specs.Prelude.{◌≡◌, ℕ, ◌<◌, true, List, length, map, Option, Some, option_map, slice_get}
 use Rattle.text_values.specs.declared.model.Item.{Item}
 use Rattle.text_values.specs.ModelValue.{Clause}
@@ -21,8 +21,8 @@ use Rattle.edited_parts.specs.Kept.{IsKept, id_in, numbers_in, verdict_node}
 
 -- ---- what a cell has of its model
 
--- an item: its number, what it says and what it does, the functions that it applies by their numbers, and the names that it uses,
--- each by the number of its item and its position there
+-- an item: its number, what it says and what it does, the functions that it applies by their
+-- numbers, and the names that it uses, each by the number of its item and its position there
 pub record CellItem : Type 0 where
   pub number : ℕ
   pub said : Option Clause
@@ -44,7 +44,8 @@ cell_item numbers own said r = record {
 
 -- the item at an index, where there is one
 abbrev pub item_at : List ℕ → List Item → List ResolvedItem → ℕ → Option CellItem
-item_at numbers texts items i = option_map (cell_item numbers (number_at numbers i) (clause_at texts i)) (slice_get items i)
+item_at numbers texts items i =
+    option_map (cell_item numbers (number_at numbers i) (clause_at texts i)) (slice_get items i)
 
 -- the items that checks and flags reach, in their order
 abbrev pub cell_items : List ℕ → List Item → List ResolvedItem → List ℕ → List (Option CellItem)
@@ -52,7 +53,8 @@ cell_items numbers texts items used = map (item_at numbers texts items) used
 
 -- two models of such items and readings give their cells the same items, or the same fault
 abbrev pub AreReadAlike : List Item → ModelReading → List Item → ModelReading → Type 0
-AreReadAlike texts (Sound id numbers items used) others (Sound jd ns is us) = (id ≡ jd) × (cell_items numbers texts items used ≡ cell_items ns others is us)
+AreReadAlike texts (Sound id numbers items used) others (Sound jd ns is us) =
+    (id ≡ jd) × (cell_items numbers texts items used ≡ cell_items ns others is us)
 AreReadAlike texts (Sound id numbers items used) others (Faulty jd fault) = ⊥
 AreReadAlike texts (Faulty id fault) others (Sound jd ns is us) = ⊥
 AreReadAlike texts (Faulty id fault) others (Faulty jd other) = (id ≡ jd) × (fault ≡ other)
@@ -66,7 +68,9 @@ HaveSameCells m n = AreReadAlike m.items m.reading n.items n.reading
 -- an item that does what it did has the history that it had
 abbrev pub EqualItemsKeepNames : State → State → Type 0
 EqualItemsKeepNames s t =
-    (of : ℕ) (role : RoleContent) (history names : List SeenName) → content s 0 of ≡ Some (OfRole role history) → content t 0 of ≡ Some (OfRole role names) → names ≡ history
+    (of : ℕ) (role : RoleContent) (history names : List SeenName)
+    → content s 0 of ≡ Some (OfRole role history) → content t 0 of ≡ Some (OfRole role names)
+    → names ≡ history
 
 -- the parts of the test have their stamps of before, and its space has the same inputs
 pub record IsTestLeft (s t : State) (test : ℕ) : Type 0 where
@@ -84,15 +88,18 @@ MayNodesKeep t = (n : Node) → Has (used t.parts.table) n → keeps t.parts n �
 
 -- the part of the item of that number holds that it says this
 abbrev pub HoldsText : WrittenState → ℕ → Option Clause → Type 0
-HoldsText w number said = (clause : Clause) × (said ≡ Some clause) × (part_content w 0 number ≡ Some (OfText clause))
+HoldsText w number said =
+    (clause : Clause) × (said ≡ Some clause) × (part_content w 0 number ≡ Some (OfText clause))
 
 -- the model is there, kept as it is read, and the parts of its items hold what these say
 pub record HoldsModel (w : WrittenState) (m : WrittenModel) : Type 0 where
   pub kept : IsKept w.state (map (λ x. x.reading) w.models)
   pub there : Has w.models m
-  pub texts : (index : ℕ) → index < length (numbers_in m.reading) → HoldsText w (number_at (numbers_in m.reading) index) (clause_at m.items index)
+  pub texts : (index : ℕ) → index < length (numbers_in m.reading)
+      → HoldsText w (number_at (numbers_in m.reading) index) (clause_at m.items index)
 
--- The edit from `w` to `v` leaves the cell of a test under a model that is `m` before it and `n` after it.
+-- The edit from `w` to `v` leaves the cell of a test under a model that is `m` before it and `n`
+-- after it.
 pub record LeavesCell (w v : WrittenState) (m n : WrittenModel) (test : ℕ) : Type 0 where
   pub before : HoldsModel w m
   pub after : HoldsModel v n
@@ -105,13 +112,21 @@ pub record LeavesCell (w v : WrittenState) (m n : WrittenModel) (test : ℕ) : T
   pub may_keep : MayNodesKeep v.state
 
 -- the verdict is of the same node, and nothing that it stands on is touched
-abbrev pub IsVerdictUntouched : WrittenState → WrittenState → WrittenModel → WrittenModel → ℕ → Type 0
+abbrev pub IsVerdictUntouched : WrittenState → WrittenState → WrittenModel → WrittenModel → ℕ
+    → Type 0
 IsVerdictUntouched w v m n test =
-    (id_in n.reading ≡ id_in m.reading) × ((d : ℕ) → IsUntouchedBy d (keeps v.state.parts) (net_in w.state) (net_in v.state) (verdict_node test (id_in m.reading)))
+    (id_in n.reading ≡ id_in m.reading)
+    × ((d : ℕ)
+    → IsUntouchedBy d (keeps v.state.parts) (net_in w.state) (net_in v.state)
+    (verdict_node test (id_in m.reading)))
 
 abbrev pub LeftCellsAreUntouched : Type 0
-LeftCellsAreUntouched = (w v : WrittenState) (m n : WrittenModel) (test : ℕ) → LeavesCell w v m n test → IsVerdictUntouched w v m n test
+LeftCellsAreUntouched =
+    (w v : WrittenState) (m n : WrittenModel) (test : ℕ) → LeavesCell w v m n test
+    → IsVerdictUntouched w v m n test
 
 -- Likewise where it cannot be that the edit does not leave the cell.
 abbrev pub UnreachedCellsAreUntouched : Type 0
-UnreachedCellsAreUntouched = (w v : WrittenState) (m n : WrittenModel) (test : ℕ) → ((LeavesCell w v m n test → ⊥) → ⊥) → IsVerdictUntouched w v m n test
+UnreachedCellsAreUntouched =
+    (w v : WrittenState) (m n : WrittenModel) (test : ℕ) → ((LeavesCell w v m n test → ⊥) → ⊥)
+    → IsVerdictUntouched w v m n test

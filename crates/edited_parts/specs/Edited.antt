@@ -32,7 +32,9 @@ entry_by _ _ _ = None
 
 -- the test at an index before the edit
 abbrev pub entry_at : Parts → List Test → ℕ → Option TestEntry
-entry_at p tests at = entry_by (slice_get p.table.tests.items at) (slice_get tests at) (slice_get p.locations.items at)
+entry_at p tests at =
+    entry_by (slice_get p.table.tests.items at) (slice_get tests at)
+    (slice_get p.locations.items at)
 
 -- a test that was there keeps its number, and a new one gets a new one
 abbrev pub test_id : ℕ → Option TestEntry → ℕ
@@ -40,8 +42,10 @@ test_id fresh None = fresh
 test_id fresh (Some e) = e.row.id
 
 -- the row of the test that takes an index, and the names of all its locations
-pub record IsTestMade (p : Parts) (tests : List Test) (at : ℕ) (test : Test) (row : TestRow) (locations : List (List ℕ)) : Type 0 where
-  pub made : IsRowOf (next_number p.last) (entry_at p tests at) (test_id (next_number p.last) (entry_at p tests at)) test locations row
+pub record IsTestMade (p : Parts) (tests : List Test) (at : ℕ) (test : Test) (row : TestRow)
+    (locations : List (List ℕ)) : Type 0 where
+  pub made : IsRowOf (next_number p.last) (entry_at p tests at)
+      (test_id (next_number p.last) (entry_at p tests at)) test locations row
   pub names : AreNames (test_names test) locations
 
 -- ---- models
@@ -56,7 +60,8 @@ held_models (r ∷ rs) (f ∷ fs) = Some (record { row = r; fault = f }) ∷ hel
 abbrev pub models_before : Replacement → List (Option HeldModel) → List (Option HeldModel)
 models_before (made.PutTest at test) hs = hs
 models_before (made.DropTest at) hs = hs
-models_before (made.PutModel at model next) hs = if nat_lt at (length hs) then hs else hs ++ None ∷ []
+models_before (made.PutModel at model next) hs =
+    if nat_lt at (length hs) then hs else hs ++ None ∷ []
 models_before (made.DropModel at) hs = remove hs at
 
 abbrev pub model_id : ℕ → Option HeldModel → ℕ
@@ -65,7 +70,8 @@ model_id fresh (Some h) = h.row.id
 
 -- the row of a model, over what it was
 abbrev pub IsModelMade : ℕ → Option HeldModel → NamedModel → ModelRow → Type 0
-IsModelMade fresh before m row = IsModelRowOf fresh before (model_id fresh before) (fault_in m.reading) row
+IsModelMade fresh before m row =
+    IsModelRowOf fresh before (model_id fresh before) (fault_in m.reading) row
 
 -- what the model at an index was
 abbrev pub model_before : List (Option HeldModel) → ℕ → Option HeldModel
@@ -79,27 +85,36 @@ rest_of (h ∷ hs) = hs
 
 abbrev pub AreModelsMade : ℕ → List (Option HeldModel) → List NamedModel → List ModelRow → Type 0
 AreModelsMade fresh hs [] [] = ⊤
-AreModelsMade fresh hs (m ∷ ms) (r ∷ rs) = IsModelMade fresh (model_before hs 0) m r × AreModelsMade fresh (rest_of hs) ms rs
+AreModelsMade fresh hs (m ∷ ms) (r ∷ rs) =
+    IsModelMade fresh (model_before hs 0) m r × AreModelsMade fresh (rest_of hs) ms rs
 AreModelsMade fresh hs _ _ = ⊥
 
 -- the parts of these models, over what the models were, and what they said
-pub record AreModelPartsMade (p : Parts) (was : List NamedModel) (before : List (Option HeldModel)) (models : List NamedModel) (m : ModelParts) : Type 0 where
+pub record AreModelPartsMade (p : Parts) (was : List NamedModel) (before : List (Option HeldModel))
+    (models : List NamedModel) (m : ModelParts) : Type 0 where
   pub rows : AreModelsMade (next_number p.last) before models m.rows.items
   pub faults : m.faults.items ≡ map (λ n. fault_in n.reading) models
   pub items : AreListsOf (next_number p.last) p (named_text was) (all_facts models) m.items
-  pub slots : map plain m.slots.items ≡ all_slots (item_history m.items.rows.items m.items.roles.items) (readings_of m.rows.items models)
+  pub slots : map plain m.slots.items
+      ≡ all_slots (item_history m.items.rows.items m.items.roles.items)
+      (readings_of m.rows.items models)
 
 -- ---- edits
 
 abbrev pub AreModelsAfter : Parts → List NamedModel → Replacement → ModelParts → Type 0
-AreModelsAfter p models r m = AreModelPartsMade p models (models_before r (held_models p.table.models.items p.faults.items)) (models_with r models) m
+AreModelsAfter p models r m =
+    AreModelPartsMade p models (models_before r (held_models p.table.models.items p.faults.items))
+    (models_with r models) m
 
 -- what is made for an edit
 abbrev pub IsMade : Parts → List Test → List NamedModel → Replacement → EditedParts → Type 0
-IsMade p tests models (made.PutTest at test) (edited.PutTest to row locations) = (to ≡ at) × IsTestMade p tests at test row locations.items
+IsMade p tests models (made.PutTest at test) (edited.PutTest to row locations) =
+    (to ≡ at) × IsTestMade p tests at test row locations.items
 IsMade p tests models (made.DropTest at) (edited.DropTest to) = to ≡ at
-IsMade p tests models (made.PutModel at model next) (edited.Models m) = AreModelsAfter p models (made.PutModel at model next) m
-IsMade p tests models (made.DropModel at) (edited.Models m) = AreModelsAfter p models (made.DropModel at) m
+IsMade p tests models (made.PutModel at model next) (edited.Models m) =
+    AreModelsAfter p models (made.PutModel at model next) m
+IsMade p tests models (made.DropModel at) (edited.Models m) =
+    AreModelsAfter p models (made.DropModel at) m
 IsMade p tests models _ _ = ⊥
 
 -- there is room for one test more
@@ -131,7 +146,8 @@ pub record AreModelsSame (p q : Parts) : Type 0 where
   pub slots : q.table.slots.items ≡ p.table.slots.items
 
 -- a test takes an index, under the number of the edit
-pub record PutsTest (p : Parts) (number at : ℕ) (row : TestRow) (locations : Vec (List ℕ) Global) (q : Parts) : Type 0 where
+pub record PutsTest (p : Parts) (number at : ℕ) (row : TestRow) (locations : Vec (List ℕ) Global)
+    (q : Parts) : Type 0 where
   pub new : TestRow
   pub raised : IsRaisedRow p.last number row new
   pub rows : q.table.tests.items ≡ put_at at new p.table.tests.items

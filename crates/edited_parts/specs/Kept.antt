@@ -1,5 +1,5 @@
--- What a bench keeps of its tests and models (`IsKept`), and the nodes of its cells. Read it after stamped_parts' specs/Built and
--- `Settled`.
+-- What a bench keeps of its tests and models (`IsKept`), and the nodes of its cells. Read it after
+-- stamped_parts' specs/Built and `Settled`.
 use Rattle.std.specs.Prelude.{◌≡◌, ⊤, ℕ, List, [], length, Option, Some, None, slice_get, AllPairs}
 use Rattle.std.specs.List.{AllZip, AllByRecursion as Each}
 use Rattle.text_values.specs.declared.test.Test.{Test}
@@ -29,9 +29,10 @@ use Rattle.edited_parts.specs.Settled.{CellNodes}
 
 -- ---- models
 
--- the text has no fault; the items are those of it, each with a number of its own, and these are the indexes of those that checks
--- and flags reach
-pub record IsReadFrom (clauses : List Clause) (numbers : List ℕ) (items : List ResolvedItem) (used : List ℕ) : Type 0 where
+-- the text has no fault; the items are those of it, each with a number of its own, and these are
+-- the indexes of those that checks and flags reach
+pub record IsReadFrom (clauses : List Clause) (numbers : List ℕ) (items : List ResolvedItem)
+    (used : List ℕ) : Type 0 where
   pub no_fault : HasNoFault [] predefined_names 0 clauses
   pub resolved : AreResolved [] [] predefined_names 0 clauses items
   pub reached : AreReached items used
@@ -40,7 +41,8 @@ pub record IsReadFrom (clauses : List Clause) (numbers : List ℕ) (items : List
 
 -- a model without fault is read from some text
 abbrev pub IsRead : ModelReading → Type 0
-IsRead (Sound id numbers items used) = (clauses : List Clause) × IsReadFrom clauses numbers items used
+IsRead (Sound id numbers items used) =
+    (clauses : List Clause) × IsReadFrom clauses numbers items used
 IsRead (Faulty id fault) = ⊤
 
 abbrev pub id_in : ModelReading → ℕ
@@ -59,8 +61,8 @@ pub record AreOther (m n : ModelReading) : Type 0 where
 
 -- ---- the whole
 
--- The state is that of its tests and of these models, which are read from their texts. All have numbers of their own, and the
--- locations of each test are those that it names.
+-- The state is that of its tests and of these models, which are read from their texts. All have
+-- numbers of their own, and the locations of each test are those that it names.
 pub record IsKept (s : State) (models : List ModelReading) : Type 0 where
   pub built : IsBuilt s models
   pub read : Each IsRead models
@@ -87,7 +89,8 @@ role_node test own (Some r) = record { kind = node_kind r.role; test = test; of 
 
 -- the node of the item at an index, where it has one
 abbrev pub item_node : ℕ → List ℕ → List ResolvedItem → ℕ → Node
-item_node test numbers items index = role_node test (number_at numbers index) (slice_get items index)
+item_node test numbers items index =
+    role_node test (number_at numbers index) (slice_get items index)
 
 abbrev pub space_node : ℕ → Node
 space_node test = record { kind = kinds.Space; test = test; of = 0 }
@@ -97,7 +100,8 @@ verdict_node test id = record { kind = kinds.Verdict; test = test; of = id }
 
 -- the number of a name that an item uses, in the history of the name's item
 abbrev pub name_number : (ℕ → List SeenName) → List ℕ → List ResolvedItem → Input → ℕ
-name_number histories numbers items name = number_of (histories (number_at numbers name.item)) (input_name items name)
+name_number histories numbers items name =
+    number_of (histories (number_at numbers name.item)) (input_name items name)
 
 -- the nodes of a test under a model without fault, where items have these histories
 abbrev pub nodes_of : (ℕ → List SeenName) → ℕ → ℕ → List ℕ → List ResolvedItem → CellNodes

@@ -1,5 +1,5 @@
--- The parts of the bench before an edit and after it (`IsOrderlyEdit`), and what the edit leaves of a cell (`CellsAreLeft`). Read it
--- after `Laws` and `BenchCells`.
+-- The parts of the bench before an edit and after it (`IsOrderlyEdit`), and what the edit leaves of
+-- a cell (`CellsAreLeft`). Read it after `Laws` and `BenchCells`.
 use Rattle.std.specs.Prelude.{◌≡◌, ℕ, List, map, Some, slice_get, All}
 use Rattle.std.specs.List.{AllByRecursion as Each}
 use Rattle.text_values.specs.declared.test.Test.{Test}
@@ -29,7 +29,8 @@ use Rattle.edited_parts.specs.BenchCells.{HaveSameCells, LeavesCell, MayNodesKee
 abbrev pub AreKindsOf : Parts → List NamedModel → Type 0
 AreKindsOf p models = Each (IsOfItsKind p.table.items.items p.kinds.items) (all_facts models)
 
--- The parts are those of the tests and the models, which are read. No two tests, models or items have one name or number.
+-- The parts are those of the tests and the models, which are read. No two tests, models or items
+-- have one name or number.
 pub record AreOrderlyParts (p : Parts) (tests : List Test) (models : List NamedModel) : Type 0 where
   pub parts_are : ArePartsOf p tests models
   pub kinds : AreKindsOf p models
@@ -41,7 +42,9 @@ pub record AreOrderlyParts (p : Parts) (tests : List Test) (models : List NamedM
 -- an edit keeps the kinds of items
 abbrev pub EditsKeepKinds : Type 0
 EditsKeepKinds =
-    (p q : Parts) (tests : List Test) (models : List NamedModel) (r : Replacement) (number : ℕ) (e : EditedParts) → IsEdit p tests models r number e q → AreApart (item_numbers (models_with r models))
+    (p q : Parts) (tests : List Test) (models : List NamedModel) (r : Replacement) (number : ℕ)
+    (e : EditedParts) → IsEdit p tests models r number e q
+    → AreApart (item_numbers (models_with r models))
     → AreKindsOf p models → AreKindsOf q (models_with r models)
 
 -- of orderly parts, the models are kept as they are read, and each used node may keep what it holds
@@ -50,12 +53,15 @@ pub record AreKept (p : Parts) (tests : List Test) (models : List NamedModel) : 
   pub may_keep : MayNodesKeep (state_of p tests)
 
 abbrev pub OrderlyPartsAreKept : Type 0
-OrderlyPartsAreKept = (p : Parts) (tests : List Test) (models : List NamedModel) → AreOrderlyParts p tests models → AreKept p tests models
+OrderlyPartsAreKept =
+    (p : Parts) (tests : List Test) (models : List NamedModel) → AreOrderlyParts p tests models
+    → AreKept p tests models
 
 -- ---- cells
 
 -- an edit of that number between orderly parts
-pub record IsOrderlyEdit (p q : Parts) (tests : List Test) (models : List NamedModel) (r : Replacement) (number : ℕ) (e : EditedParts) : Type 0 where
+pub record IsOrderlyEdit (p q : Parts) (tests : List Test) (models : List NamedModel)
+    (r : Replacement) (number : ℕ) (e : EditedParts) : Type 0 where
   pub edit : IsEdit p tests models r number e q
   pub before : AreOrderlyParts p tests models
   pub after : AreOrderlyParts q (tests_with r tests) (models_with r models)
@@ -68,7 +74,8 @@ pub record CellRows : Type 0 where
   pub model_row : ModelRow
 
 -- the cell is there
-pub record IsCellOf (p : Parts) (tests : List Test) (models : List NamedModel) (c : CellRows) : Type 0 where
+pub record IsCellOf (p : Parts) (tests : List Test) (models : List NamedModel) (c : CellRows)
+    : Type 0 where
   pub at : ℕ
   pub test_is : slice_get tests at ≡ Some c.test
   pub test_row_is : slice_get p.table.tests.items at ≡ Some c.test_row
@@ -104,6 +111,10 @@ pub record IsLeft (w v : WrittenState) (a b : CellRows) : Type 0 where
 
 abbrev pub CellsAreLeft : Type 0
 CellsAreLeft =
-    (p q : Parts) (tests : List Test) (models : List NamedModel) (r : Replacement) (number : ℕ) (e : EditedParts) (next later : ℕ) (a b : CellRows) → IsOrderlyEdit p q tests models r number e
-    → IsCellOf p tests models a → IsCellOf q (tests_with r tests) (models_with r models) b → IsSameCell a b
-    → IsLeft (written_state p tests models next) (written_state q (tests_with r tests) (models_with r models) later) a b
+    (p q : Parts) (tests : List Test) (models : List NamedModel) (r : Replacement) (number : ℕ)
+    (e : EditedParts) (next later : ℕ) (a b : CellRows)
+    → IsOrderlyEdit p q tests models r number e
+    → IsCellOf p tests models a → IsCellOf q (tests_with r tests) (models_with r models) b
+    → IsSameCell a b
+    → IsLeft (written_state p tests models next)
+    (written_state q (tests_with r tests) (models_with r models) later) a b

@@ -1,4 +1,5 @@
--- What the parts of the bench owe to its tests and models. Read it after Readings. The laws cite it.
+-- What the parts of the bench owe to its tests and models. Read it after Readings. The laws cite
+-- it.
 use Rattle.std.specs.Prelude.{◌≡◌, ⊤, ℕ, ◌≤◌, List, [], ◌∷◌, length, map}
 use Rattle.std.specs.List.{AllZip, AllByRecursion as Each, flat_map}
 use Rattle.text_values.specs.declared.test.Test.{Test}
@@ -28,8 +29,8 @@ pub record AreNumbered (last : ℕ) (tests : List TestRow) (models : List ModelR
   pub tests_low : Each (λ r. r.id ≤ last) tests
   pub models_low : Each (λ r. r.id ≤ last) models
 
--- The state is built of the tests, and of the models as they are read. Each model and each item has a row, and the locations of
--- each test are those that it names.
+-- The state is built of the tests, and of the models as they are read. Each model and each item has
+-- a row, and the locations of each test are those that it names.
 pub record ArePartsOf (p : Parts) (tests : List Test) (models : List NamedModel) : Type 0 where
   pub built : IsBuilt (state_of p tests) (readings_of p.table.models.items models)
   pub each_model : length p.table.models.items ≡ length models

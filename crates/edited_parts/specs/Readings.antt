@@ -27,7 +27,8 @@ resolved_in (readings.Sound resolved used) = Some (arc_value resolved).items.ite
 resolved_in (readings.Faulty fault) = None
 
 abbrev pub reading_by : ℕ → List ℕ → Reading → ModelReading
-reading_by id numbers (readings.Sound resolved used) = Sound id numbers (arc_value resolved).items.items used.items
+reading_by id numbers (readings.Sound resolved used) =
+    Sound id numbers (arc_value resolved).items.items used.items
 reading_by id numbers (readings.Faulty fault) = Faulty id fault
 
 -- a model by its number, as it is read
@@ -41,7 +42,8 @@ readings_of (r ∷ rs) (m ∷ ms) = reading_of r m ∷ readings_of rs ms
 
 -- a model as it is written, with how it is read
 abbrev pub written_model : ModelRow → NamedModel → WrittenModel
-written_model row m = record { numbers = m.numbers.items; items = m.text.items.items; reading = reading_of row m }
+written_model row m =
+    record { numbers = m.numbers.items; items = m.text.items.items; reading = reading_of row m }
 
 abbrev pub written_models : List ModelRow → List NamedModel → List WrittenModel
 written_models [] ms = []
@@ -50,12 +52,18 @@ written_models (r ∷ rs) (m ∷ ms) = written_model r m ∷ written_models rs m
 
 -- the state of these parts, tests and models, where the next new item is given that number
 abbrev pub written_state : Parts → List Test → List NamedModel → ℕ → WrittenState
-written_state p tests models next = record { state = state_of p tests; models = written_models p.table.models.items models; next = next }
+written_state p tests models next =
+    record {
+      state = state_of p tests;
+      models = written_models p.table.models.items models;
+      next = next;
+    }
 
 -- what the item of that number says
 abbrev pub named_text : List NamedModel → ℕ → Option PartContent
 named_text [] number = None
-named_text (m ∷ ms) number = option_or (text_in m.numbers.items m.text.items.items number) (named_text ms number)
+named_text (m ∷ ms) number =
+    option_or (text_in m.numbers.items m.text.items.items number) (named_text ms number)
 
 -- what is known of the items of a model, and of all models
 abbrev pub facts_in : NamedModel → List ItemFact

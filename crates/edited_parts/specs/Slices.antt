@@ -8,8 +8,10 @@ use Rattle.bench_slices.specs.Slices.{slice}
 use Rattle.edited_parts.specs.Readings.{written_model}
 use Rattle.edited_parts.specs.BenchCells.{HaveSameCells}
 
--- Two models that give a test one slice give its cells the same items, or the same fault, under a model of one number.
+-- Two models that give a test one slice give its cells the same items, or the same fault, under a
+-- model of one number.
 abbrev pub EqualSlicesHaveSameCells : Type 0
 EqualSlicesHaveSameCells =
-    (test other : Content) (model under : NamedModel) (row : ModelRow) → IsRead model → IsRead under → slice test model ≡ slice other under
+    (test other : Content) (model under : NamedModel) (row : ModelRow) → IsRead model → IsRead under
+    → slice test model ≡ slice other under
     → HaveSameCells (written_model row model) (written_model row under)

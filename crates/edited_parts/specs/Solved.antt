@@ -1,5 +1,5 @@
--- When what the nodes under a verdict hold is solved: each of them gives, from the present texts and from the values of the
--- nodes that it uses, just what it holds.
+-- When what the nodes under a verdict hold is solved: each of them gives, from the present texts
+-- and from the values of the nodes that it uses, just what it holds.
 use Rattle.std.specs.Prelude.{◌≡◌, ℕ, suc, List, [], ◌∷◌, ◌++◌, Bool, true, false, if◌then◌else◌, Option, Some, None, slice_get}
 use Rattle.std.specs.List.{AllZip, AllByRecursion as Each}
 use Rattle.text_values.specs.declared.test.Test.{Test}
@@ -18,7 +18,8 @@ use Rattle.node_values.specs.Parts.{SpacePartsContent, HasParts}
 use Rattle.node_values.specs.Values.{NodeContent, OfOutcome}
 use Rattle.memo_graph.specs.FromScratch.{IsFaultOf, IsFaultless, AreItemsOf}
 
--- what the nodes under a verdict hold: the value of the space, and the outputs of the item at each index
+-- what the nodes under a verdict hold: the value of the space, and the outputs of the item at each
+-- index
 pub record Table : Type 0 where
   pub space : NodeContent
   pub outputs : ℕ → List NodeContent
@@ -27,10 +28,12 @@ pub record Table : Type 0 where
 abbrev pub IsValueOf : Table → Input → NodeContent → Type 0
 IsValueOf table name v = slice_get (table.outputs name.item) name.position ≡ Some v
 
--- from the value of the space and those of the names that it uses, in their order, the item gives its outputs
+-- from the value of the space and those of the names that it uses, in their order, the item gives
+-- its outputs
 abbrev pub IsSolvedItem : Table → ℕ → ResolvedItem → Type 0
 IsSolvedItem table index r =
-    (values : List NodeContent) × AllZip (IsValueOf table) r.inputs.items values × MakesItem (role_content r.role) (table.space ∷ values) (table.outputs index)
+    (values : List NodeContent) × AllZip (IsValueOf table) r.inputs.items values
+    × MakesItem (role_content r.role) (table.space ∷ values) (table.outputs index)
 
 -- groups, checks and flags are nodes; what has no value is none
 abbrev pub is_node : Role → Bool
@@ -51,28 +54,37 @@ flag_names (r ∷ rs) = (if is_check r.role then flag_name r.role ∷ [] else []
 -- the answers of the checks and flags among items from this index on, in the order of the text
 abbrev pub answers_in : Table → ℕ → List ResolvedItem → List NodeContent
 answers_in table index [] = []
-answers_in table index (r ∷ rs) = (if is_check r.role then table.outputs index else []) ++ answers_in table (suc index) rs
+answers_in table index (r ∷ rs) =
+    (if is_check r.role then table.outputs index else []) ++ answers_in table (suc index) rs
 
--- a cell: the items of the model and which of them are needed, what the nodes under the verdict hold, and the outcome
+-- a cell: the items of the model and which of them are needed, what the nodes under the verdict
+-- hold, and the outcome
 pub record Cell : Type 0 where
   pub items : List ResolvedItem
   pub is_needed : ℕ → Bool
   pub table : Table
   pub outcome : Outcome
 
--- The items are those of the model, which has no fault. Checks and flags are needed, and with a node the items whose names
--- it uses. The space is that of the test's parts, or says why they have none; each node that is needed gives its outputs; and
--- from the space and the answers of checks and flags the verdict gives the outcome.
+-- The items are those of the model, which has no fault. Checks and flags are needed, and with a
+-- node the items whose names it uses. The space is that of the test's parts, or says why they have
+-- none; each node that is needed gives its outputs; and from the space and the answers of checks
+-- and flags the verdict gives the outcome.
 pub record IsSolved (test : Test) (model : ModelText) (cell : Cell) : Type 0 where
   pub no_fault : IsFaultless model
   pub of_model : AreItemsOf model cell.items
   pub checks : (index : ℕ) → IsCheckAt cell.items index → cell.is_needed index ≡ true
-  pub names : (index : ℕ) (r : ResolvedItem) → cell.is_needed index ≡ true → slice_get cell.items index ≡ Some r → is_node r.role ≡ true → Each (λ name. cell.is_needed name.item ≡ true) r.inputs.items
+  pub names : (index : ℕ) (r : ResolvedItem) → cell.is_needed index ≡ true
+      → slice_get cell.items index ≡ Some r → is_node r.role ≡ true
+      → Each (λ name. cell.is_needed name.item ≡ true) r.inputs.items
   pub parts : SpacePartsContent
   pub of_test : HasParts parts test
   pub space : Makes (ForSpace parts) [] (cell.table.space ∷ [])
-  pub items : (index : ℕ) (r : ResolvedItem) → cell.is_needed index ≡ true → slice_get cell.items index ≡ Some r → is_node r.role ≡ true → IsSolvedItem cell.table index r
-  pub verdict : Makes (ForVerdict (asked test.condition test.observed.items (flag_names cell.items))) (cell.table.space ∷ answers_in cell.table 0 cell.items) (OfOutcome cell.outcome ∷ [])
+  pub items : (index : ℕ) (r : ResolvedItem) → cell.is_needed index ≡ true
+      → slice_get cell.items index ≡ Some r → is_node r.role ≡ true
+      → IsSolvedItem cell.table index r
+  pub verdict : Makes
+      (ForVerdict (asked test.condition test.observed.items (flag_names cell.items)))
+      (cell.table.space ∷ answers_in cell.table 0 cell.items) (OfOutcome cell.outcome ∷ [])
 
 -- the model has this fault first, of which alone the verdict gives the outcome
 pub record IsSolvedFault (test : Test) (model : ModelText) (o : Outcome) : Type 0 where

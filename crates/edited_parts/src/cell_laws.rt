@@ -10,10 +10,12 @@ ghost use Rattle.edited_parts.specs.Settled.{AreSolved, IsSettledCell, IsSettled
 use text_values::{ModelText, Test};
 use verdict::Outcome;
 
-/// Where settled nodes hold what is made of the present, the outcome of a settled cell, under a model without fault, is
-/// what evaluating the test from nothing gives.
+/// Where settled nodes hold what is made of the present, the outcome of a settled cell, under a
+/// model without fault, is what evaluating the test from nothing gives.
 pub fn settled_is_from_scratch(test: &Test, model: &ModelText, outcome: &Outcome)
-    ensures { (net : Net GivenContent) (memos : List (Memo NodeContent)) → AreSolved net memos → IsSettledCell test.now model.now net memos outcome.now → IsFromScratch test.now model.now outcome.now }
+    ensures { (net : Net GivenContent) (memos : List (Memo NodeContent)) → AreSolved net memos
+        → IsSettledCell test.now model.now net memos outcome.now
+        → IsFromScratch test.now model.now outcome.now }
 {
     let _test = test;
     let _model = model;
@@ -22,7 +24,9 @@ pub fn settled_is_from_scratch(test: &Test, model: &ModelText, outcome: &Outcome
 
 /// Under a model with a fault, so is the outcome of its settled verdict.
 pub fn settled_fault_is_from_scratch(test: &Test, model: &ModelText, outcome: &Outcome)
-    ensures { (net : Net GivenContent) (memos : List (Memo NodeContent)) → AreSolved net memos → IsSettledFault test.now model.now net memos outcome.now → IsFromScratch test.now model.now outcome.now }
+    ensures { (net : Net GivenContent) (memos : List (Memo NodeContent)) → AreSolved net memos
+        → IsSettledFault test.now model.now net memos outcome.now
+        → IsFromScratch test.now model.now outcome.now }
 {
     let _test = test;
     let _model = model;

@@ -23,7 +23,8 @@ pub struct ModelParts {
     pub places: SlotPlaces,
     ghost few_slots: { vec_len slots ≤ 65536 },
     ghost apart: { (not places.are_listed || are_apart slots.items) ≡ true },
-    ghost listed: { lists_in places.are_listed places.users.items ≡ lists_if places.are_listed slots.items },
+    ghost listed: { lists_in places.are_listed places.users.items
+        ≡ lists_if places.are_listed slots.items },
 }
 
 /// What an edit changes of the parts, without its number.

@@ -12,7 +12,8 @@ pub fn test_edits_go_on()
     ensures { TestEditsGoOn }
 {}
 
-/// After any edit the parts are those of the texts after it, where no two items have one number and each model is read.
+/// After any edit the parts are those of the texts after it, where no two items have one number and
+/// each model is read.
 pub fn edits_keep_parts()
     ensures { EditsKeepParts }
 {}

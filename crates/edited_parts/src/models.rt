@@ -41,7 +41,9 @@ pub(crate) fn models_before(
     parts: &Parts,
     replacement: &Replacement,
 ) -> Result<Vec<Option<HeldModel>>, AllocError>
-    ensures { IfOk result (λ v. v.items ≡ models_before replacement.now (held_models parts.now.table.models.items parts.now.faults.items)) }
+    ensures { IfOk result (λ v. v.items
+        ≡ models_before replacement.now (held_models parts.now.table.models.items
+        parts.now.faults.items)) }
 {
     let mut held = held_models(alloc, &parts.table.models, &parts.faults)?;
     match replacement {
@@ -144,7 +146,8 @@ pub(crate) fn model_faults(
     alloc: Global,
     models: &[&NamedModel],
 ) -> Result<Vec<Option<ModelFault>>, AllocError>
-    ensures { IfOk result (λ v. v.items ≡ map (λ n. fault_in n.reading) (map (λ m. m.now) models.now)) }
+    ensures { IfOk result (λ v. v.items
+        ≡ map (λ n. fault_in n.reading) (map (λ m. m.now) models.now)) }
 {
     let mut faults = Vec::with_capacity(alloc, models.len())?;
     for model in models {
@@ -194,7 +197,8 @@ pub(crate) fn model_rows(
     before: &[Option<HeldModel>],
     models: &[&NamedModel],
 ) -> Result<Vec<ModelRow>, AllocError>
-    ensures { IfOk result (λ v. AreModelsMade fresh before.now (map (λ m. m.now) models.now) v.items) }
+    ensures { IfOk result (λ v.
+        AreModelsMade fresh before.now (map (λ m. m.now) models.now) v.items) }
 {
     let mut rows = Vec::with_capacity(alloc, models.len())?;
     for (index, model) in models.iter().enumerate() {
@@ -233,7 +237,8 @@ fn item_at(items: &[Item], index: usize) -> Option<&Item>
 // What the item of that number of a model says.
 #[tactic(auto, using(crate::proofs::Making::text_found))]
 fn text_in(model: &NamedModel, number: u64) -> Option<&Item>
-    ensures { text_part (option_map (λ x. x.now) result) ≡ text_in model.now.numbers.items model.now.text.items.items number }
+    ensures { text_part (option_map (λ x. x.now) result)
+        ≡ text_in model.now.numbers.items model.now.text.items.items number }
 {
     let index = model.item_index(number);
     item_at(&model.text().items, index)
@@ -261,7 +266,10 @@ fn add_items(
     before: &[NamedModel],
     model: &NamedModel,
 ) -> Result<(), AllocError>
-    ensures { (facts : List ItemFact) → AreListsOf fresh parts.now (named_text before.now) facts lists.old → OnOk result (AreListsOf fresh parts.now (named_text before.now) (facts ++ facts_in model.now) lists.new) }
+    ensures { (facts : List ItemFact)
+        → AreListsOf fresh parts.now (named_text before.now) facts lists.old
+        → OnOk result (AreListsOf fresh parts.now (named_text before.now)
+        (facts ++ facts_in model.now) lists.new) }
 {
     let items = items_in(model);
     for index in 0..items.numbers.len() {
@@ -279,7 +287,8 @@ pub(crate) fn model_items(
     before: &[NamedModel],
     models: &[&NamedModel],
 ) -> Result<ItemLists, AllocError>
-    ensures { IfOk result (AreListsOf fresh parts.now (named_text before.now) (all_facts (map (λ m. m.now) models.now))) }
+    ensures { IfOk result (AreListsOf fresh parts.now (named_text before.now)
+        (all_facts (map (λ m. m.now) models.now))) }
 {
     let mut lists = ItemLists::new(alloc);
     for model in models {

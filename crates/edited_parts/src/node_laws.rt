@@ -6,10 +6,11 @@ ghost use Rattle.edited_parts.specs.Solved.{Cell, IsSolved, IsSolvedFault};
 use text_values::{ModelText, Test};
 use verdict::Outcome;
 
-/// Where the nodes under a verdict are solved, under a model without fault, the outcome is what evaluating the test from
-/// nothing gives.
+/// Where the nodes under a verdict are solved, under a model without fault, the outcome is what
+/// evaluating the test from nothing gives.
 pub fn solved_is_from_scratch(test: &Test, model: &ModelText)
-    ensures { (cell : Cell) → IsSolved test.now model.now cell → IsFromScratch test.now model.now cell.outcome }
+    ensures { (cell : Cell) → IsSolved test.now model.now cell
+        → IsFromScratch test.now model.now cell.outcome }
 {
     let _test = test;
     let _model = model;
@@ -17,7 +18,8 @@ pub fn solved_is_from_scratch(test: &Test, model: &ModelText)
 
 /// Under a model with a fault, so is what the verdict gives of that fault.
 pub fn fault_is_from_scratch(test: &Test, model: &ModelText, outcome: &Outcome)
-    ensures { IsSolvedFault test.now model.now outcome.now → IsFromScratch test.now model.now outcome.now }
+    ensures { IsSolvedFault test.now model.now outcome.now
+        → IsFromScratch test.now model.now outcome.now }
 {
     let _test = test;
     let _model = model;

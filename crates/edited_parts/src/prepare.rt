@@ -31,7 +31,8 @@ fn make_room(parts: &mut Parts) -> Result<(), AllocError>
     parts.locations.reserve(1)
 }
 
-// The parts of these models, over what they were and said. Errors: want of memory, or too many nodes.
+// The parts of these models, over what they were and said. Errors: want of memory, or too many
+// nodes.
 fn model_parts(
     alloc: Global,
     parts: &Parts,
@@ -39,7 +40,8 @@ fn model_parts(
     before: &[Option<HeldModel>],
     models: &[&NamedModel],
 ) -> Result<ModelParts, AllocError>
-    ensures { IfOk result (AreModelPartsMade parts.now was.now before.now (map (λ m. m.now) models.now)) }
+    ensures { IfOk result (AreModelPartsMade parts.now was.now before.now
+        (map (λ m. m.now) models.now)) }
 {
     let fresh = next_number(parts.last);
     let rows = model_rows(alloc, fresh, before, models)?;
@@ -77,8 +79,8 @@ fn edited_models(
     model_parts(alloc, parts, models, &before, &after)
 }
 
-/// Makes what an edit needs that puts this on the tests and models of these parts. The parts stay the same. Errors: want of
-/// memory.
+/// Makes what an edit needs that puts this on the tests and models of these parts. The parts stay
+/// the same. Errors: want of memory.
 pub fn prepare_parts(
     alloc: Global,
     parts: &mut Parts,

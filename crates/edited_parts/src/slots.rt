@@ -18,7 +18,8 @@ fn slots_in(
     row: ModelRow,
     model: &NamedModel,
 ) -> Result<Vec<Slot>, AllocError>
-    ensures { let all = histories_in histories.now in IfOk result (λ v. map plain v.items ≡ slots_in all (reading_of row model.now)) }
+    ensures { let all = histories_in histories.now in
+        IfOk result (λ v. map plain v.items ≡ slots_in all (reading_of row model.now)) }
 {
     match model.reading() {
         Reading::Sound { resolved, used } => model_slots(
@@ -35,7 +36,8 @@ fn slots_in(
 
 // Adds these nodes.
 fn put_slots(slots: &mut Vec<Slot>, more: Vec<Slot>) -> Result<(), AllocError>
-    ensures { IfOk result (λ _. map plain slots.new.items ≡ map plain slots.old.items ++ map plain more.items) }
+    ensures { IfOk result (λ _. map plain slots.new.items
+        ≡ map plain slots.old.items ++ map plain more.items) }
 {
     for slot in more {
         slots.push(slot)?;
@@ -44,7 +46,9 @@ fn put_slots(slots: &mut Vec<Slot>, more: Vec<Slot>) -> Result<(), AllocError>
 }
 
 fn is_sound(_row: ModelRow, model: &NamedModel) -> bool
-    ensures { (ms : List ModelReading) → space_slots (reading_of _row model.now ∷ ms) ≡ (if result then space_slot ∷ [] else space_slots ms) }
+    ensures { (ms : List ModelReading)
+        → space_slots (reading_of _row model.now ∷ ms)
+        ≡ (if result then space_slot ∷ [] else space_slots ms) }
 {
     match model.reading() {
         Reading::Sound { .. } => true,
@@ -59,7 +63,8 @@ fn space_slots(
     rows: &[ModelRow],
     models: &[&NamedModel],
 ) -> Result<Vec<Slot>, AllocError>
-    ensures { IfOk result (λ v. map plain v.items ≡ space_slots (readings_of rows.now (map (λ m. m.now) models.now))) }
+    ensures { IfOk result (λ v. map plain v.items
+        ≡ space_slots (readings_of rows.now (map (λ m. m.now) models.now))) }
 {
     let mut slots = Vec::new(alloc);
     for (row, model) in rows.iter().zip(models.iter()) {
@@ -77,14 +82,17 @@ fn space_slots(
     Ok(slots)
 }
 
-/// The nodes of these models with these rows, where items have these histories. Errors: want of memory.
+/// The nodes of these models with these rows, where items have these histories. Errors: want of
+/// memory.
 pub(crate) fn all_slots(
     alloc: Global,
     histories: &Histories<'_>,
     rows: &[ModelRow],
     models: &[&NamedModel],
 ) -> Result<Vec<Slot>, AllocError>
-    ensures { let all = histories_in histories.now in IfOk result (λ v. map plain v.items ≡ all_slots all (readings_of rows.now (map (λ m. m.now) models.now))) }
+    ensures { let all = histories_in histories.now in
+        IfOk result (λ v. map plain v.items
+        ≡ all_slots all (readings_of rows.now (map (λ m. m.now) models.now))) }
 {
     let mut slots = space_slots(alloc, rows, models)?;
     for (row, model) in rows.iter().zip(models.iter()) {

@@ -55,7 +55,8 @@ pub(crate) fn made_test(
     at: usize,
     test: &Test,
 ) -> Result<MadeTest, AllocError>
-    ensures { IfOk result (λ m. IsTestMade parts.now tests.now at test.now m.row m.locations.items) }
+    ensures { IfOk result (λ m.
+        IsTestMade parts.now tests.now at test.now m.row m.locations.items) }
 {
     let fresh = next_number(parts.last);
     let locations = locations_of(alloc, test)?;

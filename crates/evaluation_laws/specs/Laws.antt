@@ -1,4 +1,5 @@
--- Laws of what evaluating from nothing gives, each the contract of a call of this crate. Read `FromScratch` of memo_graph first.
+-- Laws of what evaluating from nothing gives, each the contract of a call of this crate. Read
+-- `FromScratch` of memo_graph first.
 use Rattle.std.specs.Prelude.{◌≡◌, Bool, true, false, List, [], map}
 use Rattle.std.specs.List.{AllByRecursion}
 use denote.Ref.{Bor}
@@ -32,7 +33,8 @@ HasTree kinds.OfAny steps = (t : RelTree) × (steps ≡ rel_code t [])
 -- the bodies of a recursive group are relations, and rise with its names
 abbrev pub AreCoded : Bool → List Body → Type 0
 AreCoded false bodies = AllByRecursion (λ b. HasTree b.code.kind b.code.steps.items) bodies
-AreCoded true bodies = AreRising true bodies × AllByRecursion (λ b. b.code.kind ≡ kinds.OfSet → ⊥) bodies
+AreCoded true bodies =
+    AreRising true bodies × AllByRecursion (λ b. b.code.kind ≡ kinds.OfSet → ⊥) bodies
 
 abbrev pub IsCoded : Role → Type 0
 IsCoded (roles.Group recursive bodies) = AreCoded recursive bodies.items
@@ -43,20 +45,29 @@ IsCoded roles.Silent = Unit {0}
 
 -- the columns of an item are one, given those of its inputs
 abbrev pub HasOneColumns : Role → Space → Type 0
-HasOneColumns role space = (inputs : List (Bor Column)) (cs ds : List Column) → IsCoded role → ColumnsOf role inputs space cs → ColumnsOf role inputs space ds → cs ≡ ds
+HasOneColumns role space =
+    (inputs : List (Bor Column)) (cs ds : List Column) → IsCoded role
+    → ColumnsOf role inputs space cs → ColumnsOf role inputs space ds → cs ≡ ds
 
 -- the answers of a check are one, given the columns of its inputs
 abbrev pub HasOneAnswers : Role → Space → Type 0
-HasOneAnswers role space = (inputs : List (Bor Column)) (xs ys : List Bool) → IsCoded role → AnswersOf role inputs space xs → AnswersOf role inputs space ys → xs ≡ ys
+HasOneAnswers role space =
+    (inputs : List (Bor Column)) (xs ys : List Bool) → IsCoded role → AnswersOf role inputs space xs
+    → AnswersOf role inputs space ys → xs ≡ ys
 
 -- a model is resolved to items of one content
 abbrev pub HasOneResolution : ModelText → Type 0
-HasOneResolution model = (items others : List ResolvedItem) → AreItemsOf model items → AreItemsOf model others → map item_content items ≡ map item_content others
+HasOneResolution model =
+    (items others : List ResolvedItem) → AreItemsOf model items → AreItemsOf model others
+    → map item_content items ≡ map item_content others
 
 -- the steps of a model without fault are those of expressions
 abbrev pub HasCodedItems : ModelText → Type 0
-HasCodedItems model = (items : List ResolvedItem) → IsFaultless model → AreItemsOf model items → AllByRecursion (λ r. IsCoded r.role) items
+HasCodedItems model =
+    (items : List ResolvedItem) → IsFaultless model → AreItemsOf model items
+    → AllByRecursion (λ r. IsCoded r.role) items
 
 -- a test has one outcome under a model
 abbrev pub HasOneOutcome : Test → ModelText → Type 0
-HasOneOutcome test model = (o p : Outcome) → IsFromScratch test model o → IsFromScratch test model p → o ≡ p
+HasOneOutcome test model =
+    (o p : Outcome) → IsFromScratch test model o → IsFromScratch test model p → o ≡ p

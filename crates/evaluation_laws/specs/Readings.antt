@@ -19,12 +19,15 @@ read_item numbers r = record { role = role_content r.role; uses = uses_of number
 
 -- the items at these indexes, in their order
 abbrev pub read_items : List ℕ → List ResolvedItem → List ℕ → List (Option ReadItem)
-read_items numbers resolved used = map (λ k. option_map (read_item numbers) (slice_get resolved k)) used
+read_items numbers resolved used =
+    map (λ k. option_map (read_item numbers) (slice_get resolved k)) used
 
 abbrev pub items_read_by : NamedModel → Reading → List (Option ReadItem)
 items_read_by m (readings.Faulty fault) = []
-items_read_by m (readings.Sound resolved used) = read_items m.numbers.items (arc_value resolved).items.items used.items
+items_read_by m (readings.Sound resolved used) =
+    read_items m.numbers.items (arc_value resolved).items.items used.items
 
--- the items of a model that checks and flags reach, as they are read, in the order of the text; none where it has a fault
+-- the items of a model that checks and flags reach, as they are read, in the order of the text;
+-- none where it has a fault
 abbrev pub items_read : NamedModel → List (Option ReadItem)
 items_read m = items_read_by m m.reading

@@ -1,4 +1,5 @@
--- Laws of slices, each the contract of a call of this crate. Read `Slices` of bench_slices and `FromScratch` of memo_graph first.
+-- Laws of slices, each the contract of a call of this crate. Read `Slices` of bench_slices and
+-- `FromScratch` of memo_graph first.
 use Rattle.std.specs.Prelude.{◌≡◌}
 use Rattle.text_values.specs.declared.test.Test.{Test}
 use Rattle.text_values.specs.TestValue.{content_of}
@@ -12,16 +13,22 @@ use Rattle.memo_graph.specs.FromScratch.{IsFaultless, IsEvaluationOf, IsFromScra
 
 -- each outcome of a test under a model is one of a test that says the same
 abbrev pub GiveTheSame : Test → Test → ModelText → Type 0
-GiveTheSame test other model = content_of test ≡ content_of other → (o : Outcome) → IsFromScratch test model o → IsFromScratch other model o
+GiveTheSame test other model =
+    content_of test ≡ content_of other → (o : Outcome) → IsFromScratch test model o
+    → IsFromScratch other model o
 
 -- what a cell gives from nothing depends on its slice alone
 abbrev pub SlicesDecide : Type 0
 SlicesDecide =
     (test other : Test) (model under : NamedModel) (outcome : Outcome) → IsRead model → IsRead under
-    → slice (content_of test) model ≡ slice (content_of other) under → IsFromScratch test model.text outcome → IsFromScratch other under.text outcome
+    → slice (content_of test) model ≡ slice (content_of other) under
+    → IsFromScratch test model.text outcome → IsFromScratch other under.text outcome
 
--- of two models without fault that give a test one slice: each evaluation under the one is one under the other
+-- of two models without fault that give a test one slice: each evaluation under the one is one
+-- under the other
 abbrev pub ItemsDecide : Type 0
 ItemsDecide =
-    (test : Test) (model under : NamedModel) (e : Evaluation) → IsRead model → IsRead under → IsFaultless model.text → IsFaultless under.text
-    → slice (content_of test) model ≡ slice (content_of test) under → IsEvaluationOf test model.text e → IsEvaluationOf test under.text e
+    (test : Test) (model under : NamedModel) (e : Evaluation) → IsRead model → IsRead under
+    → IsFaultless model.text → IsFaultless under.text
+    → slice (content_of test) model ≡ slice (content_of test) under
+    → IsEvaluationOf test model.text e → IsEvaluationOf test under.text e

@@ -1,9 +1,9 @@
 //! Laws of evaluation.
 //!
-//! - Evaluating from nothing gives one outcome, from one list of columns and of answers of each item: specs/Laws, after
-//!   `FromScratch` of `memo_graph/specs`.
-//! - Two models whose slices for a test are equal are read alike: specs/Readings, after `Slices` of `bench_slices/specs`;
-//!   specs/Alignment is how the proof goes.
+//! - Evaluating from nothing gives one outcome, from one list of columns and of answers of each
+//!   item: specs/Laws, after `FromScratch` of `memo_graph/specs`.
+//! - Two models whose slices for a test are equal are read alike: specs/Readings, after `Slices` of
+//!   `bench_slices/specs`; specs/Alignment is how the proof goes.
 //! - What a cell gives from nothing depends on what its slice has: specs/SliceLaws.
 #![tactic(auto)]
 
@@ -50,7 +50,8 @@ pub fn items_are_coded(model: &ModelText)
     let _model = model;
 }
 
-/// A test has one outcome under a model: what evaluating from nothing gives is determined by the two texts.
+/// A test has one outcome under a model: what evaluating from nothing gives is determined by the
+/// two texts.
 pub fn outcome_is_one(test: &Test, model: &ModelText)
     ensures { HasOneOutcome test.now model.now }
 {
@@ -58,10 +59,11 @@ pub fn outcome_is_one(test: &Test, model: &ModelText)
     let _model = model;
 }
 
-/// Models without fault that give a test one slice have, in the order of the text, equal items that checks and flags reach:
-/// what they do, which names they use, and which functions they apply.
+/// Models without fault that give a test one slice have, in the order of the text, equal items that
+/// checks and flags reach: what they do, which names they use, and which functions they apply.
 pub fn equal_slices_read_alike()
-    ensures { (test other : Content) (model under : NamedModel) → IsRead model → IsRead under → slice test model ≡ slice other under → items_read model ≡ items_read under }
+    ensures { (test other : Content) (model under : NamedModel) → IsRead model → IsRead under
+        → slice test model ≡ slice other under → items_read model ≡ items_read under }
 {}
 
 /// Tests that say the same, wherever they lie in memory, have the same outcomes under a model.

@@ -1,5 +1,5 @@
--- Which instruction each event of an execution comes from: `instructions_of` cites `AreInstructions`. Each thread is run again
--- with the values that its loads read in the execution.
+-- Which instruction each event of an execution comes from: `instructions_of` cites
+-- `AreInstructions`. Each thread is run again with the values that its loads read in the execution.
 use Rattle.std.specs.Prelude.{Vec, ℕ, ◌≡◌, ◌⊎◌, ◌+◌, ◌++◌, Bool, true, false, List, [], Option, Some, None, if◌then◌else◌, nat_eq, length, slice_get, vec_len}
 use Rattle.std.specs.List.{All, Contains, filter_map}
 use Rattle.std.specs.declared.alloc.Global.{Global}
@@ -59,24 +59,31 @@ values_read thread events = filter_map (value_read thread) events
 
 -- the run, and its steps
 abbrev pub Executes : Thread → List Value → List RunStep → Type 0
-Executes t values steps = (o : Outcome) × (run_of t.lines t.first values ≡ Some o) × (steps ≡ o.walk.steps)
+Executes t values steps =
+    (o : Outcome) × (run_of t.lines t.first values ≡ Some o) × (steps ≡ o.walk.steps)
 
 -- it has no run with these values, if they are of the domain
 abbrev pub HasNoRun : Thread → List Value → List Value → Type 0
-HasNoRun t domain values = (o : Outcome) → All (Contains domain) values → run_of t.lines t.first values ≡ Some o → ⊥
+HasNoRun t domain values =
+    (o : Outcome) → All (Contains domain) values → run_of t.lines t.first values ≡ Some o → ⊥
 
 -- the instructions of its events
 abbrev pub AreMade : Thread → List Value → List Value → List (Option Instruction) → Type 0
-AreMade t domain values xs = ((steps : List RunStep) × Executes t values steps × (xs ≡ made_in steps)) ⊎ (HasNoRun t domain values × (xs ≡ []))
+AreMade t domain values xs =
+    ((steps : List RunStep) × Executes t values steps × (xs ≡ made_in steps))
+    ⊎ (HasNoRun t domain values × (xs ≡ []))
 
 -- of the thread of that number of a test
 abbrev pub AreMadeOn : Test → ℕ → List Value → List Value → List (Option Instruction) → Type 0
-AreMadeOn test n domain values xs = (p : Program) × IsProgram test p × AreMade (thread_of p n) domain values xs
+AreMadeOn test n domain values xs =
+    (p : Program) × IsProgram test p × AreMade (thread_of p n) domain values xs
 
 -- of the threads below a number, one after another
-pub data AreMadeBelow (test : Test) (domain : List Value) (events : List Event) : ℕ → List (Option Instruction) → Type 0 where
+pub data AreMadeBelow (test : Test) (domain : List Value) (events : List Event)
+    : ℕ → List (Option Instruction) → Type 0 where
   NoThread : AreMadeBelow test domain events 0 []
-  OneThread : (n : ℕ) (xs ys : List (Option Instruction)) → AreMadeBelow test domain events n xs → AreMadeOn test n domain (values_read n events) ys
+  OneThread : (n : ℕ) (xs ys : List (Option Instruction)) → AreMadeBelow test domain events n xs
+      → AreMadeOn test n domain (values_read n events) ys
       → AreMadeBelow test domain events (n + 1) (xs ++ ys)
 
 -- ---- the whole
@@ -89,27 +96,33 @@ is_initial (Some thread) = false
 abbrev pub not_made : Event → Option (Option Instruction)
 not_made e = if is_initial e.thread then Some None else None
 
--- the instructions of the events of all threads over the domain of the test; a test whose domain is refused has none
+-- the instructions of the events of all threads over the domain of the test; a test whose domain is
+-- refused has none
 abbrev pub AreMadeIn : Test → List Event → List (Option Instruction) → Type 0
 AreMadeIn test events xs =
-    ((domain : List Value) × IsTestDomain test domain × AreMadeBelow test domain events (vec_len test.threads) xs)
+    ((domain : List Value) × IsTestDomain test domain
+    × AreMadeBelow test domain events (vec_len test.threads) xs)
     ⊎ ((r : DomainRefusal) × IsTestFault test (faults.Refused r) × (xs ≡ []))
 
 -- for each event its instruction: first the initial stores, and then the events of the threads
-pub record AreInstructions (test : Test) (events : List Event) (xs : List (Option Instruction)) : Type 0 where
+pub record AreInstructions (test : Test) (events : List Event) (xs : List (Option Instruction))
+    : Type 0 where
   pub made : List (Option Instruction)
   pub of_threads : AreMadeIn test events made
   pub whole : xs ≡ filter_map not_made events ++ made
 
 -- ---- what the code keeps: the runs of each thread
 
-pub record AreRunsOver (test : Test) (domain : List Value) (count : ℕ) (threads : List (Vec code_run.Run Global)) : Type 0 where
+pub record AreRunsOver (test : Test) (domain : List Value) (count : ℕ)
+    (threads : List (Vec code_run.Run Global)) : Type 0 where
   pub all : length threads ≡ count
-  pub each : (n : ℕ) (runs : Vec code_run.Run Global) → slice_get threads n ≡ Some runs → ShowsTestRuns test n domain runs.items
+  pub each : (n : ℕ) (runs : Vec code_run.Run Global) → slice_get threads n ≡ Some runs
+      → ShowsTestRuns test n domain runs.items
 
 abbrev pub AreAllRuns : Test → List (Vec code_run.Run Global) → Type 0
 AreAllRuns test threads =
-    ((domain : List Value) × IsTestDomain test domain × AreRunsOver test domain (vec_len test.threads) threads)
+    ((domain : List Value) × IsTestDomain test domain
+    × AreRunsOver test domain (vec_len test.threads) threads)
     ⊎ ((r : DomainRefusal) × IsTestFault test (faults.Refused r) × (threads ≡ []))
 
 -- this run reads these values, or none does
@@ -125,4 +138,5 @@ made_by_run None = []
 made_by_run (Some run) = made_in run.steps.items
 
 abbrev pub AreMadeOf : List code_run.Run → List Value → List (Option Instruction) → Type 0
-AreMadeOf runs values xs = (found : Option code_run.Run) × IsReader runs values found × (xs ≡ made_by_run found)
+AreMadeOf runs values xs =
+    (found : Option code_run.Run) × IsReader runs values found × (xs ≡ made_by_run found)

@@ -137,7 +137,8 @@ fn all_made(
     threads: &[Vec<Run>],
     events: &[Event],
 ) -> Result<Vec<Option<Instruction>>, AllocError>
-    ensures { (test : tests.Test) → AreAllRuns test threads.now → IfOk result (λ v. AreMadeIn test events.now v.items) }
+    ensures { (test : tests.Test) → AreAllRuns test threads.now
+        → IfOk result (λ v. AreMadeIn test events.now v.items) }
 {
     let mut found = Vec::new(alloc);
     for thread in 0..threads.len() {
@@ -147,14 +148,15 @@ fn all_made(
     Ok(found)
 }
 
-/// For each event of an execution the instruction that it comes from, where `threads` are the runs of each
-/// thread of its test. Errors: want of memory.
+/// For each event of an execution the instruction that it comes from, where `threads` are the runs
+/// of each thread of its test. Errors: want of memory.
 pub fn instructions_of(
     alloc: Global,
     threads: &[Vec<Run>],
     execution: &Execution,
 ) -> Result<Vec<Option<Instruction>>, AllocError>
-    ensures { (test : tests.Test) → AreAllRuns test threads.now → IfOk result (λ v. AreInstructions test execution.now.events.items v.items) }
+    ensures { (test : tests.Test) → AreAllRuns test threads.now
+        → IfOk result (λ v. AreInstructions test execution.now.events.items v.items) }
 {
     let mut found = all_not_made(alloc, &execution.events)?;
     let mut made = all_made(alloc, threads, &execution.events)?;

@@ -1,5 +1,5 @@
-//! The instruction that each event of an execution comes from: each thread is run again with the values that its loads read.
-//! Read specs/Origins first. Law: `laws`, by specs/OfRuns.
+//! The instruction that each event of an execution comes from: each thread is run again with the
+//! values that its loads read. Read specs/Origins first. Law: `laws`, by specs/OfRuns.
 #![tactic(auto)]
 
 mod events;

@@ -13,7 +13,8 @@ use text_values::Test;
 // The runs of each thread over a domain.
 fn runs_over(alloc: Global, test: &Test, domain: &Domain) -> Result<Vec<Vec<Run>>, AllocError>
     requires { IsSet domain.now.values.items }
-    ensures { IfOk result (λ v. AreRunsOver test.now domain.now.values.items (vec_len test.now.threads) v.items) }
+    ensures { IfOk result (λ v.
+        AreRunsOver test.now domain.now.values.items (vec_len test.now.threads) v.items) }
 {
     let mut threads = Vec::new(alloc);
     for thread in 0..test.threads.len() {

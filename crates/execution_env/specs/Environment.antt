@@ -14,7 +14,8 @@ pub record HasFacts (c : Combination) (e : Execution) : Type 0 where
   pub dependencies : dependency_lists c.dependencies ≡ dependency_lists e.dependencies
 
 -- each set and each relation is that of its name among the first n events of the candidate
-pub record IsEnvironment (env : BaseEnv) (n : ℕ) (c : Combination) (sources order : List ℕ) : Type 0 where
+pub record IsEnvironment (env : BaseEnv) (n : ℕ) (c : Combination) (sources order : List ℕ)
+    : Type 0 where
   pub all_set : IsEvents env.all_set n (λ a. a < n)
   pub r_set : IsEvents env.r_set n (SetIn c n names.Loads)
   pub w_set : IsEvents env.w_set n (SetIn c n names.Stores)
@@ -28,7 +29,8 @@ pub record IsEnvironment (env : BaseEnv) (n : ℕ) (c : Combination) (sources or
   pub id_rel : IsRelation env.id_rel n (RelationIn names.Identity n c sources order)
   pub po_rel : IsRelation env.po_rel n (RelationIn names.ProgramOrder n c sources order)
   pub loc_rel : IsRelation env.loc_rel n (RelationIn names.SameLocation n c sources order)
-  pub po_loc_rel : IsRelation env.po_loc_rel n (RelationIn names.ProgramOrderSameLocation n c sources order)
+  pub po_loc_rel : IsRelation env.po_loc_rel n (RelationIn names.ProgramOrderSameLocation n c
+      sources order)
   pub int_rel : IsRelation env.int_rel n (RelationIn names.Internal n c sources order)
   pub ext_rel : IsRelation env.ext_rel n (RelationIn names.External n c sources order)
   pub rf_rel : IsRelation env.rf_rel n (RelationIn names.ReadsFrom n c sources order)
@@ -44,7 +46,8 @@ pub record IsEnvironment (env : BaseEnv) (n : ℕ) (c : Combination) (sources or
   pub addr_rel : IsRelation env.addr_rel n (RelationIn names.AddressDependency n c sources order)
   pub data_rel : IsRelation env.data_rel n (RelationIn names.DataDependency n c sources order)
   pub ctrl_rel : IsRelation env.ctrl_rel n (RelationIn names.ControlDependency n c sources order)
-  pub ctrlisync_rel : IsRelation env.ctrlisync_rel n (RelationIn names.ControlIsyncDependency n c sources order)
+  pub ctrlisync_rel : IsRelation env.ctrlisync_rel n
+      (RelationIn names.ControlIsyncDependency n c sources order)
   pub sync_rel : IsRelation env.sync_rel n (RelationIn names.SyncOrder n c sources order)
   pub lwsync_rel : IsRelation env.lwsync_rel n (RelationIn names.LwsyncOrder n c sources order)
   pub eieio_rel : IsRelation env.eieio_rel n (RelationIn names.EieioOrder n c sources order)

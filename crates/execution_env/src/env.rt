@@ -90,7 +90,9 @@ pub struct BaseEnv {
 
 /// The relation of a name in the present candidate.
 fn relation(base: &Base, name: Predefined) -> Rel
-    ensures { (c : _) (sources order : _) → IsEntered base.now c → IsReading base.now c sources → IsOrdered base.now c order → Gives base.now name → IsRelation result base.now.count (RelationIn name base.now.count c sources order) }
+    ensures { (c : _) (sources order : _) → IsEntered base.now c → IsReading base.now c sources
+        → IsOrdered base.now c order → Gives base.now name
+        → IsRelation result base.now.count (RelationIn name base.now.count c sources order) }
 {
     let mut made = Rel::empty(base.count());
     base.write_relation(name, &mut made);
@@ -112,7 +114,11 @@ fn combination(alloc: Global, execution: &Execution) -> Result<Combination, Allo
 
 /// All predefined names of the present candidate.
 fn env_of(base: &Base) -> BaseEnv
-    ensures { (c : _) (sources order : List ℕ) → IsEntered base.now c → IsReading base.now c sources → IsOrdered base.now c order → ((name : _) → IsTrue (is_set name) → Contains (set_names base.now.sets) name) → ((name : _) → is_set name ≡ false → Gives base.now name) → IsEnvironment result base.now.count c sources order }
+    ensures { (c : _) (sources order : List ℕ) → IsEntered base.now c → IsReading base.now c sources
+        → IsOrdered base.now c order
+        → ((name : _) → IsTrue (is_set name) → Contains (set_names base.now.sets) name)
+        → ((name : _) → is_set name ≡ false → Gives base.now name)
+        → IsEnvironment result base.now.count c sources order }
 {
     BaseEnv {
         all_set: EventSet::all(base.count()),
@@ -154,7 +160,9 @@ fn env_of(base: &Base) -> BaseEnv
 
 /// All predefined names of a candidate, over its events. Errors: want of memory.
 pub fn base(alloc: Global, execution: &Execution) -> Result<Box<BaseEnv>, AllocError>
-    ensures { IfOk result (λ env. (threads : _) (c : _) (t : _) → IsExecution threads c t execution.now → IsEnvironment env.value (length c.events.items) c t.0 t.1) }
+    ensures { IfOk result (λ env. (threads : _) (c : _) (t : _)
+        → IsExecution threads c t execution.now
+        → IsEnvironment env.value (length c.events.items) c t.0 t.1) }
 {
     let combination = combination(alloc, execution)?;
     let mut base = Base::new(alloc, &combination)?;

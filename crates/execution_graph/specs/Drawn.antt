@@ -31,4 +31,5 @@ IsAmongIfInitial (Some thread) named n = Unit {0}
 IsAmongIfInitial None named n = Contains named n
 
 abbrev pub IsDrawnEvent : List Event → (named : List ℕ) → ℕ → Type 0
-IsDrawnEvent events named n = (e : Event) × (slice_get events n ≡ Some e) × IsAmongIfInitial e.thread named n
+IsDrawnEvent events named n =
+    (e : Event) × (slice_get events n ≡ Some e) × IsAmongIfInitial e.thread named n

@@ -60,11 +60,13 @@ fn is_drawn(events: &[Event], sources: &[u8], ends: &[usize], number: usize) -> 
     }
 }
 
-/// The events that are drawn: those of the threads, and the initial stores that loads read or at which a step of a reason ends.
-/// `sources` has the store that each load reads, and `ends` the events at which the steps begin and end.
+/// The events that are drawn: those of the threads, and the initial stores that loads read or at
+/// which a step of a reason ends. `sources` has the store that each load reads, and `ends` the
+/// events at which the steps begin and end.
 pub fn drawn_events(events: &[Event], sources: &[u8], ends: &[usize]) -> EventSet
     requires { length events.now ≤ 128 }
-    ensures { IsEvents result (length events.now) (IsDrawnEvent events.now (sources.now ++ ends.now)) }
+    ensures { IsEvents result (length events.now)
+        (IsDrawnEvent events.now (sources.now ++ ends.now)) }
 {
     let mut drawn = EventSet::empty(events.len());
     for number in 0..events.len() {

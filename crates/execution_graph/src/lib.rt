@@ -1,5 +1,5 @@
-//! The graph of an execution, as data and as a text for `dot`. Read specs/Drawn first (which events and which pairs of a
-//! relation are drawn), then specs/Texts (the bytes).
+//! The graph of an execution, as data and as a text for `dot`. Read specs/Drawn first (which events
+//! and which pairs of a relation are drawn), then specs/Texts (the bytes).
 #![tactic(auto)]
 
 mod drawing;

@@ -49,11 +49,12 @@ fn pairs(alloc: Global, relation: &Rel) -> Result<Vec<Edge>, AllocError>
     Ok(pairs)
 }
 
-/// Of the pairs of a relation between events of a set, those that are drawn, in rising order. Errors:
-/// want of memory.
+/// Of the pairs of a relation between events of a set, those that are drawn, in rising order.
+/// Errors: want of memory.
 pub fn edges(alloc: Global, relation: &Rel, events: &EventSet) -> Result<Vec<Edge>, AllocError>
     requires { events.now.count ≡ relation.now.count }
-    ensures { IfOk result (λ v. AreEdges (DrawnAmong (IsMember events.now) (Has relation.now)) v.items) }
+    ensures { IfOk result (λ v.
+        AreEdges (DrawnAmong (IsMember events.now) (Has relation.now)) v.items) }
 {
     let among = relation.restrict(events);
     let drawn = drawn(&among);

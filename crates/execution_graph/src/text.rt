@@ -45,7 +45,9 @@ fn put_origin(text: &mut Vec<u8>, instruction: Option<Instruction>) -> Result<()
 #[tactic(auto, unfolding(crate::specs::Texts::node_line))]
 fn put_node(text: &mut Vec<u8>, telling: Telling<'_>, event: ToldEvent) -> Result<(), AllocError>
     requires { telling.shows ≡ true }
-    ensures { OnOk result (text.new.items ≡ text.old.items ++ node_line telling.entry.locations.now telling.entry.initial_count event) }
+    ensures { OnOk result (text.new.items
+        ≡ text.old.items
+        ++ node_line telling.entry.locations.now telling.entry.initial_count event) }
 {
     put_name(text, telling.initial_count, event.number)?;
     put_bytes(text, b" [label=\"")?;
@@ -62,7 +64,10 @@ fn put_nodes(
     events: &[ToldEvent],
 ) -> Result<(), AllocError>
     requires { telling.shows ≡ true }
-    ensures { OnOk result (text.new.items ≡ text.old.items ++ flat_map (node_line telling.entry.locations.now telling.entry.initial_count) events.now) }
+    ensures { OnOk result (text.new.items
+        ≡ text.old.items
+        ++ flat_map (node_line telling.entry.locations.now telling.entry.initial_count)
+        events.now) }
 {
     for event in events {
         put_node(text, telling, *event)?;
@@ -96,7 +101,10 @@ fn put_cluster(
     cluster: &Cluster,
 ) -> Result<(), AllocError>
     requires { telling.shows ≡ true }
-    ensures { OnOk result (text.new.items ≡ text.old.items ++ cluster_text telling.entry.locations.now telling.entry.initial_count cluster.now) }
+    ensures { OnOk result (text.new.items
+        ≡ text.old.items
+        ++ cluster_text telling.entry.locations.now telling.entry.initial_count
+        cluster.now) }
 {
     put_cluster_front(text, cluster.thread)?;
     put_cluster_label(text, cluster.thread)?;
@@ -110,7 +118,10 @@ fn put_clusters(
     clusters: &[Cluster],
 ) -> Result<(), AllocError>
     requires { telling.shows ≡ true }
-    ensures { OnOk result (text.new.items ≡ text.old.items ++ flat_map (cluster_text telling.entry.locations.now telling.entry.initial_count) clusters.now) }
+    ensures { OnOk result (text.new.items
+        ≡ text.old.items
+        ++ flat_map (cluster_text telling.entry.locations.now telling.entry.initial_count)
+        clusters.now) }
 {
     for cluster in clusters {
         put_cluster(text, telling, cluster)?;
@@ -143,7 +154,8 @@ fn put_front(
     to: usize,
     name: &[u8],
 ) -> Result<(), AllocError>
-    ensures { OnOk result (text.new.items ≡ text.old.items ++ line_front initial_count from to name.now) }
+    ensures { OnOk result (text.new.items
+        ≡ text.old.items ++ line_front initial_count from to name.now) }
 {
     put_name(text, initial_count, from)?;
     put_bytes(text, b" -> ")?;
@@ -160,7 +172,8 @@ fn put_edge(
     ink: Ink,
     pair: Edge,
 ) -> Result<(), AllocError>
-    ensures { OnOk result (text.new.items ≡ text.old.items ++ edge_line initial_count name.now ink pair) }
+    ensures { OnOk result (text.new.items
+        ≡ text.old.items ++ edge_line initial_count name.now ink pair) }
 {
     put_front(text, initial_count, pair.0, pair.1, name)?;
     put_bytes(text, b"\", ")?;
@@ -182,7 +195,8 @@ fn put_relations(
     initial_count: usize,
     relations: &[Edges],
 ) -> Result<(), AllocError>
-    ensures { OnOk result (text.new.items ≡ text.old.items ++ flat_map (edges_text initial_count) relations.now) }
+    ensures { OnOk result (text.new.items
+        ≡ text.old.items ++ flat_map (edges_text initial_count) relations.now) }
 {
     for relation in relations {
         put_edges(text, initial_count, relation)?;
@@ -198,7 +212,8 @@ fn put_thick(
     to: usize,
     name: &[u8],
 ) -> Result<(), AllocError>
-    ensures { OnOk result (text.new.items ≡ text.old.items ++ thick_line initial_count from to name.now) }
+    ensures { OnOk result (text.new.items
+        ≡ text.old.items ++ thick_line initial_count from to name.now) }
 {
     put_front(text, initial_count, from, to, name)?;
     put_bytes(
@@ -213,7 +228,8 @@ fn put_step(
     from: usize,
     step: &ToldStep,
 ) -> Result<(), AllocError>
-    ensures { OnOk result (text.new.items ≡ text.old.items ++ thick_line initial_count from step.now.to step.now.label.items) }
+    ensures { OnOk result (text.new.items
+        ≡ text.old.items ++ thick_line initial_count from step.now.to step.now.label.items) }
 {
     put_thick(text, initial_count, from, step.to, &step.label)
 }
@@ -224,7 +240,8 @@ fn put_steps(
     first: usize,
     steps: &[ToldStep],
 ) -> Result<(), AllocError>
-    ensures { OnOk result (text.new.items ≡ text.old.items ++ steps_text initial_count first steps.now) }
+    ensures { OnOk result (text.new.items
+        ≡ text.old.items ++ steps_text initial_count first steps.now) }
 {
     let mut from = first;
     for step in steps {
@@ -241,7 +258,8 @@ fn put_reason_steps(
     first: Option<usize>,
     steps: &[ToldStep],
 ) -> Result<(), AllocError>
-    ensures { OnOk result (text.new.items ≡ text.old.items ++ reason_steps initial_count first steps.now) }
+    ensures { OnOk result (text.new.items
+        ≡ text.old.items ++ reason_steps initial_count first steps.now) }
 {
     match first {
         None => Ok(()),
@@ -263,7 +281,9 @@ fn put_head(text: &mut Vec<u8>, title: &[u8]) -> Result<(), AllocError>
 #[tactic(auto, unfolding(crate::specs::Texts::boxes_text))]
 fn put_boxes(text: &mut Vec<u8>, telling: Telling<'_>, drawing: &Drawing) -> Result<(), AllocError>
     requires { telling.shows ≡ true }
-    ensures { OnOk result (text.new.items ≡ text.old.items ++ boxes_text telling.entry.locations.now telling.entry.initial_count drawing.now) }
+    ensures { OnOk result (text.new.items
+        ≡ text.old.items
+        ++ boxes_text telling.entry.locations.now telling.entry.initial_count drawing.now) }
 {
     put_nodes(text, telling, &drawing.initial)?;
     put_clusters(text, telling, &drawing.clusters)
@@ -271,7 +291,8 @@ fn put_boxes(text: &mut Vec<u8>, telling: Telling<'_>, drawing: &Drawing) -> Res
 
 #[tactic(auto, unfolding(crate::specs::Texts::lines_text))]
 fn put_lines(text: &mut Vec<u8>, initial_count: usize, drawing: &Drawing) -> Result<(), AllocError>
-    ensures { OnOk result (text.new.items ≡ text.old.items ++ lines_text initial_count drawing.now) }
+    ensures { OnOk result (text.new.items
+        ≡ text.old.items ++ lines_text initial_count drawing.now) }
 {
     put_relations(text, initial_count, &drawing.edges)?;
     put_reason_steps(text, initial_count, drawing.first, &drawing.steps)
@@ -285,7 +306,10 @@ pub fn put_drawing(
     drawing: &Drawing,
 ) -> Result<(), AllocError>
     requires { telling.shows ≡ true }
-    ensures { OnOk result (text.new.items ≡ text.old.items ++ drawing_text telling.entry.locations.now telling.entry.initial_count drawing.now) }
+    ensures { OnOk result (text.new.items
+        ≡ text.old.items
+        ++ drawing_text telling.entry.locations.now telling.entry.initial_count
+        drawing.now) }
 {
     put_head(text, &drawing.title)?;
     put_boxes(text, telling, drawing)?;

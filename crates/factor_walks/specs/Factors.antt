@@ -38,7 +38,8 @@ tree_part e = record { repeats = repeats_of e; steps = rel_code (repeated e) [] 
 
 -- these are the factors of the expression of these steps
 abbrev pub AreFactors : List Step → List Factor → Type 0
-AreFactors steps factors = (t : RelTree) → steps ≡ rel_code t [] → map part_of factors ≡ map tree_part (factors_of t)
+AreFactors steps factors =
+    (t : RelTree) → steps ≡ rel_code t [] → map part_of factors ≡ map tree_part (factors_of t)
 
 -- the parts that a stack holds, the uppermost first
 abbrev pub parts_in : List Factor → List Part

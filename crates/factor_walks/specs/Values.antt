@@ -18,13 +18,16 @@ abbrev pub value_part : FactorValues → Part
 value_part v = record { repeats = v.repeats; steps = v.code.steps.items }
 
 -- its expression is of a relation, and it has the values of that in the candidates of the space
-pub record IsValued (inputs : List (Bor Column)) (space : Space) (factor : FactorValues) : Type 0 where
+pub record IsValued (inputs : List (Bor Column)) (space : Space) (factor : FactorValues)
+    : Type 0 where
   pub kind : factor.code.kind ≡ kinds.OfRelation
   pub values : AreValues factor.code inputs space factor.values
 
 -- the factors of an expression, with their values in the candidates of a space
-pub record AreFactorValues (code : Code) (inputs : List (Bor Column)) (space : Space) (factors : List FactorValues) : Type 0 where
-  pub parts : (t : RelTree) → code.steps.items ≡ rel_code t [] → map value_part factors ≡ map tree_part (factors_of t)
+pub record AreFactorValues (code : Code) (inputs : List (Bor Column)) (space : Space)
+    (factors : List FactorValues) : Type 0 where
+  pub parts : (t : RelTree) → code.steps.items ≡ rel_code t []
+      → map value_part factors ≡ map tree_part (factors_of t)
   pub values : All (IsValued inputs space) factors
 
 -- the link has the factor's pairs in the candidate of number k
@@ -34,4 +37,5 @@ pub record IsLinkAt (k : ℕ) (factor : FactorValues) (link : Link) : Type 0 whe
 
 pub record AreLinksAt (k : ℕ) (factors : List FactorValues) (links : List Link) : Type 0 where
   pub as_many : length links ≡ length factors
-  pub each : (j : ℕ) → j < length factors → (f : FactorValues) (l : Link) → IsLinkAt k (slice_index_or factors j f) (slice_index_or links j l)
+  pub each : (j : ℕ) → j < length factors → (f : FactorValues) (l : Link)
+      → IsLinkAt k (slice_index_or factors j f) (slice_index_or links j l)

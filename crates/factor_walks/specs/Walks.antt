@@ -1,4 +1,5 @@
--- Walks through the factors of a composition: from one event to another, over steps of each factor in turn.
+-- Walks through the factors of a composition: from one event to another, over steps of each factor
+-- in turn.
 use Rattle.std.specs.Prelude.{ℕ, ◌≡◌, ◌⊎◌, List, [], ◌∷◌, Vec, map}
 use Rattle.std.specs.declared.alloc.Global.{Global}
 use Rattle.bit_relations.specs.Relation.{Has}
@@ -26,7 +27,8 @@ abbrev pub IsWalk : List Link → ℕ → List (List ℕ) → ℕ → Type 0
 IsWalk [] a [] b = a ≡ b
 IsWalk [] a (run ∷ runs) b = ⊥
 IsWalk (l ∷ ls) a [] b = ⊥
-IsWalk (l ∷ ls) a (run ∷ runs) b = (c : ℕ) × IsRun l.repeats (Has l.relation) a run c × IsWalk ls c runs b
+IsWalk (l ∷ ls) a (run ∷ runs) b =
+    (c : ℕ) × IsRun l.repeats (Has l.relation) a run c × IsWalk ls c runs b
 
 abbrev pub runs_of : List (Vec ℕ Global) → List (List ℕ)
 runs_of runs = map (λ v. v.items) runs

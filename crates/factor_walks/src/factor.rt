@@ -66,7 +66,8 @@ fn close_next(pending: &mut Vec<bool>) -> Result<(), AllocError>
 }
 
 fn close_both(pending: &mut Vec<bool>) -> Result<(), AllocError>
-    ensures { OnOk result (reverse pending.new.items ≡ next_twice (next_inside (reverse pending.old.items))) }
+    ensures { OnOk result (reverse pending.new.items
+        ≡ next_twice (next_inside (reverse pending.old.items))) }
 {
     close_next(pending)?;
     push_twice(pending)
@@ -74,7 +75,8 @@ fn close_both(pending: &mut Vec<bool>) -> Result<(), AllocError>
 
 // What is still to come before a step.
 fn pending_before(pending: &mut Vec<bool>, step: Step) -> Result<(), AllocError>
-    ensures { OnOk result (reverse pending.new.items ≡ pending_after step (reverse pending.old.items)) }
+    ensures { OnOk result (reverse pending.new.items
+        ≡ pending_after step (reverse pending.old.items)) }
 {
     match step {
         Step::PushRelation(_) | Step::PushNoPairs | Step::Multiply | Step::IdentityOn => {
@@ -128,7 +130,8 @@ fn last_of(alloc: Global, step: Step) -> Result<Factor, AllocError>
 
 // One step more of the uppermost factor.
 fn add_step(factors: &mut Vec<Factor>, step: Step) -> Result<(), AllocError>
-    ensures { OnOk result (parts_in factors.new.items ≡ with_step step (parts_in factors.old.items)) }
+    ensures { OnOk result (parts_in factors.new.items
+        ≡ with_step step (parts_in factors.old.items)) }
 {
     if let Some(factor) = factors.pop() {
         let repeats = factor.repeats;
@@ -141,7 +144,8 @@ fn add_step(factors: &mut Vec<Factor>, step: Step) -> Result<(), AllocError>
 
 // A relation that is a factor: its last step, or a composition of further factors.
 fn add_last(alloc: Global, factors: &mut Vec<Factor>, step: Step) -> Result<(), AllocError>
-    ensures { OnOk result (parts_in factors.new.items ≡ with_last step (parts_in factors.old.items)) }
+    ensures { OnOk result (parts_in factors.new.items
+        ≡ with_last step (parts_in factors.old.items)) }
 {
     match step {
         Step::Compose => Ok(()),
@@ -159,8 +163,11 @@ fn read_step(
     factors: &mut Vec<Factor>,
     step: Step,
 ) -> Result<(), AllocError>
-    ensures pending { OnOk result (reverse pending.new.items ≡ pending_after step (reverse pending.old.items)) }
-    ensures factors { OnOk result (parts_in factors.new.items ≡ parts_after (makes_relation step) step (reverse pending.old.items) (parts_in factors.old.items)) }
+    ensures pending { OnOk result (reverse pending.new.items
+        ≡ pending_after step (reverse pending.old.items)) }
+    ensures factors { OnOk result (parts_in factors.new.items
+        ≡ parts_after (makes_relation step) step (reverse pending.old.items)
+        (parts_in factors.old.items)) }
 {
     if makes_relation(step) && is_next_factor(pending) {
         add_last(alloc, factors, step)?;
@@ -170,8 +177,8 @@ fn read_step(
     pending_before(pending, step)
 }
 
-/// The factors of the composition that an expression of these steps is, from left to right; what is no
-/// composition is its only factor. Errors: want of memory.
+/// The factors of the composition that an expression of these steps is, from left to right; what is
+/// no composition is its only factor. Errors: want of memory.
 pub fn factors(alloc: Global, steps: &[Step]) -> Result<Vec<Factor>, AllocError>
     ensures { IfOk result (λ v. AreFactors steps.now v.items) }
 {

@@ -31,7 +31,8 @@ fn one_step(
     from: usize,
     to: usize,
 ) -> Result<Option<Vec<usize>>, AllocError>
-    ensures { IfOk result (λ found. IfSome found (λ v. IsOneStep (Has relation.now) from v.items to)) }
+    ensures { IfOk result (λ found.
+        IfSome found (λ v. IsOneStep (Has relation.now) from v.items to)) }
 {
     if is_pair(relation, from, to) {
         Ok(Some(Vec::from_slice(alloc, &[from])?))
@@ -46,7 +47,8 @@ fn path(
     from: usize,
     to: usize,
 ) -> Result<Option<Vec<usize>>, AllocError>
-    ensures { IfOk result (λ found. IfSome found (λ v. IsPathFrom (Has relation.now) from to v.items)) }
+    ensures { IfOk result (λ found.
+        IfSome found (λ v. IsPathFrom (Has relation.now) from to v.items)) }
 {
     if from < relation.count() && to < relation.count() {
         shortest_path(alloc, relation, from, to)
@@ -62,7 +64,8 @@ fn run_between(
     from: usize,
     to: usize,
 ) -> Result<Option<Vec<usize>>, AllocError>
-    ensures { IfOk result (λ found. IfSome found (λ v. IsRun link.now.repeats (Has link.now.relation) from v.items to)) }
+    ensures { IfOk result (λ found.
+        IfSome found (λ v. IsRun link.now.repeats (Has link.now.relation) from v.items to)) }
 {
     match link.repeats {
         Repeats::Once => one_step(alloc, &link.relation, from, to),
@@ -125,9 +128,9 @@ fn least_middle(left: &Rel, right: &Rel, from: usize, to: usize) -> Option<usize
     None
 }
 
-/// A walk from one event to another, through steps of each link in turn: for each the events where its
-/// steps begin. The events where a link ends are the least from which the further links lead on. Errors:
-/// want of memory.
+/// A walk from one event to another, through steps of each link in turn: for each the events where
+/// its steps begin. The events where a link ends are the least from which the further links lead
+/// on. Errors: want of memory.
 pub fn walk(
     alloc: Global,
     links: &[Link],
@@ -136,7 +139,8 @@ pub fn walk(
     to: usize,
 ) -> Result<Option<Vec<Vec<usize>>>, AllocError>
     requires { count ≤ 128 }
-    ensures { IfOk result (λ found. IfSome found (λ v. IsWalk links.now from (runs_of v.items) to)) }
+    ensures { IfOk result (λ found.
+        IfSome found (λ v. IsWalk links.now from (runs_of v.items) to)) }
 {
     let mut rests = rests(alloc, links, count)?;
     let mut runs = Vec::new(alloc);

@@ -49,8 +49,8 @@ fn factor_value(
 }
 
 /// The factors of the composition that an expression is, with their values in the candidates of a
-/// space. `inputs` are the values of the names of other items that it uses, in their order. Errors: want of
-/// memory.
+/// space. `inputs` are the values of the names of other items that it uses, in their order. Errors:
+/// want of memory.
 pub fn factor_values(
     alloc: Global,
     code: &Code,

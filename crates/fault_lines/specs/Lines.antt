@@ -26,7 +26,8 @@ line_behind rest = take (min (position_or_len is_line_end rest) 100) rest
 -- the line of an offset, and a mark below its byte
 unfoldable pub picture : List ℕ → List ℕ → List ℕ
 picture front rest =
-    map shown_byte (line_before front) ++ map shown_byte (line_behind rest) ++ codes "\n" ++ map blank_below (line_before front) ++ codes "^\n"
+    map shown_byte (line_before front) ++ map shown_byte (line_behind rest) ++ codes "\n"
+    ++ map blank_below (line_before front) ++ codes "^\n"
 
 -- ---- what stands there
 
@@ -46,7 +47,8 @@ quoted word = codes "`" ++ map shown_byte word ++ codes "`"
 abbrev pub found : List ℕ → List ℕ
 found rest =
     if length rest == 0 then codes "the end of the text"
-    else (if slice_index rest 0 == 10 then codes "the end of the line" else quoted (take (found_length rest) rest))
+    else (if slice_index rest 0 == 10 then codes "the end of the line"
+    else quoted (take (found_length rest) rest))
 
 -- ---- all of it
 
@@ -55,10 +57,12 @@ abbrev pub rule_said : ℕ → ℕ → List ℕ → List ℕ
 rule_said letter number words = letter ∷ decimal number ++ codes " " ++ words
 
 unfoldable pub what_is_found : List ℕ → ℕ → List ℕ
-what_is_found rest offset = codes ", found " ++ found rest ++ codes " at byte " ++ decimal offset ++ codes "\n"
+what_is_found rest offset =
+    codes ", found " ++ found rest ++ codes " at byte " ++ decimal offset ++ codes "\n"
 
 -- a path, the position, the rule with its words, what is found, and the line
 unfoldable pub fault_lines : List ℕ → List ℕ → ℕ → ℕ → List ℕ → ℕ → List ℕ
 fault_lines path text letter number words offset =
-    position_label path (line_number text offset) (column_number text offset) ++ rule_said letter number words
+    position_label path (line_number text offset) (column_number text offset)
+    ++ rule_said letter number words
     ++ what_is_found (drop offset text) offset ++ picture (take offset text) (drop offset text)

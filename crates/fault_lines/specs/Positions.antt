@@ -1,4 +1,5 @@
--- The line and the column of a byte of a text, both from 1, columns in bytes. `put_position` cites `position_label`.
+-- The line and the column of a byte of a text, both from 1, columns in bytes. `put_position` cites
+-- `position_label`.
 use Rattle.std.specs.Prelude.{ℕ, ◌+◌, ◌==◌, List, ◌++◌, length, take, reverse, codes, decimal}
 use Rattle.std.specs.List.{filter, position_or_len}
 use Rattle.text_values.specs.Layout.{is_line_end}
@@ -15,4 +16,5 @@ column_number text offset = count_behind 10 (take offset text) + 1
 
 -- a path, the line and the column
 unfoldable pub position_label : List ℕ → ℕ → ℕ → List ℕ
-position_label path line column = path ++ codes ":" ++ decimal line ++ codes ":" ++ decimal column ++ codes ": "
+position_label path line column =
+    path ++ codes ":" ++ decimal line ++ codes ":" ++ decimal column ++ codes ": "

@@ -6,16 +6,19 @@ abbrev pub litmus_words : ℕ → List ℕ
 litmus_words number =
     if number == 1 then codes "the first word must be `PPC`"
     else (if number == 2 then codes "a name must follow `PPC`, and the end of the line"
-    else (if number == 3 then codes "the init block must hold entries as `x=1;` and `0:r2=x;`, one for a location or register"
+    else (if number == 3 then codes
+    "the init block must hold entries as `x=1;` and `0:r2=x;`, one for a location or register"
     else (if number == 4 then codes "an entry of the init block must not begin with a type"
     else (if number == 5 then codes "the header must name the threads in order, from `P0` on"
     else (if number == 6 then codes "a row must have as many cells as the header"
     else (if number == 7 then codes "a cell must hold a known instruction or a label"
     else (if number == 8 then codes "`r0` must not be the first address register, where it means 0"
     else (if number == 9 then codes "an offset must be 0"
-    else (if number == 10 then codes "a label must be defined once in its thread, and a branch must go to one of its thread"
+    else (if number == 10 then codes
+    "a label must be defined once in its thread, and a branch must go to one of its thread"
     else (if number == 11 then codes "a branch must go forward"
-    else (if number == 12 then codes "`locations` and a condition must follow, over threads of the test and within the limits"
+    else (if number == 12 then codes
+    "`locations` and a condition must follow, over threads of the test and within the limits"
     else (if number == 13 then codes "`filter` and `final` are not supported"
     else (if number == 14 then codes "a comment must end"
     else (if number == 15 then codes "a byte outside comments and strings must be ASCII"
@@ -30,8 +33,10 @@ cat_words number =
     else (if number == 2 then codes "no model goes on so"
     else (if number == 3 then codes "an included file must be `cos.cat` or `stdlib.cat`"
     else (if number == 4 then codes "this part of the language is not supported"
-    else (if number == 5 then codes "a model must not have over 256 items, a group over 64 names, a function over 8 parameters"
-    else (if number == 6 then codes "an expression must not have over 64 open `(`, `[` and `~`, nor over 1,024 operators"
+    else (if number == 5 then codes
+    "a model must not have over 256 items, a group over 64 names, a function over 8 parameters"
+    else (if number == 6 then codes
+    "an expression must not have over 64 open `(`, `[` and `~`, nor over 1,024 operators"
     else (if number == 7 then codes "a text must not be over 65,536 bytes"
     else []))))))
 
@@ -39,11 +44,14 @@ cat_words number =
 abbrev pub model_words : ℕ → List ℕ
 model_words number =
     if number == 1 then codes "a name must be bound"
-    else (if number == 2 then codes "an operator and a check must take their operands, which are sets or relations"
-    else (if number == 3 then codes "a name of a recursive group must not stand under `~` or right of `\\` in that group"
+    else (if number == 2 then codes
+    "an operator and a check must take their operands, which are sets or relations"
+    else (if number == 3 then codes
+    "a name of a recursive group must not stand under `~` or right of `\\` in that group"
     else (if number == 4 then codes "a group must bind a name once, and a parameter must stand once"
     else (if number == 5 then codes "a body of a recursive group must be a relation"
-    else (if number == 6 then codes "a function must have its number of arguments, and no other name has any"
+    else (if number == 6 then codes
+    "a function must have its number of arguments, and no other name has any"
     else (if number == 7 then codes "an application must not be of size over 4,096"
     else []))))))
 
@@ -65,7 +73,8 @@ bench_words number =
     else (if number == 2 then codes "a model must have this name"
     else (if number == 3 then codes "a thread of the test must have this number"
     else (if number == 4 then codes "an item of the model must have this number"
-    else (if number == 5 then codes "the bench must not hold over 512 tests, 16 models or 524,288 outputs"
+    else (if number == 5 then codes
+    "the bench must not hold over 512 tests, 16 models or 524,288 outputs"
     else (if number == 6 then codes "the numbers of edits and of items must not be spent"
     else [])))))
 

@@ -26,8 +26,8 @@ fn blank_below(byte: u8) -> u8
     if byte == b'\t' { b'\t' } else { b' ' }
 }
 
-/// Appends bytes as they are shown: one that is neither printable ASCII nor a tab as a question mark. Errors: out of
-/// memory.
+/// Appends bytes as they are shown: one that is neither printable ASCII nor a tab as a question
+/// mark. Errors: out of memory.
 pub fn put_shown(text: &mut Vec<u8>, bytes: &[u8]) -> Result<(), AllocError>
     ensures { OnOk result (text.new.items ≡ text.old.items ++ map shown_byte bytes.now) }
 {
@@ -73,7 +73,8 @@ fn put_quoted(text: &mut Vec<u8>, word: &[u8]) -> Result<(), AllocError>
     put_bytes(text, b"`")
 }
 
-/// Appends what stands at the start of these bytes: the end, or a word or a byte. Errors: out of memory.
+/// Appends what stands at the start of these bytes: the end, or a word or a byte. Errors: out of
+/// memory.
 pub fn put_found(text: &mut Vec<u8>, rest: &[u8]) -> Result<(), AllocError>
     ensures { OnOk result (text.new.items ≡ text.old.items ++ found rest.now) }
 {

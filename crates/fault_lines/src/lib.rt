@@ -1,5 +1,5 @@
-//! What people are told of a refused text: where it is refused, the rule in words, what stands there, and the line with a
-//! mark below it. Read specs/Positions first, then Lines.
+//! What people are told of a refused text: where it is refused, the rule in words, what stands
+//! there, and the line with a mark below it. Read specs/Positions first, then Lines.
 #![tactic(auto)]
 
 mod found;

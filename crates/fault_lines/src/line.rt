@@ -55,8 +55,9 @@ fn put_what_is_found(lines: &mut Vec<u8>, rest: &[u8], offset: usize) -> Result<
     put_bytes(lines, b"\n")
 }
 
-/// Appends what is told of a text that is refused at an offset: the path and the position, the letter and the number of
-/// the rule with its words, what is found there, and the line with a mark below the byte. Errors: out of memory.
+/// Appends what is told of a text that is refused at an offset: the path and the position, the
+/// letter and the number of the rule with its words, what is found there, and the line with a mark
+/// below the byte. Errors: out of memory.
 #[tactic(auto, unfolding(crate::specs::Lines::fault_lines))]
 pub fn put_fault_lines(
     lines: &mut Vec<u8>,
@@ -67,7 +68,8 @@ pub fn put_fault_lines(
     words: &[u8],
     offset: usize,
 ) -> Result<(), AllocError>
-    ensures { OnOk result (lines.new.items ≡ lines.old.items ++ fault_lines path.now text.now letter number words.now offset) }
+    ensures { OnOk result (lines.new.items
+        ≡ lines.old.items ++ fault_lines path.now text.now letter number words.now offset) }
 {
     let (front, rest) = text.split_at(offset.min(text.len()));
     put_position(lines, path, text, offset)?;

@@ -49,15 +49,18 @@ fn put_label(text: &mut Vec<u8>, path: &[u8], line: u64, column: u64) -> Result<
     put_bytes(text, b": ")
 }
 
-/// Appends a path and the line and the column of an offset of a text, both from 1, the column in bytes. Errors: out of
-/// memory.
+/// Appends a path and the line and the column of an offset of a text, both from 1, the column in
+/// bytes. Errors: out of memory.
 pub fn put_position(
     lines: &mut Vec<u8>,
     path: &[u8],
     text: &[u8],
     offset: usize,
 ) -> Result<(), AllocError>
-    ensures { OnOk result (lines.new.items ≡ lines.old.items ++ position_label path.now (line_number text.now offset) (column_number text.now offset)) }
+    ensures { OnOk result (lines.new.items
+        ≡ lines.old.items
+        ++ position_label path.now (line_number text.now offset)
+        (column_number text.now offset)) }
 {
     let end = offset.min(text.len());
     let before = &text[..end];

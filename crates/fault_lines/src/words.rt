@@ -100,8 +100,9 @@ fn script_words(number: u8) -> &'static str
     }
 }
 
-/// The words of the rule of this letter and number: L and C for the texts of tests and of models, M and E for what is
-/// wrong with a model or a test whose text reads, X for the bench, Q for scripts. No words where there is no such rule.
+/// The words of the rule of this letter and number: L and C for the texts of tests and of models, M
+/// and E for what is wrong with a model or a test whose text reads, X for the bench, Q for scripts.
+/// No words where there is no such rule.
 #[tactic(auto, unfolding(crate::specs::Words::rule_words))]
 pub fn rule_words(letter: u8, number: u8) -> &'static str
     ensures { result.now ≡ rule_words letter number }

@@ -15,7 +15,8 @@ outermost = reverse (map naming_of PREDEFINED)
 pub record IsPlace (items : List Clause) (place : ItemFault) : Type 0 where
   pub first : FirstFault [] outermost 0 items place.fault
   pub item_is : first.item ≡ place.item
-  pub sign_is : slice_get (signs_of_item (slice_index_or items first.item Mute)) first.index ≡ Some place.sign.now
+  pub sign_is : slice_get (signs_of_item (slice_index_or items first.item Mute)) first.index
+      ≡ Some place.sign.now
 
 -- there is none, or this is the first
 abbrev pub IsFound : List Clause → Option ItemFault → Type 0

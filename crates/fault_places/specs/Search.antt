@@ -41,62 +41,81 @@ abbrev mutual
   first_fault_in ss names from under EmptySet = None
   first_fault_in ss names from under (Join op a b) =
       or_later (first_fault_in ss names from under a)
-      (or_later (signed_fault (unless (takes op (kind_in ss names a) (kind_in ss names b)) faults.Kind) (infix_sign op))
+      (or_later (signed_fault
+      (unless (takes op (kind_in ss names a) (kind_in ss names b)) faults.Kind)
+      (infix_sign op))
       (first_fault_in ss names from (is_turned op under) b))
   first_fault_in ss names from under (Mark op a) =
-      or_later (first_fault_in ss names from under a) (signed_fault (unless (is_relation (kind_in ss names a)) faults.Kind) (postfix_sign op))
+      or_later (first_fault_in ss names from under a) (signed_fault
+      (unless (is_relation (kind_in ss names a)) faults.Kind) (postfix_sign op))
   first_fault_in ss names from under (Not a) = first_fault_in ss names from true a
   first_fault_in ss names from under (On a) =
-      or_later (signed_fault (unless (is_set (kind_in ss names a)) faults.Kind) (codes "[")) (first_fault_in ss names from under a)
+      or_later (signed_fault (unless (is_set (kind_in ss names a)) faults.Kind) (codes "["))
+      (first_fault_in ss names from under a)
   first_fault_in ss names from under (Apply x arguments) =
       let f = sense_of ss (count_of arguments) (found names x) in
-      or_later (signed_fault (fault_applied f (sizes_in ss names arguments) (kinds_in ss names arguments) None) x)
+      or_later (signed_fault
+      (fault_applied f (sizes_in ss names arguments) (kinds_in ss names arguments) None) x)
       (first_fault_among ss names from under (under_of f) 0 arguments)
 
   -- of the arguments from that index on
-  pub first_fault_among : List Sense → List Naming → ℕ → Bool → (ℕ → Bool) → ℕ → Terms → Option SignedFault
+  pub first_fault_among : List Sense → List Naming → ℕ → Bool → (ℕ → Bool) → ℕ → Terms
+      → Option SignedFault
   first_fault_among ss names from under is_under index NoTerm = None
   first_fault_among ss names from under is_under index (OneMore a others) =
-      or_later (first_fault_in ss names from (under || is_under index) a) (first_fault_among ss names from under is_under (suc index) others)
+      or_later (first_fault_in ss names from (under || is_under index) a)
+      (first_fault_among ss names from under is_under (suc index) others)
 
 -- of the bindings of a group, behind these names
-abbrev pub first_fault_in_group : List Sense → List Naming → ℕ → Bool → List (List ℕ) → List Bound → Option SignedFault
+abbrev pub first_fault_in_group : List Sense → List Naming → ℕ → Bool → List (List ℕ) → List Bound
+    → Option SignedFault
 first_fault_in_group ss names from recursive earlier [] = None
 first_fault_in_group ss names from recursive earlier (b ∷ bs) =
     or_later (signed_fault (of_binding ss names recursive earlier b) b.name)
-    (or_later (first_fault_in ss names from false b.body) (first_fault_in_group ss names from recursive (b.name ∷ earlier) bs))
+    (or_later (first_fault_in ss names from false b.body) (first_fault_in_group ss names from
+    recursive (b.name ∷ earlier) bs))
 
 -- of parameters, behind these
 abbrev pub first_fault_in_parameters : List (List ℕ) → List (List ℕ) → Option SignedFault
 first_fault_in_parameters earlier [] = None
-first_fault_in_parameters earlier (p ∷ ps) = or_later (signed_fault (of_parameter earlier p) p) (first_fault_in_parameters (p ∷ earlier) ps)
+first_fault_in_parameters earlier (p ∷ ps) =
+    or_later (signed_fault (of_parameter earlier p) p) (first_fault_in_parameters (p ∷ earlier) ps)
 
 abbrev mutual
   -- of the body of a function
   pub first_fault_in_body : List Sense → List Naming → List (List ℕ) → Term → Option SignedFault
-  first_fault_in_body ss names ps (Atom x) = signed_fault (of_inside (parameter_of (reverse ps) x) (found names x)) x
+  first_fault_in_body ss names ps (Atom x) =
+      signed_fault (of_inside (parameter_of (reverse ps) x) (found names x)) x
   first_fault_in_body ss names ps AllEvents = None
   first_fault_in_body ss names ps EmptyRelation = None
   first_fault_in_body ss names ps EmptySet = None
-  first_fault_in_body ss names ps (Join op a b) = or_later (first_fault_in_body ss names ps a) (first_fault_in_body ss names ps b)
+  first_fault_in_body ss names ps (Join op a b) =
+      or_later (first_fault_in_body ss names ps a) (first_fault_in_body ss names ps b)
   first_fault_in_body ss names ps (Mark op a) = first_fault_in_body ss names ps a
   first_fault_in_body ss names ps (Not a) = first_fault_in_body ss names ps a
   first_fault_in_body ss names ps (On a) = first_fault_in_body ss names ps a
   first_fault_in_body ss names ps (Apply x arguments) =
-      or_later (signed_fault (of_applied (parameter_of (reverse ps) x) (sense_of ss (count_of arguments) (found names x))) x)
+      or_later (signed_fault
+      (of_applied (parameter_of (reverse ps) x)
+      (sense_of ss (count_of arguments) (found names x))) x)
       (first_fault_in_bodies ss names ps arguments)
 
   pub first_fault_in_bodies : List Sense → List Naming → List (List ℕ) → Terms → Option SignedFault
   first_fault_in_bodies ss names ps NoTerm = None
-  first_fault_in_bodies ss names ps (OneMore a others) = or_later (first_fault_in_body ss names ps a) (first_fault_in_bodies ss names ps others)
+  first_fault_in_bodies ss names ps (OneMore a others) =
+      or_later (first_fault_in_body ss names ps a) (first_fault_in_bodies ss names ps others)
 
 abbrev pub first_fault_in_item : List Sense → List Naming → ℕ → Clause → Option SignedFault
-first_fault_in_item ss names item (Group true bs) = first_fault_in_group ss (with_own names item 0 bs) (length names) true [] bs
-first_fault_in_item ss names item (Group false bs) = first_fault_in_group ss names (length names) false [] bs
+first_fault_in_item ss names item (Group true bs) =
+    first_fault_in_group ss (with_own names item 0 bs) (length names) true [] bs
+first_fault_in_item ss names item (Group false bs) =
+    first_fault_in_group ss names (length names) false [] bs
 first_fault_in_item ss names item (Check w e) =
-    or_later (signed_fault (unless (takes_body w (kind_in ss names e)) faults.Kind) (check_sign w)) (first_fault_in ss names (length names) false e)
+    or_later (signed_fault (unless (takes_body w (kind_in ss names e)) faults.Kind) (check_sign w))
+    (first_fault_in ss names (length names) false e)
 first_fault_in_item ss names item Mute = None
-first_fault_in_item ss names item (Defined n ps b) = or_later (first_fault_in_parameters [] ps) (first_fault_in_body ss names ps b)
+first_fault_in_item ss names item (Defined n ps b) =
+    or_later (first_fault_in_parameters [] ps) (first_fault_in_body ss names ps b)
 
 -- the same, with the number of the item, from 0
 pub record PlacedFault : Type 0 where
@@ -115,4 +134,5 @@ placed_fault item (Some f) later = Some (record { item = item; fault = f.fault; 
 abbrev pub first_fault_in_items : List Sense → List Naming → ℕ → List Clause → Option PlacedFault
 first_fault_in_items ss names from [] = None
 first_fault_in_items ss names from (c ∷ cs) =
-    placed_fault from (first_fault_in_item ss names from c) (first_fault_in_items (senses_after ss names c) (extended ss names from c) (from + 1) cs)
+    placed_fault from (first_fault_in_item ss names from c) (first_fault_in_items
+    (senses_after ss names c) (extended ss names from c) (from + 1) cs)

@@ -1,5 +1,6 @@
--- The names, the signs and the operators of an item, in the order of the indexes that its faults have (binding_kinds, specs/Faults).
--- Read this file first, then Found; Search is how the first fault is looked for.
+-- The names, the signs and the operators of an item, in the order of the indexes that its faults
+-- have (binding_kinds, specs/Faults). Read this file first, then Found; Search is how the first
+-- fault is looked for.
 use Rattle.std.specs.Prelude.{ℕ, List, [], ◌∷◌, ◌++◌, codes}
 use Rattle.text_values.specs.declared.model.CheckWord.{CheckWord}
 use Rattle.text_values.specs.declared.model.CheckWord.TheVariants.{Acyclic, Irreflexive, Empty}

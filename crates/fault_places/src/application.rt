@@ -24,7 +24,10 @@ fn digit(kind: Kind) -> usize
 
 /// The kinds of the arguments as one number.
 fn combination_of(entries: &[Entry], functions: &[Function], arguments: &[Expression]) -> usize
-    ensures { (senses : List Sense) → AreKept functions.now senses → length arguments.now ≤ 8 → result ≡ number_of (kinds_in senses (reverse (map entry_of entries.now)) (gathered (map term_of arguments.now))) }
+    ensures { (senses : List Sense) → AreKept functions.now senses → length arguments.now ≤ 8
+        → result
+        ≡ number_of (kinds_in senses (reverse (map entry_of entries.now))
+        (gathered (map term_of arguments.now))) }
 {
     let mut combination = 0usize;
     let mut end = arguments.len();
@@ -45,7 +48,13 @@ pub fn application_fault(
     arguments: &[Expression],
     size: usize,
 ) -> Option<ModelFault>
-    ensures { let names = reverse (map entry_of entries.now) in let ts = gathered (map term_of arguments.now) in (senses : List Sense) → AreKept functions.now senses → (let f = sense_of senses (length arguments.now) (found names name.now) in IsAlike size (size_applied f (sizes_in senses names ts)) → result ≡ fault_applied f (sizes_in senses names ts) (kinds_in senses names ts) None) }
+    ensures { let names = reverse (map entry_of entries.now) in
+        let ts = gathered (map term_of arguments.now) in
+        (senses : List Sense) → AreKept functions.now senses
+        → (let f = sense_of senses (length arguments.now) (found names name.now) in
+        IsAlike size (size_applied f (sizes_in senses names ts))
+        → result
+        ≡ fault_applied f (sizes_in senses names ts) (kinds_in senses names ts) None) }
 {
     match function_of(entries, functions, name, arguments.len()) {
         Err(fault) => Some(fault),
@@ -67,7 +76,10 @@ pub fn is_under(
     count: usize,
     index: usize,
 ) -> bool
-    ensures { (senses : List Sense) → AreKept functions.now senses → index < count → result ≡ under_of (sense_of senses count (found (reverse (map entry_of entries.now)) name.now)) index }
+    ensures { (senses : List Sense) → AreKept functions.now senses → index < count
+        → result
+        ≡ under_of (sense_of senses count (found (reverse (map entry_of entries.now)) name.now))
+        index }
 {
     match function_of(entries, functions, name, count) {
         Err(_) => false,

@@ -16,7 +16,9 @@ use text_values::{Expression, Name};
 /// The fault of a name without arguments.
 #[tactic(auto, using(binding_kinds::proofs::Bodies::inside_fault))]
 fn name_fault(sight: &Sight, name: &Name) -> Option<ModelFault>
-    ensures { result ≡ of_inside (parameter_of (reverse sight.now.parameters.now) name.now) (found (reverse (map entry_of sight.now.entries.now)) name.now) }
+    ensures { result
+        ≡ of_inside (parameter_of (reverse sight.now.parameters.now) name.now)
+        (found (reverse (map entry_of sight.now.entries.now)) name.now) }
 {
     match sight.value(name) {
         Err(fault) => Some(fault),
@@ -26,7 +28,11 @@ fn name_fault(sight: &Sight, name: &Name) -> Option<ModelFault>
 
 /// The fault of a name with so many arguments.
 fn applied_fault(sight: &Sight, name: &Name, count: usize) -> Option<ModelFault>
-    ensures { (senses : List Sense) → AreKept sight.now.functions.now senses → result ≡ of_applied (parameter_of (reverse sight.now.parameters.now) name.now) (sense_of senses count (found (reverse (map entry_of sight.now.entries.now)) name.now)) }
+    ensures { (senses : List Sense) → AreKept sight.now.functions.now senses
+        → result
+        ≡ of_applied (parameter_of (reverse sight.now.parameters.now) name.now)
+        (sense_of senses count (found (reverse (map entry_of sight.now.entries.now))
+        name.now)) }
 {
     match sight.function(name, count) {
         Err(fault) => Some(fault),
@@ -34,9 +40,13 @@ fn applied_fault(sight: &Sight, name: &Name, count: usize) -> Option<ModelFault>
     }
 }
 
-/// The first fault of the body of a function. Kinds, sizes and complements count where the function is applied.
+/// The first fault of the body of a function. Kinds, sizes and complements count where the function
+/// is applied.
 pub fn body_fault<'t>(sight: &Sight, term: &'t Expression) -> Option<SignFault<'t>>
-    ensures { (senses : List Sense) → AreKept sight.now.functions.now senses → option_map signed_fault_of result ≡ first_fault_in_body senses (reverse (map entry_of sight.now.entries.now)) sight.now.parameters.now (term_of term.now) }
+    ensures { (senses : List Sense) → AreKept sight.now.functions.now senses
+        → option_map signed_fault_of result
+        ≡ first_fault_in_body senses (reverse (map entry_of sight.now.entries.now))
+        sight.now.parameters.now (term_of term.now) }
 {
     match term {
         Expression::Named(name) => signed_fault(name_fault(sight, name), name.as_bytes()),

@@ -31,7 +31,10 @@ fn declare_all(
     item: usize,
     group: &[Binding],
 ) -> Result<(), AllocError>
-    ensures { (senses : List Sense) → AreKept functions.now senses → OnOk result (reverse (map entry_of entries.new.items) ≡ with_all senses (reverse (map entry_of entries.old.items)) (reverse (map entry_of entries.old.items)) item 0 (map bound_of group.now)) }
+    ensures { (senses : List Sense) → AreKept functions.now senses
+        → OnOk result (reverse (map entry_of entries.new.items)
+        ≡ with_all senses (reverse (map entry_of entries.old.items))
+        (reverse (map entry_of entries.old.items)) item 0 (map bound_of group.now)) }
 {
     let before = entries.len();
     for (position, binding) in group.iter().enumerate() {
@@ -51,7 +54,16 @@ fn check_fault<'t>(
     functions: &[Function],
     check: &'t Check,
 ) -> Option<SignFault<'t>>
-    ensures { let names = reverse (map entry_of entries.now) in (senses : List Sense) → AreKept functions.now senses → option_map signed_fault_of result ≡ or_later (signed_fault (unless (takes_body check.now.word (kind_in senses names (term_of check.now.body))) ModelFault.Kind) (check_sign check.now.word)) (first_fault_in senses names (length entries.now) false (term_of check.now.body)) }
+    ensures { let names = reverse (map entry_of entries.now) in
+        (senses : List Sense) → AreKept functions.now senses
+        → option_map signed_fault_of result
+        ≡ or_later
+        (signed_fault
+        (unless
+        (takes_body check.now.word (kind_in senses names (term_of check.now.body)))
+        ModelFault.Kind)
+        (check_sign check.now.word))
+        (first_fault_in senses names (length entries.now) false (term_of check.now.body)) }
 {
     let from = entries.len();
     let kind = judge(entries, functions, from, false, &check.body).kind;
@@ -74,9 +86,21 @@ fn declare_function<'t>(
     parameters: &'t [Name],
     body: &'t Expression,
 ) -> Result<Option<SignFault<'t>>, AllocError>
-    ensures fault { (senses : List Sense) → AreKept scope.old.functions.items senses → IfOk result (λ f. option_map signed_fault_of f ≡ or_later (first_fault_in_parameters [] parameters.now) (first_fault_in_body senses (reverse (map entry_of scope.old.entries.items)) parameters.now (term_of body.now))) }
-    ensures names { (senses : List Sense) → AreKept scope.old.functions.items senses → IfOk result (λ f. f ≡ None → reverse (map entry_of scope.new.entries.items) ≡ extended senses (reverse (map entry_of scope.old.entries.items)) index (Defined name.now parameters.now (term_of body.now))) }
-    ensures functions { (senses : List Sense) → AreKept scope.old.functions.items senses → IfOk result (λ f. f ≡ None → AreKept scope.new.functions.items (senses_after senses (reverse (map entry_of scope.old.entries.items)) (Defined name.now parameters.now (term_of body.now)))) }
+    ensures fault { (senses : List Sense) → AreKept scope.old.functions.items senses
+        → IfOk result (λ f. option_map signed_fault_of f
+        ≡ or_later (first_fault_in_parameters [] parameters.now) (first_fault_in_body senses
+        (reverse (map entry_of scope.old.entries.items)) parameters.now
+        (term_of body.now))) }
+    ensures names { (senses : List Sense) → AreKept scope.old.functions.items senses
+        → IfOk result (λ f. f ≡ None
+        → reverse (map entry_of scope.new.entries.items)
+        ≡ extended senses (reverse (map entry_of scope.old.entries.items)) index
+        (Defined name.now parameters.now (term_of body.now))) }
+    ensures functions { (senses : List Sense) → AreKept scope.old.functions.items senses
+        → IfOk result (λ f. f ≡ None
+        → AreKept scope.new.functions.items (senses_after senses
+        (reverse (map entry_of scope.old.entries.items))
+        (Defined name.now parameters.now (term_of body.now)))) }
 {
     let fault = parameters_fault(parameters);
     if fault.is_some() {
@@ -110,9 +134,19 @@ pub fn declare_item<'t>(
     index: usize,
     item: &'t Item,
 ) -> Result<Option<SignFault<'t>>, AllocError>
-    ensures fault { (senses : List Sense) → AreKept scope.old.functions.items senses → IfOk result (λ f. option_map signed_fault_of f ≡ first_fault_in_item senses (reverse (map entry_of scope.old.entries.items)) index (clause_of item.now)) }
-    ensures names { (senses : List Sense) → AreKept scope.old.functions.items senses → IfOk result (λ f. f ≡ None → reverse (map entry_of scope.new.entries.items) ≡ extended senses (reverse (map entry_of scope.old.entries.items)) index (clause_of item.now)) }
-    ensures functions { (senses : List Sense) → AreKept scope.old.functions.items senses → IfOk result (λ f. f ≡ None → AreKept scope.new.functions.items (senses_after senses (reverse (map entry_of scope.old.entries.items)) (clause_of item.now))) }
+    ensures fault { (senses : List Sense) → AreKept scope.old.functions.items senses
+        → IfOk result (λ f. option_map signed_fault_of f
+        ≡ first_fault_in_item senses (reverse (map entry_of scope.old.entries.items)) index
+        (clause_of item.now)) }
+    ensures names { (senses : List Sense) → AreKept scope.old.functions.items senses
+        → IfOk result (λ f. f ≡ None
+        → reverse (map entry_of scope.new.entries.items)
+        ≡ extended senses (reverse (map entry_of scope.old.entries.items)) index
+        (clause_of item.now)) }
+    ensures functions { (senses : List Sense) → AreKept scope.old.functions.items senses
+        → IfOk result (λ f. f ≡ None
+        → AreKept scope.new.functions.items (senses_after senses
+        (reverse (map entry_of scope.old.entries.items)) (clause_of item.now))) }
 {
     let from = scope.entries.len();
     match item {

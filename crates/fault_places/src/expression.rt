@@ -13,13 +13,14 @@ use binding_kinds::{Entry, Function, Kind, ModelFault, either, is_turned, judge,
 use text_values::Expression;
 
 fn kind_of(entries: &[Entry], functions: &[Function], term: &Expression) -> Kind
-    ensures { (senses : List Sense) → AreKept functions.now senses → result ≡ kind_in senses (reverse (map entry_of entries.now)) (term_of term.now) }
+    ensures { (senses : List Sense) → AreKept functions.now senses
+        → result ≡ kind_in senses (reverse (map entry_of entries.now)) (term_of term.now) }
 {
     judge(entries, functions, 0, false, term).kind
 }
 
-/// The first fault of an expression, seen under a complement or not. The names of the item itself have the slot `from`
-/// and those behind it.
+/// The first fault of an expression, seen under a complement or not. The names of the item itself
+/// have the slot `from` and those behind it.
 pub fn expression_fault<'t>(
     entries: &[Entry],
     functions: &[Function],
@@ -27,7 +28,10 @@ pub fn expression_fault<'t>(
     under: bool,
     term: &'t Expression,
 ) -> Option<SignFault<'t>>
-    ensures { (senses : List Sense) → AreKept functions.now senses → option_map signed_fault_of result ≡ first_fault_in senses (reverse (map entry_of entries.now)) from under (term_of term.now) }
+    ensures { (senses : List Sense) → AreKept functions.now senses
+        → option_map signed_fault_of result
+        ≡ first_fault_in senses (reverse (map entry_of entries.now)) from under
+        (term_of term.now) }
 {
     match term {
         Expression::Named(name) => {

@@ -18,7 +18,10 @@ pub fn group_fault<'t>(
     recursive: bool,
     group: &'t [Binding],
 ) -> Option<SignFault<'t>>
-    ensures { (senses : List Sense) → AreKept functions.now senses → option_map signed_fault_of result ≡ first_fault_in_group senses (reverse (map entry_of entries.now)) from recursive [] (map bound_of group.now) }
+    ensures { (senses : List Sense) → AreKept functions.now senses
+        → option_map signed_fault_of result
+        ≡ first_fault_in_group senses (reverse (map entry_of entries.now)) from recursive []
+        (map bound_of group.now) }
 {
     let mut all = None;
     for (index, binding) in group.iter().enumerate() {

@@ -18,7 +18,10 @@ fn find_fault<'t>(
     scope: &mut Scope,
     items: &'t [Item],
 ) -> Result<Option<ItemFault<'t>>, AllocError>
-    ensures { (senses : List Sense) → AreKept scope.old.functions.items senses → IfOk result (λ f. option_map placed_fault_of f ≡ first_fault_in_items senses (reverse (map entry_of scope.old.entries.items)) 0 (map clause_of items.now)) }
+    ensures { (senses : List Sense) → AreKept scope.old.functions.items senses
+        → IfOk result (λ f. option_map placed_fault_of f
+        ≡ first_fault_in_items senses (reverse (map entry_of scope.old.entries.items)) 0
+        (map clause_of items.now)) }
 {
     for (index, item) in items.iter().enumerate() {
         let fault = declare_item(alloc, scope, index, item)?;
@@ -36,8 +39,8 @@ fn find_fault<'t>(
     Ok(None)
 }
 
-/// The first fault of the items of a model, if there is one: its item, its number, and the sign at fault. It is the
-/// fault for which the model is refused. Errors: out of memory.
+/// The first fault of the items of a model, if there is one: its item, its number, and the sign at
+/// fault. It is the fault for which the model is refused. Errors: out of memory.
 pub fn first_fault<'t>(
     alloc: Global,
     items: &'t [Item],

@@ -1,5 +1,5 @@
-//! Where the first fault of a model stands: its item, and the name, the sign or the operator at fault. Read specs/Signs
-//! first, then Found; Search is how the fault is looked for.
+//! Where the first fault of a model stands: its item, and the name, the sign or the operator at
+//! fault. Read specs/Signs first, then Found; Search is how the fault is looked for.
 #![tactic(auto)]
 
 mod application;

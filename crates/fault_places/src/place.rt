@@ -40,7 +40,9 @@ pub fn or_later<'t>(
     first: Option<SignFault<'t>>,
     later: Option<SignFault<'t>>,
 ) -> Option<SignFault<'t>>
-    ensures { option_map signed_fault_of result ≡ or_later (option_map signed_fault_of first.entry) (option_map signed_fault_of later.entry) }
+    ensures { option_map signed_fault_of result
+        ≡ or_later (option_map signed_fault_of first.entry)
+        (option_map signed_fault_of later.entry) }
 {
     match first {
         None => later,

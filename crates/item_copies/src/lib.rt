@@ -1,5 +1,5 @@
-//! Copies of names, and of the items of models: a copy means what the item means, wherever the two lie in memory.
-//! Read `clause_of` in the specs of text_values first.
+//! Copies of names, and of the items of models: a copy means what the item means, wherever the two
+//! lie in memory. Read `clause_of` in the specs of text_values first.
 #![tactic(auto)]
 
 mod expressions;

@@ -14,7 +14,13 @@ IsHere (Some r) = Unit {0}
 -- a row that is set to its present value keeps its stamp, any other gets the number
 abbrev pub put_row : ℕ → ℕ → ℕ → List Row → List Row
 put_row t v number [] = record { name = t; stamp = number; value = v } ∷ []
-put_row t v number (r ∷ rs) = if t == r.name then record { name = t; stamp = (if v == r.value then r.stamp else number); value = v } ∷ rs else r ∷ put_row t v number rs
+put_row t v number (r ∷ rs) =
+    if t == r.name then record {
+      name = t;
+      stamp = (if v == r.value then r.stamp else number);
+      value = v;
+    } ∷ rs
+    else r ∷ put_row t v number rs
 
 abbrev pub without_row : ℕ → List Row → List Row
 without_row t [] = []

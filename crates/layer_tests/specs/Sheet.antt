@@ -49,7 +49,13 @@ inputs_of Check t = []
 inputs_of Verdict t = Part 0 t ∷ Output tens 0 ∷ []
 
 abbrev pub net_of : Sheet → Net ℕ
-net_of s = record { part = part_in s.rows.items s.base_stamp; inputs = λ n. inputs_of n.kind n.test; used = tens ∷ cells_of s.rows.items; gives = λ n g. gives_in s.rows.items s.base n.kind n.test g }
+net_of s =
+    record {
+      part = part_in s.rows.items s.base_stamp;
+      inputs = λ n. inputs_of n.kind n.test;
+      used = tens ∷ cells_of s.rows.items;
+      gives = λ n g. gives_in s.rows.items s.base n.kind n.test g;
+    }
 
 abbrev pub first_of : List ℕ → ℕ
 first_of [] = 0
@@ -106,15 +112,18 @@ stamp_after (SetBase value) number base stamp = if value == base then stamp else
 
 -- each row's stamp is that of an edit, and no stamp is above the last edit's number
 pub record IsValid (s : Sheet) : Type 0 where
-  pub rows : (x stamp v : ℕ) → row_of x s.rows.items ≡ Some (stamp, v) → (0 < stamp) × (stamp ≤ s.last)
+  pub rows : (x stamp v : ℕ) → row_of x s.rows.items ≡ Some (stamp, v)
+      → (0 < stamp) × (stamp ≤ s.last)
   pub base : s.base_stamp ≤ s.last
 
 -- the later sheet came of the earlier one: what has not the earlier one's stamp has a later one
 pub record IsSince (old new : Sheet) : Type 0 where
   pub valid : IsValid old
   pub last : old.last ≤ new.last
-  pub rows : (x stamp v : ℕ) → row_of x new.rows.items ≡ Some (stamp, v) → (row_of x old.rows.items ≡ Some (stamp, v)) ⊎ (old.last < stamp)
-  pub base : ((new.base_stamp ≡ old.base_stamp) × (new.base ≡ old.base)) ⊎ (old.last < new.base_stamp)
+  pub rows : (x stamp v : ℕ) → row_of x new.rows.items ≡ Some (stamp, v)
+      → (row_of x old.rows.items ≡ Some (stamp, v)) ⊎ (old.last < stamp)
+  pub base : ((new.base_stamp ≡ old.base_stamp) × (new.base ≡ old.base))
+      ⊎ (old.last < new.base_stamp)
 
 -- the sheet after a change under its number
 pub record IsChanged (old : Sheet) (change : Change) (number : ℕ) (new : Sheet) : Type 0 where
@@ -137,7 +146,8 @@ IsRefused s change spent Spent = (IsMissing s change → ⊥) × (spent ≡ true
 IsRefused s change spent OutOfMemory = (IsMissing s change → ⊥) × (spent ≡ false)
 
 -- a prepared change is the change itself, and the sheet has room for one more row
-pub record IsPrepared (old : Sheet) (change : Change) (prepared : Prepared) (new : Sheet) : Type 0 where
+pub record IsPrepared (old : Sheet) (change : Change) (prepared : Prepared) (new : Sheet)
+    : Type 0 where
   pub rows : new.rows.items ≡ old.rows.items
   pub base : new.base ≡ old.base
   pub stamp : new.base_stamp ≡ old.base_stamp

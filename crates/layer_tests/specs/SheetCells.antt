@@ -1,4 +1,5 @@
--- A sheet as texts of cells: the tens of the base are the cell of no name, a row that of its number; no model has a name.
+-- A sheet as texts of cells: the tens of the base are the cell of no name, a row that of its
+-- number; no model has a name.
 use Rattle.std.specs.Prelude.{◌≡◌, ℕ, ◌+◌, ◌/◌, ◌%◌, ◌^◌, Bool, false, not, ◌==◌, List, [], ◌∷◌, Option, Some, None}
 use Rattle.memo_core.specs.declared.keys.Node.{Node}
 use Rattle.layer_tests.specs.declared.benches.rows.Row.{Row}

@@ -1,6 +1,6 @@
-//! Stores and benches over a small instance, a sheet of numbers. Read `specs/Sheet` first: what a sheet means. What stores take is
-//! printed, then each line of `benches.txt` with its answer, and last how a walk of random events compares with evaluation
-//! from nothing.
+//! Stores and benches over a small instance, a sheet of numbers. Read `specs/Sheet` first: what a
+//! sheet means. What stores take is printed, then each line of `benches.txt` with its answer, and
+//! last how a walk of random events compares with evaluation from nothing.
 
 mod answer;
 mod cases;

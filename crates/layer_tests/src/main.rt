@@ -1,6 +1,6 @@
-//! Asks the layers under evaluation what the files of cases ask, and prints each line with its answer: the readers and the
-//! printers, the edits of texts, the parts of a bench after edits, the semantics of tests, and benches over a small instance. Each
-//! begins with a line that names it.
+//! Asks the layers under evaluation what the files of cases ask, and prints each line with its
+//! answer: the readers and the printers, the edits of texts, the parts of a bench after edits, the
+//! semantics of tests, and benches over a small instance. Each begins with a line that names it.
 #![tactic(auto)]
 
 pub mod benches;

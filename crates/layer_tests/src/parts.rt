@@ -1,6 +1,7 @@
-//! Makes the edits that `parts.txt` lists, one a line, on texts with their parts: each line is printed with the rows that are
-//! made beside the parts, where the number after the last one stands for that of the edit. Then they are put in place under the
-//! number in front of the line. The answers that are wanted were written by hand.
+//! Makes the edits that `parts.txt` lists, one a line, on texts with their parts: each line is
+//! printed with the rows that are made beside the parts, where the number after the last one stands
+//! for that of the edit. Then they are put in place under the number in front of the line. The
+//! answers that are wanted were written by hand.
 
 use crate::print_answer;
 use crate::texts::answers::put_result;

@@ -1,6 +1,6 @@
-//! Asks the readers and the printers of tests and of models what each line of `readers.txt` asks, and
-//! prints the line and the answer. The answers that are wanted come from other readers of the formats
-//! and from their grammars.
+//! Asks the readers and the printers of tests and of models what each line of `readers.txt` asks,
+//! and prints the line and the answer. The answers that are wanted come from other readers of the
+//! formats and from their grammars.
 
 mod models;
 mod propositions;

@@ -1,5 +1,5 @@
-//! Asks the semantics of tests what each line of `semantics.txt` asks, and prints the line and the answer.
-//! The answers that are wanted were worked out by hand.
+//! Asks the semantics of tests what each line of `semantics.txt` asks, and prints the line and the
+//! answer. The answers that are wanted were worked out by hand.
 
 mod environments;
 mod runs;

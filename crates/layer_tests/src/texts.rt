@@ -1,5 +1,6 @@
-//! Makes the edits that `texts.txt` lists, one a line, and answers what is asked between them: each line is printed with
-//! its answer. The answers that are wanted were written by hand from what each edit is to make.
+//! Makes the edits that `texts.txt` lists, one a line, and answers what is asked between them: each
+//! line is printed with its answer. The answers that are wanted were written by hand from what each
+//! edit is to make.
 
 pub mod answers;
 pub mod edits;

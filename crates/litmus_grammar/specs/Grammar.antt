@@ -1,5 +1,5 @@
--- The grammar of tests, on whole lists of tokens: a text is what some tree spells. A tree is a text as it is written;
--- what it spells goes before the rest.
+-- The grammar of tests, on whole lists of tokens: a text is what some tree spells. A tree is a text
+-- as it is written; what it spells goes before the rest.
 use Rattle.std.specs.Prelude.{◌≡◌, ℕ, zero, suc, ◌+◌, List, [], ◌∷◌, map, Bool, true, false, Option, Some, None, codes}
 use Rattle.litmus_tokens.specs.declared.token.Token.{Token}
 use Rattle.litmus_tokens.specs.declared.token.Token.TheVariants as tokens
@@ -23,11 +23,14 @@ abbrev pub spelled_end : Bool → List Token → List Token
 spelled_end true rest = tokens.Mark Semicolon ∷ rest
 spelled_end false rest = rest
 
-abbrev pub spelled_others : {A : Type 0} → (A → List Token → List Token) → Bool → List A → List Token → List Token
+abbrev pub spelled_others : {A : Type 0} → (A → List Token → List Token) → Bool → List A
+    → List Token → List Token
 spelled_others f closed [] rest = spelled_end closed rest
-spelled_others f closed (x ∷ xs) rest = tokens.Mark Semicolon ∷ f x (spelled_others f closed xs rest)
+spelled_others f closed (x ∷ xs) rest =
+    tokens.Mark Semicolon ∷ f x (spelled_others f closed xs rest)
 
-abbrev pub spelled_listed : {A : Type 0} → (A → List Token → List Token) → Option (Listed A) → List Token → List Token
+abbrev pub spelled_listed : {A : Type 0} → (A → List Token → List Token) → Option (Listed A)
+    → List Token → List Token
 spelled_listed f None rest = rest
 spelled_listed f (Some l) rest = f l.first (spelled_others f l.closed l.others rest)
 
@@ -48,7 +51,8 @@ abbrev pub entry_meaning : EntryTree → InitEntry
 entry_meaning e = record { place = place_meaning e.place; value = value_meaning e.value }
 
 abbrev pub spelled_init : Option (Listed EntryTree) → List Token → List Token
-spelled_init es rest = tokens.Mark OpenBrace ∷ spelled_listed spelled_entry es (tokens.Mark CloseBrace ∷ rest)
+spelled_init es rest =
+    tokens.Mark OpenBrace ∷ spelled_listed spelled_entry es (tokens.Mark CloseBrace ∷ rest)
 
 abbrev pub Lacks : List WrittenPlace → WrittenPlace → Type 0
 Lacks [] p = Unit {0}
@@ -66,7 +70,8 @@ AreEntries before (e ∷ es) =
 abbrev pub spelled_items : Listed PlaceTree → List Token → List Token
 spelled_items l rest =
     tokens.Word (codes "locations") ∷ tokens.Mark OpenBracket
-    ∷ spelled_place l.first (spelled_others spelled_place l.closed l.others (tokens.Mark CloseBracket ∷ rest))
+    ∷ spelled_place l.first (spelled_others spelled_place l.closed l.others
+    (tokens.Mark CloseBracket ∷ rest))
 
 -- the list, or nothing
 abbrev pub spelled_observed : Option (Listed PlaceTree) → List Token → List Token
@@ -101,7 +106,8 @@ spelled_keylines (suc n) rest = tokens.Keyline ∷ spelled_keylines n rest
 -- what stands before the init block
 abbrev pub spelled_head : TestTree → List Token → List Token
 spelled_head t rest =
-    tokens.Word (codes "PPC") ∷ tokens.Word t.name ∷ tokens.LineEnd ∷ spelled_text t.text (spelled_keylines t.keylines rest)
+    tokens.Word (codes "PPC") ∷ tokens.Word t.name ∷ tokens.LineEnd
+    ∷ spelled_text t.text (spelled_keylines t.keylines rest)
 
 abbrev pub spelled_condition : Quantifier → FormulaTree → List Token
 spelled_condition q t = spelled_quantifier q (spelled t (tokens.End ∷ []))

@@ -23,7 +23,8 @@ use Rattle.litmus_grammar.specs.declared.parts.InitExpectation.TheVariants as ex
 use Rattle.litmus_grammar.specs.declared.parts.InitStep.{InitStep}
 use Rattle.litmus_grammar.specs.declared.parts.InitStep.TheVariants as steps
 
--- the entries so far, the byte that each begins at, and the keys of the places that were named, in their order
+-- the entries so far, the byte that each begins at, and the keys of the places that were named, in
+-- their order
 pub record Block : Type 0 where
   pub entries : List InitEntry
   pub starts : List ℕ
@@ -61,7 +62,12 @@ abbrev pub has_key : List (List ℕ) → List ℕ → Bool
 has_key ks k = list_any (is_at (slice_cmp nat_cmp k)) ks
 
 abbrev pub with_key : Block → List ℕ → Block
-with_key b k = record { entries = b.entries; starts = b.starts; named = insert_key (slice_cmp nat_cmp) b.named k }
+with_key b k =
+    record {
+      entries = b.entries;
+      starts = b.starts;
+      named = insert_key (slice_cmp nat_cmp) b.named k;
+    }
 
 -- a place that was not named before
 abbrev pub added : Block → List ℕ → Option Block
@@ -98,7 +104,8 @@ abbrev pub place_read : Block → PlaceExpectation → Token → Option Did
 place_read b h t = and_place (added_if b (token_key h t)) (place_step h t)
 
 abbrev pub with_start : Block → ℕ → Block
-with_start b offset = record { entries = b.entries; starts = b.starts ++ offset ∷ []; named = b.named }
+with_start b offset =
+    record { entries = b.entries; starts = b.starts ++ offset ∷ []; named = b.named }
 
 abbrev pub open_read : Block → Token → Option Did
 open_read b (tokens.Mark marks.OpenBrace) = goes b expectations.WantsEntry
@@ -114,7 +121,12 @@ equals_read b p (tokens.Mark marks.Equals) = goes b (expectations.WantsValue p)
 equals_read b p t = None
 
 abbrev pub with_entry : Block → Place → declared_value.Value → Block
-with_entry b p v = record { entries = b.entries ++ record { place = p; value = v } ∷ []; starts = b.starts; named = b.named }
+with_entry b p v =
+    record {
+      entries = b.entries ++ record { place = p; value = v } ∷ [];
+      starts = b.starts;
+      named = b.named;
+    }
 
 abbrev pub valued : Block → Place → Option declared_value.Value → Option Did
 valued b p (Some v) = goes (with_entry b p v) expectations.HasEntry
@@ -146,4 +158,5 @@ lacks_thread threads (whole_places.Register t r) = nat_le threads t
 abbrev pub missing : ℕ → List InitEntry → List ℕ → Option ℕ
 missing threads [] ss = None
 missing threads (e ∷ es) [] = None
-missing threads (e ∷ es) (s ∷ ss) = if lacks_thread threads e.place then Some s else missing threads es ss
+missing threads (e ∷ es) (s ∷ ss) =
+    if lacks_thread threads e.place then Some s else missing threads es ss

@@ -19,7 +19,8 @@ use Rattle.litmus_grammar.specs.TextMachine.{Draft, State, start, run}
 use Rattle.litmus_grammar.specs.Texts.{before_entries, before_rows}
 
 -- The machine takes these tokens, and what it holds then is this.
-pub record Takes (kind : TextKind) (threads : ℕ) (ps : List TokenAt) (Holds : Draft → Type 0) : Type 0 where
+pub record Takes (kind : TextKind) (threads : ℕ) (ps : List TokenAt) (Holds : Draft → Type 0)
+    : Type 0 where
   pub after : State
   pub by : run (start kind threads) ps ≡ Ok after
   pub holds : Holds after.draft
@@ -34,7 +35,8 @@ entry_kept e = record { place = place_of (written_place e.place); value = value_
 abbrev pub AreStarts : List TokenAt → List Token → List EntryTree → List ℕ → Type 0
 AreStarts all before [] [] = Unit {0}
 AreStarts all before (e ∷ es) (s ∷ ss) =
-    StandsAt all before s × AreStarts all (before ++ spelled_entry e (tokens.Mark Semicolon ∷ [])) es ss
+    StandsAt all before s
+    × AreStarts all (before ++ spelled_entry e (tokens.Mark Semicolon ∷ [])) es ss
 AreStarts all before es ss = ⊥
 
 -- a condition,
@@ -47,7 +49,8 @@ abbrev pub HoldsPlaces : List Place → Draft → Type 0
 HoldsPlaces ps h = h.observed ≡ ps
 
 -- the entries of an init block, with the byte that each begins at,
-pub record HoldsEntries (ps : List TokenAt) (before : List Token) (es : List EntryTree) (h : Draft) : Type 0 where
+pub record HoldsEntries (ps : List TokenAt) (before : List Token) (es : List EntryTree) (h : Draft)
+    : Type 0 where
   pub entries : h.init.entries ≡ map entry_kept es
   pub stand : AreStarts ps before es h.init.starts
 

@@ -47,7 +47,8 @@ pub data Part : Type 0 where
   Item : (expected : ItemExpectation) → Part
   WantsQuantifier : Part
   AfterTilde : Part
-  Proposition : (quantifier : Quantifier) (frames : List condition.Frame) (used : ℕ) (expected : condition.Expectation) → Part
+  Proposition : (quantifier : Quantifier) (frames : List condition.Frame) (used : ℕ)
+      (expected : condition.Expectation) → Part
   ListOrEnd : Part
   WantsEnd : Part
   Done : Part
@@ -68,13 +69,37 @@ pub record Next : Type 0 where
 -- ---- what was read, and more
 
 abbrev pub with_name : Draft → List ℕ → Draft
-with_name h n = record { name = n; init = h.init; table = h.table; observed = h.observed; quantifier = h.quantifier; formula = h.formula }
+with_name h n =
+    record {
+      name = n;
+      init = h.init;
+      table = h.table;
+      observed = h.observed;
+      quantifier = h.quantifier;
+      formula = h.formula;
+    }
 
 abbrev pub with_init : Draft → init.Block → Draft
-with_init h b = record { name = h.name; init = b; table = h.table; observed = h.observed; quantifier = h.quantifier; formula = h.formula }
+with_init h b =
+    record {
+      name = h.name;
+      init = b;
+      table = h.table;
+      observed = h.observed;
+      quantifier = h.quantifier;
+      formula = h.formula;
+    }
 
 abbrev pub with_table : Draft → table.State → Draft
-with_table h t = record { name = h.name; init = h.init; table = t; observed = h.observed; quantifier = h.quantifier; formula = h.formula }
+with_table h t =
+    record {
+      name = h.name;
+      init = h.init;
+      table = t;
+      observed = h.observed;
+      quantifier = h.quantifier;
+      formula = h.formula;
+    }
 
 abbrev pub with_place : Draft → Place → Draft
 with_place h p = record {
@@ -87,7 +112,15 @@ with_place h p = record {
 }
 
 abbrev pub with_condition : Draft → Quantifier → Formula → Draft
-with_condition h q a = record { name = h.name; init = h.init; table = h.table; observed = h.observed; quantifier = q; formula = a }
+with_condition h q a =
+    record {
+      name = h.name;
+      init = h.init;
+      table = h.table;
+      observed = h.observed;
+      quantifier = q;
+      formula = a;
+    }
 
 abbrev pub at : Draft → Part → Option Next
 at h p = Some (record { part = p; draft = h })
@@ -172,7 +205,8 @@ quantifier_read t = None
 
 -- behind the tilde of `~exists`
 abbrev pub exists_read : Token → Option Part
-exists_read (tokens.Word w) = if bytes_eq w (codes "exists") then Some (proposition NotExists) else None
+exists_read (tokens.Word w) =
+    if bytes_eq w (codes "exists") then Some (proposition NotExists) else None
 exists_read t = None
 
 abbrev pub proposition_result : Draft → Quantifier → condition.StepResult → Option Next
@@ -192,11 +226,13 @@ after_list kind = WantsQuantifier
 
 abbrev pub item_result : Draft → Option PlaceStep → Option Next
 item_result h (Some (place_steps.Goes expected)) = at h (Item (items.Within expected))
-item_result h (Some (place_steps.Ends written)) = at (with_place h (place_of written)) (Item items.HasItem)
+item_result h (Some (place_steps.Ends written)) =
+    at (with_place h (place_of written)) (Item items.HasItem)
 item_result h None = None
 
 abbrev pub item_start : ℕ → Draft → Token → Option Next
-item_start threads h t = if is_there threads t then item_result h (place_step place_expectations.Begins t) else None
+item_start threads h t =
+    if is_there threads t then item_result h (place_step place_expectations.Begins t) else None
 
 abbrev pub next_item : TextKind → ℕ → Draft → Token → Option Next
 next_item kind threads h (tokens.Mark marks.CloseBracket) = at h (after_list kind)
@@ -230,12 +266,14 @@ list_start t = if is_list_word t then Some WantsList else end_read t
 -- a token in a row, or behind the rows
 abbrev pub row_read : Draft → Token → ℕ → Option Next
 row_read h t offset =
-    if table.is_row_start h.table && begins_tail t then next_at h (tail_start t) else table_result h Rows (table.step h.table t offset)
+    if table.is_row_start h.table && begins_tail t then next_at h (tail_start t)
+    else table_result h Rows (table.step h.table t offset)
 
 -- a token in the text of a thread, which ends where a cell may
 abbrev pub cell_read : Draft → Token → ℕ → Option Next
 cell_read h t offset =
-    if table.can_end h.table.expected && is_end t then at h Done else table_result h Cells (table.step h.table t offset)
+    if table.can_end h.table.expected && is_end t then at h Done
+    else table_result h Cells (table.step h.table t offset)
 
 -- how many threads there are: behind the table of a test those of the table
 abbrev pub threads_in : TextKind → ℕ → Draft → ℕ
@@ -248,17 +286,20 @@ part_step kind given h Magic t offset = next_at h (magic_read t)
 part_step kind given h Title t offset = title_read h t
 part_step kind given h TitleEnd t offset = next_at h (title_ended t)
 part_step kind given h (Head may_have_text) t offset = next_at h (head_read may_have_text t)
-part_step kind given h (Init expected) t offset = init_result kind h (init.step h.init expected t offset)
+part_step kind given h (Init expected) t offset =
+    init_result kind h (init.step h.init expected t offset)
 part_step kind given h WantsColumn t offset = table_result h HasColumn (table.named h.table t)
 part_step kind given h HasColumn t offset = next_at h (column_ended t)
 part_step kind given h Rows t offset = row_read h t offset
 part_step kind given h Cells t offset = cell_read h t offset
 part_step kind given h WantsList t offset = next_at h (list_opened t)
-part_step kind given h (Item expected) t offset = item_read kind (threads_in kind given h) h expected t
+part_step kind given h (Item expected) t offset =
+    item_read kind (threads_in kind given h) h expected t
 part_step kind given h WantsQuantifier t offset = next_at h (quantifier_read t)
 part_step kind given h AfterTilde t offset = next_at h (exists_read t)
 part_step kind given h (Proposition q fs used expected) t offset =
-    proposition_result h q (condition.proposition_step limits (threads_in kind given h) fs used expected t)
+    proposition_result h q (condition.proposition_step limits (threads_in kind given h) fs used
+    expected t)
 part_step kind given h ListOrEnd t offset = next_at h (list_start t)
 part_step kind given h WantsEnd t offset = next_at h (end_read t)
 part_step kind given h Done t offset = None
@@ -272,7 +313,8 @@ is_thread kind = false
 abbrev pub stage_rule : TextKind → table.State → Stage → Token → LitmusRule
 stage_rule kind rows stages.CellBegins t = table.rule_at (is_thread kind) rows t
 stage_rule kind rows stages.InCell t = table.rule_at (is_thread kind) rows t
-stage_rule kind rows (stages.Init alone true) t = if is_word t then rules.TypedDeclaration else rules.Init
+stage_rule kind rows (stages.Init alone true) t =
+    if is_word t then rules.TypedDeclaration else rules.Init
 stage_rule kind rows stages.Tail t = if is_filter_word t then rules.Filter else rules.Condition
 stage_rule kind rows s t = rule_of s
 
@@ -290,7 +332,14 @@ pub record State : Type 0 where
   pub draft : Draft
 
 abbrev pub stepped : State → Token → Option Next → Result State LitmusRule
-stepped s t (Some n) = Ok (record { kind = s.kind; threads = s.threads; stage = after s.stage t; part = n.part; draft = n.draft })
+stepped s t (Some n) =
+    Ok (record {
+      kind = s.kind;
+      threads = s.threads;
+      stage = after s.stage t;
+      part = n.part;
+      draft = n.draft;
+    })
 stepped s t None = Err (rule_at s.kind s.draft.table s.stage t)
 
 abbrev pub step : State → Token → ℕ → Result State LitmusRule
@@ -326,7 +375,14 @@ nothing kind = record {
 }
 
 abbrev pub start : TextKind → ℕ → State
-start kind threads = record { kind = kind; threads = threads; stage = first_stage kind; part = first_part kind; draft = nothing kind }
+start kind threads =
+    record {
+      kind = kind;
+      threads = threads;
+      stage = first_stage kind;
+      part = first_part kind;
+      draft = nothing kind;
+    }
 
 abbrev pub Ran : Type 0
 Ran = Result State (LitmusRule × ℕ)

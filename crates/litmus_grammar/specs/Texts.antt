@@ -46,7 +46,8 @@ before_rows t = spelled_head t (spelled_init t.init (spelled_header t.others [])
 -- a missing thread, then thread by thread
 abbrev pub late_test : TestTree → Option Late
 late_test t =
-    or_else (late_entries (t.others + 1) (before_entries t) (members t.init)) (late_columns 0 (t.others + 1) (before_rows t) t.rows)
+    or_else (late_entries (t.others + 1) (before_entries t) (members t.init))
+    (late_columns 0 (t.others + 1) (before_rows t) t.rows)
 
 abbrev pub late_of_test : (ts : List Token) → IsTestText limits ts → Option Late
 late_of_test ts t = late_test t.tree
@@ -54,9 +55,9 @@ late_of_test ts t = late_test t.tree
 abbrev pub late_of_init : ℕ → (ts : List Token) → IsInitText ts → Option Late
 late_of_init threads ts t = late_entries threads (tokens.Mark OpenBrace ∷ []) (members t.entries)
 
--- Where the fault of an init block is looked for, its text may break off behind the number of a thread, or its colon, which
--- stand where an entry may begin: so a register that repeats is at fault itself, also where each register of its thread
--- was named.
+-- Where the fault of an init block is looked for, its text may break off behind the number of a
+-- thread, or its colon, which stand where an entry may begin: so a register that repeats is at
+-- fault itself, also where each register of its thread was named.
 abbrev pub spelled_colon : Bool → List Token
 spelled_colon true = tokens.Mark Colon ∷ []
 spelled_colon false = []
@@ -65,7 +66,8 @@ abbrev pub is_init : Stage → Bool
 is_init (Init alone after_word) = true
 is_init s = false
 
-pub record IsBrokenOff (IsText : List Token → Type 0) (start : Stage) (ts : List Token) : Type 0 where
+pub record IsBrokenOff (IsText : List Token → Type 0) (start : Stage) (ts : List Token)
+    : Type 0 where
   pub before : List Token
   pub in_init : is_init (stage_after start before) ≡ true
   pub entry : CanFollow IsText before (tokens.Mark OpenBracket)
@@ -78,7 +80,8 @@ pub data IsStart (IsText : List Token → Type 0) (start : Stage) (ts : List Tok
   BreaksOff : IsBrokenOff IsText start ts → IsStart IsText start ts
 
 abbrev pub late_of_start : {IsText : List Token → Type 0} {start : Stage}
-    → ((ts : List Token) → IsText ts → Option Late) → (ts : List Token) → IsStart IsText start ts → Option Late
+    → ((ts : List Token) → IsText ts → Option Late) → (ts : List Token) → IsStart IsText start ts
+    → Option Late
 late_of_start late ts (IsWhole t) = late ts t
 late_of_start late ts (BreaksOff b) = None
 
@@ -87,7 +90,8 @@ late_of_thread ts t = late_notes [] (thread_notes [] (t.tree.first ∷ t.tree.ot
 
 -- ---- reading
 
--- these bytes are a text, read from this part on, that the later checks pass and that has this value
+-- these bytes are a text, read from this part on, that the later checks pass and that has this
+-- value
 pub record Reads {V : Type 0} (IsText : List Token → Type 0) (start : Stage)
     (late : (ts : List Token) → IsText ts → Option Late) (value : (ts : List Token) → IsText ts → V)
     (bytes : List ℕ) (v : V) : Type 0 where
@@ -97,52 +101,68 @@ pub record Reads {V : Type 0} (IsText : List Token → Type 0) (start : Stage)
   pub meant : value (tokens_of (lexed start bytes)) text ≡ v
 
 pub record IsLateFault (IsText : List Token → Type 0) (start : Stage)
-    (late : (ts : List Token) → IsText ts → Option Late) (bytes : List ℕ) (rule : LitmusRule) (offset : ℕ) : Type 0 where
+    (late : (ts : List Token) → IsText ts → Option Late) (bytes : List ℕ) (rule : LitmusRule)
+    (offset : ℕ) : Type 0 where
   pub text : IsText (tokens_of (lexed start bytes))
   pub found : Late
   pub is_found : late (tokens_of (lexed start bytes)) text ≡ Some found
   pub rule_is : found.rule ≡ rule
   pub stands : StandsAt (lexed start bytes) found.before offset
 
--- the fault of bytes: too long, else at the first token that no text could have there, else the first of the later checks
-pub data IsFaultAt (IsText : List Token → Type 0) (start : Stage) (late : (ts : List Token) → IsText ts → Option Late)
+-- the fault of bytes: too long, else at the first token that no text could have there, else the
+-- first of the later checks
+pub data IsFaultAt (IsText : List Token → Type 0) (start : Stage)
+    (late : (ts : List Token) → IsText ts → Option Late)
     (bytes : List ℕ) (rule : LitmusRule) (offset : ℕ) : Type 0 where
-  IsTooLong : most_bytes < length bytes → rule ≡ rules.TooLong → offset ≡ most_bytes → IsFaultAt IsText start late bytes rule offset
+  IsTooLong : most_bytes < length bytes → rule ≡ rules.TooLong → offset ≡ most_bytes
+      → IsFaultAt IsText start late bytes rule offset
   IsGrammar : length bytes ≤ most_bytes → IsFault IsText start (lexed start bytes) rule offset
       → IsFaultAt IsText start late bytes rule offset
-  IsLater : length bytes ≤ most_bytes → IsLateFault IsText start late bytes rule offset → IsFaultAt IsText start late bytes rule offset
+  IsLater : length bytes ≤ most_bytes → IsLateFault IsText start late bytes rule offset
+      → IsFaultAt IsText start late bytes rule offset
 
 -- ---- the five readers
 
 abbrev pub ReadsTest : List ℕ → Content → Type 0
-ReadsTest bytes v = Reads (IsTestText limits) Magic late_of_test (λ ts t. test_meaning t.tree) bytes v
+ReadsTest bytes v =
+    Reads (IsTestText limits) Magic late_of_test (λ ts t. test_meaning t.tree) bytes v
 
 abbrev pub IsTestFault : List ℕ → LitmusRule → ℕ → Type 0
-IsTestFault bytes rule offset = IsFaultAt (IsStart (IsTestText limits) Magic) Magic (late_of_start late_of_test) bytes rule offset
+IsTestFault bytes rule offset =
+    IsFaultAt (IsStart (IsTestText limits) Magic) Magic (late_of_start late_of_test) bytes rule
+    offset
 
 abbrev pub ReadsInit : ℕ → List ℕ → List InitEntry → Type 0
 ReadsInit threads bytes v =
-    Reads IsInitText (Init true false) (late_of_init threads) (λ ts t. map entry_meaning (members t.entries)) bytes v
+    Reads IsInitText (Init true false) (late_of_init threads)
+    (λ ts t. map entry_meaning (members t.entries)) bytes v
 
 abbrev pub IsInitFault : ℕ → List ℕ → LitmusRule → ℕ → Type 0
 IsInitFault threads bytes rule offset =
-    IsFaultAt (IsStart IsInitText (Init true false)) (Init true false) (late_of_start (late_of_init threads)) bytes rule offset
+    IsFaultAt (IsStart IsInitText (Init true false)) (Init true false)
+    (late_of_start (late_of_init threads)) bytes rule offset
 
 abbrev pub ReadsThread : List ℕ → List Step → Type 0
-ReadsThread bytes v = Reads IsThreadText CellBegins late_of_thread (λ ts t. thread_meaning t.tree) bytes v
+ReadsThread bytes v =
+    Reads IsThreadText CellBegins late_of_thread (λ ts t. thread_meaning t.tree) bytes v
 
 abbrev pub IsThreadFault : List ℕ → LitmusRule → ℕ → Type 0
 IsThreadFault bytes rule offset = IsFaultAt IsThreadText CellBegins late_of_thread bytes rule offset
 
 abbrev pub ReadsCondition : ℕ → List ℕ → Quantifier × Formula → Type 0
 ReadsCondition threads bytes v =
-    Reads (IsConditionText limits threads) Tail (λ ts t. None) (λ ts t. (t.quantifier, meaning t.condition)) bytes v
+    Reads (IsConditionText limits threads) Tail (λ ts t. None)
+    (λ ts t. (t.quantifier, meaning t.condition)) bytes v
 
 abbrev pub IsConditionFault : ℕ → List ℕ → LitmusRule → ℕ → Type 0
-IsConditionFault threads bytes rule offset = IsFaultAt (IsConditionText limits threads) Tail (λ ts t. None) bytes rule offset
+IsConditionFault threads bytes rule offset =
+    IsFaultAt (IsConditionText limits threads) Tail (λ ts t. None) bytes rule offset
 
 abbrev pub ReadsLocations : ℕ → List ℕ → List Place → Type 0
-ReadsLocations threads bytes v = Reads (IsLocationsText threads) Tail (λ ts t. None) (λ ts t. map place_meaning (members t.items)) bytes v
+ReadsLocations threads bytes v =
+    Reads (IsLocationsText threads) Tail (λ ts t. None)
+    (λ ts t. map place_meaning (members t.items)) bytes v
 
 abbrev pub IsLocationsFault : ℕ → List ℕ → LitmusRule → ℕ → Type 0
-IsLocationsFault threads bytes rule offset = IsFaultAt (IsLocationsText threads) Tail (λ ts t. None) bytes rule offset
+IsLocationsFault threads bytes rule offset =
+    IsFaultAt (IsLocationsText threads) Tail (λ ts t. None) bytes rule offset

@@ -41,7 +41,8 @@ test_parts t =
     ∷ []
 
 -- this token stands in a part with this rule, behind these tokens of the whole text
-pub record StandsIn (ps : List Part) (before : List Token) (here : Token) (rule : LitmusRule) : Type 0 where
+pub record StandsIn (ps : List Part) (before : List Token) (here : Token) (rule : LitmusRule)
+    : Type 0 where
   pub earlier : List Part
   pub its : Part
   pub later : List Part
@@ -71,14 +72,18 @@ pub data IsNumbered (here : Token) (of_part rule : LitmusRule) : Type 0 where
 abbrev pub IsRefusal : List TokenAt → LitmusRule → ℕ → Type 0
 IsRefusal ps rule offset = IsFault (IsStart (IsTestText limits) Magic) Magic ps rule offset
 
--- it is numbered by the part of this test in which the refused token would stand, behind the tokens before it
-abbrev pub IsOfItsPart : (ps : List TokenAt) (rule : LitmusRule) (offset : ℕ) → IsRefusal ps rule offset → TestTree → Type 0
+-- it is numbered by the part of this test in which the refused token would stand, behind the tokens
+-- before it
+abbrev pub IsOfItsPart : (ps : List TokenAt) (rule : LitmusRule) (offset : ℕ)
+    → IsRefusal ps rule offset → TestTree → Type 0
 IsOfItsPart ps rule offset f t =
-    (there : Token) (of_part : LitmusRule) → StandsIn (test_parts t) (tokens_of f.before) there of_part
+    (there : Token) (of_part : LitmusRule)
+    → StandsIn (test_parts t) (tokens_of f.before) there of_part
     → IsNumbered f.here.token of_part rule
 
 -- ---- parts that are read alone: each token that they name no rule for has the part's
 
-abbrev pub IsOfPart : {IsText : List Token → Type 0} {start : Stage} {ps : List TokenAt} {rule : LitmusRule} {offset : ℕ}
+abbrev pub IsOfPart : {IsText : List Token → Type 0} {start : Stage} {ps : List TokenAt}
+    {rule : LitmusRule} {offset : ℕ}
     → LitmusRule → IsFault IsText start ps rule offset → Type 0
 IsOfPart {IsText} {start} {ps} {rule} {offset} of_part f = IsNumbered f.here.token of_part rule

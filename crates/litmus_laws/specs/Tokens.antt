@@ -1,5 +1,5 @@
--- The tokens of the text of a test: in each part the pieces that its tokens are written as, none of which goes on, with
--- gaps between them.
+-- The tokens of the text of a test: in each part the pieces that its tokens are written as, none of
+-- which goes on, with gaps between them.
 use Rattle.std.specs.Prelude.{◌≡◌, ℕ, ◌+◌, ◌<◌, ◌≤◌, List, [], ◌∷◌, ◌++◌, Bool, true, false, ◌||◌, ◌&&◌, ◌==◌, not, length, slice_index, Option, Some, None, if◌then◌else◌}
 use Rattle.text_values.specs.Letters.{is_letter, is_digit}
 use Rattle.text_values.specs.Layout.{is_blank, is_line_end}
@@ -20,7 +20,8 @@ use Rattle.litmus_tokens.specs.Texts.{TokenAt, ends_line, fresh_after}
 -- a blank, a line end where none is wanted, or a comment
 pub data IsGap (stage : Stage) (s rest : List ℕ) : Type 0 where
   Blank : (b : ℕ) → is_blank b ≡ true → s ≡ b ∷ [] → IsGap stage s rest
-  LineEnd : (stage ≡ TitleEnd → ⊥) → (b : ℕ) → is_line_end b ≡ true → s ≡ b ∷ [] → IsGap stage s rest
+  LineEnd : (stage ≡ TitleEnd → ⊥) → (b : ℕ) → is_line_end b ≡ true → s ≡ b ∷ []
+      → IsGap stage s rest
   Comment : BeginsWithComment (s ++ rest) (length s) → IsGap stage s rest
 
 abbrev pub begins_gap : List ℕ → Bool
@@ -41,7 +42,8 @@ pub record IsWord (s rest : List ℕ) : Type 0 where
 -- all bytes up to a space, a line end, a comment or a byte that is not ASCII
 pub record IsRaw (s rest : List ℕ) : Type 0 where
   pub some : 0 < length s
-  pub each : (k : ℕ) → k < length s → ends_raw (slice_index (s ++ rest) k) (slice_index (s ++ rest) (k + 1)) ≡ false
+  pub each : (k : ℕ) → k < length s
+      → ends_raw (slice_index (s ++ rest) k) (slice_index (s ++ rest) (k + 1)) ≡ false
   pub ends : 0 < length rest → ends_raw (slice_index rest 0) (slice_index rest 1) ≡ true
 
 abbrev pub gaps_text : List (List ℕ) → List ℕ
@@ -68,7 +70,8 @@ pub record IsLine (line behind : List ℕ) : Type 0 where
 abbrev pub LacksEquals : List ℕ → Type 0
 LacksEquals line = (k : ℕ) → k < length line → (slice_index line k == 61) ≡ false
 
--- a line that begins with a letter and holds a `=`, up to its end or to its first byte that is not ASCII
+-- a line that begins with a letter and holds a `=`, up to its end or to its first byte that is not
+-- ASCII
 pub record IsKeyline (s rest : List ℕ) : Type 0 where
   pub line : List ℕ
   pub behind : List ℕ
@@ -90,8 +93,8 @@ is_first Magic = true
 is_first Title = true
 is_first s = false
 
--- where words, numbers and marks stand: behind the first line, but for quotes, and lines that begin with a letter, before
--- the init block
+-- where words, numbers and marks stand: behind the first line, but for quotes, and lines that begin
+-- with a letter, before the init block
 abbrev pub is_plain : Stage → Bool → ℕ → Bool
 is_plain Magic fresh b = false
 is_plain Title fresh b = false
@@ -109,40 +112,60 @@ double_of a b =
 -- where a cell begins, the word is not that of a label
 abbrev pub IsNoLabel : Stage → List ℕ → List ℕ → Type 0
 IsNoLabel stage s rest =
-    stage ≡ CellBegins → (label others : List ℕ) → label ++ others ≡ s ++ rest → IsLabel s label others → ⊥
+    stage ≡ CellBegins → (label others : List ℕ) → label ++ others ≡ s ++ rest
+    → IsLabel s label others → ⊥
 
--- the token of a piece, in a part of a test, on a line that holds nothing but blanks so far or on another
+-- the token of a piece, in a part of a test, on a line that holds nothing but blanks so far or on
+-- another
 pub data IsLexeme (stage : Stage) (fresh : Bool) (t : Token) (s rest : List ℕ) : Type 0 where
-  FirstWord : is_first stage ≡ true → IsRaw s rest → t ≡ tokens.Word s → IsLexeme stage fresh t s rest
-  NameEnd : stage ≡ TitleEnd → (b : ℕ) → is_line_end b ≡ true → s ≡ b ∷ [] → t ≡ tokens.LineEnd → IsLexeme stage fresh t s rest
-  Keyline : stage ≡ Head → fresh ≡ true → IsKeyline s rest → t ≡ tokens.Keyline → IsLexeme stage fresh t s rest
-  Quoted : stage ≡ Head → (inside : List ℕ) → LacksQuote inside → s ≡ 34 ∷ (inside ++ 34 ∷ []) → t ≡ tokens.Text
+  FirstWord : is_first stage ≡ true → IsRaw s rest → t ≡ tokens.Word s
+      → IsLexeme stage fresh t s rest
+  NameEnd : stage ≡ TitleEnd → (b : ℕ) → is_line_end b ≡ true → s ≡ b ∷ [] → t ≡ tokens.LineEnd
+      → IsLexeme stage fresh t s rest
+  Keyline : stage ≡ Head → fresh ≡ true → IsKeyline s rest → t ≡ tokens.Keyline
+      → IsLexeme stage fresh t s rest
+  Quoted : stage ≡ Head → (inside : List ℕ) → LacksQuote inside → s ≡ 34 ∷ (inside ++ 34 ∷ [])
+      → t ≡ tokens.Text
       → IsLexeme stage fresh t s rest
   Word : is_plain stage fresh (slice_index s 0) ≡ true → IsWord s rest
       → IsNoLabel stage s rest → t ≡ word_token stage s → IsLexeme stage fresh t s rest
-  Label : stage ≡ CellBegins → (word : List ℕ) → IsLabel word s rest → t ≡ tokens.Label word → IsLexeme stage fresh t s rest
+  Label : stage ≡ CellBegins → (word : List ℕ) → IsLabel word s rest → t ≡ tokens.Label word
+      → IsLexeme stage fresh t s rest
   Number : is_plain stage fresh (slice_index s 0) ≡ true → 0 < length s → IsRun is_digit s rest
       → t ≡ tokens.Number false (significant s) → IsLexeme stage fresh t s rest
-  Negative : is_plain stage fresh 45 ≡ true → (digits : List ℕ) → 0 < length digits → IsRun is_digit digits rest
-      → s ≡ 45 ∷ digits → t ≡ tokens.Number true (significant digits) → IsLexeme stage fresh t s rest
-  Double : (a b : ℕ) (m : mark.Mark) → is_plain stage fresh a ≡ true → double_of a b ≡ Some m → s ≡ a ∷ b ∷ []
+  Negative : is_plain stage fresh 45 ≡ true → (digits : List ℕ) → 0 < length digits
+      → IsRun is_digit digits rest
+      → s ≡ 45 ∷ digits → t ≡ tokens.Number true (significant digits)
+      → IsLexeme stage fresh t s rest
+  Double : (a b : ℕ) (m : mark.Mark) → is_plain stage fresh a ≡ true → double_of a b ≡ Some m
+      → s ≡ a ∷ b ∷ []
       → t ≡ tokens.Mark m → IsLexeme stage fresh t s rest
   Single : (b : ℕ) (m : mark.Mark) → is_plain stage fresh b ≡ true → begins_gap (s ++ rest) ≡ false
-      → double_of b (slice_index rest 0) ≡ None → mark_of b ≡ Some m → s ≡ b ∷ [] → t ≡ tokens.Mark m
+      → double_of b (slice_index rest 0) ≡ None → mark_of b ≡ Some m → s ≡ b ∷ []
+      → t ≡ tokens.Mark m
       → IsLexeme stage fresh t s rest
-  -- a byte that is not ASCII, wherever it stands, and a comment that does not end, through the end of the text
-  NotAscii : (b : ℕ) → is_not_ascii b ≡ true → s ≡ b ∷ [] → t ≡ tokens.Broken rules.NotAscii → IsLexeme stage fresh t s rest
+  -- a byte that is not ASCII, wherever it stands, and a comment that does not end, through the end
+  -- of the text
+  NotAscii : (b : ℕ) → is_not_ascii b ≡ true → s ≡ b ∷ [] → t ≡ tokens.Broken rules.NotAscii
+      → IsLexeme stage fresh t s rest
   OpenComment : begins_comment s ≡ true → ((n : ℕ) → BeginsWithComment s n → ⊥) → rest ≡ []
       → t ≡ tokens.Broken rules.OpenComment → IsLexeme stage fresh t s rest
-  -- what is none of these: behind the name, a line that is no keyline, a quote without its end, and a byte that begins nothing
+  -- what is none of these: behind the name, a line that is no keyline, a quote without its end, and
+  -- a byte that begins nothing
   NoNameEnd : stage ≡ TitleEnd → (b : ℕ) → is_line_end b ≡ false → is_not_ascii b ≡ false
       → begins_gap (s ++ rest) ≡ false → s ≡ b ∷ [] → t ≡ tokens.Bad → IsLexeme stage fresh t s rest
-  NoKeyline : stage ≡ Head → fresh ≡ true → (b : ℕ) → is_letter b ≡ true → (line behind : List ℕ) → IsLine line behind
-      → s ++ rest ≡ line ++ behind → LacksEquals line → s ≡ b ∷ [] → t ≡ tokens.Bad → IsLexeme stage fresh t s rest
-  NoQuoted : stage ≡ Head → LacksQuote rest → s ≡ 34 ∷ [] → t ≡ tokens.Bad → IsLexeme stage fresh t s rest
-  NoToken : (b : ℕ) → is_plain stage fresh b ≡ true → is_not_ascii b ≡ false → begins_gap (s ++ rest) ≡ false
-      → is_line_end b ≡ false → is_word_byte b ≡ false → (b == 45 && is_digit (slice_index rest 0)) ≡ false
-      → double_of b (slice_index rest 0) ≡ None → mark_of b ≡ None → s ≡ b ∷ [] → t ≡ tokens.Bad → IsLexeme stage fresh t s rest
+  NoKeyline : stage ≡ Head → fresh ≡ true → (b : ℕ) → is_letter b ≡ true → (line behind : List ℕ)
+      → IsLine line behind
+      → s ++ rest ≡ line ++ behind → LacksEquals line → s ≡ b ∷ [] → t ≡ tokens.Bad
+      → IsLexeme stage fresh t s rest
+  NoQuoted : stage ≡ Head → LacksQuote rest → s ≡ 34 ∷ [] → t ≡ tokens.Bad
+      → IsLexeme stage fresh t s rest
+  NoToken : (b : ℕ) → is_plain stage fresh b ≡ true → is_not_ascii b ≡ false
+      → begins_gap (s ++ rest) ≡ false
+      → is_line_end b ≡ false → is_word_byte b ≡ false
+      → (b == 45 && is_digit (slice_index rest 0)) ≡ false
+      → double_of b (slice_index rest 0) ≡ None → mark_of b ≡ None → s ≡ b ∷ [] → t ≡ tokens.Bad
+      → IsLexeme stage fresh t s rest
 
 -- ---- a whole text
 
@@ -158,8 +181,10 @@ text_of (Lexeme t s ∷ ps) = s ++ text_of ps
 -- each token leads to the part of the next; a line is fresh again behind a line end
 abbrev pub ArePieces : Stage → Bool → List Piece → Type 0
 ArePieces stage fresh [] = Unit {0}
-ArePieces stage fresh (Gap s ∷ ps) = IsGap stage s (text_of ps) × ArePieces stage (fresh_after fresh (slice_index s 0)) ps
-ArePieces stage fresh (Lexeme t s ∷ ps) = IsLexeme stage fresh t s (text_of ps) × ArePieces (after stage t) (ends_line t) ps
+ArePieces stage fresh (Gap s ∷ ps) =
+    IsGap stage s (text_of ps) × ArePieces stage (fresh_after fresh (slice_index s 0)) ps
+ArePieces stage fresh (Lexeme t s ∷ ps) =
+    IsLexeme stage fresh t s (text_of ps) × ArePieces (after stage t) (ends_line t) ps
 
 -- the tokens of pieces that begin at an offset, and the end
 abbrev pub tokens_at : ℕ → List Piece → List TokenAt

@@ -100,7 +100,8 @@ IsBelow above below (Some l) = (is_in l above ≡ false) × (is_in l below ≡ t
 abbrev pub AreLabelled : List (List ℕ) → List Step → Type 0
 AreLabelled above [] = Unit {0}
 AreLabelled above (steps.Label l ∷ ss) = (is_in l above ≡ false) × AreLabelled (l ∷ above) ss
-AreLabelled above (steps.Instruction i ∷ ss) = IsBelow above (labels ss) (target i) × AreLabelled above ss
+AreLabelled above (steps.Instruction i ∷ ss) =
+    IsBelow above (labels ss) (target i) × AreLabelled above ss
 
 abbrev pub AreThreads : List (List Step) → Type 0
 AreThreads [] = Unit {0}
@@ -116,7 +117,8 @@ Lacks (q ∷ qs) p = (q ≡ p → ⊥) × Lacks qs p
 abbrev pub AreEntries : ℕ → List Place → List InitEntry → Type 0
 AreEntries threads before [] = Unit {0}
 AreEntries threads before (e ∷ es) =
-    IsPlace threads e.place × IsValue e.value × Lacks before e.place × AreEntries threads (e.place ∷ before) es
+    IsPlace threads e.place × IsValue e.value × Lacks before e.place
+    × AreEntries threads (e.place ∷ before) es
 
 abbrev pub ArePlaces : ℕ → List Place → Type 0
 ArePlaces threads [] = Unit {0}
@@ -141,7 +143,8 @@ pub record IsTest (v : Content) : Type 0 where
 -- ---- what bytes are a text of, where limits are wide enough
 
 -- a condition, in a test of so many threads
-pub record IsTextOfCondition (threads : ℕ) (bytes : List ℕ) (quantifier : Quantifier) (f : Formula) : Type 0 where
+pub record IsTextOfCondition (threads : ℕ) (bytes : List ℕ) (quantifier : Quantifier) (f : Formula)
+    : Type 0 where
   pub most : Limits
   pub text : IsConditionText most threads (tokens_of (lexed Tail bytes))
   pub asked : text.quantifier ≡ quantifier
@@ -165,7 +168,9 @@ abbrev pub nesting : Formula → ℕ
 nesting (Constant b) = 0
 nesting (Holds p v) = 0
 nesting (Not a) = nesting a + 2
-nesting (Join op a b) = max (nesting a + one_where (is_loose (level op + 1) a)) (nesting b + one_where (is_loose (level op) b))
+nesting (Join op a b) =
+    max (nesting a + one_where (is_loose (level op + 1) a))
+    (nesting b + one_where (is_loose (level op) b))
 
 -- how many binary operators
 abbrev pub joins : Formula → ℕ
@@ -180,8 +185,8 @@ pub record IsWithinLimits (bytes : List ℕ) (f : Formula) : Type 0 where
   pub shallow : nesting f + 1 ≤ limits.nesting
   pub few : joins f ≤ limits.operators
 
--- What printing can break of the limits that a text kept which was read: its text may be longer, and have more
--- parentheses.
+-- What printing can break of the limits that a text kept which was read: its text may be longer,
+-- and have more parentheses.
 pub record StaysWithin (bytes : List ℕ) (f : Formula) : Type 0 where
   pub short : length bytes ≤ most_bytes
   pub shallow : nesting f + 1 ≤ limits.nesting

@@ -37,5 +37,6 @@ IsMissingFound (Err (OutOfMemory e)) found = ⊥
 -- and the label or the branch.
 abbrev pub IsLateFound : List TokenAt → Result (Unit {0}) LitmusFault → Option Late → Type 0
 IsLateFound text (Ok u) found = IsFoundAt text None found
-IsLateFound text (Err (Refused rule offset)) found = IsFoundAt text (Some (record { rule = rule; offset = offset })) found
+IsLateFound text (Err (Refused rule offset)) found =
+    IsFoundAt text (Some (record { rule = rule; offset = offset })) found
 IsLateFound text (Err (OutOfMemory e)) found = Unit {0}

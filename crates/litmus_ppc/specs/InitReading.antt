@@ -14,9 +14,15 @@ abbrev pub bytes_of : Vec ℕ Global → List ℕ
 bytes_of v = v.items
 
 abbrev pub block_of : InitBlock → machine.Block
-block_of b = record { entries = b.entries.items; starts = b.starts.items; named = map bytes_of (keys b.named) }
+block_of b =
+    record {
+      entries = b.entries.items;
+      starts = b.starts.items;
+      named = map bytes_of (keys b.named);
+    }
 
--- What a function returned is what the machine does, unless memory ran out: the block with a place more,
+-- What a function returned is what the machine does, unless memory ran out: the block with a place
+-- more,
 abbrev pub Adds : Result (Unit {0}) StepError → InitBlock → Option machine.Block → Type 0
 Adds (Ok u) b made = made ≡ Some (block_of b)
 Adds (Err e) b made = Refuses e made
@@ -24,5 +30,6 @@ Adds (Err e) b made = Refuses e made
 -- and what a token did.
 abbrev pub Steps : Result Bool StepError → InitExpectation → InitBlock → Option machine.Did → Type 0
 Steps (Ok true) expected b made = made ≡ Some (record { step = steps.Ends; block = block_of b })
-Steps (Ok false) expected b made = made ≡ Some (record { step = steps.Goes expected; block = block_of b })
+Steps (Ok false) expected b made =
+    made ≡ Some (record { step = steps.Goes expected; block = block_of b })
 Steps (Err e) expected b made = Refuses e made

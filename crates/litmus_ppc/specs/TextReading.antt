@@ -40,18 +40,34 @@ test_of h = record {
 }
 
 abbrev pub state_of : Reader → machine.State
-state_of r = record { kind = r.kind; threads = r.threads; stage = r.stage; part = part_of r.part; draft = draft_of r.draft }
+state_of r =
+    record {
+      kind = r.kind;
+      threads = r.threads;
+      stage = r.stage;
+      part = part_of r.part;
+      draft = draft_of r.draft;
+    }
 
--- The step that a function took is that of the machine, unless memory ran out: the next part and the next draft,
-abbrev pub StepsTo : Result (Unit {0}) StepError → code_part.Part → code_draft.Draft → Option machine.Next → Type 0
+-- The step that a function took is that of the machine, unless memory ran out: the next part and
+-- the next draft,
+abbrev pub StepsTo : Result (Unit {0}) StepError → code_part.Part → code_draft.Draft
+    → Option machine.Next → Type 0
 StepsTo (Ok u) p h made = made ≡ Some (record { part = part_of p; draft = draft_of h })
 StepsTo (Err e) p h made = Refuses e made
 
 -- the same in a proposition, which ends or not,
-abbrev pub ReadsProposition : Result Bool StepError → Quantifier → List code_frame.Frame → ℕ → code_expectation.Expectation → code_draft.Draft → Option machine.Next → Type 0
-ReadsProposition (Ok true) q frames used expected h made = made ≡ Some (record { part = machine.Done; draft = draft_of h })
+abbrev pub ReadsProposition : Result Bool StepError → Quantifier → List code_frame.Frame → ℕ
+    → code_expectation.Expectation → code_draft.Draft → Option machine.Next → Type 0
+ReadsProposition (Ok true) q frames used expected h made =
+    made ≡ Some (record { part = machine.Done; draft = draft_of h })
 ReadsProposition (Ok false) q frames used expected h made =
-    made ≡ Some (record { part = machine.Proposition q (stack_of frames) used (expectation_of expected); draft = draft_of h })
+    made
+    ≡ Some (record {
+      part =
+          machine.Proposition q (stack_of frames) used (expectation_of expected);
+      draft = draft_of h;
+    })
 ReadsProposition (Err e) q frames used expected h made = Refuses e made
 
 -- and the reader behind a token at an offset.

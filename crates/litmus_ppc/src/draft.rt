@@ -98,8 +98,9 @@ impl Draft {
         }
     }
 
-    /// The step over a token at this byte offset, in this part of a text of this kind, with the given number of threads.
-    /// Errors: out of memory, or the token is refused; the draft and the part are then to be dropped.
+    /// The step over a token at this byte offset, in this part of a text of this kind, with the
+    /// given number of threads. Errors: out of memory, or the token is refused; the draft and the
+    /// part are then to be dropped.
     pub fn step(
         &mut self,
         alloc: Global,
@@ -110,7 +111,8 @@ impl Draft {
         offset: usize,
     ) -> Result<(), StepError>
         // It does what the machine does.
-        ensures { StepsTo result part.new self.new (part_step kind given (draft_of self.old) (part_of part.old) token offset) }
+        ensures { StepsTo result part.new self.new (part_step kind given (draft_of self.old)
+            (part_of part.old) token offset) }
     {
         match part {
             Part::Magic => magic_read(part, &token),
@@ -188,7 +190,8 @@ impl Draft {
     // The name of a column.
     #[inline(never)]
     fn column_read(&mut self, part: &mut Part, token: Token) -> Result<(), StepError>
-        ensures { StepsTo result part.new self.new (table_result (draft_of self.old) HasColumn (named (table_of self.old.table) token)) }
+        ensures { StepsTo result part.new self.new (table_result (draft_of self.old) HasColumn
+            (named (table_of self.old.table) token)) }
     {
         self.table.name_read(token)?;
         part.go_to(Part::HasColumn);
@@ -205,7 +208,8 @@ impl Draft {
         expected: ItemExpectation,
         token: Token,
     ) -> Result<(), StepError>
-        ensures { StepsTo result part.new self.new (item_read kind threads (draft_of self.old) expected token) }
+        ensures { StepsTo result part.new self.new
+            (item_read kind threads (draft_of self.old) expected token) }
     {
         match expected {
             ItemExpectation::WantsFirst => self.item_start(part, threads, token),
@@ -223,7 +227,8 @@ impl Draft {
         threads: usize,
         token: Token,
     ) -> Result<(), StepError>
-        ensures { StepsTo result part.new self.new (next_item kind threads (draft_of self.old) token) }
+        ensures { StepsTo result part.new self.new
+            (next_item kind threads (draft_of self.old) token) }
     {
         match token {
             Token::Mark(Mark::CloseBracket) => {
@@ -251,7 +256,8 @@ impl Draft {
         within: PlaceExpectation,
         token: Token,
     ) -> Result<(), StepError>
-        ensures { StepsTo result part.new self.new (item_result (draft_of self.old) (place_step within token)) }
+        ensures { StepsTo result part.new self.new
+            (item_result (draft_of self.old) (place_step within token)) }
     {
         match place_step(within, token)? {
             PlaceStep::Goes(expected) => {
@@ -278,7 +284,10 @@ impl Draft {
         expected: &mut Expectation,
         token: Token,
     ) -> Result<bool, StepError>
-        ensures { ReadsProposition result quantifier frames.new.items operators.new expected.new self.new (proposition_result (draft_of self.old) quantifier (proposition_step limits threads (stack_of frames.old.items) operators.old (expectation_of expected.old) token)) }
+        ensures { ReadsProposition result quantifier frames.new.items operators.new expected.new
+            self.new (proposition_result (draft_of self.old) quantifier (proposition_step limits
+            threads (stack_of frames.old.items) operators.old (expectation_of expected.old)
+            token)) }
     {
         let open = mem::replace(frames, Vec::new(alloc));
         let wanted = mem::replace(expected, Expectation::Wants);

@@ -76,8 +76,8 @@ impl InitBlock {
         }
     }
 
-    /// The step over a token at this byte offset, and whether the block ends with it. Errors: out of memory, or the
-    /// token is refused; the block is then to be dropped.
+    /// The step over a token at this byte offset, and whether the block ends with it. Errors: out
+    /// of memory, or the token is refused; the block is then to be dropped.
     #[inline(never)]
     pub fn step(
         &mut self,
@@ -86,7 +86,8 @@ impl InitBlock {
         offset: usize,
     ) -> Result<bool, StepError>
         // It does what the machine does.
-        ensures { Steps result expected.new self.new (step (block_of self.old) expected.old token offset) }
+        ensures { Steps result expected.new self.new
+            (step (block_of self.old) expected.old token offset) }
     {
         match mem::replace(expected, InitExpectation::WantsOpen) {
             InitExpectation::WantsOpen => match token {
@@ -161,7 +162,8 @@ impl InitBlock {
         place: Place,
         token: Token,
     ) -> Result<bool, StepError>
-        ensures { Steps result expected.new self.new (valued (block_of self.old) place (value_read token)) }
+        ensures { Steps result expected.new self.new
+            (valued (block_of self.old) place (value_read token)) }
     {
         let value = value_read(token)?;
         self.entries.push(InitEntry { place, value })?;
@@ -171,7 +173,8 @@ impl InitBlock {
 
     // Notes the place that a token names, if it names one, and refuses one that repeats.
     fn note(&mut self, within: &PlaceExpectation, token: &Token) -> Result<(), StepError>
-        ensures { Adds result self.new (added_if (block_of self.old) (token_key within.now token.now)) }
+        ensures { Adds result self.new (added_if (block_of self.old)
+            (token_key within.now token.now)) }
     {
         match token {
             Token::Word(word) => self.note_word(within, word),
@@ -181,7 +184,8 @@ impl InitBlock {
 
     // Notes the place that a word names, if it names one.
     fn note_word(&mut self, within: &PlaceExpectation, word: &Name) -> Result<(), StepError>
-        ensures { Adds result self.new (added_if (block_of self.old) (word_key within.now word.now)) }
+        ensures { Adds result self.new (added_if (block_of self.old)
+            (word_key within.now word.now)) }
     {
         match within {
             PlaceExpectation::Begins => self.add(location_key(self.alloc, word)?),
@@ -206,7 +210,8 @@ impl InitBlock {
         }
     }
 
-    /// The byte offset of the first entry for a thread that a test of `threads` threads does not have, or `None`.
+    /// The byte offset of the first entry for a thread that a test of `threads` threads does not
+    /// have, or `None`.
     pub fn missing(&self, threads: usize) -> Option<usize>
         ensures { result ≡ missing threads (block_of self.now).entries (block_of self.now).starts }
     {

@@ -1,6 +1,7 @@
-//! Litmus tests of Power: their readers and their printer. Read litmus_grammar/specs/Grammar.antt first (the texts and their
-//! meanings), then specs/Faults.antt (what a refusal says). specs/PartReading.antt and specs/InitReading.antt say which part
-//! of a test each token leads to; litmus_grammar has the machine itself.
+//! Litmus tests of Power: their readers and their printer. Read litmus_grammar/specs/Grammar.antt
+//! first (the texts and their meanings), then specs/Faults.antt (what a refusal says).
+//! specs/PartReading.antt and specs/InitReading.antt say which part of a test each token leads to;
+//! litmus_grammar has the machine itself.
 #![tactic(auto)]
 
 mod draft;

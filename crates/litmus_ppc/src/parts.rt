@@ -39,7 +39,8 @@ pub enum Part {
     WantsQuantifier,
     /// Behind the tilde of `~exists`.
     AfterTilde,
-    /// In the proposition: the quantifier, the open frames, the number of operators so far, and what is expected.
+    /// In the proposition: the quantifier, the open frames, the number of operators so far, and
+    /// what is expected.
     Proposition(Quantifier, Vec<Frame>, usize, Expectation),
     /// The list of `locations` as a text of its own, or the end of an empty text.
     ListOrEnd,

@@ -27,7 +27,8 @@ fn is_fresh_behind(is_fresh: bool, byte: u8) -> bool
 
 // Hands the tokens of a text on, up to its end.
 fn read_tokens(alloc: Global, bytes: &[u8], reader: &mut Reader) -> Result<(), LitmusFault>
-    ensures { StepsAt result reader.new (run (state_of reader.old) (lexed (state_of reader.old).stage bytes.now)) }
+    ensures { StepsAt result reader.new (run (state_of reader.old)
+        (lexed (state_of reader.old).stage bytes.now)) }
 {
     let mut offset = 0;
     // Whether the line holds nothing but blanks so far.
@@ -79,7 +80,8 @@ fn read_whole(
     kind: TextKind,
     threads: usize,
 ) -> Result<Reader, LitmusFault>
-    ensures runs { length bytes.now ≤ 65536 → Runs result (run (start kind threads) (lexed (first_stage kind) bytes.now)) }
+    ensures runs { length bytes.now ≤ 65536
+        → Runs result (run (start kind threads) (lexed (first_stage kind) bytes.now)) }
     ensures too_long { 65536 < length bytes.now → MatchResult result (λ _. ⊥) IsTooLong }
     ensures within { IfErr result (λ e. IsWithin (length bytes.now) e) }
 {
@@ -94,19 +96,20 @@ fn read_whole(
 
 /// Reads a test.
 ///
-/// A text of over 65,536 bytes is refused first. Any other rejected text is blamed at the first token
-/// that no valid text could have there, which is the end of the text if it ends too early. A text that
-/// the grammar allows can still be refused for an initial value of a thread that it does not have, at
-/// the entry, and then for a label, thread by thread. Errors: the broken rule with its byte offset, or
-/// out of memory.
+/// A text of over 65,536 bytes is refused first. Any other rejected text is blamed at the first
+/// token that no valid text could have there, which is the end of the text if it ends too early. A
+/// text that the grammar allows can still be refused for an initial value of a thread that it does
+/// not have, at the entry, and then for a label, thread by thread. Errors: the broken rule with its
+/// byte offset, or out of memory.
 pub fn read_test(alloc: Global, bytes: &[u8]) -> Result<Test, LitmusFault>
     // What is read is what the text means.
     ensures found { IfOk result (λ t. ReadsTest bytes.now (content_of t)) }
     // What means a test is read so, unless memory runs out.
-    ensures only { (v : Content) → ReadsTest bytes.now v → MatchResult result (λ t. content_of t ≡ v) IsMemory }
-    // A rejected text is blamed at the first token that no test could have there, by the rule that is broken there. A
-    // test is then refused at its first entry of a thread that does not exist, otherwise at the first label or branch
-    // that the checks of labels find.
+    ensures only { (v : Content) → ReadsTest bytes.now v
+        → MatchResult result (λ t. content_of t ≡ v) IsMemory }
+    // A rejected text is blamed at the first token that no test could have there, by the rule that
+    // is broken there. A test is then refused at its first entry of a thread that does not exist,
+    // otherwise at the first label or branch that the checks of labels find.
     ensures fault { IfErr result (IsFaultOf (IsTestFault bytes.now)) }
     // It stands within the text, or at its end.
     ensures within { IfErr result (λ e. IsWithin (length bytes.now) e) }
@@ -138,9 +141,11 @@ pub fn read_thread(alloc: Global, bytes: &[u8]) -> Result<Thread, LitmusFault>
     // What is read is what the text means.
     ensures found { IfOk result (λ t. ReadsThread bytes.now t.steps.items) }
     // What means a thread is read so, unless memory runs out.
-    ensures only { (v : List Step) → ReadsThread bytes.now v → MatchResult result (λ t. t.steps.items ≡ v) IsMemory }
-    // A rejected text is blamed at the first token that no thread could have there, by the rule that is broken there. A
-    // thread is then refused at the first label or branch that the checks of labels find.
+    ensures only { (v : List Step) → ReadsThread bytes.now v
+        → MatchResult result (λ t. t.steps.items ≡ v) IsMemory }
+    // A rejected text is blamed at the first token that no thread could have there, by the rule
+    // that is broken there. A thread is then refused at the first label or branch that the checks
+    // of labels find.
     ensures fault { IfErr result (IsFaultOf (IsThreadFault bytes.now)) }
     // It stands within the text, or at its end.
     ensures within { IfErr result (λ e. IsWithin (length bytes.now) e) }
@@ -166,9 +171,10 @@ pub fn read_init(alloc: Global, bytes: &[u8], threads: usize) -> Result<Vec<Init
     // What is read is what the text means.
     ensures found { IfOk result (λ v. ReadsInit threads bytes.now v.items) }
     // What means initial values is read so, unless memory runs out.
-    ensures only { (v : List InitEntry) → ReadsInit threads bytes.now v → MatchResult result (λ r. r.items ≡ v) IsMemory }
-    // A rejected text is blamed at the first token that no block could have there, by the rule that is broken there. A
-    // block is then refused at its first entry of a thread that does not exist.
+    ensures only { (v : List InitEntry) → ReadsInit threads bytes.now v
+        → MatchResult result (λ r. r.items ≡ v) IsMemory }
+    // A rejected text is blamed at the first token that no block could have there, by the rule that
+    // is broken there. A block is then refused at its first entry of a thread that does not exist.
     ensures fault { IfErr result (IsFaultOf (IsInitFault threads bytes.now)) }
     // It stands within the text, or at its end.
     ensures within { IfErr result (λ e. IsWithin (length bytes.now) e) }
@@ -192,10 +198,13 @@ pub fn read_init(alloc: Global, bytes: &[u8], threads: usize) -> Result<Vec<Init
 /// with its byte offset, or out of memory.
 pub fn read_cond(alloc: Global, bytes: &[u8], threads: usize) -> Result<Condition, LitmusFault>
     // What is read is what the text means.
-    ensures found { IfOk result (λ c. ReadsCondition threads bytes.now (c.quantifier, formula_of c.proposition)) }
+    ensures found { IfOk result (λ c.
+        ReadsCondition threads bytes.now (c.quantifier, formula_of c.proposition)) }
     // What means a condition is read so, unless memory runs out.
-    ensures only { (v : Quantifier × Formula) → ReadsCondition threads bytes.now v → MatchResult result (λ c. (c.quantifier, formula_of c.proposition) ≡ v) IsMemory }
-    // A rejected text is blamed at the first token that no condition could have there, by the rule it breaks.
+    ensures only { (v : Quantifier × Formula) → ReadsCondition threads bytes.now v
+        → MatchResult result (λ c. (c.quantifier, formula_of c.proposition) ≡ v) IsMemory }
+    // A rejected text is blamed at the first token that no condition could have there, by the rule
+    // it breaks.
     ensures fault { IfErr result (IsFaultOf (IsConditionFault threads bytes.now)) }
     // It stands within the text, or at its end.
     ensures within { IfErr result (λ e. IsWithin (length bytes.now) e) }
@@ -211,8 +220,8 @@ pub fn read_cond(alloc: Global, bytes: &[u8], threads: usize) -> Result<Conditio
     }
 }
 
-/// Reads the word `locations` and its list, of a test of `threads` threads. A text without tokens is an empty list.
-/// Errors: the broken rule with its byte offset, or out of memory.
+/// Reads the word `locations` and its list, of a test of `threads` threads. A text without tokens
+/// is an empty list. Errors: the broken rule with its byte offset, or out of memory.
 pub fn read_locations(
     alloc: Global,
     bytes: &[u8],
@@ -221,8 +230,10 @@ pub fn read_locations(
     // What is read is what the text means.
     ensures found { IfOk result (λ v. ReadsLocations threads bytes.now v.items) }
     // What means a list of places is read so, unless memory runs out.
-    ensures only { (v : List Place) → ReadsLocations threads bytes.now v → MatchResult result (λ r. r.items ≡ v) IsMemory }
-    // A rejected text is blamed at the first token that no such list could have there, by the rule it breaks.
+    ensures only { (v : List Place) → ReadsLocations threads bytes.now v
+        → MatchResult result (λ r. r.items ≡ v) IsMemory }
+    // A rejected text is blamed at the first token that no such list could have there, by the rule
+    // it breaks.
     ensures fault { IfErr result (IsFaultOf (IsLocationsFault threads bytes.now)) }
     // It stands within the text, or at its end.
     ensures within { IfErr result (λ e. IsWithin (length bytes.now) e) }

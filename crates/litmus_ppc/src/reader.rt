@@ -53,11 +53,12 @@ impl Reader {
         self.stage
     }
 
-    /// The step over a token at this byte offset. Errors: out of memory, or the token is refused; the reader is then to
-    /// be dropped.
+    /// The step over a token at this byte offset. Errors: out of memory, or the token is refused;
+    /// the reader is then to be dropped.
     pub fn step(&mut self, token: Token, offset: usize) -> Result<(), LitmusFault>
         // It does what the machine does.
-        ensures { StepsAt result self.new (with_offset offset (step (state_of self.old) token offset)) }
+        ensures { StepsAt result self.new
+            (with_offset offset (step (state_of self.old) token offset)) }
     {
         let rule = self.rule(&token);
         let next = self.stage.after(&token);
@@ -80,7 +81,8 @@ impl Reader {
 
     // The rule that the token breaks if it cannot stand here.
     fn rule(&self, token: &Token) -> LitmusRule
-        ensures { result ≡ rule_at self.now.kind (table_of self.now.draft.table) self.now.stage token.now }
+        ensures { result
+            ≡ rule_at self.now.kind (table_of self.now.draft.table) self.now.stage token.now }
     {
         match token {
             Token::Broken(rule) => *rule,
@@ -90,7 +92,8 @@ impl Reader {
 
     // The rule that the token breaks in the part that it stands in.
     fn stage_rule(&self, token: &Token) -> LitmusRule
-        ensures { result ≡ stage_rule self.now.kind (table_of self.now.draft.table) self.now.stage token.now }
+        ensures { result
+            ≡ stage_rule self.now.kind (table_of self.now.draft.table) self.now.stage token.now }
     {
         match self.stage {
             Stage::CellBegins => self.draft.table.rule(is_thread(self.kind), token),
@@ -101,10 +104,15 @@ impl Reader {
         }
     }
 
-    /// Refuses an initial value of a thread that the test does not have. Called once the whole text is read.
+    /// Refuses an initial value of a thread that the test does not have. Called once the whole text
+    /// is read.
     pub fn check_init(&self) -> Result<(), LitmusFault>
         // It answers the byte of the first such entry.
-        ensures found { IsMissingFound result (missing (threads_in (state_of self.now).kind (state_of self.now).threads (state_of self.now).draft) (state_of self.now).draft.init.entries (state_of self.now).draft.init.starts) }
+        ensures found { IsMissingFound result (missing
+            (threads_in (state_of self.now).kind (state_of self.now).threads
+            (state_of self.now).draft)
+            (state_of self.now).draft.init.entries
+            (state_of self.now).draft.init.starts) }
         // A fault stands no further on than what is blamed.
         ensures within { (n : ℕ) → AreKept n (state_of self.now).draft → IfErr result (IsWithin n) }
     {
@@ -118,11 +126,13 @@ impl Reader {
         }
     }
 
-    /// Refuses a label that is defined twice, and a branch to a label that stands before it or nowhere. Called once the
-    /// whole text is read.
+    /// Refuses a label that is defined twice, and a branch to a label that stands before it or
+    /// nowhere. Called once the whole text is read.
     pub fn check_labels(&self) -> Result<(), LitmusFault>
         // It answers what the definitions find, thread by thread.
-        ensures found { (text : List TokenAt) (notes : List (List Note)) → AreNoted text notes (state_of self.now).draft.table.threads → IsLateFound text result (first_late notes) }
+        ensures found { (text : List TokenAt) (notes : List (List Note))
+            → AreNoted text notes (state_of self.now).draft.table.threads
+            → IsLateFound text result (first_late notes) }
         // A fault stands no further on than what is blamed.
         ensures within { (n : ℕ) → AreKept n (state_of self.now).draft → IfErr result (IsWithin n) }
     {

@@ -81,16 +81,26 @@ abbrev pub based_text : ℕ → List ℕ
 based_text base = codes "0(" ++ (register_text base ++ codes ")")
 
 abbrev pub instruction_text : Instruction → List ℕ
-instruction_text (instructions.LoadImmediate d n) = operands_text (codes "li") (register_text d ∷ signed_decimal n ∷ [])
-instruction_text (instructions.Move d s) = operands_text (codes "mr") (register_text d ∷ register_text s ∷ [])
-instruction_text (instructions.AddImmediate d a n) = operands_text (codes "addi") (register_text d ∷ register_text a ∷ signed_decimal n ∷ [])
-instruction_text (instructions.Compute op d a b) = operands_text (operation_text op) (register_text d ∷ register_text a ∷ register_text b ∷ [])
-instruction_text (instructions.Load d a) = operands_text (codes "lwz") (register_text d ∷ based_text a ∷ [])
-instruction_text (instructions.LoadIndexed d a b) = operands_text (codes "lwzx") (register_text d ∷ register_text a ∷ register_text b ∷ [])
-instruction_text (instructions.Store s a) = operands_text (codes "stw") (register_text s ∷ based_text a ∷ [])
-instruction_text (instructions.StoreIndexed s a b) = operands_text (codes "stwx") (register_text s ∷ register_text a ∷ register_text b ∷ [])
-instruction_text (instructions.Compare a b) = operands_text (codes "cmpw") (register_text a ∷ register_text b ∷ [])
-instruction_text (instructions.CompareImmediate a n) = operands_text (codes "cmpwi") (register_text a ∷ signed_decimal n ∷ [])
+instruction_text (instructions.LoadImmediate d n) =
+    operands_text (codes "li") (register_text d ∷ signed_decimal n ∷ [])
+instruction_text (instructions.Move d s) =
+    operands_text (codes "mr") (register_text d ∷ register_text s ∷ [])
+instruction_text (instructions.AddImmediate d a n) =
+    operands_text (codes "addi") (register_text d ∷ register_text a ∷ signed_decimal n ∷ [])
+instruction_text (instructions.Compute op d a b) =
+    operands_text (operation_text op) (register_text d ∷ register_text a ∷ register_text b ∷ [])
+instruction_text (instructions.Load d a) =
+    operands_text (codes "lwz") (register_text d ∷ based_text a ∷ [])
+instruction_text (instructions.LoadIndexed d a b) =
+    operands_text (codes "lwzx") (register_text d ∷ register_text a ∷ register_text b ∷ [])
+instruction_text (instructions.Store s a) =
+    operands_text (codes "stw") (register_text s ∷ based_text a ∷ [])
+instruction_text (instructions.StoreIndexed s a b) =
+    operands_text (codes "stwx") (register_text s ∷ register_text a ∷ register_text b ∷ [])
+instruction_text (instructions.Compare a b) =
+    operands_text (codes "cmpw") (register_text a ∷ register_text b ∷ [])
+instruction_text (instructions.CompareImmediate a n) =
+    operands_text (codes "cmpwi") (register_text a ∷ signed_decimal n ∷ [])
 instruction_text (instructions.BranchIf c l) = operands_text (branch_text c) (l ∷ [])
 instruction_text (instructions.Branch l) = operands_text (codes "b") (l ∷ [])
 instruction_text (instructions.Fence f) = fence_text f
@@ -113,7 +123,8 @@ formula_text (Constant false) = codes "false"
 formula_text (Holds p v) = place_text p ++ (codes "=" ++ value_text v)
 formula_text (Not a) = codes "not (" ++ (formula_text a ++ codes ")")
 formula_text (Join op a b) =
-    bracketed (is_loose (level op + 1) a) (formula_text a) ++ (connective_text op ++ bracketed (is_loose (level op) b) (formula_text b))
+    bracketed (is_loose (level op + 1) a) (formula_text a)
+    ++ (connective_text op ++ bracketed (is_loose (level op) b) (formula_text b))
 
 abbrev pub quantifier_text : Quantifier → List ℕ
 quantifier_text Exists = codes "exists"
@@ -162,12 +173,15 @@ item_text p = place_text p ++ codes ";"
 
 abbrev pub observed_text : List Place → List ℕ
 observed_text [] = []
-observed_text (p ∷ ps) = line (codes "locations [" ++ (joined (codes " ") (map item_text (p ∷ ps)) ++ codes "]"))
+observed_text (p ∷ ps) =
+    line (codes "locations [" ++ (joined (codes " ") (map item_text (p ∷ ps)) ++ codes "]"))
 
 abbrev pub entry_line : InitEntry → List ℕ
 entry_line e = line (entry_text e)
 
 abbrev pub printed : Content → List ℕ
 printed v =
-    line (codes "PPC " ++ v.name) ++ (line (codes "{") ++ (all_of (map entry_line v.init) ++ (line (codes "}") ++ (
-    table_text v.threads ++ (observed_text v.observed ++ line (condition_text v.quantifier v.condition))))))
+    line (codes "PPC " ++ v.name) ++ (line (codes "{") ++ (all_of (map entry_line v.init)
+    ++ (line (codes "}") ++ (
+    table_text v.threads
+    ++ (observed_text v.observed ++ line (condition_text v.quantifier v.condition))))))

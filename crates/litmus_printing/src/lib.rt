@@ -1,5 +1,5 @@
-//! The printed texts of litmus tests of Power. Read specs/Printing.antt first; litmus_laws has the law that a printed
-//! test is read as the test that was printed.
+//! The printed texts of litmus tests of Power. Read specs/Printing.antt first; litmus_laws has the
+//! law that a printed test is read as the test that was printed.
 #![tactic(auto)]
 
 mod print;

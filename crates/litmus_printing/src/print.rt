@@ -57,7 +57,8 @@ fn put_thread_register(
     thread: usize,
     register: Register,
 ) -> Result<(), AllocError>
-    ensures { OnOk result (text.new.items ≡ text.old.items ++ (decimal thread ++ (codes ":" ++ register_text register))) }
+    ensures { OnOk result (text.new.items
+        ≡ text.old.items ++ (decimal thread ++ (codes ":" ++ register_text register))) }
 {
     put_decimal(text, thread as u64)?;
     put_bytes(text, b":")?;
@@ -116,7 +117,8 @@ pub fn fence_name(fence: Fence) -> &'static [u8]
 
 // Appends a word, a space and a register.
 fn put_one(text: &mut Vec<u8>, word: &[u8], first: Register) -> Result<(), AllocError>
-    ensures { OnOk result (text.new.items ≡ text.old.items ++ (word.now ++ (codes " " ++ register_text first))) }
+    ensures { OnOk result (text.new.items
+        ≡ text.old.items ++ (word.now ++ (codes " " ++ register_text first))) }
 {
     put_bytes(text, word)?;
     put_bytes(text, b" ")?;
@@ -130,7 +132,9 @@ fn put_two(
     first: Register,
     second: Register,
 ) -> Result<(), AllocError>
-    ensures { OnOk result (text.new.items ≡ text.old.items ++ (word.now ++ (codes " " ++ (register_text first ++ (codes "," ++ register_text second))))) }
+    ensures { OnOk result (text.new.items
+        ≡ text.old.items ++ (word.now
+        ++ (codes " " ++ (register_text first ++ (codes "," ++ register_text second))))) }
 {
     put_one(text, word, first)?;
     put_bytes(text, b",")?;
@@ -145,7 +149,9 @@ fn put_three(
     second: Register,
     third: Register,
 ) -> Result<(), AllocError>
-    ensures { OnOk result (text.new.items ≡ text.old.items ++ (word.now ++ (codes " " ++ (register_text first ++ (codes "," ++ (register_text second ++ (codes "," ++ register_text third))))))) }
+    ensures { OnOk result (text.new.items
+        ≡ text.old.items ++ (word.now ++ (codes " " ++ (register_text first
+        ++ (codes "," ++ (register_text second ++ (codes "," ++ register_text third))))))) }
 {
     put_two(text, word, first, second)?;
     put_bytes(text, b",")?;
@@ -159,7 +165,9 @@ fn put_one_with(
     first: Register,
     value: i32,
 ) -> Result<(), AllocError>
-    ensures { OnOk result (text.new.items ≡ text.old.items ++ (word.now ++ (codes " " ++ (register_text first ++ (codes "," ++ signed_decimal value))))) }
+    ensures { OnOk result (text.new.items
+        ≡ text.old.items ++ (word.now
+        ++ (codes " " ++ (register_text first ++ (codes "," ++ signed_decimal value))))) }
 {
     put_one(text, word, first)?;
     put_bytes(text, b",")?;
@@ -174,7 +182,9 @@ fn put_two_with(
     second: Register,
     value: i32,
 ) -> Result<(), AllocError>
-    ensures { OnOk result (text.new.items ≡ text.old.items ++ (word.now ++ (codes " " ++ (register_text first ++ (codes "," ++ (register_text second ++ (codes "," ++ signed_decimal value))))))) }
+    ensures { OnOk result (text.new.items
+        ≡ text.old.items ++ (word.now ++ (codes " " ++ (register_text first ++ (codes ","
+        ++ (register_text second ++ (codes "," ++ signed_decimal value))))))) }
 {
     put_two(text, word, first, second)?;
     put_bytes(text, b",")?;
@@ -188,7 +198,9 @@ fn put_access(
     first: Register,
     base: Register,
 ) -> Result<(), AllocError>
-    ensures { OnOk result (text.new.items ≡ text.old.items ++ (word.now ++ (codes " " ++ (register_text first ++ (codes "," ++ (codes "0(" ++ (register_text base ++ codes ")"))))))) }
+    ensures { OnOk result (text.new.items
+        ≡ text.old.items ++ (word.now ++ (codes " " ++ (register_text first
+        ++ (codes "," ++ (codes "0(" ++ (register_text base ++ codes ")"))))))) }
 {
     put_one(text, word, first)?;
     put_bytes(text, b",0(")?;
@@ -198,7 +210,8 @@ fn put_access(
 
 // Appends a branch to a label.
 fn put_branch(text: &mut Vec<u8>, word: &[u8], label: &[u8]) -> Result<(), AllocError>
-    ensures { OnOk result (text.new.items ≡ text.old.items ++ (word.now ++ (codes " " ++ label.now))) }
+    ensures { OnOk result (text.new.items
+        ≡ text.old.items ++ (word.now ++ (codes " " ++ label.now))) }
 {
     put_bytes(text, word)?;
     put_bytes(text, b" ")?;
@@ -288,7 +301,8 @@ fn put_operand(
     operand: &Proposition,
     in_parentheses: bool,
 ) -> Result<(), AllocError>
-    ensures { OnOk result (text.new.items ≡ text.old.items ++ bracketed in_parentheses (formula_text (formula_of operand.now))) }
+    ensures { OnOk result (text.new.items
+        ≡ text.old.items ++ bracketed in_parentheses (formula_text (formula_of operand.now))) }
 {
     if in_parentheses {
         put_bytes(text, b"(")?;
@@ -301,7 +315,8 @@ fn put_operand(
 
 #[cycle(proposition)]
 fn put_proposition(text: &mut Vec<u8>, proposition: &Proposition) -> Result<(), AllocError>
-    ensures { OnOk result (text.new.items ≡ text.old.items ++ formula_text (formula_of proposition.now)) }
+    ensures { OnOk result (text.new.items
+        ≡ text.old.items ++ formula_text (formula_of proposition.now)) }
 {
     match proposition {
         Proposition::Constant(value) => put_bytes(text, if *value { b"true" } else { b"false" }),
@@ -325,7 +340,9 @@ fn put_proposition(text: &mut Vec<u8>, proposition: &Proposition) -> Result<(), 
 
 /// Appends a condition.
 pub fn put_condition(text: &mut Vec<u8>, condition: &Condition) -> Result<(), AllocError>
-    ensures { OnOk result (text.new.items ≡ text.old.items ++ condition_text condition.now.quantifier (formula_of condition.now.proposition)) }
+    ensures { OnOk result (text.new.items
+        ≡ text.old.items
+        ++ condition_text condition.now.quantifier (formula_of condition.now.proposition)) }
 {
     let quantifier: &[u8] = match condition.quantifier {
         Quantifier::Exists => b"exists (",
@@ -340,7 +357,8 @@ pub fn put_condition(text: &mut Vec<u8>, condition: &Condition) -> Result<(), Al
 /// The printed condition: its quantifier, and its proposition in parentheses. Errors: want of
 /// memory.
 pub fn print_condition(alloc: Global, condition: &Condition) -> Result<Vec<u8>, AllocError>
-    ensures { IfOk result (λ v. v.items ≡ condition_text condition.now.quantifier (formula_of condition.now.proposition)) }
+    ensures { IfOk result (λ v. v.items
+        ≡ condition_text condition.now.quantifier (formula_of condition.now.proposition)) }
 {
     let mut text = Vec::new(alloc);
     put_condition(&mut text, condition)?;

@@ -33,7 +33,8 @@ fn put_cell(text: &mut Vec<u8>, steps: &[Step], number: usize) -> Result<(), All
 
 // Appends the row of the steps of this number.
 fn put_row(text: &mut Vec<u8>, threads: &[Thread], number: usize) -> Result<(), AllocError>
-    ensures { OnOk result (text.new.items ≡ text.old.items ++ row_text (map (cell_text number) (map steps_of threads.now))) }
+    ensures { OnOk result (text.new.items
+        ≡ text.old.items ++ row_text (map (cell_text number) (map steps_of threads.now))) }
 {
     for (i, thread) in threads.iter().enumerate() {
         put_between(text, b" | ", i)?;
@@ -54,7 +55,9 @@ fn longest(threads: &[Thread]) -> usize
 }
 
 fn put_rows(text: &mut Vec<u8>, threads: &[Thread]) -> Result<(), AllocError>
-    ensures { OnOk result (text.new.items ≡ text.old.items ++ rows_text 0 (longest (map steps_of threads.now)) (map steps_of threads.now)) }
+    ensures { OnOk result (text.new.items
+        ≡ text.old.items
+        ++ rows_text 0 (longest (map steps_of threads.now)) (map steps_of threads.now)) }
 {
     let most = longest(threads);
     for number in 0..most {
@@ -94,8 +97,8 @@ fn put_entries(text: &mut Vec<u8>, entries: &[InitEntry]) -> Result<(), AllocErr
     Ok(())
 }
 
-/// The text of a test: a line with its name, the initial values, the table with a label in a cell of its own, the
-/// `locations`, if there are any, and the condition. Errors: out of memory.
+/// The text of a test: a line with its name, the initial values, the table with a label in a cell
+/// of its own, the `locations`, if there are any, and the condition. Errors: out of memory.
 pub fn print_test(alloc: Global, test: &Test) -> Result<Vec<u8>, AllocError>
     ensures { IfOk result (λ v. v.items ≡ printed (content_of test.now)) }
 {

@@ -1,4 +1,5 @@
--- How the checks of labels go from step to step. What they find is defined in Late, which does not rest on this.
+-- How the checks of labels go from step to step. What they find is defined in Late, which does not
+-- rest on this.
 use Rattle.std.specs.Prelude.{◌≡◌, ℕ, ◌+◌, List, [], ◌∷◌, nat_lt, Option, Some, None, if◌then◌else◌}
 use Rattle.std.specs.Str.{bytes_eq}
 use Rattle.std.specs.Ordering.{nat_cmp}
@@ -22,7 +23,8 @@ first_from w k [] = None
 first_from w k (steps.Label v ∷ ss) = if bytes_eq v w then Some k else first_from w (k + 1) ss
 first_from w k (steps.Instruction i ∷ ss) = first_from w (k + 1) ss
 
--- a map has just the labels that these steps define, with the number of the first step that defines each
+-- a map has just the labels that these steps define, with the number of the first step that defines
+-- each
 abbrev pub AreFirst : BTreeMap (Bor (List ℕ)) ℕ → List Step → Type 0
 AreFirst m ss = (w : List ℕ) → get_by (λ k. slice_cmp nat_cmp w k.now) m ≡ first_from w 0 ss
 
@@ -53,10 +55,12 @@ or_later (Some rule) offset later = Some (record { rule = rule; offset = offset 
 abbrev pub first_fault : (List ℕ → Option ℕ) → ℕ → List Step → List ℕ → Option LateFault
 first_fault first i [] offsets = None
 first_fault first i (s ∷ ss) [] = None
-first_fault first i (s ∷ ss) (p ∷ ps) = or_later (step_rule first s i) p (first_fault first (i + 1) ss ps)
+first_fault first i (s ∷ ss) (p ∷ ps) =
+    or_later (step_rule first s i) p (first_fault first (i + 1) ss ps)
 
 -- what was found is what the definitions find, and its byte is where it stands
 abbrev pub IsFoundAt : List texts.TokenAt → Option LateFault → Option Late → Type 0
 IsFoundAt text None None = Unit {0}
-IsFoundAt text (Some fault) (Some late) = (fault.rule ≡ late.rule) × StandsAt text late.before fault.offset
+IsFoundAt text (Some fault) (Some late) =
+    (fault.rule ≡ late.rule) × StandsAt text late.before fault.offset
 IsFoundAt text found late = ⊥

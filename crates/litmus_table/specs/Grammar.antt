@@ -1,5 +1,5 @@
--- The grammar of the table, on whole lists of tokens. A tree is a text as it is written; what it spells goes before
--- the rest.
+-- The grammar of the table, on whole lists of tokens. A tree is a text as it is written; what it
+-- spells goes before the rest.
 use Rattle.std.specs.Prelude.{◌≡◌, ℕ, zero, suc, ◌+◌, List, [], ◌∷◌, ◌++◌, length, true, Option, Some, None}
 use Rattle.litmus_tokens.specs.declared.token.Token.{Token}
 use Rattle.litmus_tokens.specs.declared.token.Token.TheVariants as tokens
@@ -55,7 +55,8 @@ spelled_rows (r ∷ rs) rest = spelled_cell r.first (spelled_cells r.others (spe
 -- the names after the first, from this number on, and the header's end
 abbrev pub spelled_names : ℕ → ℕ → List Token → List Token
 spelled_names k zero rest = tokens.Mark Semicolon ∷ rest
-spelled_names k (suc n) rest = tokens.Mark Bar ∷ tokens.Word (column_name k) ∷ spelled_names (k + 1) n rest
+spelled_names k (suc n) rest =
+    tokens.Mark Bar ∷ tokens.Word (column_name k) ∷ spelled_names (k + 1) n rest
 
 -- so many columns beside the first
 abbrev pub spelled_header : ℕ → List Token → List Token
@@ -87,7 +88,8 @@ AreCells (c ∷ cs) = IsInstruction c.instruction × AreCells cs
 -- each row has as many cells beside the first as the header has names
 abbrev pub AreRows : ℕ → List RowTree → Type 0
 AreRows n [] = Unit {0}
-AreRows n (r ∷ rs) = IsInstruction r.first.instruction × AreCells r.others × (length r.others ≡ n) × AreRows n rs
+AreRows n (r ∷ rs) =
+    IsInstruction r.first.instruction × AreCells r.others × (length r.others ≡ n) × AreRows n rs
 
 -- ---- what they mean
 

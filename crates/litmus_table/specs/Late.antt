@@ -1,5 +1,5 @@
--- The checks of labels, made of a table that the grammar allows: a label that is defined twice, and a branch to a label
--- that stands before it or nowhere in its thread.
+-- The checks of labels, made of a table that the grammar allows: a label that is defined twice, and
+-- a branch to a label that stands before it or nowhere in its thread.
 use Rattle.std.specs.Prelude.{ℕ, zero, suc, ◌+◌, List, [], ◌∷◌, ◌++◌, Bool, false, ◌||◌, Option, Some, None, if◌then◌else◌}
 use Rattle.std.specs.Str.{bytes_eq}
 use Rattle.litmus_tokens.specs.declared.rule.LitmusRule.{LitmusRule}
@@ -32,14 +32,17 @@ branch_notes o ts before = []
 
 abbrev pub instruction_notes : Option InstructionTree → List Token → List Note
 instruction_notes None before = []
-instruction_notes (Some i) before = branch_notes (opcode_of i.word) i.operands (before ++ tokens.Word i.word ∷ [])
+instruction_notes (Some i) before =
+    branch_notes (opcode_of i.word) i.operands (before ++ tokens.Word i.word ∷ [])
 
 abbrev pub label_notes : Option (List ℕ) → List Token → List Note
 label_notes None before = []
 label_notes (Some n) before = Defines n before ∷ []
 
 abbrev pub cell_notes : CellTree → List Token → List Note
-cell_notes c before = label_notes c.label before ++ instruction_notes c.instruction (before ++ spelled_label c.label [])
+cell_notes c before =
+    label_notes c.label before
+    ++ instruction_notes c.instruction (before ++ spelled_label c.label [])
 
 -- the notes of a row's cell of this number
 abbrev pub nth_notes : ℕ → List Token → List CellTree → List Note
@@ -50,12 +53,15 @@ nth_notes (suc k) before (c ∷ cs) = nth_notes k (before ++ spelled_cell c (tok
 -- the notes of the thread of this number, in the order of its cells
 abbrev pub column_notes : ℕ → List Token → List RowTree → List Note
 column_notes k before [] = []
-column_notes k before (r ∷ rs) = nth_notes k before (r.first ∷ r.others) ++ column_notes k (before ++ spelled_rows (r ∷ []) []) rs
+column_notes k before (r ∷ rs) =
+    nth_notes k before (r.first ∷ r.others)
+    ++ column_notes k (before ++ spelled_rows (r ∷ []) []) rs
 
 -- the notes of a thread that is a text of its own
 abbrev pub thread_notes : List Token → List CellTree → List Note
 thread_notes before [] = []
-thread_notes before (c ∷ cs) = cell_notes c before ++ thread_notes (before ++ spelled_cell c (tokens.Mark Semicolon ∷ [])) cs
+thread_notes before (c ∷ cs) =
+    cell_notes c before ++ thread_notes (before ++ spelled_cell c (tokens.Mark Semicolon ∷ [])) cs
 
 abbrev pub is_in : List ℕ → List (List ℕ) → Bool
 is_in w [] = false
@@ -70,10 +76,12 @@ defined (Branches w before ∷ ns) = defined ns
 abbrev pub late_notes : List (List ℕ) → List Note → Option Late
 late_notes above [] = None
 late_notes above (Defines w before ∷ ns) =
-    if is_in w above then Some (record { rule = rules.Label; before = before }) else late_notes (w ∷ above) ns
+    if is_in w above then Some (record { rule = rules.Label; before = before })
+    else late_notes (w ∷ above) ns
 late_notes above (Branches w before ∷ ns) =
     if is_in w above then Some (record { rule = rules.BackwardBranch; before = before }) else (
-    if is_in w (defined ns) then late_notes above ns else Some (record { rule = rules.Label; before = before }))
+    if is_in w (defined ns) then late_notes above ns
+    else Some (record { rule = rules.Label; before = before }))
 
 -- the notes of the threads from this number on, in their order
 abbrev pub columns_notes : ℕ → ℕ → List Token → List RowTree → List (List Note)

@@ -85,8 +85,10 @@ marks (s ∷ ss) (p ∷ ps) = step_marks s p ++ marks ss ps
 -- these are the labels of these notes, and each byte is where the label stands in the text
 abbrev pub AreMarks : List texts.TokenAt → List Note → List Mark → Type 0
 AreMarks text [] [] = Unit {0}
-AreMarks text (Defines w before ∷ ns) (Defined v offset ∷ ms) = (v ≡ w) × StandsAt text before offset × AreMarks text ns ms
-AreMarks text (Branches w before ∷ ns) (Branched v offset ∷ ms) = (v ≡ w) × StandsAt text before offset × AreMarks text ns ms
+AreMarks text (Defines w before ∷ ns) (Defined v offset ∷ ms) =
+    (v ≡ w) × StandsAt text before offset × AreMarks text ns ms
+AreMarks text (Branches w before ∷ ns) (Branched v offset ∷ ms) =
+    (v ≡ w) × StandsAt text before offset × AreMarks text ns ms
 AreMarks text ns ms = ⊥
 
 pub record IsNoted (text : List texts.TokenAt) (ns : List Note) (t : ThreadSteps) : Type 0 where
@@ -99,13 +101,16 @@ AreNoted text [] [] = Unit {0}
 AreNoted text (ns ∷ nss) (t ∷ ts) = IsNoted text ns t × AreNoted text nss ts
 AreNoted text nss ts = ⊥
 
--- In the text qs, ps, rs the tokens ps are these rows: they lead to where the table may end, with what the rows mean.
-pub record TakesRows (others : ℕ) (qs ps rs : List texts.TokenAt) (rows : List RowTree) : Type 0 where
+-- In the text qs, ps, rs the tokens ps are these rows: they lead to where the table may end, with
+-- what the rows mean.
+pub record TakesRows (others : ℕ) (qs ps rs : List texts.TokenAt) (rows : List RowTree)
+    : Type 0 where
   pub after : State
   pub by : run (columns others) ps ≡ Some after
   pub ended : is_row_start after ≡ true
   pub meant : steps_of after.threads ≡ columns_meaning 0 (others + 1) rows
-  pub noted : AreNoted (qs ++ ps ++ rs) (columns_notes 0 (others + 1) (tokens_of qs) rows) after.threads
+  pub noted : AreNoted (qs ++ ps ++ rs) (columns_notes 0 (others + 1) (tokens_of qs) rows)
+      after.threads
 
 -- and so for the text of a thread alone
 pub record TakesCells (qs ps rs : List texts.TokenAt) (tree : ThreadTree) : Type 0 where
@@ -113,7 +118,8 @@ pub record TakesCells (qs ps rs : List texts.TokenAt) (tree : ThreadTree) : Type
   pub by : run (columns 0) ps ≡ Some after
   pub ended : is_whole after ≡ true
   pub meant : steps_of after.threads ≡ thread_meaning tree ∷ []
-  pub noted : AreNoted (qs ++ ps ++ rs) (thread_notes (tokens_of qs) (tree.first ∷ tree.others) ∷ []) after.threads
+  pub noted : AreNoted (qs ++ ps ++ rs)
+      (thread_notes (tokens_of qs) (tree.first ∷ tree.others) ∷ []) after.threads
 
 -- ---- what can stand
 
@@ -138,5 +144,6 @@ IsInCell s = ⊥
 -- the rule that a token breaks which cannot stand is the one that the definition of faults gives it
 abbrev pub GivesRules : Type 0
 GivesRules =
-    (alone : Bool) (s : State) (stage : Stage) (t : Token) → IsInCell stage → stands alone s t ≡ false
+    (alone : Bool) (s : State) (stage : Stage) (t : Token) → IsInCell stage
+    → stands alone s t ≡ false
     → Says (λ u. stands alone s u ≡ true) stage (cell_ruling stage t) (rule_at alone s t)

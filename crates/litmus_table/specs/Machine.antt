@@ -62,7 +62,13 @@ value_with (tokens.Number negative ds) n = or_value (int_of negative ds) n
 value_with t n = n
 
 abbrev pub pending_with : Pending → List Want → Token → Pending
-pending_with p ws t = record { opcode = p.opcode; wants = ws; registers = registers_with t p.registers; value = value_with t p.value }
+pending_with p ws t =
+    record {
+      opcode = p.opcode;
+      wants = ws;
+      registers = registers_with t p.registers;
+      value = value_with t p.value;
+    }
 
 abbrev pub first_of : List Want → Option Want
 first_of [] = None
@@ -95,24 +101,31 @@ put_at zero s offset (t ∷ ts) = noted s offset t ∷ ts
 put_at (suc k) s offset (t ∷ ts) = t ∷ put_at k s offset ts
 
 abbrev pub at : List ThreadSteps → ℕ → Expectation → Option State
-at threads column expected = Some (record { threads = threads; column = column; expected = expected })
+at threads column expected =
+    Some (record { threads = threads; column = column; expected = expected })
 
 abbrev pub finished : List ThreadSteps → ℕ → Instruction → ℕ → Option State
-finished threads column i offset = at (put_at column (steps.Instruction i) offset threads) column Whole
+finished threads column i offset =
+    at (put_at column (steps.Instruction i) offset threads) column Whole
 
 abbrev pub is_last : List ThreadSteps → ℕ → Bool
 is_last threads column = nat_le (length threads) (column + 1)
 
 -- a token behind a cell that is whole
 abbrev pub ended : List ThreadSteps → ℕ → Token → Option State
-ended threads column (tokens.Mark Semicolon) = if is_last threads column then at threads 0 Begins else None
-ended threads column (tokens.Mark Bar) = if is_last threads column then None else at threads (column + 1) Begins
+ended threads column (tokens.Mark Semicolon) =
+    if is_last threads column then at threads 0 Begins else None
+ended threads column (tokens.Mark Bar) =
+    if is_last threads column then None else at threads (column + 1) Begins
 ended threads column t = None
 
 abbrev pub operation : List ThreadSteps → ℕ → ℕ → Option Opcode → Option State
-operation threads column offset (Some (opcodes.Data op)) = at threads column (Within (empty_pending op))
-operation threads column offset (Some (opcodes.Branch condition)) = at threads column (WantsLabel condition)
-operation threads column offset (Some (opcodes.Fence f)) = finished threads column (instructions.Fence f) offset
+operation threads column offset (Some (opcodes.Data op)) =
+    at threads column (Within (empty_pending op))
+operation threads column offset (Some (opcodes.Branch condition)) =
+    at threads column (WantsLabel condition)
+operation threads column offset (Some (opcodes.Fence f)) =
+    finished threads column (instructions.Fence f) offset
 operation threads column offset None = None
 
 -- a token where an instruction may begin, or the cell may end
@@ -122,7 +135,8 @@ begins threads column t offset = ended threads column t
 
 -- a token where a cell begins
 abbrev pub cell : List ThreadSteps → ℕ → Token → ℕ → Option State
-cell threads column (tokens.Label w) offset = at (put_at column (steps.Label w) offset threads) column Labelled
+cell threads column (tokens.Label w) offset =
+    at (put_at column (steps.Label w) offset threads) column Labelled
 cell threads column t offset = begins threads column t offset
 
 -- an instruction ends with what it wants
@@ -136,14 +150,16 @@ operand threads column None offset = None
 
 -- the label that a branch names
 abbrev pub target_read : List ThreadSteps → ℕ → Option BranchCondition → Token → ℕ → Option State
-target_read threads column condition (tokens.Word w) offset = finished threads column (branch_meaning condition w) offset
+target_read threads column condition (tokens.Word w) offset =
+    finished threads column (branch_meaning condition w) offset
 target_read threads column condition t offset = None
 
 abbrev pub expected_step : List ThreadSteps → ℕ → Expectation → Token → ℕ → Option State
 expected_step threads column Begins t offset = cell threads column t offset
 expected_step threads column Labelled t offset = begins threads column t offset
 expected_step threads column (Within p) t offset = operand threads column (pending_after p t) offset
-expected_step threads column (WantsLabel condition) t offset = target_read threads column condition t offset
+expected_step threads column (WantsLabel condition) t offset =
+    target_read threads column condition t offset
 expected_step threads column Whole t offset = ended threads column t
 
 -- a token that stands at this byte
@@ -205,7 +221,8 @@ abbrev pub rule_at : Bool → State → Token → LitmusRule
 rule_at alone s (tokens.Mark Semicolon) = separator_rule s.expected
 rule_at alone s (tokens.Mark Bar) = separator_rule s.expected
 rule_at alone s (tokens.Word w) = rule_of_word alone s w
-rule_at alone s (tokens.Number negative ds) = if is_zero (wanted s.expected) && is_int negative ds then rules.Offset else rules.Instruction
+rule_at alone s (tokens.Number negative ds) =
+    if is_zero (wanted s.expected) && is_int negative ds then rules.Offset else rules.Instruction
 rule_at alone s t = rules.Instruction
 
 -- ---- a table of no thread

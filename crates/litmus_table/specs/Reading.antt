@@ -23,7 +23,13 @@ first_steps [] = []
 first_steps (t ∷ ts) = t.steps
 
 abbrev pub pending_of : code_pending.Pending → machine.Pending
-pending_of p = record { opcode = p.opcode; wants = drop p.read_count (data_form p.opcode); registers = p.registers.items; value = p.value }
+pending_of p =
+    record {
+      opcode = p.opcode;
+      wants = drop p.read_count (data_form p.opcode);
+      registers = p.registers.items;
+      value = p.value;
+    }
 
 abbrev pub expectation_of : Cell → machine.Expectation
 expectation_of cells.Begins = machine.Begins
@@ -33,14 +39,20 @@ expectation_of (cells.WantsLabel condition) = machine.WantsLabel condition
 expectation_of cells.Whole = machine.Whole
 
 abbrev pub table_of : Table → machine.State
-table_of t = record { threads = threads_of t.threads.items; column = t.column; expected = expectation_of t.cell }
+table_of t =
+    record {
+      threads = threads_of t.threads.items;
+      column = t.column;
+      expected = expectation_of t.cell;
+    }
 
 -- What a function returned, seen by view, is what the machine does, unless memory ran out.
 abbrev pub Refuses : {Y : Type 0} → StepError → Option Y → Type 0
 Refuses errors.OutOfMemory made = Unit {0}
 Refuses errors.Refused made = made ≡ None
 
-abbrev pub Takes : Result (Unit {0}) StepError → code_pending.Pending → Option machine.Pending → Type 0
+abbrev pub Takes : Result (Unit {0}) StepError → code_pending.Pending → Option machine.Pending
+    → Type 0
 Takes (Ok u) p made = made ≡ Some (pending_of p)
 Takes (Err e) p made = Refuses e made
 

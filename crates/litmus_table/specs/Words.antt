@@ -76,19 +76,27 @@ or_data None other = other
 
 -- the instruction that a word begins, if it begins one
 abbrev pub opcode_of : List ℕ → Option Opcode
-opcode_of w = or_data (computing_of w) (or_data (accessing_of w) (or_fence (fence_of w) (as_branch (branch_of w))))
+opcode_of w =
+    or_data (computing_of w) (or_data (accessing_of w)
+    (or_fence (fence_of w) (as_branch (branch_of w))))
 
 -- ---- what follows a word
 
 abbrev pub data_form : DataOpcode → List Want
 data_form data_opcodes.LoadImmediate = wants.Register ∷ wants.Comma ∷ wants.Immediate ∷ []
 data_form data_opcodes.Move = wants.Register ∷ wants.Comma ∷ wants.Register ∷ []
-data_form data_opcodes.AddImmediate = wants.Register ∷ wants.Comma ∷ wants.Base ∷ wants.Comma ∷ wants.Immediate ∷ []
-data_form (data_opcodes.Compute op) = wants.Register ∷ wants.Comma ∷ wants.Register ∷ wants.Comma ∷ wants.Register ∷ []
-data_form data_opcodes.Load = wants.Register ∷ wants.Comma ∷ wants.Zero ∷ wants.Open ∷ wants.Base ∷ wants.Close ∷ []
-data_form data_opcodes.LoadIndexed = wants.Register ∷ wants.Comma ∷ wants.Base ∷ wants.Comma ∷ wants.Register ∷ []
-data_form data_opcodes.Store = wants.Register ∷ wants.Comma ∷ wants.Zero ∷ wants.Open ∷ wants.Base ∷ wants.Close ∷ []
-data_form data_opcodes.StoreIndexed = wants.Register ∷ wants.Comma ∷ wants.Base ∷ wants.Comma ∷ wants.Register ∷ []
+data_form data_opcodes.AddImmediate =
+    wants.Register ∷ wants.Comma ∷ wants.Base ∷ wants.Comma ∷ wants.Immediate ∷ []
+data_form (data_opcodes.Compute op) =
+    wants.Register ∷ wants.Comma ∷ wants.Register ∷ wants.Comma ∷ wants.Register ∷ []
+data_form data_opcodes.Load =
+    wants.Register ∷ wants.Comma ∷ wants.Zero ∷ wants.Open ∷ wants.Base ∷ wants.Close ∷ []
+data_form data_opcodes.LoadIndexed =
+    wants.Register ∷ wants.Comma ∷ wants.Base ∷ wants.Comma ∷ wants.Register ∷ []
+data_form data_opcodes.Store =
+    wants.Register ∷ wants.Comma ∷ wants.Zero ∷ wants.Open ∷ wants.Base ∷ wants.Close ∷ []
+data_form data_opcodes.StoreIndexed =
+    wants.Register ∷ wants.Comma ∷ wants.Base ∷ wants.Comma ∷ wants.Register ∷ []
 data_form data_opcodes.Compare = wants.Register ∷ wants.Comma ∷ wants.Register ∷ []
 data_form data_opcodes.CompareImmediate = wants.Register ∷ wants.Comma ∷ wants.Immediate ∷ []
 
@@ -140,12 +148,16 @@ target (t ∷ ts) = target ts
 abbrev pub data_meaning : DataOpcode → List ℕ → ℤ → Instruction
 data_meaning data_opcodes.LoadImmediate rs n = instructions.LoadImmediate (slice_index rs 0) n
 data_meaning data_opcodes.Move rs n = instructions.Move (slice_index rs 0) (slice_index rs 1)
-data_meaning data_opcodes.AddImmediate rs n = instructions.AddImmediate (slice_index rs 0) (slice_index rs 1) n
-data_meaning (data_opcodes.Compute op) rs n = instructions.Compute op (slice_index rs 0) (slice_index rs 1) (slice_index rs 2)
+data_meaning data_opcodes.AddImmediate rs n =
+    instructions.AddImmediate (slice_index rs 0) (slice_index rs 1) n
+data_meaning (data_opcodes.Compute op) rs n =
+    instructions.Compute op (slice_index rs 0) (slice_index rs 1) (slice_index rs 2)
 data_meaning data_opcodes.Load rs n = instructions.Load (slice_index rs 0) (slice_index rs 1)
-data_meaning data_opcodes.LoadIndexed rs n = instructions.LoadIndexed (slice_index rs 0) (slice_index rs 1) (slice_index rs 2)
+data_meaning data_opcodes.LoadIndexed rs n =
+    instructions.LoadIndexed (slice_index rs 0) (slice_index rs 1) (slice_index rs 2)
 data_meaning data_opcodes.Store rs n = instructions.Store (slice_index rs 0) (slice_index rs 1)
-data_meaning data_opcodes.StoreIndexed rs n = instructions.StoreIndexed (slice_index rs 0) (slice_index rs 1) (slice_index rs 2)
+data_meaning data_opcodes.StoreIndexed rs n =
+    instructions.StoreIndexed (slice_index rs 0) (slice_index rs 1) (slice_index rs 2)
 data_meaning data_opcodes.Compare rs n = instructions.Compare (slice_index rs 0) (slice_index rs 1)
 data_meaning data_opcodes.CompareImmediate rs n = instructions.CompareImmediate (slice_index rs 0) n
 

@@ -69,11 +69,14 @@ impl PlacedThread {
         Ok(first)
     }
 
-    /// The first step that defines a label again, or that branches to a label that stands before it or
-    /// nowhere in the thread; `None` if no step does.
+    /// The first step that defines a label again, or that branches to a label that stands before it
+    /// or nowhere in the thread; `None` if no step does.
     pub fn check_labels(&self, alloc: Global) -> Result<Option<LateFault>, AllocError>
-        ensures found { IfOk result (λ f. f ≡ first_fault (λ w. first_from w 0 self.now.steps.items) 0 self.now.steps.items self.now.offsets.items) }
-        ensures within { (n : ℕ) → AllAtMost n self.now.offsets.items → IfOk result (IsFoundWithin n) }
+        ensures found { IfOk result (λ f. f
+            ≡ first_fault (λ w. first_from w 0 self.now.steps.items) 0 self.now.steps.items
+            self.now.offsets.items) }
+        ensures within { (n : ℕ) → AllAtMost n self.now.offsets.items
+            → IfOk result (IsFoundWithin n) }
     {
         let definitions = self.definitions(alloc)?;
         for (i, step) in self.steps.iter().enumerate() {
@@ -97,7 +100,9 @@ fn note_first<'a>(
     step: &'a Step,
     number: usize,
 ) -> Result<(), AllocError>
-    ensures { (before : List declared_step.Step) → length before ≡ number → AreFirst first.old before → IfOk result (λ _. AreFirst first.new (before ++ step.now ∷ [])) }
+    ensures { (before : List declared_step.Step) → length before ≡ number
+        → AreFirst first.old before
+        → IfOk result (λ _. AreFirst first.new (before ++ step.now ∷ [])) }
 {
     match step {
         Step::Label(name) => {
@@ -113,7 +118,8 @@ fn note_first<'a>(
 
 // The rule that the step of this number breaks.
 fn step_rule(definitions: &BTreeMap<&[u8], usize>, step: &Step, number: usize) -> Option<LitmusRule>
-    ensures { result ≡ step_rule (λ w. get_by (λ k. slice_cmp nat_cmp w k.now) definitions.now) step.now number }
+    ensures { result
+        ≡ step_rule (λ w. get_by (λ k. slice_cmp nat_cmp w k.now) definitions.now) step.now number }
 {
     match step {
         Step::Label(name) => label_rule(definitions, name, number),
@@ -123,7 +129,8 @@ fn step_rule(definitions: &BTreeMap<&[u8], usize>, step: &Step, number: usize) -
 
 // The rule that a label breaks, as the step of this number.
 fn label_rule(definitions: &BTreeMap<&[u8], usize>, name: &Name, i: usize) -> Option<LitmusRule>
-    ensures { result ≡ label_rule (get_by (λ k. slice_cmp nat_cmp name.now k.now) definitions.now) i }
+    ensures { result
+        ≡ label_rule (get_by (λ k. slice_cmp nat_cmp name.now k.now) definitions.now) i }
 {
     match definitions.get(name.as_bytes()) {
         Some(first) if *first < i => Some(LitmusRule::Label),
@@ -137,7 +144,9 @@ fn instruction_rule(
     instruction: &Instruction,
     i: usize,
 ) -> Option<LitmusRule>
-    ensures { result ≡ instruction_rule (λ w. get_by (λ k. slice_cmp nat_cmp w k.now) definitions.now) instruction.now i }
+    ensures { result
+        ≡ instruction_rule (λ w. get_by (λ k. slice_cmp nat_cmp w k.now) definitions.now)
+        instruction.now i }
 {
     match instruction {
         Instruction::BranchIf {
@@ -151,7 +160,8 @@ fn instruction_rule(
 
 // The rule that a branch to a label breaks, as the step of this number.
 fn target_rule(definitions: &BTreeMap<&[u8], usize>, label: &Name, i: usize) -> Option<LitmusRule>
-    ensures { result ≡ target_rule (get_by (λ k. slice_cmp nat_cmp label.now k.now) definitions.now) i }
+    ensures { result
+        ≡ target_rule (get_by (λ k. slice_cmp nat_cmp label.now k.now) definitions.now) i }
 {
     match definitions.get(label.as_bytes()) {
         None => Some(LitmusRule::Label),

@@ -46,8 +46,8 @@ impl Pending {
         }
     }
 
-    /// Takes one more token. Errors: it is not the one that is wanted, or out of memory; the instruction is then to
-    /// be dropped.
+    /// Takes one more token. Errors: it is not the one that is wanted, or out of memory; the
+    /// instruction is then to be dropped.
     pub fn take(&mut self, token: &Token) -> Result<(), StepError>
         ensures { Takes result self.new (pending_after (pending_of self.old) token.now) }
     {
@@ -133,7 +133,8 @@ impl Pending {
 
 // Keeps the register that a token is; a word that is none counts as `r0`.
 fn keep_register(registers: &mut Vec<Register>, token: &Token) -> Result<(), AllocError>
-    ensures { IfOk result (λ _. registers.new.items ≡ registers_with token.now registers.old.items) }
+    ensures { IfOk result (λ _. registers.new.items
+        ≡ registers_with token.now registers.old.items) }
 {
     if let Token::Word(word) = token {
         registers.push(register_of(word.as_bytes()))?;

@@ -115,7 +115,8 @@ impl Table {
     /// that name.
     pub fn name_read(&mut self, token: Token) -> Result<(), StepError>
         ensures steps { Steps result self.new (named (table_of self.old) token) }
-        ensures within { (n : ℕ) → AreWithin n (table_of self.old).threads → OnOk result (AreWithin n (table_of self.new).threads) }
+        ensures within { (n : ℕ) → AreWithin n (table_of self.old).threads
+            → OnOk result (AreWithin n (table_of self.new).threads) }
     {
         match token {
             Token::Word(word) => {
@@ -184,13 +185,14 @@ impl Table {
         }
     }
 
-    /// The step over a token at this byte offset. Errors: out of memory, or the token is refused; the table is then
-    /// to be dropped.
+    /// The step over a token at this byte offset. Errors: out of memory, or the token is refused;
+    /// the table is then to be dropped.
     pub fn step(&mut self, token: Token, offset: usize) -> Result<(), StepError>
         // It does what the machine does.
         ensures steps { Steps result self.new (step (table_of self.old) token offset) }
         // What it keeps of this token stands at this byte.
-        ensures within { (n : ℕ) → offset ≤ n → AreWithin n (table_of self.old).threads → OnOk result (AreWithin n (table_of self.new).threads) }
+        ensures within { (n : ℕ) → offset ≤ n → AreWithin n (table_of self.old).threads
+            → OnOk result (AreWithin n (table_of self.new).threads) }
     {
         self.go(token, offset)?;
         Ok(())
@@ -223,7 +225,8 @@ impl Table {
 
     // A token where a cell begins.
     fn cell_start(&mut self, token: Token, offset: usize) -> Result<(), StepError>
-        ensures { Steps result self.new (cell (threads_of self.old.threads.items) self.old.column token offset) }
+        ensures { Steps result self.new (cell (threads_of self.old.threads.items) self.old.column
+            token offset) }
     {
         match token {
             Token::Label(name) => {
@@ -237,7 +240,8 @@ impl Table {
 
     // A token where an instruction may begin, or the cell may end.
     fn instruction_start(&mut self, token: Token, offset: usize) -> Result<(), StepError>
-        ensures { Steps result self.new (begins (threads_of self.old.threads.items) self.old.column token offset) }
+        ensures { Steps result self.new (begins (threads_of self.old.threads.items) self.old.column
+            token offset) }
     {
         match token {
             Token::Word(word) => self.word_read(opcode_of(word.as_bytes()), offset),
@@ -247,7 +251,8 @@ impl Table {
 
     // The word of an instruction.
     fn word_read(&mut self, opcode: Option<Opcode>, offset: usize) -> Result<(), StepError>
-        ensures { Steps result self.new (operation (threads_of self.old.threads.items) self.old.column offset opcode) }
+        ensures { Steps result self.new (operation (threads_of self.old.threads.items)
+            self.old.column offset opcode) }
     {
         match opcode {
             Some(Opcode::Data(opcode)) => {
@@ -271,7 +276,8 @@ impl Table {
         token: Token,
         offset: usize,
     ) -> Result<(), StepError>
-        ensures { Steps result self.new (target_read (threads_of self.old.threads.items) self.old.column condition token offset) }
+        ensures { Steps result self.new (target_read (threads_of self.old.threads.items)
+            self.old.column condition token offset) }
     {
         match token {
             Token::Word(label) => {
@@ -286,7 +292,8 @@ impl Table {
     }
 
     fn finish(&mut self, instruction: Instruction, offset: usize) -> Result<(), StepError>
-        ensures { Steps result self.new (finished (threads_of self.old.threads.items) self.old.column instruction offset) }
+        ensures { Steps result self.new (finished (threads_of self.old.threads.items)
+            self.old.column instruction offset) }
     {
         self.put(Step::Instruction(instruction), offset)?;
         self.cell.go_to(Cell::Whole);
@@ -295,7 +302,8 @@ impl Table {
 
     // Adds a step to the thread whose cell is read.
     fn put(&mut self, step: Step, offset: usize) -> Result<(), AllocError>
-        ensures threads { IfOk result (λ _. threads_of self.new.threads.items ≡ put_at self.old.column step offset (threads_of self.old.threads.items)) }
+        ensures threads { IfOk result (λ _. threads_of self.new.threads.items
+            ≡ put_at self.old.column step offset (threads_of self.old.threads.items)) }
         ensures column { self.new.column ≡ self.old.column }
     {
         if self.column < self.threads.len() {
@@ -313,7 +321,8 @@ impl Table {
 
     // A token behind a cell that is whole.
     fn cell_ended(&mut self, token: &Token) -> Result<(), StepError>
-        ensures { Steps result self.new (ended (threads_of self.old.threads.items) self.old.column token.now) }
+        ensures { Steps result self.new (ended (threads_of self.old.threads.items) self.old.column
+            token.now) }
     {
         match token {
             Token::Mark(Mark::Semicolon) => {
@@ -339,9 +348,12 @@ impl Table {
     /// The first fault of a label, thread by thread, or `None`. Errors: out of memory.
     pub fn check_labels(&self) -> Result<Option<LateFault>, AllocError>
         // The byte is one of those that were kept.
-        ensures within { (n : ℕ) → AreWithin n (table_of self.now).threads → IfOk result (IsFoundWithin n) }
+        ensures within { (n : ℕ) → AreWithin n (table_of self.now).threads
+            → IfOk result (IsFoundWithin n) }
         // What it finds is what the definitions find, at the byte where that stands.
-        ensures found { (text : List TokenAt) (notes : List (List Note)) → AreNoted text notes (table_of self.now).threads → IfOk result (λ f. IsFoundAt text f (first_late notes)) }
+        ensures found { (text : List TokenAt) (notes : List (List Note))
+            → AreNoted text notes (table_of self.now).threads
+            → IfOk result (λ f. IsFoundAt text f (first_late notes)) }
     {
         for thread in &self.threads {
             if let Some(fault) = thread.check_labels(self.alloc)? {
@@ -353,7 +365,8 @@ impl Table {
 
     /// The threads, without their offsets. Errors: out of memory.
     pub fn into_threads(self) -> Result<Vec<Thread>, AllocError>
-        ensures { IfOk result (λ ts. map (λ t. t.steps.items) ts.items ≡ steps_of (table_of self).threads) }
+        ensures { IfOk result (λ ts. map (λ t. t.steps.items) ts.items
+            ≡ steps_of (table_of self).threads) }
     {
         let mut threads = Vec::new(self.alloc);
         for thread in self.threads {

@@ -8,7 +8,8 @@ use Rattle.litmus_tokens.specs.Conditions.{Limits, IsProposition}
 use Rattle.litmus_tokens.specs.ConditionMachine.{Frame, Expectation, Wants, StepResult, Goes, Ends, Refuses, proposition_step, proposition}
 
 -- some tokens end the proposition that was begun
-pub record Finishes (most : Limits) (threads : ℕ) (frames : List Frame) (used : ℕ) (expected : Expectation) : Type 0 where
+pub record Finishes (most : Limits) (threads : ℕ) (frames : List Frame) (used : ℕ)
+    (expected : Expectation) : Type 0 where
   pub rest : List Token
   pub value : Formula
   pub by : proposition most threads frames used expected rest ≡ Some value
@@ -22,14 +23,17 @@ takes_on later ts Refuses = false
 abbrev pub takes : Limits → ℕ → List Frame → ℕ → Expectation → List Token → Bool
 takes most threads fs used expected [] = true
 takes most threads fs used expected (t ∷ ts) =
-    takes_on (λ gs u h. takes most threads gs u h ts) ts (proposition_step most threads fs used expected t)
+    takes_on (λ gs u h. takes most threads gs u h ts) ts
+    (proposition_step most threads fs used expected t)
 
 -- these tokens are a proposition, in a test of so many threads, and the end
 pub record IsPropositionText (most : Limits) (threads : ℕ) (ts : List Token) : Type 0 where
   pub value : Formula
   pub text : IsProposition most threads ts value
 
--- The tokens that are taken are those that begin a proposition. So the first token that is refused is the first with
--- which the tokens begin none.
+-- The tokens that are taken are those that begin a proposition. So the first token that is refused
+-- is the first with which the tokens begin none.
 abbrev pub TakesWhatBegins : Limits → ℕ → Type 0
-TakesWhatBegins most threads = (ts : List Token) → (takes most threads [] 0 Wants ts ≡ true) ↔ Begins (IsPropositionText most threads) ts
+TakesWhatBegins most threads =
+    (ts : List Token)
+    → (takes most threads [] 0 Wants ts ≡ true) ↔ Begins (IsPropositionText most threads) ts

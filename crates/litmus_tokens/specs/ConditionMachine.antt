@@ -1,5 +1,5 @@
--- How the reader goes from token to token through a proposition. The words `true`, `false` and `not` are decided
--- at the token behind them: before an equals sign they are locations.
+-- How the reader goes from token to token through a proposition. The words `true`, `false` and
+-- `not` are decided at the token behind them: before an equals sign they are locations.
 use Rattle.std.specs.Prelude.{ℕ, ◌+◌, List, [], ◌∷◌, Bool, true, false, Option, Some, None, nat_lt, nat_le, codes, if◌then◌else◌}
 use Rattle.std.specs.Str.{bytes_eq}
 use Rattle.text_values.specs.declared.test.Place.{Place}
@@ -52,7 +52,8 @@ abbrev pub fold_to : ℕ → List Frame → Formula → List Frame × Formula
 fold_to l [] v = ([], v)
 fold_to l (InGroup ∷ fs) v = (InGroup ∷ fs, v)
 fold_to l (InPrefix ∷ fs) v = fold_to l fs (Not v)
-fold_to l (LeftOf op a ∷ fs) v = if nat_le l (level op) then fold_to l fs (Join op a v) else (LeftOf op a ∷ fs, v)
+fold_to l (LeftOf op a ∷ fs) v =
+    if nat_le l (level op) then fold_to l fs (Join op a v) else (LeftOf op a ∷ fs, v)
 
 -- goes on where one more may be open
 abbrev pub opened : Limits → List Frame → StepResult → StepResult
@@ -79,10 +80,13 @@ place_result fs used within t = in_place fs used (expected_after_place (place_st
 -- a token where an operand is wanted, in a test of so many threads
 abbrev pub operand : Limits → ℕ → List Frame → ℕ → Token → StepResult
 operand most threads fs used (tokens.Word w) = Goes fs used (expected_after_word w)
-operand most threads fs used (tokens.Mark marks.Tilde) = opened most fs (Goes (InPrefix ∷ fs) used Wants)
-operand most threads fs used (tokens.Mark marks.Open) = opened most fs (Goes (InGroup ∷ fs) used Wants)
+operand most threads fs used (tokens.Mark marks.Tilde) =
+    opened most fs (Goes (InPrefix ∷ fs) used Wants)
+operand most threads fs used (tokens.Mark marks.Open) =
+    opened most fs (Goes (InGroup ∷ fs) used Wants)
 operand most threads fs used (tokens.Mark marks.OpenBracket) = Goes fs used (InPlace WantsName)
-operand most threads fs used (tokens.Number false t) = if nat_lt (decimal t) threads then Goes fs used (InPlace (WantsColon t)) else Refuses
+operand most threads fs used (tokens.Number false t) =
+    if nat_lt (decimal t) threads then Goes fs used (InPlace (WantsColon t)) else Refuses
 operand most threads fs used t = Refuses
 
 abbrev pub left_frames : Connective → List Frame × Formula → List Frame
@@ -90,7 +94,9 @@ left_frames op p = LeftOf op p.1 ∷ p.0
 
 abbrev pub joins : Limits → List Frame → ℕ → Formula → Connective → StepResult
 joins most fs used v op =
-    if nat_lt used most.operators then Goes (left_frames op (fold_to (level op + 1) fs v)) (used + 1) Wants else Refuses
+    if nat_lt used most.operators then Goes (left_frames op (fold_to (level op + 1) fs v))
+    (used + 1) Wants
+    else Refuses
 
 abbrev pub closed : ℕ → List Frame × Formula → StepResult
 closed used (InGroup ∷ fs, v) = Goes fs used (Has v)
@@ -116,7 +122,8 @@ is_equals t = false
 -- a token behind the word `true` or `false`
 abbrev pub after_constant : Limits → List Frame → ℕ → Bool → Token → StepResult
 after_constant most fs used b t =
-    if is_equals t then Goes fs used (WantsValue (places.Location (constant_word b))) else behind most fs used (Constant b) t
+    if is_equals t then Goes fs used (WantsValue (places.Location (constant_word b)))
+    else behind most fs used (Constant b) t
 
 -- a token behind the word `not`
 abbrev pub after_not : Limits → ℕ → List Frame → ℕ → Token → StepResult
@@ -145,7 +152,8 @@ abbrev pub whole_at : Formula → List Token → Option Formula
 whole_at v [] = Some v
 whole_at v (t ∷ ts) = None
 
-abbrev pub go_on : (List Frame → ℕ → Expectation → Option Formula) → List Token → StepResult → Option Formula
+abbrev pub go_on : (List Frame → ℕ → Expectation → Option Formula) → List Token → StepResult
+    → Option Formula
 go_on later ts (Goes fs used expected) = later fs used expected
 go_on later ts (Ends v) = whole_at v ts
 go_on later ts Refuses = None
@@ -154,4 +162,5 @@ go_on later ts Refuses = None
 abbrev pub proposition : Limits → ℕ → List Frame → ℕ → Expectation → List Token → Option Formula
 proposition most threads fs used expected [] = None
 proposition most threads fs used expected (t ∷ ts) =
-    go_on (λ gs u h. proposition most threads gs u h ts) ts (proposition_step most threads fs used expected t)
+    go_on (λ gs u h. proposition most threads gs u h ts) ts
+    (proposition_step most threads fs used expected t)

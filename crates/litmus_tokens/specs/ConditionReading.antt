@@ -35,13 +35,15 @@ expectation_of (expectations.Has a) = machine.Has (formula_of a)
 
 -- what a token did is what the machine does, unless memory ran out
 abbrev pub StepsTo : Result code_step.PropositionStep StepError → machine.StepResult → Type 0
-StepsTo (Ok (code_steps.Goes fs used expected)) made = made ≡ machine.Goes (stack_of fs.items) used (expectation_of expected)
+StepsTo (Ok (code_steps.Goes fs used expected)) made =
+    made ≡ machine.Goes (stack_of fs.items) used (expectation_of expected)
 StepsTo (Ok (code_steps.Ends v)) made = made ≡ machine.Ends (formula_of v)
 StepsTo (Err errors.OutOfMemory) made = Unit {0}
 StepsTo (Err errors.Refused) made = made ≡ machine.Refuses
 
 -- a part of a place was read, or the token refused
-abbrev pub ReadsPlace : Result code_expectation.Expectation StepError → Option machine.Expectation → Type 0
+abbrev pub ReadsPlace : Result code_expectation.Expectation StepError → Option machine.Expectation
+    → Type 0
 ReadsPlace (Ok expected) made = made ≡ Some (expectation_of expected)
 ReadsPlace (Err errors.OutOfMemory) made = ⊥
 ReadsPlace (Err errors.Refused) made = made ≡ None

@@ -1,5 +1,5 @@
--- The grammar of places, values and propositions, on whole lists of tokens: a text is what some tree spells. A tree
--- is a text as it is written; what it spells goes before the rest.
+-- The grammar of places, values and propositions, on whole lists of tokens: a text is what some
+-- tree spells. A tree is a text as it is written; what it spells goes before the rest.
 use Rattle.std.specs.Prelude.{◌≡◌, ℕ, ◌+◌, ◌<◌, ◌≤◌, List, [], ◌∷◌, Bool, true, false, max, codes, IsTrue}
 use Rattle.text_values.specs.declared.test.Place.{Place}
 use Rattle.text_values.specs.declared.test.Place.TheVariants as places
@@ -30,7 +30,8 @@ pub data ValueTree : Type 0 where
 
 abbrev pub spelled_place : PlaceTree → List Token → List Token
 spelled_place (Location false n) rest = tokens.Word n ∷ rest
-spelled_place (Location true n) rest = tokens.Mark OpenBracket ∷ tokens.Word n ∷ tokens.Mark CloseBracket ∷ rest
+spelled_place (Location true n) rest =
+    tokens.Mark OpenBracket ∷ tokens.Word n ∷ tokens.Mark CloseBracket ∷ rest
 spelled_place (Register t r) rest = tokens.Number false t ∷ tokens.Mark Colon ∷ tokens.Word r ∷ rest
 
 abbrev pub spelled_value : ValueTree → List Token → List Token
@@ -41,7 +42,8 @@ abbrev pub place_meaning : PlaceTree → Place
 place_meaning (Location b n) = places.Location n
 place_meaning (Register t r) = places.Register (decimal t) (or_zero (register_of r))
 
--- a place as it is written, its brackets aside: of a thread's number the digits, which no zeros lead
+-- a place as it is written, its brackets aside: of a thread's number the digits, which no zeros
+-- lead
 abbrev pub written_place : PlaceTree → WrittenPlace
 written_place (Location b n) = written.Location n
 written_place (Register t r) = written.Register t (or_zero (register_of r))
@@ -111,13 +113,14 @@ tightness (Prefix tilde a) = 4
 tightness (Pair op a b) = level op
 tightness (Group a) = 5
 
--- Each operand is as tight as its place wants, or stands in parentheses. Each operator groups to the right: it takes
--- its own level on the right alone.
+-- Each operand is as tight as its place wants, or stands in parentheses. Each operator groups to
+-- the right: it takes its own level on the right alone.
 abbrev pub IsGrouped : FormulaTree → Type 0
 IsGrouped (Word b) = Unit {0}
 IsGrouped (Atom p v) = Unit {0}
 IsGrouped (Prefix tilde a) = (4 ≤ tightness a) × IsGrouped a
-IsGrouped (Pair op a b) = (level op + 1 ≤ tightness a) × (level op ≤ tightness b) × IsGrouped a × IsGrouped b
+IsGrouped (Pair op a b) =
+    (level op + 1 ≤ tightness a) × (level op ≤ tightness b) × IsGrouped a × IsGrouped b
 IsGrouped (Group a) = IsGrouped a
 
 -- its places and values are ones, of threads that are there
@@ -159,7 +162,8 @@ pub record IsFormula (most : Limits) (threads : ℕ) (t : FormulaTree) : Type 0 
   pub short : operators t ≤ most.operators
 
 -- these tokens are a proposition with this meaning, in a test of so many threads, and the end
-pub record IsProposition (most : Limits) (threads : ℕ) (ts : List Token) (v : Formula) : Type 0 where
+pub record IsProposition (most : Limits) (threads : ℕ) (ts : List Token) (v : Formula)
+    : Type 0 where
   pub tree : FormulaTree
   pub fine : IsFormula most threads tree
   pub whole : ts ≡ spelled tree (tokens.End ∷ [])

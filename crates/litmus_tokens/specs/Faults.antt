@@ -1,4 +1,5 @@
--- The fault of a list of tokens that is no text of some grammar: where it stands, and the rule that it breaks.
+-- The fault of a list of tokens that is no text of some grammar: where it stands, and the rule that
+-- it breaks.
 use Rattle.std.specs.Prelude.{◌≡◌, ℕ, ◌⊎◌, List, [], ◌∷◌, ◌++◌, true, false, codes, if◌then◌else◌}
 use Rattle.std.specs.Str.{bytes_eq}
 use Rattle.litmus_tokens.specs.declared.rule.LitmusRule.{LitmusRule}
@@ -21,8 +22,8 @@ pub record Begins (IsText : List Token → Type 0) (ts : List Token) : Type 0 wh
 abbrev pub CanFollow : (List Token → Type 0) → List Token → Token → Type 0
 CanFollow IsText ts t = Begins IsText (ts ++ t ∷ [])
 
--- the rule that a token breaks which cannot stand: one of its own, or one that it breaks only where another token
--- could stand in its place, and else that of the part
+-- the rule that a token breaks which cannot stand: one of its own, or one that it breaks only where
+-- another token could stand in its place, and else that of the part
 pub data Ruling : Type 0 where
   Always : (rule : LitmusRule) → Ruling
   Where : (other : Token) (rule : LitmusRule) → Ruling
@@ -31,9 +32,11 @@ pub data Ruling : Type 0 where
 abbrev pub cell_ruling : Stage → Token → Ruling
 cell_ruling s (tokens.Mark Semicolon) = Where (tokens.Mark Bar) rules.Columns
 cell_ruling s (tokens.Mark Bar) = Where (tokens.Mark Semicolon) rules.Columns
-cell_ruling s (tokens.Word w) = if bytes_eq w (codes "r0") then Where (tokens.Word (codes "r1")) rules.ZeroBase else (
+cell_ruling s (tokens.Word w) =
+    if bytes_eq w (codes "r0") then Where (tokens.Word (codes "r1")) rules.ZeroBase else (
     if is_filter w then Where (tokens.Word (codes "exists")) rules.Filter else Always (rule_of s))
-cell_ruling s (tokens.Number negative ds) = if is_int negative ds then Where (tokens.Number false []) rules.Offset else Always (rule_of s)
+cell_ruling s (tokens.Number negative ds) =
+    if is_int negative ds then Where (tokens.Number false []) rules.Offset else Always (rule_of s)
 cell_ruling s t = Always (rule_of s)
 
 -- a word behind a word in the init block, and `filter` or `final` behind the table
@@ -55,10 +58,12 @@ ruling s t = part_ruling s t
 -- what a ruling says, where these tokens can stand
 abbrev pub Says : (Token → Type 0) → Stage → Ruling → LitmusRule → Type 0
 Says CanStand s (Always n) k = k ≡ n
-Says CanStand s (Where other n) k = (CanStand other × (k ≡ n)) ⊎ ((CanStand other → ⊥) × (k ≡ rule_of s))
+Says CanStand s (Where other n) k =
+    (CanStand other × (k ≡ n)) ⊎ ((CanStand other → ⊥) × (k ≡ rule_of s))
 
 -- The tokens before the offset begin some text, and with the token at the offset they begin none.
-pub record IsFault (IsText : List Token → Type 0) (start : Stage) (ps : List TokenAt) (rule : LitmusRule) (offset : ℕ) : Type 0 where
+pub record IsFault (IsText : List Token → Type 0) (start : Stage) (ps : List TokenAt)
+    (rule : LitmusRule) (offset : ℕ) : Type 0 where
   pub before : List TokenAt
   pub here : TokenAt
   pub behind : List TokenAt

@@ -49,7 +49,8 @@ gap_from skip n [] = n
 gap_from (suc skip) n (b ∷ bs) = gap_from skip (n + 1) bs
 gap_from zero n (b ∷ bs) =
     if is_space b then gap_from 0 (n + 1) bs else (
-    if begins_comment (b ∷ bs) then over n (comment_of (b ∷ bs)) (λ skip. gap_from skip (n + 1) bs) else n)
+    if begins_comment (b ∷ bs) then over n (comment_of (b ∷ bs)) (λ skip. gap_from skip (n + 1) bs)
+    else n)
 
 -- ---- tokens
 
@@ -68,7 +69,8 @@ raw_from n [] = n
 raw_from n (b ∷ bs) = if ends_raw b (slice_index bs 0) then n else raw_from (n + 1) bs
 
 abbrev pub raw_front : List ℕ → ℕ → Front
-raw_front bs n = if is_line_end (slice_index bs 0) then Layout 1 else Lexeme (tokens.Word (take n bs)) n
+raw_front bs n =
+    if is_line_end (slice_index bs 0) then Layout 1 else Lexeme (tokens.Word (take n bs)) n
 
 -- a text in quotes, which runs to the next quote
 abbrev pub quoted_front : Option ℕ → Front
@@ -78,17 +80,20 @@ quoted_front None = Lexeme tokens.Bad 1
 -- a line that begins with a letter, a keyline where it holds an equals sign
 abbrev pub line_front : List ℕ → Front
 line_front line =
-    if position_or_len is_equals line == length line then Lexeme tokens.Bad 1 else Lexeme tokens.Keyline (position_or_len is_not_ascii line)
+    if position_or_len is_equals line == length line then Lexeme tokens.Bad 1
+    else Lexeme tokens.Keyline (position_or_len is_not_ascii line)
 
 -- the ninth thread's name, where it can stand, is no word
 abbrev pub word_token : Stage → List ℕ → Token
-word_token (Header zero) w = if bytes_eq w (codes "P8") then tokens.Broken rules.TooManyThreads else tokens.Word w
+word_token (Header zero) w =
+    if bytes_eq w (codes "P8") then tokens.Broken rules.TooManyThreads else tokens.Word w
 word_token s w = tokens.Word w
 
 -- where a cell begins, a word before a colon is a label, and the colon is part of it
 abbrev pub label_front : List ℕ → ℕ → ℕ → Front
 label_front bs n gap =
-    if slice_index bs (n + gap) == 58 then Lexeme (tokens.Label (take n bs)) (n + gap + 1) else Lexeme (tokens.Word (take n bs)) n
+    if slice_index bs (n + gap) == 58 then Lexeme (tokens.Label (take n bs)) (n + gap + 1)
+    else Lexeme (tokens.Word (take n bs)) n
 
 abbrev pub word_front : Stage → List ℕ → ℕ → Front
 word_front CellBegins bs n = label_front bs n (gap_from 0 0 (drop n bs))
@@ -134,21 +139,28 @@ sign_front b next =
 abbrev pub plain_front : Stage → List ℕ → Front
 plain_front s bs =
     if is_line_end (slice_index bs 0) then Layout 1 else (
-    if is_letter (slice_index bs 0) || slice_index bs 0 == 95 then word_front s bs (position_or_len ends_word bs) else (
+    if is_letter (slice_index bs 0) || slice_index bs 0 == 95 then word_front s bs
+    (position_or_len ends_word bs)
+    else (
     if is_digit (slice_index bs 0) then number_front bs (position_or_len ends_digits bs) else (
-    if slice_index bs 0 == 45 && is_digit (slice_index bs 1) then minus_front (drop 1 bs) (position_or_len ends_digits (drop 1 bs)) else
+    if slice_index bs 0 == 45 && is_digit (slice_index bs 1) then minus_front (drop 1 bs)
+    (position_or_len ends_digits (drop 1 bs))
+    else
     sign_front (slice_index bs 0) (slice_index bs 1))))
 
 abbrev pub head_front : Bool → List ℕ → Front
 head_front fresh bs =
-    if fresh && is_letter (slice_index bs 0) then line_front (take (position_or_len is_line_end bs) bs) else (
+    if fresh && is_letter (slice_index bs 0) then line_front
+    (take (position_or_len is_line_end bs) bs)
+    else (
     if slice_index bs 0 == 34 then quoted_front (quoted_from bs) else plain_front Head bs)
 
 -- by the part, and before the init block by whether the line holds nothing but blanks so far
 abbrev pub stage_front : Stage → Bool → List ℕ → Front
 stage_front Magic fresh bs = raw_front bs (raw_from 0 bs)
 stage_front Title fresh bs = raw_front bs (raw_from 0 bs)
-stage_front TitleEnd fresh bs = if is_line_end (slice_index bs 0) then Lexeme tokens.LineEnd 1 else Lexeme tokens.Bad 1
+stage_front TitleEnd fresh bs =
+    if is_line_end (slice_index bs 0) then Lexeme tokens.LineEnd 1 else Lexeme tokens.Bad 1
 stage_front Head fresh bs = head_front fresh bs
 stage_front s fresh bs = plain_front s bs
 
@@ -156,4 +168,5 @@ unfoldable pub front : Stage → Bool → List ℕ → Front
 front s fresh bs =
     if is_not_ascii (slice_index bs 0) then Lexeme (tokens.Broken rules.NotAscii) 1 else (
     if is_blank (slice_index bs 0) then Layout 1 else (
-    if begins_comment bs then comment_front (length bs) (comment_of bs) else stage_front s fresh bs))
+    if begins_comment bs then comment_front (length bs) (comment_of bs)
+    else stage_front s fresh bs))

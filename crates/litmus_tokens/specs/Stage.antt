@@ -1,5 +1,5 @@
--- The part of a text that the next token stands in, by the tokens so far. How bytes are read rests on it, and
--- so does the number of a fault.
+-- The part of a text that the next token stands in, by the tokens so far. How bytes are read rests
+-- on it, and so does the number of a fault.
 use Rattle.std.specs.Prelude.{◌-◌, Bool, true, false, if◌then◌else◌}
 use Rattle.litmus_tokens.specs.declared.rule.LitmusRule.{LitmusRule}
 use Rattle.litmus_tokens.specs.declared.rule.LitmusRule.TheVariants as rules

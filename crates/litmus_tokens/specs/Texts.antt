@@ -48,16 +48,20 @@ begins_tail t = false
 abbrev pub fresh_after : Bool → ℕ → Bool
 fresh_after fresh b = is_line_end b || (fresh && is_blank b)
 
-abbrev pub after_front : Stage → Bool → ℕ → ℕ → Front → (Stage → Bool → ℕ → List TokenAt) → List TokenAt
+abbrev pub after_front : Stage → Bool → ℕ → ℕ → Front → (Stage → Bool → ℕ → List TokenAt)
+    → List TokenAt
 after_front s fresh offset b (Layout n) later = later s (fresh_after fresh b) (n - 1)
-after_front s fresh offset b (Lexeme t n) later = record { token = t; offset = offset } ∷ later (after s t) (ends_line t) (n - 1)
+after_front s fresh offset b (Lexeme t n) later =
+    record { token = t; offset = offset } ∷ later (after s t) (ends_line t) (n - 1)
 
--- the tokens of a text that begins in a part, at an offset, once skip bytes are passed over, and its end
+-- the tokens of a text that begins in a part, at an offset, once skip bytes are passed over, and
+-- its end
 unfoldable pub tokens_from : Stage → Bool → ℕ → ℕ → List ℕ → List TokenAt
 tokens_from s fresh skip offset [] = record { token = tokens.End; offset = offset } ∷ []
 tokens_from s fresh (suc skip) offset (b ∷ bs) = tokens_from s fresh skip (offset + 1) bs
 tokens_from s fresh zero offset (b ∷ bs) =
-    after_front s fresh offset b (front s fresh (b ∷ bs)) (λ s' fresh' skip. tokens_from s' fresh' skip (offset + 1) bs)
+    after_front s fresh offset b (front s fresh (b ∷ bs)) (λ s' fresh' skip.
+    tokens_from s' fresh' skip (offset + 1) bs)
 
 abbrev pub lexed : Stage → List ℕ → List TokenAt
 lexed s bytes = tokens_from s false 0 0 bytes

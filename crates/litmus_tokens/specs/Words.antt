@@ -45,7 +45,8 @@ is_plain (d ∷ ds) = are_digits (d ∷ ds) && (is_empty ds || not (d == 48))
 -- the number in `r0` to `r31`
 abbrev pub register_of : List ℕ → Option ℕ
 register_of [] = None
-register_of (r ∷ ds) = if r == 114 && is_plain ds && nat_lt (decimal ds) 32 then Some (decimal ds) else None
+register_of (r ∷ ds) =
+    if r == 114 && is_plain ds && nat_lt (decimal ds) 32 then Some (decimal ds) else None
 
 abbrev pub or_zero : Option ℕ → ℕ
 or_zero None = 0
@@ -73,7 +74,8 @@ is_test_name w = not (is_empty w) && nat_le (length w) 255 && are_printable w
 
 -- what begins the text behind the table, beside a tilde
 abbrev pub ends_table : List ℕ → Bool
-ends_table w = bytes_eq w (codes "locations") || bytes_eq w (codes "exists") || bytes_eq w (codes "forall")
+ends_table w =
+    bytes_eq w (codes "locations") || bytes_eq w (codes "exists") || bytes_eq w (codes "forall")
 
 abbrev pub is_filter : List ℕ → Bool
 is_filter w = bytes_eq w (codes "filter") || bytes_eq w (codes "final")

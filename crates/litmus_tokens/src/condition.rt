@@ -54,7 +54,8 @@ pub enum Expectation {
 /// The result of a step over a token.
 #[derive(Drop)]
 pub enum PropositionStep {
-    /// The proposition goes on: the open frames, the number of operators so far, and what is expected.
+    /// The proposition goes on: the open frames, the number of operators so far, and what is
+    /// expected.
     Goes(Vec<Frame>, usize, Expectation),
     /// The text has ended, and with it the proposition.
     Ends(Proposition),
@@ -116,7 +117,8 @@ fn open_frames(frames: &[Frame]) -> usize
 
 // Opens a parenthesis or a prefix.
 fn opened(frames: Vec<Frame>, operators: usize, frame: Frame) -> Result<PropositionStep, StepError>
-    ensures { StepsTo result (opened limits (stack_of frames.items) (Goes (frame_of frame ∷ stack_of frames.items) operators Wants)) }
+    ensures { StepsTo result (opened limits (stack_of frames.items) (Goes
+        (frame_of frame ∷ stack_of frames.items) operators Wants)) }
 {
     let mut frames = frames;
     if open_frames(&frames) >= MAX_NESTING {
@@ -194,7 +196,8 @@ fn joins(
     left: Proposition,
     connective: Connective,
 ) -> Result<PropositionStep, StepError>
-    ensures { StepsTo result (joins limits (stack_of frames.items) operators (formula_of left) connective) }
+    ensures { StepsTo result (joins limits (stack_of frames.items) operators (formula_of left)
+        connective) }
 {
     let mut frames = frames;
     if operators >= MAX_OPERATORS {
@@ -212,7 +215,8 @@ fn closed(
     operators: usize,
     operand: Proposition,
 ) -> Result<PropositionStep, StepError>
-    ensures { StepsTo result (closed operators (fold_to 0 (stack_of frames.items) (formula_of operand))) }
+    ensures { StepsTo result (closed operators
+        (fold_to 0 (stack_of frames.items) (formula_of operand))) }
 {
     let mut frames = frames;
     let operand = joined(alloc, 0, &mut frames, operand)?;
@@ -252,7 +256,8 @@ fn behind(
     operand: Proposition,
     token: Token,
 ) -> Result<PropositionStep, StepError>
-    ensures { StepsTo result (behind limits (stack_of frames.items) operators (formula_of operand) token) }
+    ensures { StepsTo result (behind limits (stack_of frames.items) operators (formula_of operand)
+        token) }
 {
     match token {
         Token::Mark(Mark::And) => joins(alloc, frames, operators, operand, Connective::And),
@@ -340,9 +345,9 @@ fn after_place(
     }
 }
 
-/// The step over a token of a proposition, in a test of so many threads: `frames` are open, the innermost
-/// last, and `operators` counts the operators so far. Errors: out of memory, or the token is refused, as no
-/// proposition within the limits goes on with it.
+/// The step over a token of a proposition, in a test of so many threads: `frames` are open, the
+/// innermost last, and `operators` counts the operators so far. Errors: out of memory, or the token
+/// is refused, as no proposition within the limits goes on with it.
 pub fn proposition_step(
     alloc: Global,
     threads: usize,
@@ -351,7 +356,8 @@ pub fn proposition_step(
     expected: Expectation,
     token: Token,
 ) -> Result<PropositionStep, StepError>
-    ensures { StepsTo result (proposition_step limits threads (stack_of frames.items) operators (expectation_of expected) token) }
+    ensures { StepsTo result (proposition_step limits threads (stack_of frames.items) operators
+        (expectation_of expected) token) }
 {
     match expected {
         Expectation::Wants => operand(threads, frames, operators, token),

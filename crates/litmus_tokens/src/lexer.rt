@@ -182,7 +182,8 @@ fn line_front(text: &[u8]) -> Front
 
 // A word, or a label with its colon where a cell begins.
 fn word_front(alloc: Global, stage: Stage, text: &[u8]) -> Result<Front, AllocError>
-    ensures { IfOk result (λ f. f ≡ word_front stage text.now (position_or_len ends_word text.now)) }
+    ensures { IfOk result (λ f. f
+        ≡ word_front stage text.now (position_or_len ends_word text.now)) }
 {
     let n = word_length(text);
     let name = Name::new(alloc, &text[..n])?;
@@ -215,7 +216,8 @@ fn number_front(alloc: Global, text: &[u8]) -> Result<Front, AllocError>
 // A number with its minus sign.
 fn minus_front(alloc: Global, text: &[u8]) -> Result<Front, AllocError>
     requires { 0 < length text.now }
-    ensures { IfOk result (λ f. f ≡ minus_front (drop 1 text.now) (position_or_len ends_digits (drop 1 text.now))) }
+    ensures { IfOk result (λ f. f
+        ≡ minus_front (drop 1 text.now) (position_or_len ends_digits (drop 1 text.now))) }
 {
     let digits = &text[1..];
     let n = digits_length(digits);
@@ -283,7 +285,8 @@ fn plain_front(alloc: Global, stage: Stage, text: &[u8]) -> Result<Front, AllocE
     Ok(sign_front(text))
 }
 
-// What stands before the init block begins with: a line that is fresh holds nothing but blanks so far.
+// What stands before the init block begins with: a line that is fresh holds nothing but blanks so
+// far.
 fn head_front(alloc: Global, is_fresh: bool, text: &[u8]) -> Result<Front, AllocError>
     requires { 0 < length text.now }
     ensures { IfOk result (λ f. f ≡ head_front is_fresh text.now) }
@@ -298,8 +301,8 @@ fn head_front(alloc: Global, is_fresh: bool, text: &[u8]) -> Result<Front, Alloc
     plain_front(alloc, Stage::Head, text)
 }
 
-/// The front of the text. It depends on the stage, and before the init block on whether the line has only blanks
-/// so far. Errors: out of memory.
+/// The front of the text. It depends on the stage, and before the init block on whether the line
+/// has only blanks so far. Errors: out of memory.
 #[tactic(auto, unfolding(crate::specs::Lexer::front))]
 pub fn front_of(
     alloc: Global,

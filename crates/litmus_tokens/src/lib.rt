@@ -1,7 +1,8 @@
-//! The tokens of litmus tests, which depend on the part of the text that they stand in, and the reader of observables, values
-//! and propositions, token by token. Read specs/Texts.antt first (the tokens of a text), then specs/Faults.antt (where a
-//! rejected text is blamed, and by which rule), then specs/Conditions.antt (`IsProposition`);
-//! `condition_laws::takes_propositions` says that the reader reads that grammar.
+//! The tokens of litmus tests, which depend on the part of the text that they stand in, and the
+//! reader of observables, values and propositions, token by token. Read specs/Texts.antt first (the
+//! tokens of a text), then specs/Faults.antt (where a rejected text is blamed, and by which rule),
+//! then specs/Conditions.antt (`IsProposition`); `condition_laws::takes_propositions` says that the
+//! reader reads that grammar.
 #![tactic(auto)]
 
 mod condition;

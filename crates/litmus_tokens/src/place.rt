@@ -25,7 +25,8 @@ pub enum PlaceExpectation {
     WantsRegister(Name),
 }
 
-/// An observable as the text writes it. A thread keeps its digits, since its number can have any size.
+/// An observable as the text writes it. A thread keeps its digits, since its number can have any
+/// size.
 #[derive(Drop)]
 pub enum WrittenPlace {
     /// A location, with its brackets or without.
@@ -57,7 +58,8 @@ impl WrittenPlace {
     }
 }
 
-/// The step over a token of an observable. Errors: the token is refused, as no observable goes on with it.
+/// The step over a token of an observable. Errors: the token is refused, as no observable goes on
+/// with it.
 pub fn place_step(expected: PlaceExpectation, token: Token) -> Result<PlaceStep, StepError>
     ensures { result ≡ or_refused (place_step expected token) }
 {
@@ -116,7 +118,8 @@ pub fn register_of(word: &[u8]) -> Option<Register>
     }
 }
 
-/// The value that a token means: a number of 32 bits or the address of a location. Errors: another token is refused.
+/// The value that a token means: a number of 32 bits or the address of a location. Errors: another
+/// token is refused.
 pub fn value_read(token: Token) -> Result<Value, StepError>
     ensures { result ≡ or_refused (value_read token) }
 {

@@ -10,8 +10,8 @@ pub enum LitmusRule {
     NotPpc,
     /// L2: the name of the test, through the line end behind it.
     Name,
-    /// L3: from there through the `}` of the init block; a second entry for a location or a register;
-    /// an entry for a thread that the test does not have.
+    /// L3: from there through the `}` of the init block; a second entry for a location or a
+    /// register; an entry for a thread that the test does not have.
     Init,
     /// L4: a word right after a word in the init block, as in `int x`.
     TypedDeclaration,
@@ -25,7 +25,8 @@ pub enum LitmusRule {
     ZeroBase,
     /// L9: an offset that is not 0.
     Offset,
-    /// L10: a label that its thread defines twice, or a branch to a label that its thread does not define.
+    /// L10: a label that its thread defines twice, or a branch to a label that its thread does not
+    /// define.
     Label,
     /// L11: a branch to a label that stands before it.
     BackwardBranch,

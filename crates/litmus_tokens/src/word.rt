@@ -36,7 +36,8 @@ pub fn signed_number(is_negative: bool, digits: &[u8]) -> Option<i32>
     }
 }
 
-/// The number, from 0 to 31, of the register that a word names: `r0` to `r31` without leading zeros.
+/// The number, from 0 to 31, of the register that a word names: `r0` to `r31` without leading
+/// zeros.
 pub fn register_number(word: &[u8]) -> Option<u8>
     ensures value { result ≡ register_of word.now }
     ensures bound { IfSome result (λ n. n < 32) }
@@ -75,7 +76,8 @@ fn are_digits(bytes: &[u8]) -> bool
     true
 }
 
-/// Whether the word is `filter` or `final`, which begin parts of herd7's format that are not supported.
+/// Whether the word is `filter` or `final`, which begin parts of herd7's format that are not
+/// supported.
 pub fn is_filter(word: &[u8]) -> bool
     ensures { result ≡ is_filter word.now }
 {

@@ -76,43 +76,59 @@ IsRefusal model test (eval_faults.Memory e) = Unit {0}
 
 -- ---- answers
 
--- this is said of the two texts, where `refused` is whether one is refused: the log, or the line of the first text that is refused
+-- this is said of the two texts, where `refused` is whether one is refused: the log, or the line of
+-- the first text that is refused
 pub data IsAnswer (model test text : List ℕ) (refused : Bool) : Type 0 where
   IsEvaluated : refused ≡ false → IsLog model test text → IsAnswer model test text refused
-  RefusesModel : refused ≡ true → (rule : CatRule) → (offset : ℕ) → IsModelRefused model rule offset → text ≡ refused_line 67 (model_rule_number rule) offset → IsAnswer model test text refused
-  RefusesTest : refused ≡ true → (rule : LitmusRule) → (offset : ℕ) → IsModel model → IsTestRefused test rule offset → text ≡ refused_line 76 (test_rule_number rule) offset → IsAnswer model test text refused
+  RefusesModel : refused ≡ true → (rule : CatRule) → (offset : ℕ) → IsModelRefused model rule offset
+      → text ≡ refused_line 67 (model_rule_number rule) offset → IsAnswer model test text refused
+  RefusesTest : refused ≡ true → (rule : LitmusRule) → (offset : ℕ) → IsModel model
+      → IsTestRefused test rule offset → text ≡ refused_line 76 (test_rule_number rule) offset
+      → IsAnswer model test text refused
 
--- what is printed of a report, where `refused` is whether it was refused: the report, or the line of the refusal
+-- what is printed of a report, where `refused` is whether it was refused: the report, or the line
+-- of the refusal
 abbrev pub IsSaidOf : Result (Vec ℕ Global) EvalFault → List ℕ → Bool → Type 0
 IsSaidOf (Ok report) text refused = (text ≡ report.items) × (refused ≡ false)
-IsSaidOf (Err (eval_faults.Model rule offset)) text refused = (text ≡ refused_line 67 (model_rule_number rule) offset) × (refused ≡ true)
-IsSaidOf (Err (eval_faults.Test rule offset)) text refused = (text ≡ refused_line 76 (test_rule_number rule) offset) × (refused ≡ true)
+IsSaidOf (Err (eval_faults.Model rule offset)) text refused =
+    (text ≡ refused_line 67 (model_rule_number rule) offset) × (refused ≡ true)
+IsSaidOf (Err (eval_faults.Test rule offset)) text refused =
+    (text ≡ refused_line 76 (test_rule_number rule) offset) × (refused ≡ true)
 IsSaidOf (Err (eval_faults.Memory e)) text refused = ⊥
 
 -- whatever is said of the first two texts is said of the other two
 abbrev pub AreAnsweredAlike : List ℕ → List ℕ → List ℕ → List ℕ → Type 0
 AreAnsweredAlike model test other_model other_test =
-    (text : List ℕ) (refused : Bool) → IsAnswer model test text refused → IsAnswer other_model other_test text refused
+    (text : List ℕ) (refused : Bool) → IsAnswer model test text refused
+    → IsAnswer other_model other_test text refused
 
--- the bytes of a sink, before and after an answer was written: all of it, or a front of it where a write failed, and else nothing
-abbrev pub IsWritten : List ℕ → List ℕ → Option (List ℕ) → Option (List ℕ) → Result Bool SessionFault → Type 0
+-- the bytes of a sink, before and after an answer was written: all of it, or a front of it where a
+-- write failed, and else nothing
+abbrev pub IsWritten : List ℕ → List ℕ → Option (List ℕ) → Option (List ℕ)
+    → Result Bool SessionFault → Type 0
 IsWritten model test old new result = AreWritten (IsAnswer model test) old new result
 
--- the same for the two texts into which an input is cut, of which these bytes are left, where they are known
-pub record IsWrittenOf (left old new : Option (List ℕ)) (result : Result Bool SessionFault) : Type 0 where
+-- the same for the two texts into which an input is cut, of which these bytes are left, where they
+-- are known
+pub record IsWrittenOf (left old new : Option (List ℕ)) (result : Result Bool SessionFault)
+    : Type 0 where
   pub model : List ℕ
   pub test : List ℕ
   pub cut : IfSome left (λ bytes. IsCut bytes model test)
   pub written : IsWritten model test old new result
 
 -- a stream's answer: nothing is written unless the whole input was read
-abbrev pub IsStreamed : Option (List ℕ) → Option (List ℕ) → Option (List ℕ) → Result Bool SessionFault → Type 0
+abbrev pub IsStreamed : Option (List ℕ) → Option (List ℕ) → Option (List ℕ)
+    → Result Bool SessionFault → Type 0
 IsStreamed left old new (Ok refused) = IsWrittenOf left old new (Ok refused)
-IsStreamed left old new (Err session_faults.Write) = IsWrittenOf left old new (Err session_faults.Write)
+IsStreamed left old new (Err session_faults.Write) =
+    IsWrittenOf left old new (Err session_faults.Write)
 IsStreamed left old new (Err session_faults.Read) = Keeps old new
 IsStreamed left old new (Err session_faults.Memory) = Keeps old new
 IsStreamed left old new (Err session_faults.Shared) = ⊥
 
--- a read is refused: one call failed, or, where none did, the input has so many bytes that it is taken for one that does not end
+-- a read is refused: one call failed, or, where none did, the input has so many bytes that it is
+-- taken for one that does not end
 abbrev pub IsReadFault : ℕ → ℕ → Option (List ℕ) → Type 0
-IsReadFault old new left = (new ≡ old + 1) ⊎ ((new ≡ old) × IfSome left (λ all. 16777216 ≤ length all))
+IsReadFault old new left =
+    (new ≡ old + 1) ⊎ ((new ≡ old) × IfSome left (λ all. 16777216 ≤ length all))

@@ -15,7 +15,8 @@ cut_suffix false suffix text = text
 
 -- the text without this suffix, where it ends in it
 abbrev pub without_suffix : List ℕ → List ℕ → List ℕ
-without_suffix suffix text = cut_suffix (pointwise nat_eq (drop (length text - length suffix) text) suffix) suffix text
+without_suffix suffix text =
+    cut_suffix (pointwise nat_eq (drop (length text - length suffix) text) suffix) suffix text
 
 -- a model is called as its file, without `.cat`
 abbrev pub model_name : List ℕ → List ℕ
@@ -23,4 +24,5 @@ model_name path = without_suffix (codes ".cat") (file_name path)
 
 -- behind these bytes stand the lines of a text that is refused
 abbrev pub AddsFault : (old new path text : List ℕ) (letter number offset : ℕ) → Type 0
-AddsFault old new path text letter number offset = new ≡ old ++ fault_lines path text letter number (rule_words letter number) offset
+AddsFault old new path text letter number offset =
+    new ≡ old ++ fault_lines path text letter number (rule_words letter number) offset

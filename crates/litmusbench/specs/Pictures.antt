@@ -35,6 +35,9 @@ abbrev pub IsPictureAnswer : Drawn → ℕ → List ℕ → List ℕ → List �
 IsPictureAnswer drawn most model test text false = IsPictureOf drawn most model test text
 IsPictureAnswer drawn most model test text true = IsAnswer model test text true
 
--- the bytes of a sink, before and after: the answer, or a front of it where a write failed, and else nothing
-abbrev pub IsPictureWritten : Drawn → ℕ → List ℕ → List ℕ → Option (List ℕ) → Option (List ℕ) → Result Bool SessionFault → Type 0
-IsPictureWritten drawn most model test old new result = AreWritten (IsPictureAnswer drawn most model test) old new result
+-- the bytes of a sink, before and after: the answer, or a front of it where a write failed, and
+-- else nothing
+abbrev pub IsPictureWritten : Drawn → ℕ → List ℕ → List ℕ → Option (List ℕ) → Option (List ℕ)
+    → Result Bool SessionFault → Type 0
+IsPictureWritten drawn most model test old new result =
+    AreWritten (IsPictureAnswer drawn most model test) old new result

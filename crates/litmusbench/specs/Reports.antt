@@ -1,4 +1,5 @@
--- What is said of files of models and files of tests. A file whose text is refused is told, and the others go on.
+-- What is said of files of models and files of tests. A file whose text is refused is told, and the
+-- others go on.
 use Rattle.std.specs.Prelude.{◌≡◌, ℕ, ◌+◌, ◌⊎◌, List, [], ◌∷◌, ◌++◌, map, Option}
 use Rattle.std.specs.Io.KnownBytes.{Keeps}
 use Rattle.std.specs.List.{AllZip}
@@ -25,18 +26,31 @@ use Rattle.litmusbench.specs.Files.{model_name, AddsFault}
 -- ---- files that are read in turn
 
 -- behind these models and these lines, a file adds a model or a line
-pub data AddsModel (file : TextFile) (models : List NamedModel) (faults : List ℕ) (more : List NamedModel) (lines : List ℕ) : Type 0 where
-  IsModelAdded : (m : NamedModel) → m.name ≡ model_name file.path.now → Reads Model file.text.items (clauses_of m.model.items.items) → more ≡ models ++ m ∷ [] → lines ≡ faults → AddsModel file models faults more lines
-  IsModelFault : (rule : CatRule) → (offset : ℕ) → IsModelRefused file.text.items rule offset → more ≡ models → AddsFault faults lines file.path.now file.text.items 67 (model_rule_number rule) offset → AddsModel file models faults more lines
+pub data AddsModel (file : TextFile) (models : List NamedModel) (faults : List ℕ)
+    (more : List NamedModel) (lines : List ℕ) : Type 0 where
+  IsModelAdded : (m : NamedModel) → m.name ≡ model_name file.path.now
+      → Reads Model file.text.items (clauses_of m.model.items.items) → more ≡ models ++ m ∷ []
+      → lines ≡ faults → AddsModel file models faults more lines
+  IsModelFault : (rule : CatRule) → (offset : ℕ) → IsModelRefused file.text.items rule offset
+      → more ≡ models
+      → AddsFault faults lines file.path.now file.text.items 67 (model_rule_number rule) offset
+      → AddsModel file models faults more lines
 
 -- the models that the files hold, and what is told of those that are refused
 pub data AreModels : List TextFile → List NamedModel → List ℕ → Type 0 where
   NoModel : AreModels [] [] []
-  NextModel : (files : List TextFile) (file : TextFile) (models more : List NamedModel) (faults lines : List ℕ) → AreModels files models faults → AddsModel file models faults more lines → AreModels (files ++ file ∷ []) more lines
+  NextModel : (files : List TextFile) (file : TextFile) (models more : List NamedModel)
+      (faults lines : List ℕ) → AreModels files models faults
+      → AddsModel file models faults more lines → AreModels (files ++ file ∷ []) more lines
 
-pub data AddsTest (file : TextFile) (tests : List Test) (faults : List ℕ) (more : List Test) (lines : List ℕ) : Type 0 where
-  IsTestAdded : (t : Test) → ReadsTest file.text.items (content_of t) → more ≡ tests ++ t ∷ [] → lines ≡ faults → AddsTest file tests faults more lines
-  IsTestFault : (rule : LitmusRule) → (offset : ℕ) → IsTestRefused file.text.items rule offset → more ≡ tests → AddsFault faults lines file.path.now file.text.items 76 (test_rule_number rule) offset → AddsTest file tests faults more lines
+pub data AddsTest (file : TextFile) (tests : List Test) (faults : List ℕ) (more : List Test)
+    (lines : List ℕ) : Type 0 where
+  IsTestAdded : (t : Test) → ReadsTest file.text.items (content_of t) → more ≡ tests ++ t ∷ []
+      → lines ≡ faults → AddsTest file tests faults more lines
+  IsTestFault : (rule : LitmusRule) → (offset : ℕ) → IsTestRefused file.text.items rule offset
+      → more ≡ tests
+      → AddsFault faults lines file.path.now file.text.items 76 (test_rule_number rule) offset
+      → AddsTest file tests faults more lines
 
 -- what is told of a model alone: nothing where its text reads
 abbrev pub IsModelTold : TextFile → List ℕ → Type 0
@@ -50,7 +64,9 @@ IsTestTold test (b ∷ bs) lines = lines ≡ b ∷ bs
 -- the tests that the files hold, behind these lines
 pub data AreTests (before : List ℕ) : List TextFile → List Test → List ℕ → Type 0 where
   NoTest : AreTests before [] [] before
-  NextTest : (files : List TextFile) (file : TextFile) (tests more : List Test) (faults lines : List ℕ) → AreTests before files tests faults → AddsTest file tests faults more lines → AreTests before (files ++ file ∷ []) more lines
+  NextTest : (files : List TextFile) (file : TextFile) (tests more : List Test)
+      (faults lines : List ℕ) → AreTests before files tests faults
+      → AddsTest file tests faults more lines → AreTests before (files ++ file ∷ []) more lines
 
 -- ---- a model and a test
 
@@ -75,7 +91,8 @@ pub record IsRow (models : List NamedModel) (test : Test) (row : Row) : Type 0 w
   pub cells : AllZip (IsCellUnder test) models row.cells
 
 -- what the files hold: the first faults are those of the models
-pub record AreRead (model_files test_files : List TextFile) (models : List NamedModel) (rows : List Row) (faults : List ℕ) : Type 0 where
+pub record AreRead (model_files test_files : List TextFile) (models : List NamedModel)
+    (rows : List Row) (faults : List ℕ) : Type 0 where
   pub model_faults : List ℕ
   pub models_read : AreModels model_files models model_faults
   pub tests : List Test
@@ -101,14 +118,18 @@ difference_under (m ∷ []) rows = []
 difference_under (m ∷ n ∷ []) rows = difference_of (map pair_in rows)
 difference_under (m ∷ n ∷ o ∷ ms) rows = []
 
-pub record IsDifference (model_files test_files : List TextFile) (text faults : List ℕ) : Type 0 where
+pub record IsDifference (model_files test_files : List TextFile) (text faults : List ℕ)
+    : Type 0 where
   pub models : List NamedModel
   pub rows : List Row
   pub read : AreRead model_files test_files models rows faults
   pub text_is : text ≡ difference_under models rows
 
--- One call failed and none followed it: one to the faults' sink, before the text was written, or else one to the text's. These are
--- the failed calls of the text's sink before and after, those of the faults' sink, and the bytes of the text's sink.
-abbrev pub IsStopped : (text_old text_new faults_old faults_new : ℕ) → (old new : Option (List ℕ)) → Type 0
+-- One call failed and none followed it: one to the faults' sink, before the text was written, or
+-- else one to the text's. These are the failed calls of the text's sink before and after, those of
+-- the faults' sink, and the bytes of the text's sink.
+abbrev pub IsStopped : (text_old text_new faults_old faults_new : ℕ) → (old new : Option (List ℕ))
+    → Type 0
 IsStopped text_old text_new faults_old faults_new old new =
-    ((faults_new ≡ faults_old + 1) × (text_new ≡ text_old) × Keeps old new) ⊎ ((faults_new ≡ faults_old) × (text_new ≡ text_old + 1))
+    ((faults_new ≡ faults_old + 1) × (text_new ≡ text_old) × Keeps old new)
+    ⊎ ((faults_new ≡ faults_old) × (text_new ≡ text_old + 1))

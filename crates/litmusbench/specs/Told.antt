@@ -11,5 +11,7 @@ use Rattle.model_faults.specs.Told.{IsTold}
 
 -- the lines of its first fault, where it has one; a text that is refused is told elsewhere
 pub data IsFaultTold (file : TextFile) (lines : List ℕ) : Type 0 where
-  IsRead : (m : ModelText) → Reads Model file.text.items (clauses_of m.items.items) → IsTold file.path.now [] m.items.items lines → IsFaultTold file lines
-  IsUnread : (rule : CatRule) → (offset : ℕ) → IsModelRefused file.text.items rule offset → lines ≡ [] → IsFaultTold file lines
+  IsRead : (m : ModelText) → Reads Model file.text.items (clauses_of m.items.items)
+      → IsTold file.path.now [] m.items.items lines → IsFaultTold file lines
+  IsUnread : (rule : CatRule) → (offset : ℕ) → IsModelRefused file.text.items rule offset
+      → lines ≡ [] → IsFaultTold file lines

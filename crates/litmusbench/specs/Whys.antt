@@ -26,6 +26,9 @@ abbrev pub IsWhyAnswer : Asked → List ℕ → List ℕ → List ℕ → Bool �
 IsWhyAnswer asked model test text false = IsWhyOf asked model test text
 IsWhyAnswer asked model test text true = IsAnswer model test text true
 
--- the bytes of a sink, before and after: the answer, or a front of it where a write failed, and else nothing
-abbrev pub IsWhyWritten : Asked → List ℕ → List ℕ → Option (List ℕ) → Option (List ℕ) → Result Bool SessionFault → Type 0
-IsWhyWritten asked model test old new result = AreWritten (IsWhyAnswer asked model test) old new result
+-- the bytes of a sink, before and after: the answer, or a front of it where a write failed, and
+-- else nothing
+abbrev pub IsWhyWritten : Asked → List ℕ → List ℕ → Option (List ℕ) → Option (List ℕ)
+    → Result Bool SessionFault → Type 0
+IsWhyWritten asked model test old new result =
+    AreWritten (IsWhyAnswer asked model test) old new result

@@ -17,8 +17,8 @@ fn line_end(bytes: &[u8], start: usize) -> usize
     start + line
 }
 
-/// The bytes before the first line that is exactly `.`, and those after it: all and none where there
-/// is no such line.
+/// The bytes before the first line that is exactly `.`, and those after it: all and none where
+/// there is no such line.
 pub fn cut_at_dot(bytes: &[u8]) -> (&[u8], &[u8])
     ensures { IsCut bytes.now result.0.now result.1.now }
 {

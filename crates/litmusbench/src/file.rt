@@ -33,8 +33,9 @@ pub fn model_name(path: &[u8]) -> &[u8]
     }
 }
 
-/// Appends the lines of a refused file: its path, the line and the column of the fault, both from 1, the letter and the
-/// number of the rule with its words, what is found there, and the line with a mark. Errors: want of memory.
+/// Appends the lines of a refused file: its path, the line and the column of the fault, both from
+/// 1, the letter and the number of the rule with its words, what is found there, and the line with
+/// a mark. Errors: want of memory.
 pub fn put_fault(
     lines: &mut Vec<u8>,
     file: &TextFile<'_>,
@@ -42,7 +43,8 @@ pub fn put_fault(
     number: u8,
     offset: usize,
 ) -> Result<(), AllocError>
-    ensures { OnOk result (AddsFault lines.old.items lines.new.items file.now.path.now file.now.text.items letter number offset) }
+    ensures { OnOk result (AddsFault lines.old.items lines.new.items file.now.path.now
+        file.now.text.items letter number offset) }
 {
     let words = rule_words(letter, number).as_bytes();
     put_fault_lines(

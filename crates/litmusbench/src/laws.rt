@@ -5,5 +5,6 @@ ghost use Rattle.litmusbench.specs.Answer.{AreAnsweredAlike};
 
 /// The first 65,537 bytes of two texts decide what is said of the texts.
 pub fn fronts_decide()
-    ensures { (model test : List ℕ) → AreAnsweredAlike (take 65537 model) (take 65537 test) model test }
+    ensures { (model test : List ℕ)
+        → AreAnsweredAlike (take 65537 model) (take 65537 test) model test }
 {}

@@ -1,5 +1,6 @@
-//! The bench as a library: a model and a test from bytes to a log, and what the program's words ask for: tables, differences,
-//! reasons and drawings of files. Read specs/Answer first, then specs/Reports and specs/Whys.
+//! The bench as a library: a model and a test from bytes to a log, and what the program's words ask
+//! for: tables, differences, reasons and drawings of files. Read specs/Answer first, then
+//! specs/Reports and specs/Whys.
 #![tactic(auto)]
 
 mod cut;

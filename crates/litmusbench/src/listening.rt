@@ -14,10 +14,12 @@ use text_values::{put_bytes, put_decimal};
 
 /// Who hears of answers, and in between how far a table is.
 pub trait AnswerListener: ProgressListener {
-    /// Hears of the text of a command of a session, where it has one, and of the answer that was written.
+    /// Hears of the text of a command of a session, where it has one, and of the answer that was
+    /// written.
     fn hear(&mut self, text: &[u8], answer: &[u8]);
 
-    /// Hears of the model that the command put or changed of which it heard last: its name, and its items with their numbers.
+    /// Hears of the model that the command put or changed of which it heard last: its name, and its
+    /// items with their numbers.
     fn hear_model(&mut self, name: &[u8], numbers: &[u64], items: &[Item]);
 
     /// Hears of a model's and a test's text that were answered, and whether one was refused.
@@ -178,9 +180,9 @@ fn text_lines(
     refusal_lines(alloc, &model, &test)
 }
 
-/// Tells a writer of refused texts and commands, a command by its number from 1: the rule in words, and where a text is
-/// refused its line. It tells of the fault of a model too, in a session once when a command makes it. How far a table is, it
-/// hands on. What cannot be told is left out.
+/// Tells a writer of refused texts and commands, a command by its number from 1: the rule in words,
+/// and where a text is refused its line. It tells of the fault of a model too, in a session once
+/// when a command makes it. How far a table is, it hands on. What cannot be told is left out.
 #[derive(Drop)]
 pub struct RefusalTeller<W, P> {
     alloc: Global,

@@ -38,8 +38,8 @@ fn progress_line(
     Ok(line)
 }
 
-/// Tells a writer that is a terminal how far a table is, on one line that is written anew now and then and wiped out at the
-/// end. What cannot be told is left out.
+/// Tells a writer that is a terminal how far a table is, on one line that is written anew now and
+/// then and wiped out at the end. What cannot be told is left out.
 #[derive(Drop)]
 pub struct ProgressTeller<'c, C, W> {
     alloc: Global,

@@ -42,7 +42,8 @@ fn push_model(
     path: &str,
     model: ModelText,
 ) -> Result<(), AllocError>
-    ensures { OnOk result (models.new.items ≡ models.old.items ++ record { name = model_name path.now; model = model } ∷ []) }
+    ensures { OnOk result (models.new.items
+        ≡ models.old.items ++ record { name = model_name path.now; model = model } ∷ []) }
 {
     let name = Name::new(alloc, model_name(path.as_bytes()))?;
     models.push(NamedModel { name, model })?;
@@ -54,7 +55,8 @@ fn read_model_file(
     file: &TextFile<'_>,
     read: &mut ReadModels,
 ) -> Result<(), AllocError>
-    ensures { OnOk result (AddsModel file.now read.old.models.items read.old.faults.items read.new.models.items read.new.faults.items) }
+    ensures { OnOk result (AddsModel file.now read.old.models.items read.old.faults.items
+        read.new.models.items read.new.faults.items) }
 {
     match read_model(alloc, &file.text) {
         Ok(model) => push_model(&mut read.models, alloc, file.path, model),
@@ -91,7 +93,8 @@ fn read_test_file(
     file: &TextFile<'_>,
     read: &mut ReadTests,
 ) -> Result<(), AllocError>
-    ensures { OnOk result (AddsTest file.now read.old.tests.items read.old.faults.items read.new.tests.items read.new.faults.items) }
+    ensures { OnOk result (AddsTest file.now read.old.tests.items read.old.faults.items
+        read.new.tests.items read.new.faults.items) }
 {
     match read_test(alloc, &file.text) {
         Ok(test) => push_test(&mut read.tests, test),
@@ -102,8 +105,8 @@ fn read_test_file(
     }
 }
 
-/// The tests of the files, in order; what is told of those that are refused goes behind these lines. Errors:
-/// want of memory.
+/// The tests of the files, in order; what is told of those that are refused goes behind these
+/// lines. Errors: want of memory.
 pub fn read_tests(
     alloc: Global,
     files: &[TextFile<'_>],
@@ -121,7 +124,8 @@ pub fn read_tests(
     Ok(read)
 }
 
-/// What is told of the file of a model that is refused; nothing of one that reads. Errors: want of memory.
+/// What is told of the file of a model that is refused; nothing of one that reads. Errors: want of
+/// memory.
 pub fn model_refusal_lines(alloc: Global, file: &TextFile<'_>) -> Result<Vec<u8>, AllocError>
     ensures { IfOk result (λ v. IsModelTold file.now v.items) }
 {
@@ -133,7 +137,8 @@ pub fn model_refusal_lines(alloc: Global, file: &TextFile<'_>) -> Result<Vec<u8>
     Ok(read.faults)
 }
 
-/// What is told of the file of a test that is refused; nothing of one that reads. Errors: want of memory.
+/// What is told of the file of a test that is refused; nothing of one that reads. Errors: want of
+/// memory.
 pub fn test_refusal_lines(alloc: Global, file: &TextFile<'_>) -> Result<Vec<u8>, AllocError>
     ensures { IfOk result (λ v. IsTestTold file.now [] v.items) }
 {
@@ -145,7 +150,8 @@ pub fn test_refusal_lines(alloc: Global, file: &TextFile<'_>) -> Result<Vec<u8>,
     Ok(read.faults)
 }
 
-/// What is told of the first of a model and a test that is refused; nothing where none is. Errors: want of memory.
+/// What is told of the first of a model and a test that is refused; nothing where none is. Errors:
+/// want of memory.
 pub fn refusal_lines(
     alloc: Global,
     model: &TextFile<'_>,

@@ -63,7 +63,8 @@ fn evaluate_files<L: ProgressListener>(
     tests: &[TextFile<'_>],
     listener: &mut L,
 ) -> Result<EvaluatedFiles, AllocError>
-    ensures { IfOk result (λ e. AreRead models.now tests.now e.models.items (map row_said e.rows.items) e.faults.items) }
+    ensures { IfOk result (λ e. AreRead models.now tests.now e.models.items
+        (map row_said e.rows.items) e.faults.items) }
 {
     let known = read_models(alloc, models)?;
     let read = read_tests(alloc, tests, known.faults)?;
@@ -97,8 +98,8 @@ fn table_of_rows(
     table_text(alloc, &names, &rows)
 }
 
-/// The table of the tests of some files under the models of others. A listener hears how far it is. Errors: want of
-/// memory.
+/// The table of the tests of some files under the models of others. A listener hears how far it is.
+/// Errors: want of memory.
 pub fn table_report<L: ProgressListener>(
     alloc: Global,
     models: &[TextFile<'_>],
@@ -147,8 +148,8 @@ pub fn difference_report<L: ProgressListener>(
     })
 }
 
-/// Writes what is told of the refused files to one sink, then the text to another. Whether a file was
-/// refused. Errors: `Write` where a call failed; then what was written is a front.
+/// Writes what is told of the refused files to one sink, then the text to another. Whether a file
+/// was refused. Errors: `Write` where a call failed; then what was written is a front.
 pub fn write_report<W: ByteSink, E: ByteSink>(
     report: &Report,
     output: &mut W,
@@ -159,12 +160,18 @@ pub fn write_report<W: ByteSink, E: ByteSink>(
     // A file was refused just where one is told.
     ensures refused { IfOk result (λ r. r ≡ not (length report.now.faults.items == 0)) }
     // All is written, or a front where a write failed.
-    ensures text { OnOk result (Appends (W.contents output.old) (W.contents output.new) report.now.text.items) }
-    ensures faults { OnOk result (Appends (E.contents errors.old) (E.contents errors.new) report.now.faults.items) }
-    ensures text_front { WritesFront (W.contents output.old) (W.contents output.new) report.now.text.items }
-    ensures faults_front { WritesFront (E.contents errors.old) (E.contents errors.new) report.now.faults.items }
+    ensures text { OnOk result (Appends (W.contents output.old) (W.contents output.new)
+        report.now.text.items) }
+    ensures faults { OnOk result (Appends (E.contents errors.old) (E.contents errors.new)
+        report.now.faults.items) }
+    ensures text_front { WritesFront (W.contents output.old) (W.contents output.new)
+        report.now.text.items }
+    ensures faults_front { WritesFront (E.contents errors.old) (E.contents errors.new)
+        report.now.faults.items }
     // `Write` comes after one failed call, which is the last, and there is no other error.
-    ensures failed { OnErr result (IsStopped (W.failed_calls output.old) (W.failed_calls output.new) (E.failed_calls errors.old) (E.failed_calls errors.new) (W.contents output.old) (W.contents output.new)) }
+    ensures failed { OnErr result (IsStopped (W.failed_calls output.old) (W.failed_calls output.new)
+        (E.failed_calls errors.old) (E.failed_calls errors.new) (W.contents output.old)
+        (W.contents output.new)) }
     ensures output_works { OnOk result (W.failed_calls output.new ≡ W.failed_calls output.old) }
     ensures errors_work { OnOk result (E.failed_calls errors.new ≡ E.failed_calls errors.old) }
     ensures fault { OnErr result (result ≡ Err SessionFault.Write) }

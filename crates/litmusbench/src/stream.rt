@@ -26,7 +26,8 @@ struct Answer {
 }
 
 fn refusal(alloc: Global, letter: u8, number: u8, offset: usize) -> Result<Answer, AllocError>
-    ensures { IfOk result (λ a. (a.text.items ≡ refused_line letter number offset) × (a.is_refused ≡ true)) }
+    ensures { IfOk result (λ a. (a.text.items ≡ refused_line letter number offset)
+        × (a.is_refused ≡ true)) }
 {
     let mut text = Vec::new(alloc);
     put_refusal(&mut text, letter, number, offset)?;
@@ -67,8 +68,10 @@ fn write_made<W: ByteSink>(
 ) -> Result<bool, SessionFault>
     requires { W.failed_calls sink.old < 2 ^ 64 - 1 }
     ensures written { AreWritten (IsMade made) (W.contents sink.old) (W.contents sink.new) result }
-    ensures failed { result ≡ Err SessionFault.Write → W.failed_calls sink.new ≡ W.failed_calls sink.old + 1 }
-    ensures same { result ≢ Err SessionFault.Write → W.failed_calls sink.new ≡ W.failed_calls sink.old }
+    ensures failed { result ≡ Err SessionFault.Write
+        → W.failed_calls sink.new ≡ W.failed_calls sink.old + 1 }
+    ensures same { result ≢ Err SessionFault.Write
+        → W.failed_calls sink.new ≡ W.failed_calls sink.old }
     ensures fault { result ≢ Err SessionFault.Read }
 {
     let answer = match made {
@@ -87,9 +90,9 @@ fn answer_to(alloc: Global, model: &[u8], test: &[u8]) -> Result<Answer, AllocEr
     answer_of(alloc, eval(alloc, model, test))
 }
 
-/// Writes the log of the test under the model, or a line `refused`, number and offset. Whether a text
-/// was refused. After a fault, what was written is a front of that text. Errors: `Write` where a
-/// call failed, or, before the first call, `Memory`.
+/// Writes the log of the test under the model, or a line `refused`, number and offset. Whether a
+/// text was refused. After a fault, what was written is a front of that text. Errors: `Write` where
+/// a call failed, or, before the first call, `Memory`.
 pub fn write_answer<W: ByteSink>(
     alloc: Global,
     model: &[u8],
@@ -98,10 +101,13 @@ pub fn write_answer<W: ByteSink>(
 ) -> Result<bool, SessionFault>
     requires { W.failed_calls sink.old < 2 ^ 64 - 1 }
     // The answer is written, or a front of it where a write failed, and else nothing.
-    ensures written { IsWritten model.now test.now (W.contents sink.old) (W.contents sink.new) result }
+    ensures written { IsWritten model.now test.now (W.contents sink.old) (W.contents sink.new)
+        result }
     // `Write` comes after one failed call, and all else after none.
-    ensures failed { result ≡ Err SessionFault.Write → W.failed_calls sink.new ≡ W.failed_calls sink.old + 1 }
-    ensures same { result ≢ Err SessionFault.Write → W.failed_calls sink.new ≡ W.failed_calls sink.old }
+    ensures failed { result ≡ Err SessionFault.Write
+        → W.failed_calls sink.new ≡ W.failed_calls sink.old + 1 }
+    ensures same { result ≢ Err SessionFault.Write
+        → W.failed_calls sink.new ≡ W.failed_calls sink.old }
     // Nothing is read.
     ensures fault { result ≢ Err SessionFault.Read }
 {
@@ -114,8 +120,8 @@ fn why_answer(alloc: Global, asked: Asked, model: &[u8], test: &[u8]) -> Result<
     answer_of(alloc, why_report(alloc, asked, model, test))
 }
 
-/// Writes what `why_report` says of the texts, or a line `refused`, number and offset. Whether a text
-/// was refused. Errors: those of `write_answer`.
+/// Writes what `why_report` says of the texts, or a line `refused`, number and offset. Whether a
+/// text was refused. Errors: those of `write_answer`.
 pub fn write_why<W: ByteSink>(
     alloc: Global,
     asked: Asked,
@@ -125,10 +131,13 @@ pub fn write_why<W: ByteSink>(
 ) -> Result<bool, SessionFault>
     requires { W.failed_calls sink.old < 2 ^ 64 - 1 }
     // The answer is written, or a front of it where a write failed, and else nothing.
-    ensures written { IsWhyWritten asked model.now test.now (W.contents sink.old) (W.contents sink.new) result }
+    ensures written { IsWhyWritten asked model.now test.now (W.contents sink.old)
+        (W.contents sink.new) result }
     // `Write` comes after one failed call, and all else after none.
-    ensures failed { result ≡ Err SessionFault.Write → W.failed_calls sink.new ≡ W.failed_calls sink.old + 1 }
-    ensures same { result ≢ Err SessionFault.Write → W.failed_calls sink.new ≡ W.failed_calls sink.old }
+    ensures failed { result ≡ Err SessionFault.Write
+        → W.failed_calls sink.new ≡ W.failed_calls sink.old + 1 }
+    ensures same { result ≢ Err SessionFault.Write
+        → W.failed_calls sink.new ≡ W.failed_calls sink.old }
     // Nothing is read.
     ensures fault { result ≢ Err SessionFault.Read }
 {
@@ -142,13 +151,14 @@ fn draw_answer(
     drawn: Drawn,
     most: u64,
 ) -> Result<Answer, AllocError>
-    ensures { IfOk result (λ a. IsPictureAnswer drawn most model.now test.now a.text.items a.is_refused) }
+    ensures { IfOk result (λ a.
+        IsPictureAnswer drawn most model.now test.now a.text.items a.is_refused) }
 {
     answer_of(alloc, draw_report(alloc, model, test, drawn, most))
 }
 
-/// Writes what `draw_report` says of the texts, or a line `refused`, number and offset. Whether a text
-/// was refused. Errors: those of `write_answer`.
+/// Writes what `draw_report` says of the texts, or a line `refused`, number and offset. Whether a
+/// text was refused. Errors: those of `write_answer`.
 pub fn write_drawings<W: ByteSink>(
     alloc: Global,
     model: &[u8],
@@ -159,10 +169,13 @@ pub fn write_drawings<W: ByteSink>(
 ) -> Result<bool, SessionFault>
     requires { W.failed_calls sink.old < 2 ^ 64 - 1 }
     // The answer is written, or a front of it where a write failed, and else nothing.
-    ensures written { IsPictureWritten drawn most model.now test.now (W.contents sink.old) (W.contents sink.new) result }
+    ensures written { IsPictureWritten drawn most model.now test.now (W.contents sink.old)
+        (W.contents sink.new) result }
     // `Write` comes after one failed call, and all else after none.
-    ensures failed { result ≡ Err SessionFault.Write → W.failed_calls sink.new ≡ W.failed_calls sink.old + 1 }
-    ensures same { result ≢ Err SessionFault.Write → W.failed_calls sink.new ≡ W.failed_calls sink.old }
+    ensures failed { result ≡ Err SessionFault.Write
+        → W.failed_calls sink.new ≡ W.failed_calls sink.old + 1 }
+    ensures same { result ≢ Err SessionFault.Write
+        → W.failed_calls sink.new ≡ W.failed_calls sink.old }
     // Nothing is read.
     ensures fault { result ≢ Err SessionFault.Read }
 {
@@ -181,10 +194,14 @@ fn read_first<S: ByteSource>(
     most: usize,
 ) -> Result<Vec<u8>, SessionFault>
     requires { S.failed_calls source.old < 2 ^ 64 - 1 }
-    ensures bytes { IfOk result (λ v. IfSome (S.remaining source.old) (λ all. v.items ≡ take most all)) }
+    ensures bytes { IfOk result (λ v.
+        IfSome (S.remaining source.old) (λ all. v.items ≡ take most all)) }
     ensures end { OnOk result (IsAtEnd (S.remaining source.new)) }
-    ensures failed { result ≡ Err SessionFault.Read → IsReadFault (S.failed_calls source.old) (S.failed_calls source.new) (S.remaining source.old) }
-    ensures same { result ≢ Err SessionFault.Read → S.failed_calls source.new ≡ S.failed_calls source.old }
+    ensures failed { result ≡ Err SessionFault.Read
+        → IsReadFault (S.failed_calls source.old) (S.failed_calls source.new)
+        (S.remaining source.old) }
+    ensures same { result ≢ Err SessionFault.Read
+        → S.failed_calls source.new ≡ S.failed_calls source.old }
     ensures fault { result ≢ Err SessionFault.Write }
     ensures own { result ≢ Err SessionFault.Shared }
 {
@@ -201,11 +218,15 @@ fn read_first<S: ByteSource>(
 /// within 16,777,216 calls, or `Memory`.
 pub fn read_text<S: ByteSource>(alloc: Global, source: &mut S) -> Result<Vec<u8>, SessionFault>
     requires { S.failed_calls source.old < 2 ^ 64 - 1 }
-    ensures bytes { IfOk result (λ v. IfSome (S.remaining source.old) (λ all. v.items ≡ take 65537 all)) }
+    ensures bytes { IfOk result (λ v.
+        IfSome (S.remaining source.old) (λ all. v.items ≡ take 65537 all)) }
     ensures end { OnOk result (IsAtEnd (S.remaining source.new)) }
     // `Read` comes after one failed call or at the bound, and all else after none.
-    ensures failed { result ≡ Err SessionFault.Read → IsReadFault (S.failed_calls source.old) (S.failed_calls source.new) (S.remaining source.old) }
-    ensures same { result ≢ Err SessionFault.Read → S.failed_calls source.new ≡ S.failed_calls source.old }
+    ensures failed { result ≡ Err SessionFault.Read
+        → IsReadFault (S.failed_calls source.old) (S.failed_calls source.new)
+        (S.remaining source.old) }
+    ensures same { result ≢ Err SessionFault.Read
+        → S.failed_calls source.new ≡ S.failed_calls source.old }
     // Nothing is written, and there is no desk.
     ensures fault { result ≢ Err SessionFault.Write }
     ensures own { result ≢ Err SessionFault.Shared }
@@ -227,8 +248,8 @@ fn tell<L: AnswerListener>(
 
 /// Reads all input, which holds a model, a line that is exactly `.` and a test, and writes what
 /// `write_answer` does. With no such line the test's text is empty. Bytes that cannot change the
-/// answer are not kept. A listener hears of the texts behind the answer. Errors: those of `read_text`, before the first
-/// write, and those of `write_answer`.
+/// answer are not kept. A listener hears of the texts behind the answer. Errors: those of
+/// `read_text`, before the first write, and those of `write_answer`.
 pub fn eval_stream<R: AllocGlobal, S: ByteSource, W: ByteSink, L: AnswerListener>(
     rt: &R,
     source: &mut S,
@@ -238,15 +259,22 @@ pub fn eval_stream<R: AllocGlobal, S: ByteSource, W: ByteSink, L: AnswerListener
     requires source { S.failed_calls source.old < 2 ^ 64 - 1 }
     requires sink { W.failed_calls sink.old < 2 ^ 64 - 1 }
     // The answer to the texts into which the input is cut is written, or a front of it, or nothing.
-    ensures written { IsStreamed (S.remaining source.old) (W.contents sink.old) (W.contents sink.new) result }
+    ensures written { IsStreamed (S.remaining source.old) (W.contents sink.old)
+        (W.contents sink.new) result }
     // Nothing is written unless all of the input was read.
     ensures end { OnOk result (IsAtEnd (S.remaining source.new)) }
     ensures write_end { result ≡ Err SessionFault.Write → IsAtEnd (S.remaining source.new) }
-    // `Read` comes after one failed read or at the bound, `Write` after one failed write, and all else after none.
-    ensures read { result ≡ Err SessionFault.Read → IsReadFault (S.failed_calls source.old) (S.failed_calls source.new) (S.remaining source.old) }
-    ensures no_read { result ≢ Err SessionFault.Read → S.failed_calls source.new ≡ S.failed_calls source.old }
-    ensures write { result ≡ Err SessionFault.Write → W.failed_calls sink.new ≡ W.failed_calls sink.old + 1 }
-    ensures no_write { result ≢ Err SessionFault.Write → W.failed_calls sink.new ≡ W.failed_calls sink.old }
+    // `Read` comes after one failed read or at the bound, `Write` after one failed write, and all
+    // else after none.
+    ensures read { result ≡ Err SessionFault.Read
+        → IsReadFault (S.failed_calls source.old) (S.failed_calls source.new)
+        (S.remaining source.old) }
+    ensures no_read { result ≢ Err SessionFault.Read
+        → S.failed_calls source.new ≡ S.failed_calls source.old }
+    ensures write { result ≡ Err SessionFault.Write
+        → W.failed_calls sink.new ≡ W.failed_calls sink.old + 1 }
+    ensures no_write { result ≢ Err SessionFault.Write
+        → W.failed_calls sink.new ≡ W.failed_calls sink.old }
 {
     let bytes = match read_first(rt.alloc(), source, MOST_OF_INPUT) {
         Ok(bytes) => bytes,

@@ -51,7 +51,8 @@ fn test_of(alloc: Global, text: &[u8]) -> Result<Test, EvalFault>
 
 // The model is read first.
 fn known_texts(alloc: Global, model: &[u8], test: &[u8]) -> Result<KnownTexts, EvalFault>
-    ensures model_read { IfOk result (λ k. Reads Form.Model model.now (clauses_of k.model.items.items)) }
+    ensures model_read { IfOk result (λ k.
+        Reads Form.Model model.now (clauses_of k.model.items.items)) }
     ensures test_read { IfOk result (λ k. ReadsTest test.now (content_of k.test)) }
     ensures refusal { IfErr result (IsRefusal model.now test.now) }
 {
@@ -93,8 +94,8 @@ pub fn eval(alloc: Global, model: &[u8], test: &[u8]) -> Result<Vec<u8>, EvalFau
     }
 }
 
-/// Why the model forbids what the condition of the test asks for, or an execution that it keeps. The
-/// model is read first. Errors: those of `eval`.
+/// Why the model forbids what the condition of the test asks for, or an execution that it keeps.
+/// The model is read first. Errors: those of `eval`.
 pub fn why_report(
     alloc: Global,
     asked: Asked,
@@ -126,8 +127,8 @@ fn wanted(drawn: Drawn) -> Wanted
     }
 }
 
-/// Drawings of executions of the test under the model, at most so many, for `dot`. The model is read
-/// first. Errors: those of `eval`.
+/// Drawings of executions of the test under the model, at most so many, for `dot`. The model is
+/// read first. Errors: those of `eval`.
 pub fn draw_report(
     alloc: Global,
     model: &[u8],

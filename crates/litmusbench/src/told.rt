@@ -8,9 +8,9 @@ use cat_syntax::{CatFault, read_model};
 use model_faults::model_fault_lines;
 use std::alloc::{AllocError, Global};
 
-/// What is told of the first fault of a model whose text reads: the item, the rule in words, the name or operator at
-/// fault, and the item as it is printed. Nothing of a model without fault, and of a text that is refused. Errors: want of
-/// memory.
+/// What is told of the first fault of a model whose text reads: the item, the rule in words, the
+/// name or operator at fault, and the item as it is printed. Nothing of a model without fault, and
+/// of a text that is refused. Errors: want of memory.
 pub fn model_fault(alloc: Global, file: &TextFile<'_>) -> Result<Vec<u8>, AllocError>
     ensures { IfOk result (λ v. IsFaultTold file.now v.items) }
 {

@@ -1,4 +1,5 @@
--- How many jobs a list of events is given, by its replies. Read it after Jobs, and Events of `cells`.
+-- How many jobs a list of events is given, by its replies. Read it after Jobs, and Events of
+-- `cells`.
 use Rattle.std.specs.Prelude.{◌≡◌, true, ℕ, ◌+◌, ◌≤◌, Bool, List, [], ◌∷◌, Some, None, Ok, Err, if◌then◌else◌}
 use Rattle.std.specs.List.{AllByRecursion as Each}
 use Rattle.memo_core.specs.declared.keys.Node.{Node}
@@ -41,21 +42,29 @@ abbrev pub lost_among : {F : Type 0} → List (Reply F) → ℕ
 lost_among [] = 0
 lost_among (r ∷ rs) = lost_in r + lost_among rs
 
--- After any list of events, a list of claims, returns and losses is given no more claims than used nodes are unsettled at its
--- beginning and claims are lost in it.
-abbrev pub ListBoundsGiven : {T E V G F : Type 0} → Meaning T E V G → Refusing T E F → (T → ℕ) → Type 0
+-- After any list of events, a list of claims, returns and losses is given no more claims than used
+-- nodes are unsettled at its beginning and claims are lost in it.
+abbrev pub ListBoundsGiven : {T E V G F : Type 0} → Meaning T E V G → Refusing T E F → (T → ℕ)
+    → Type 0
 ListBoundsGiven {T} {E} {V} {G} {F} means refuses last =
-    (earlier : List (core.Event E V G)) (first start end : Bench T V) (events : List (Event E)) (answers : List (Reply F)) (settled : Node → Bool)
-    → IsStart means.is_valid means.net first → Run means first earlier start → Answers means refuses last start events answers end → Each IsJob events
+    (earlier : List (core.Event E V G)) (first start end : Bench T V) (events : List (Event E))
+    (answers : List (Reply F)) (settled : Node → Bool)
+    → IsStart means.is_valid means.net first → Run means first earlier start
+    → Answers means refuses last start events answers end → Each IsJob events
     → DecidesSettled (state_in means start) settled
-    → given_among answers ≤ count_unsettled settled (means.net start.texts).used + lost_among answers
+    → given_among answers
+    ≤ count_unsettled settled (means.net start.texts).used + lost_among answers
 
--- After any list of events, in a list of claims, returns and losses: while the claim of a job that the list was given is out, a
--- return that is answered is accepted.
-abbrev pub ListAcceptsJobs : {T E V G F : Type 0} → Meaning T E V G → Refusing T E F → (T → ℕ) → Type 0
+-- After any list of events, in a list of claims, returns and losses: while the claim of a job that
+-- the list was given is out, a return that is answered is accepted.
+abbrev pub ListAcceptsJobs : {T E V G F : Type 0} → Meaning T E V G → Refusing T E F → (T → ℕ)
+    → Type 0
 ListAcceptsJobs {T} {E} {V} {G} {F} means refuses last =
-    (earlier : List (core.Event E V G)) (first start mid end : Bench T V) (events : List (Event E)) (answers : List (Reply F))
+    (earlier : List (core.Event E V G)) (first start mid end : Bench T V) (events : List (Event E))
+    (answers : List (Reply F))
     (given after : List (Task V G)) (task : Task V G) (claim : ℕ) (answer : Finish)
-    → IsStart means.is_valid means.net first → Run means first earlier start → AreAnswered means refuses last start [] events answers mid given → Each IsJob events
+    → IsStart means.is_valid means.net first → Run means first earlier start
+    → AreAnswered means refuses last start [] events answers mid given → Each IsJob events
     → task_given claim given ≡ Some task → IsClaimOut mid claim
-    → IsAnswered means refuses last mid given (Return claim) (replies.Returned (Ok answer)) end after → is_accepted answer ≡ true
+    → IsAnswered means refuses last mid given (Return claim) (replies.Returned (Ok answer)) end
+    after → is_accepted answer ≡ true

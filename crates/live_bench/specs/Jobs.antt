@@ -1,5 +1,5 @@
--- How many jobs are given: a job that is run and returned is taken where no edit comes between, so no more are given than there
--- are nodes to settle. Read it after Work of `memo_core`.
+-- How many jobs are given: a job that is run and returned is taken where no edit comes between, so
+-- no more are given than there are nodes to settle. Read it after Work of `memo_core`.
 use Rattle.std.specs.Prelude.{◌≡◌, ◌≢◌, ℕ, ◌+◌, ◌≤◌, ⊤, Bool, true, false, not, List, [], ◌∷◌, length, Some, if◌then◌else◌}
 use Rattle.std.specs.List.{AllByRecursion as Each}
 use Rattle.memo_core.specs.declared.keys.Node.{Node}
@@ -17,14 +17,16 @@ use Rattle.cells.specs.Views.{task_of, task_answered}
 abbrev pub IsClaimOut : {T V : Type 0} → Bench T V → ℕ → Type 0
 IsClaimOut b number = (c : OpenClaim) × (claim_of number b.claims ≡ Some c)
 
--- After any list of events and a claim that gives a job, while claims, returns, losses and refused calls come alone and the claim
--- is out: a return of what running this job makes is accepted.
+-- After any list of events and a claim that gives a job, while claims, returns, losses and refused
+-- calls come alone and the claim is out: a return of what running this job makes is accepted.
 abbrev pub JobsAreAccepted : {T E V G : Type 0} → Meaning T E V G → Type 0
 JobsAreAccepted {T} {E} {V} {G} means =
     (earlier later : List (Event E V G)) (first old start end new : Bench T V)
-    (number : ℕ) (n : Node) (given : G) (keys : List Key) (values : List V) (r : Return V G) (answer : Finish)
+    (number : ℕ) (n : Node) (given : G) (keys : List Key) (values : List V) (r : Return V G)
+    (answer : Finish)
     → IsStart means.is_valid means.net first → Run means first earlier old
-    → Step means old (Claim number n given keys values) start → Run means start later end → Each IsJobEvent later
+    → Step means old (Claim number n given keys values) start → Run means start later end
+    → Each IsJobEvent later
     → IsClaimOut end number → task_answered r ≡ task_of number n given keys values
     → Step means end (Returned r answer) new → is_accepted answer ≡ true
 
@@ -38,20 +40,24 @@ LeavesClaim number (Lose n answer) = n ≢ number
 LeavesClaim number Renew = ⊤
 LeavesClaim number Refused = ⊤
 
--- After any list of events and a claim that gives a job, while claims, returns, losses and refused calls come alone: the claim is out
--- as long as none of them returns or loses it.
+-- After any list of events and a claim that gives a job, while claims, returns, losses and refused
+-- calls come alone: the claim is out as long as none of them returns or loses it.
 abbrev pub ClaimsStayOut : {T E V G : Type 0} → Meaning T E V G → Type 0
 ClaimsStayOut {T} {E} {V} {G} means =
-    (earlier later : List (Event E V G)) (first old start end : Bench T V) (number : ℕ) (n : Node) (given : G) (keys : List Key) (values : List V)
+    (earlier later : List (Event E V G)) (first old start end : Bench T V) (number : ℕ) (n : Node)
+    (given : G) (keys : List Key) (values : List V)
     → IsStart means.is_valid means.net first → Run means first earlier old
-    → Step means old (Claim number n given keys values) start → Run means start later end → Each IsJobEvent later
+    → Step means old (Claim number n given keys values) start → Run means start later end
+    → Each IsJobEvent later
     → Each (LeavesClaim number) later → IsClaimOut end number
 
 -- after any list of events, a claim that is given is of a used node that is not settled
 abbrev pub UnsettledIsGiven : {T E V G : Type 0} → Meaning T E V G → Type 0
 UnsettledIsGiven {T} {E} {V} {G} means =
-    (events : List (Event E V G)) (first old new : Bench T V) (number : ℕ) (n : Node) (given : G) (keys : List Key) (values : List V)
-    → IsStart means.is_valid means.net first → Run means first events old → Step means old (Claim number n given keys values) new
+    (events : List (Event E V G)) (first old new : Bench T V) (number : ℕ) (n : Node) (given : G)
+    (keys : List Key) (values : List V)
+    → IsStart means.is_valid means.net first → Run means first events old
+    → Step means old (Claim number n given keys values) new
     → Has (means.net old.texts).used n × (IsSettled (means.net old.texts) old.memos n → ⊥)
 
 -- how many claims are given
@@ -73,26 +79,34 @@ abbrev pub lost_count : {E V G : Type 0} → List (Event E V G) → ℕ
 lost_count [] = 0
 lost_count (e ∷ es) = lost_by e + lost_count es
 
--- After any list of events, in a list of claims, returns, losses and refused calls: no more claims are given than used nodes are
--- unsettled at its beginning and claims are lost.
+-- After any list of events, in a list of claims, returns, losses and refused calls: no more claims
+-- are given than used nodes are unsettled at its beginning and claims are lost.
 abbrev pub GivenIsBounded : {T E V G : Type 0} → Meaning T E V G → Type 0
 GivenIsBounded {T} {E} {V} {G} means =
     (earlier events : List (Event E V G)) (first start end : Bench T V) (settled : Node → Bool)
-    → IsStart means.is_valid means.net first → Run means first earlier start → Run means start events end → Each IsJobEvent events
+    → IsStart means.is_valid means.net first → Run means first earlier start
+    → Run means start events end → Each IsJobEvent events
     → DecidesSettled (state_in means start) settled
     → given_count events ≤ count_unsettled settled (means.net start.texts).used + lost_count events
 
 -- the node was settled before the edit, which touches nothing that it stands on
-abbrev pub IsLeftSettled : {T E V G : Type 0} → Meaning T E V G → Bench T V → Bench T V → Node → Type 0
+abbrev pub IsLeftSettled : {T E V G : Type 0} → Meaning T E V G → Bench T V → Bench T V → Node
+    → Type 0
 IsLeftSettled means old new n =
-    IsSettled (means.net old.texts) old.memos n × ((d : ℕ) → IsUntouchedBy d (means.keeps new.texts) (means.net old.texts) (means.net new.texts) n)
+    IsSettled (means.net old.texts) old.memos n
+    × ((d : ℕ)
+    → IsUntouchedBy d (means.keeps new.texts) (means.net old.texts)
+    (means.net new.texts) n)
 
--- After any list of events and an edit that leaves each node settled but those that are open: no more claims are given after it and
--- before the next than used nodes are open and claims are lost.
+-- After any list of events and an edit that leaves each node settled but those that are open: no
+-- more claims are given after it and before the next than used nodes are open and claims are lost.
 abbrev pub EditBoundsGiven : {T E V G : Type 0} → Meaning T E V G → Type 0
 EditBoundsGiven {T} {E} {V} {G} means =
-    (earlier events : List (Event E V G)) (first old start end : Bench T V) (e : E) (is_open : Node → Bool)
-    → IsStart means.is_valid means.net first → Run means first earlier old → Step means old (Edit e) start
+    (earlier events : List (Event E V G)) (first old start end : Bench T V) (e : E)
+    (is_open : Node → Bool)
+    → IsStart means.is_valid means.net first → Run means first earlier old
+    → Step means old (Edit e) start
     → ((n : Node) → is_open n ≡ false → IsLeftSettled means old start n)
     → Run means start events end → Each IsJobEvent events
-    → given_count events ≤ count_unsettled (λ n. not (is_open n)) (means.net start.texts).used + lost_count events
+    → given_count events
+    ≤ count_unsettled (λ n. not (is_open n)) (means.net start.texts).used + lost_count events

@@ -25,7 +25,8 @@ live_last t = t.parts.last
 abbrev pub live_meaning : Meaning StampedTexts Edit NodeContent GivenContent
 live_meaning = meaning net_of IsSound IsSince makes (λ t n. keeps t.parts n) IsEdited live_last
 
--- the verdict of a cell, the outcome in a value, what evaluating the present texts from nothing gives, and which edits reach a cell
+-- the verdict of a cell, the outcome in a value, what evaluating the present texts from nothing
+-- gives, and which edits reach a cell
 abbrev pub live_cells : Cells StampedTexts Edit NodeContent Outcome
 live_cells = cells verdict_of outcome_in from_scratch Reaches
 

@@ -1,4 +1,5 @@
--- The names of the outputs of items, which returns tell by numbers. Read it after StampedTexts and Outputs of `running_bench`.
+-- The names of the outputs of items, which returns tell by numbers. Read it after StampedTexts and
+-- Outputs of `running_bench`.
 use Rattle.std.specs.Prelude.{◌≡◌, ◌⊎◌, ℕ, List, [], ◌∷◌, Some, codes, map, slice_get}
 use Rattle.memo_core.specs.Step.{Has}
 use Rattle.memo_core.specs.declared.keys.Kind.{Kind}
@@ -39,19 +40,21 @@ node_kind Silent = kinds.Group
 abbrev pub item_node : RoleContent → (test item : ℕ) → Node
 item_node does test item = record { kind = node_kind does; test = test; of = item }
 
--- the names of its outputs: those that a group binds, in order, and `check` for the answers of a check or a flag
+-- the names of its outputs: those that a group binds, in order, and `check` for the answers of a
+-- check or a flag
 abbrev pub names_given : RoleContent → List (List ℕ)
 names_given (Group recursive bodies) = map (λ b. b.name) bodies
 names_given (Check negated word code flag) = codes "check" ∷ []
 names_given Silent = []
 
--- Of each item of a model that the texts hold, the output that comes first has the name that comes first, the second the second, and
--- so on: the number by which it goes tells that name.
+-- Of each item of a model that the texts hold, the output that comes first has the name that comes
+-- first, the second the second, and so on: the number by which it goes tells that name.
 abbrev pub OutputsHaveTheirNames : StampedTexts → Type 0
 OutputsHaveTheirNames t =
     (test item index number : ℕ) (does : RoleContent) → IsItemOf t item does
     → slice_get (item_outputs does (histories (state_of t) item)) index ≡ Some number
-    → output_name (histories (state_of t)) (item_node does test item) number ≡ slice_get (names_given does) index
+    → output_name (histories (state_of t)) (item_node does test item) number
+    ≡ slice_get (names_given does) index
 
 -- The node of a space or of a verdict gives one output, which goes by 0.
 abbrev pub OthersHaveOneOutput : StampedTexts → Type 0

@@ -17,10 +17,12 @@ use Rattle.live_bench.specs.There.{LiveState}
 abbrev pub ShowAlike : LiveState → LiveState → Type 0
 ShowAlike old new =
     (test model : List ℕ) (shown : Shown Outcome)
-    → IsShown net_of live_cells new test model shown ↔ IsShown net_of live_cells old test model shown
+    → IsShown net_of live_cells new test model shown
+    ↔ IsShown net_of live_cells old test model shown
 
--- The later bench has the tests and the models of the earlier one, its nodes with their inputs and the stamps of their parts, what it
--- keeps of computations, what is out, how many numbers it has taken, and its cells as they are shown.
+-- The later bench has the tests and the models of the earlier one, its nodes with their inputs and
+-- the stamps of their parts, what it keeps of computations, what is out, how many numbers it has
+-- taken, and its cells as they are shown.
 pub record IsUnchanged (old new : LiveState) : Type 0 where
   pub texts : HasTextsOf old.texts new.texts
   pub nodes : net_of new.texts ≡ net_of old.texts
@@ -39,6 +41,7 @@ RefusedChangesNothing =
 -- So an edit that is refused changes nothing.
 abbrev pub RefusedEditChangesNothing : Type 0
 RefusedEditChangesNothing =
-    (events : List (Event Edit NodeContent GivenContent)) (start old new : LiveState) (e : Edit) (fault : EditFault)
+    (events : List (Event Edit NodeContent GivenContent)) (start old new : LiveState) (e : Edit)
+    (fault : EditFault)
     → IsStart IsSound net_of start → Run live_meaning start events old
     → IsEdited live_meaning live_refusing live_last old e (Err fault) new → IsUnchanged old new

@@ -1,4 +1,5 @@
--- The stamps that a bench stores, and the stamp of an output that changes. Read it after There, and Right of `memo_core`.
+-- The stamps that a bench stores, and the stamp of an output that changes. Read it after There, and
+-- Right of `memo_core`.
 use Rattle.std.specs.Prelude.{ℕ, ◌≤◌, List}
 use Rattle.std.specs.List.{AllByRecursion as Each}
 use Rattle.memo_core.specs.declared.keys.Input.{Input}
@@ -17,8 +18,8 @@ use Rattle.live_bench.specs.There.{LiveState}
 abbrev pub AreLow : ℕ → List Input → Type 0
 AreLow number inputs = Each (λ i. i.stamp ≤ number) inputs
 
--- No stamp that is stored is above the last number that was taken: of a part, in a memo, or of an input of a claim that is
--- out. Nor is the number of a claim.
+-- No stamp that is stored is above the last number that was taken: of a part, in a memo, or of an
+-- input of a claim that is out. Nor is the number of a claim.
 pub record HasLowStamps (b : LiveState) : Type 0 where
   pub parts : (part of : ℕ) → (net_of b.texts).part part of ≤ b.taken
   pub inputs : Each (λ m. AreLow b.taken m.inputs) b.memos
@@ -26,8 +27,8 @@ pub record HasLowStamps (b : LiveState) : Type 0 where
   pub claims : Each (λ c. AreLow b.taken c.inputs) b.claims
   pub numbers : AreNumbered b.taken b.claims
 
--- An output that is stored after an event was stored before it with this stamp and value, or its stamp is above all numbers
--- taken before.
+-- An output that is stored after an event was stored before it with this stamp and value, or its
+-- stamp is above all numbers taken before.
 abbrev pub ChangedOutputIsNewer : Type 0
 ChangedOutputIsNewer =
     (event : Event Edit NodeContent GivenContent) (old new : LiveState)

@@ -1,4 +1,5 @@
--- Which cells are there: those whose test and model the texts of the bench have. Read it after Live, and Results of `board`.
+-- Which cells are there: those whose test and model the texts of the bench have. Read it after
+-- Live, and Results of `board`.
 use Rattle.std.specs.Prelude.{◌↔◌, ℕ, List}
 use Rattle.memo_core.specs.Run.{Bench, Event, Run, IsStart}
 use Rattle.node_values.specs.Givens.{GivenContent}
@@ -31,10 +32,11 @@ HoldsAfterEvents holds =
 -- no cell is shown of a test and a model just where the texts lack one of the two
 abbrev pub HasJustItsCells : LiveState → Type 0
 HasJustItsCells b =
-    (test model : List ℕ) → IsShown net_of live_cells b test model NoCell ↔ LacksOne (texts_on b) test model
+    (test model : List ℕ)
+    → IsShown net_of live_cells b test model NoCell ↔ LacksOne (texts_on b) test model
 
--- What is shown is right for these texts: no cell where they lack the test or the model, open where they have both, and an
--- outcome is theirs.
+-- What is shown is right for these texts: no cell where they lack the test or the model, open where
+-- they have both, and an outcome is theirs.
 abbrev pub IsRightShown : Held → (test model : List ℕ) → Shown Outcome → Type 0
 IsRightShown h test model (Settled o) = IsResultIn h test model o.now
 IsRightShown h test model Open = HasBoth h test model

@@ -19,8 +19,10 @@ use Rattle.live_bench.specs.Live.{live_meaning}
 use Rattle.live_bench.specs.There.{LiveState}
 use Rattle.live_bench.specs.OutputNames.{IsItemOf, item_node, names_given}
 
--- the job was given what its node is given, and each of these numbers is one by which an output of that goes
-pub record AreOutputsOf (t : StampedTexts) (r : Return NodeContent GivenContent) (numbers : List ℕ) : Type 0 where
+-- the job was given what its node is given, and each of these numbers is one by which an output of
+-- that goes
+pub record AreOutputsOf (t : StampedTexts) (r : Return NodeContent GivenContent) (numbers : List ℕ)
+    : Type 0 where
   pub given_is : given (state_of t) r.node ≡ Some r.given
   pub each : Each (Has (output_names r.given)) numbers
 
@@ -30,22 +32,29 @@ ReturnsTellOutputs =
     (old new : LiveState) (r : Return NodeContent GivenContent) (names : Vec ℕ Global)
     → Step live_meaning old (Returned r (Stored names)) new → AreOutputsOf old.texts r names.items
 
--- this number tells one of the outputs of the item that does this, and the name that it tells is the one that the item gives that output
-pub record TellsOutputOf (t : StampedTexts) (test item : ℕ) (does : RoleContent) (number : ℕ) : Type 0 where
+-- this number tells one of the outputs of the item that does this, and the name that it tells is
+-- the one that the item gives that output
+pub record TellsOutputOf (t : StampedTexts) (test item : ℕ) (does : RoleContent) (number : ℕ)
+    : Type 0 where
   pub index : ℕ
   pub output_is : slice_get (item_outputs does (histories (state_of t) item)) index ≡ Some number
   pub name : List ℕ
   pub name_is : slice_get (names_given does) index ≡ Some name
   pub told_is : output_name (histories (state_of t)) (item_node does test item) number ≡ Some name
 
--- the job was given what the item does, with the numbers of its outputs, and each of these numbers tells one of them, by its name
-pub record TellsItem (t : StampedTexts) (r : Return NodeContent GivenContent) (test item : ℕ) (does : RoleContent) (numbers : List ℕ) : Type 0 where
+-- the job was given what the item does, with the numbers of its outputs, and each of these numbers
+-- tells one of them, by its name
+pub record TellsItem (t : StampedTexts) (r : Return NodeContent GivenContent) (test item : ℕ)
+    (does : RoleContent) (numbers : List ℕ) : Type 0 where
   pub given_is : r.given ≡ ForItem does (item_outputs does (histories (state_of t) item))
   pub each : Each (TellsOutputOf t test item does) numbers
 
--- The numbers that a return of the node of an item tells are those of outputs of the item that the texts hold, each by its name.
+-- The numbers that a return of the node of an item tells are those of outputs of the item that the
+-- texts hold, each by its name.
 abbrev pub ReturnsNameOutputs : Type 0
 ReturnsNameOutputs =
-    (old new : LiveState) (r : Return NodeContent GivenContent) (names : Vec ℕ Global) (test item : ℕ) (does : RoleContent)
+    (old new : LiveState) (r : Return NodeContent GivenContent) (names : Vec ℕ Global)
+    (test item : ℕ) (does : RoleContent)
     → IsSound old.texts → IsItemOf old.texts item does → r.node ≡ item_node does test item
-    → Step live_meaning old (Returned r (Stored names)) new → TellsItem old.texts r test item does names.items
+    → Step live_meaning old (Returned r (Stored names)) new
+    → TellsItem old.texts r test item does names.items

@@ -21,10 +21,14 @@ HaveSameSlices t u = (test model : List ℕ) → slice_of u test model ≡ slice
 abbrev pub HasNoWork : LiveState → Type 0
 HasNoWork b = (n : Node) → IsWork (state_in live_meaning b) n → ⊥
 
--- After any list of events, where every node that cells use is settled, and an edit leaves the slice of each cell what it was: every
--- node that cells use is settled after the edit, and no claim is given.
+-- After any list of events, where every node that cells use is settled, and an edit leaves the
+-- slice of each cell what it was: every node that cells use is settled after the edit, and no claim
+-- is given.
 abbrev pub UnreachedNeedsNoJob : Type 0
 UnreachedNeedsNoJob =
-    (events : List (Event code.Edit NodeContent GivenContent)) (start old new : LiveState) (e : code.Edit)
-    → IsStart IsSound net_of start → Run live_meaning start events old → Step live_meaning old (Edit e) new
-    → AllAreSettled net_of old → HaveSameSlices old.texts new.texts → AllAreSettled net_of new × HasNoWork new
+    (events : List (Event code.Edit NodeContent GivenContent)) (start old new : LiveState)
+    (e : code.Edit)
+    → IsStart IsSound net_of start → Run live_meaning start events old
+    → Step live_meaning old (Edit e) new
+    → AllAreSettled net_of old → HaveSameSlices old.texts new.texts
+    → AllAreSettled net_of new × HasNoWork new

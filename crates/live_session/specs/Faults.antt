@@ -5,7 +5,8 @@ use Rattle.desk.specs.declared.fault.DeskFault.TheVariants as desk_faults
 use Rattle.command_line.specs.declared.fault.SessionFault.{SessionFault}
 use Rattle.command_line.specs.declared.fault.SessionFault.TheVariants as faults
 
--- the fault of a session for each fault of its desk: the desk is shared where it refuses an edit or has no number for a claim
+-- the fault of a session for each fault of its desk: the desk is shared where it refuses an edit or
+-- has no number for a claim
 abbrev pub fault_for : DeskFault EditFault → SessionFault
 fault_for (desk_faults.Edit fault) = faults.Shared
 fault_for (desk_faults.Claim fault) = faults.Shared

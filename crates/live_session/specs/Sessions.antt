@@ -1,4 +1,5 @@
--- Read this first: what a session writes of a script. The answers to its commands are in session_answers, specs/Sessions.
+-- Read this first: what a session writes of a script. The answers to its commands are in
+-- session_answers, specs/Sessions.
 use Rattle.std.specs.Prelude.{◌≡◌, ℕ, ◌+◌, ◌≤◌, ◌⊎◌, List, [], ◌∷◌, ◌++◌, length, take, Bool, Option, Result, Ok, Err, IfSome}
 use Rattle.std.specs.Io.KnownBytes.{Keeps, Appends}
 use Rattle.session_script.specs.declared.command.Command.{Command}
@@ -10,9 +11,10 @@ use Rattle.command_line.specs.declared.fault.SessionFault.{SessionFault}
 use Rattle.command_line.specs.declared.fault.SessionFault.TheVariants as faults
 use Rattle.session_script.specs.Written.{WritesFront}
 
--- The script, of which these bytes are left, where they are known, begins with some commands of this output, and goes on with
--- the others.
-pub record IsBegun (left : Option (List ℕ)) (others : List Command) (text : List ℕ) (refused : Bool) (texts : BenchTexts) : Type 0 where
+-- The script, of which these bytes are left, where they are known, begins with some commands of
+-- this output, and goes on with the others.
+pub record IsBegun (left : Option (List ℕ)) (others : List Command) (text : List ℕ) (refused : Bool)
+    (texts : BenchTexts) : Type 0 where
   pub first : List Command
   pub commands : IfSome left (λ script. commands_of script ≡ first ++ others)
   pub output : IsOutput first text refused texts
@@ -58,16 +60,22 @@ IsSession left old new (Err faults.Write) = IsCutOff left old new
 -- ---- one command
 
 -- its answer over these texts is written, and those are the texts after it
-abbrev pub IsReplied : (t after : BenchTexts) → Command → (old new : Option (List ℕ)) → Said → Type 0
+abbrev pub IsReplied : (t after : BenchTexts) → Command → (old new : Option (List ℕ)) → Said
+    → Type 0
 IsReplied t after command old new said = IsAnswered t command said after × Appends old new said.text
 
 -- a front of its answer is written where a write failed, and else nothing
-abbrev pub IsReplyStopped : BenchTexts → Command → (old new : Option (List ℕ)) → SessionFault → Type 0
-IsReplyStopped t command old new faults.Write = (after : BenchTexts) × (said : Said) × IsAnswered t command said after × WritesFront old new said.text
+abbrev pub IsReplyStopped : BenchTexts → Command → (old new : Option (List ℕ)) → SessionFault
+    → Type 0
+IsReplyStopped t command old new faults.Write =
+    (after : BenchTexts) × (said : Said) × IsAnswered t command said after
+    × WritesFront old new said.text
 IsReplyStopped t command old new faults.Memory = Keeps old new
 IsReplyStopped t command old new faults.Shared = Keeps old new
 IsReplyStopped t command old new faults.Read = ⊥
 
--- A read is refused: one call failed, or, where none did, no turn is left, and what is left of the source has that many bytes at least.
+-- A read is refused: one call failed, or, where none did, no turn is left, and what is left of the
+-- source has that many bytes at least.
 abbrev pub IsTurnFault : (turns old new : ℕ) → Option (List ℕ) → Type 0
-IsTurnFault turns old new left = (new ≡ old + 1) ⊎ ((new ≡ old) × IfSome left (λ all. turns ≤ length all))
+IsTurnFault turns old new left =
+    (new ≡ old + 1) ⊎ ((new ≡ old) × IfSome left (λ all. turns ≤ length all))

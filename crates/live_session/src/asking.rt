@@ -61,7 +61,8 @@ fn settle_turn<J: Naming + StoreName, R: Wait + Drop, W: Wait>(
 ) -> Result<Turned<J>, SessionFault>
     requires ready { IsReady session.viewer session.made (texts_of session.texts) }
     ensures texts { IfOk result (λ t. t.session.texts ≡ session.texts) }
-    ensures ready { IfOk result (λ t. IsReady t.session.viewer t.session.made (texts_of t.session.texts)) }
+    ensures ready { IfOk result (λ t.
+        IsReady t.session.viewer t.session.made (texts_of t.session.texts)) }
     ensures fault { IfErr result IsOwnFault }
 {
     let Session {
@@ -82,7 +83,8 @@ fn settle_turn<J: Naming + StoreName, R: Wait + Drop, W: Wait>(
     Ok(Turned { session, settling })
 }
 
-// The answer to a question from a view, if its cells are settled. It shows the session's texts unless it counts other edits.
+// The answer to a question from a view, if its cells are settled. It shows the session's texts
+// unless it counts other edits.
 fn answer_in<J: Naming>(
     alloc: Global,
     view: &View<J, RunningTexts>,
@@ -131,8 +133,10 @@ fn look<J: Naming, L: ProgressListener>(
 ) -> Result<Looked<J>, SessionFault>
     requires ready { IsReady session.viewer session.made (texts_of session.texts) }
     ensures texts { IfOk result (λ l. l.session.texts ≡ session.texts) }
-    ensures ready { IfOk result (λ l. IsReady l.session.viewer l.session.made (texts_of l.session.texts)) }
-    ensures reply { IfOk result (λ l. IfSome l.answer (IsReply (texts_of session.texts) question.now)) }
+    ensures ready { IfOk result (λ l.
+        IsReady l.session.viewer l.session.made (texts_of l.session.texts)) }
+    ensures reply { IfOk result (λ l.
+        IfSome l.answer (IsReply (texts_of session.texts) question.now)) }
     ensures fault { IfErr result IsOwnFault }
 {
     let Session {
@@ -158,8 +162,8 @@ fn look<J: Naming, L: ProgressListener>(
     }
 }
 
-// Goes on where a cell was open: runs jobs, or waits for a change where workers run them. A board of which each cell is settled
-// shows the answer.
+// Goes on where a cell was open: runs jobs, or waits for a change where workers run them. A board
+// of which each cell is settled shows the answer.
 fn go_on<J: Naming + StoreName, R: Wait + Drop, W: Wait>(
     rt: &W,
     alloc: Global,
@@ -187,7 +191,8 @@ fn go_on<J: Naming + StoreName, R: Wait + Drop, W: Wait>(
     Ok(())
 }
 
-/// The answer to a question, once the cells are settled that it asks for. A listener hears how far a table is.
+/// The answer to a question, once the cells are settled that it asks for. A listener hears how far
+/// a table is.
 pub(crate) fn ask<J: Naming + StoreName, R: Wait + Drop, W: Wait, L: ProgressListener>(
     rt: &W,
     alloc: Global,
@@ -199,7 +204,8 @@ pub(crate) fn ask<J: Naming + StoreName, R: Wait + Drop, W: Wait, L: ProgressLis
 ) -> Result<Replied<J>, SessionFault>
     requires ready { IsReady session.viewer session.made (texts_of session.texts) }
     ensures texts { IfOk result (λ r. r.session.texts ≡ session.texts) }
-    ensures ready { IfOk result (λ r. IsReady r.session.viewer r.session.made (texts_of r.session.texts)) }
+    ensures ready { IfOk result (λ r.
+        IsReady r.session.viewer r.session.made (texts_of r.session.texts)) }
     ensures reply { IfOk result (λ r. IsReply (texts_of session.texts) question.now r.answer) }
     ensures fault { IfErr result IsOwnFault }
 {

@@ -27,11 +27,16 @@ fn read_command<S: ByteSource>(
     source: &mut S,
 ) -> Result<Option<Command>, SessionFault>
     requires { S.failed_calls source.old < 2 ^ 64 - 1 }
-    ensures next { IfOk result (λ c. IsNext (left_to script.old (S.remaining source.old)) (left_to script.new (S.remaining source.new)) c) }
+    ensures next { IfOk result (λ c. IsNext (left_to script.old (S.remaining source.old))
+        (left_to script.new (S.remaining source.new)) c) }
     ensures work { IfOk result (λ c. IfSome c (λ some. work_of script.new < work_of script.old)) }
-    ensures paid { IfOk result (λ c. IsPaid (turns_of script.old) (turns_of script.new) (S.remaining source.old) (S.remaining source.new)) }
-    ensures read { result ≡ Err SessionFault.Read → IsTurnFault (turns_of script.old) (S.failed_calls source.old) (S.failed_calls source.new) (S.remaining source.old) }
-    ensures same { result ≢ Err SessionFault.Read → S.failed_calls source.new ≡ S.failed_calls source.old }
+    ensures paid { IfOk result (λ c. IsPaid (turns_of script.old) (turns_of script.new)
+        (S.remaining source.old) (S.remaining source.new)) }
+    ensures read { result ≡ Err SessionFault.Read
+        → IsTurnFault (turns_of script.old) (S.failed_calls source.old) (S.failed_calls source.new)
+        (S.remaining source.old) }
+    ensures same { result ≢ Err SessionFault.Read
+        → S.failed_calls source.new ≡ S.failed_calls source.old }
     ensures fault { result ≢ Err SessionFault.Write }
 {
     match script.next(source) {
@@ -124,11 +129,17 @@ fn write_reply<J: Naming + StoreName, R: Wait + Drop, W: Wait, K: ByteSink, L: A
 ) -> Result<Replied<J>, SessionFault>
     requires ready { IsReady session.viewer session.made (texts_of session.texts) }
     requires sink { K.failed_calls sink.old < 2 ^ 64 - 1 }
-    ensures written { IfOk result (λ r. IsReplied (texts_of session.texts) (texts_of r.session.texts) command (K.contents sink.old) (K.contents sink.new) r.answer) }
-    ensures ready { IfOk result (λ r. IsReady r.session.viewer r.session.made (texts_of r.session.texts)) }
-    ensures stopped { IfErr result (λ fault. IsReplyStopped (texts_of session.texts) command (K.contents sink.old) (K.contents sink.new) fault) }
-    ensures failed { result ≡ Err SessionFault.Write → K.failed_calls sink.new ≡ K.failed_calls sink.old + 1 }
-    ensures same { result ≢ Err SessionFault.Write → K.failed_calls sink.new ≡ K.failed_calls sink.old }
+    ensures written { IfOk result (λ r. IsReplied (texts_of session.texts)
+        (texts_of r.session.texts) command (K.contents sink.old) (K.contents sink.new)
+        r.answer) }
+    ensures ready { IfOk result (λ r.
+        IsReady r.session.viewer r.session.made (texts_of r.session.texts)) }
+    ensures stopped { IfErr result (λ fault. IsReplyStopped (texts_of session.texts) command
+        (K.contents sink.old) (K.contents sink.new) fault) }
+    ensures failed { result ≡ Err SessionFault.Write
+        → K.failed_calls sink.new ≡ K.failed_calls sink.old + 1 }
+    ensures same { result ≢ Err SessionFault.Write
+        → K.failed_calls sink.new ≡ K.failed_calls sink.old }
     ensures fault { result ≢ Err SessionFault.Read }
 {
     let heard = match heard_of(alloc, &command) {
@@ -153,7 +164,8 @@ fn write_reply<J: Naming + StoreName, R: Wait + Drop, W: Wait, K: ByteSink, L: A
     }
 }
 
-/// Answers the commands of a script one after another, each by one write as soon as its last line feed is read.
+/// Answers the commands of a script one after another, each by one write as soon as its last line
+/// feed is read.
 pub(crate) fn answer_commands<
     J: Naming + StoreName,
     R: Wait + Drop,
@@ -175,11 +187,17 @@ pub(crate) fn answer_commands<
     requires texts { texts_of session.texts ≡ no_texts }
     requires source { S.failed_calls source.old < 2 ^ 64 - 1 }
     requires sink { K.failed_calls sink.old < 2 ^ 64 - 1 }
-    ensures written { IsSession (S.remaining source.old) (K.contents sink.old) (K.contents sink.new) result }
-    ensures read { result ≡ Err SessionFault.Read → IsReadFault (S.failed_calls source.old) (S.failed_calls source.new) (S.remaining source.old) }
-    ensures no_read { result ≢ Err SessionFault.Read → S.failed_calls source.new ≡ S.failed_calls source.old }
-    ensures write { result ≡ Err SessionFault.Write → K.failed_calls sink.new ≡ K.failed_calls sink.old + 1 }
-    ensures no_write { result ≢ Err SessionFault.Write → K.failed_calls sink.new ≡ K.failed_calls sink.old }
+    ensures written { IsSession (S.remaining source.old) (K.contents sink.old) (K.contents sink.new)
+        result }
+    ensures read { result ≡ Err SessionFault.Read
+        → IsReadFault (S.failed_calls source.old) (S.failed_calls source.new)
+        (S.remaining source.old) }
+    ensures no_read { result ≢ Err SessionFault.Read
+        → S.failed_calls source.new ≡ S.failed_calls source.old }
+    ensures write { result ≡ Err SessionFault.Write
+        → K.failed_calls sink.new ≡ K.failed_calls sink.old + 1 }
+    ensures no_write { result ≢ Err SessionFault.Write
+        → K.failed_calls sink.new ≡ K.failed_calls sink.old }
 {
     let mut script = ScriptReader::new(alloc);
     let mut session = session;

@@ -42,7 +42,8 @@ fn tell_desk<J: Naming + StoreName, R: Wait + Drop, W: Wait>(
     }
 }
 
-/// Makes an edit of the session's own texts, and an accepted one at the desk. The answer is that of the own texts.
+/// Makes an edit of the session's own texts, and an accepted one at the desk. The answer is that of
+/// the own texts.
 pub(crate) fn make_edit<J: Naming + StoreName, R: Wait + Drop, W: Wait>(
     rt: &W,
     alloc: Global,
@@ -51,8 +52,10 @@ pub(crate) fn make_edit<J: Naming + StoreName, R: Wait + Drop, W: Wait>(
     edit: Edit,
 ) -> Result<Replied<J>, SessionFault>
     requires ready { IsReady session.viewer session.made (texts_of session.texts) }
-    ensures edited { IfOk result (λ r. IsEdited (texts_of session.texts) (edit_of edit) r.answer (texts_of r.session.texts)) }
-    ensures ready { IfOk result (λ r. IsReady r.session.viewer r.session.made (texts_of r.session.texts)) }
+    ensures edited { IfOk result (λ r.
+        IsEdited (texts_of session.texts) (edit_of edit) r.answer (texts_of r.session.texts)) }
+    ensures ready { IfOk result (λ r.
+        IsReady r.session.viewer r.session.made (texts_of r.session.texts)) }
     ensures fault { IfErr result IsOwnFault }
 {
     let Session {

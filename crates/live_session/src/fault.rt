@@ -7,7 +7,8 @@ use bench_texts::EditFault;
 use desk::DeskFault;
 use litmusbench::SessionFault;
 
-/// A desk that refuses what the session's own texts accept, or that has no number left, is shared with someone else.
+/// A desk that refuses what the session's own texts accept, or that has no number left, is shared
+/// with someone else.
 pub(crate) fn fault_of(fault: &DeskFault<EditFault>) -> SessionFault
     ensures is { result ≡ fault_for fault.now }
     ensures own { IsOwnFault result }

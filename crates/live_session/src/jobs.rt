@@ -54,7 +54,8 @@ fn run_one<J: Naming + StoreName, R: Wait + Drop, W: Wait>(
     }
 }
 
-/// Runs some jobs, as long as there are any. Errors: those of the desk, and `Shared` where there is none.
+/// Runs some jobs, as long as there are any. Errors: those of the desk, and `Shared` where there is
+/// none.
 pub(crate) fn run_some<J: Naming + StoreName, R: Wait + Drop, W: Wait>(
     rt: &W,
     alloc: Global,

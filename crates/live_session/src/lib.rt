@@ -1,5 +1,6 @@
-//! Sessions over a running desk: each edit is made of the session's own texts first, which alone answer it, and then at the
-//! desk; a question is answered from a board that shows these texts. Read specs/Sessions first: `IsSession` says what is written.
+//! Sessions over a running desk: each edit is made of the session's own texts first, which alone
+//! answer it, and then at the desk; a question is answered from a board that shows these texts.
+//! Read specs/Sessions first: `IsSession` says what is written.
 #![tactic(auto)]
 
 mod asking;

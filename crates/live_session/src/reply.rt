@@ -36,8 +36,10 @@ fn reply_asked<J: Naming + StoreName, R: Wait + Drop, W: Wait, L: AnswerListener
     listener: &mut L,
 ) -> Result<Replied<J>, SessionFault>
     requires ready { IsReady session.viewer session.made (texts_of session.texts) }
-    ensures answer { IfOk result (λ r. IsAsked (texts_of session.texts) (asked_by asked) r.answer (texts_of r.session.texts)) }
-    ensures ready { IfOk result (λ r. IsReady r.session.viewer r.session.made (texts_of r.session.texts)) }
+    ensures answer { IfOk result (λ r.
+        IsAsked (texts_of session.texts) (asked_by asked) r.answer (texts_of r.session.texts)) }
+    ensures ready { IfOk result (λ r.
+        IsReady r.session.viewer r.session.made (texts_of r.session.texts)) }
     ensures fault { IfErr result IsOwnFault }
 {
     match asked {
@@ -61,8 +63,10 @@ pub(crate) fn reply<J: Naming + StoreName, R: Wait + Drop, W: Wait, L: AnswerLis
     listener: &mut L,
 ) -> Result<Replied<J>, SessionFault>
     requires ready { IsReady session.viewer session.made (texts_of session.texts) }
-    ensures answer { IfOk result (λ r. IsAnswered (texts_of session.texts) command r.answer (texts_of r.session.texts)) }
-    ensures ready { IfOk result (λ r. IsReady r.session.viewer r.session.made (texts_of r.session.texts)) }
+    ensures answer { IfOk result (λ r.
+        IsAnswered (texts_of session.texts) command r.answer (texts_of r.session.texts)) }
+    ensures ready { IfOk result (λ r.
+        IsReady r.session.viewer r.session.made (texts_of r.session.texts)) }
     ensures fault { IfErr result IsOwnFault }
 {
     match command {

@@ -38,11 +38,17 @@ where
     G: Gate + Drop + Send + Sync + 'static,
     requires source { S.failed_calls source.old < 2 ^ 64 - 1 }
     requires sink { K.failed_calls sink.old < 2 ^ 64 - 1 }
-    ensures written { IsSession (S.remaining source.old) (K.contents sink.old) (K.contents sink.new) result }
-    ensures read { result ≡ Err SessionFault.Read → IsReadFault (S.failed_calls source.old) (S.failed_calls source.new) (S.remaining source.old) }
-    ensures no_read { result ≢ Err SessionFault.Read → S.failed_calls source.new ≡ S.failed_calls source.old }
-    ensures write { result ≡ Err SessionFault.Write → K.failed_calls sink.new ≡ K.failed_calls sink.old + 1 }
-    ensures no_write { result ≢ Err SessionFault.Write → K.failed_calls sink.new ≡ K.failed_calls sink.old }
+    ensures written { IsSession (S.remaining source.old) (K.contents sink.old) (K.contents sink.new)
+        result }
+    ensures read { result ≡ Err SessionFault.Read
+        → IsReadFault (S.failed_calls source.old) (S.failed_calls source.new)
+        (S.remaining source.old) }
+    ensures no_read { result ≢ Err SessionFault.Read
+        → S.failed_calls source.new ≡ S.failed_calls source.old }
+    ensures write { result ≡ Err SessionFault.Write
+        → K.failed_calls sink.new ≡ K.failed_calls sink.old + 1 }
+    ensures no_write { result ≢ Err SessionFault.Write
+        → K.failed_calls sink.new ≡ K.failed_calls sink.old }
 {
     let alloc = rt.alloc();
     let Ok(viewer) = desk.viewer(rt) else {
@@ -86,11 +92,17 @@ where
     requires values { seed.values.values ≡ J.shelves }
     requires source { S.failed_calls source.old < 2 ^ 64 - 1 }
     requires sink { K.failed_calls sink.old < 2 ^ 64 - 1 }
-    ensures written { IsSession (S.remaining source.old) (K.contents sink.old) (K.contents sink.new) result }
-    ensures read { result ≡ Err SessionFault.Read → IsReadFault (S.failed_calls source.old) (S.failed_calls source.new) (S.remaining source.old) }
-    ensures no_read { result ≢ Err SessionFault.Read → S.failed_calls source.new ≡ S.failed_calls source.old }
-    ensures write { result ≡ Err SessionFault.Write → K.failed_calls sink.new ≡ K.failed_calls sink.old + 1 }
-    ensures no_write { result ≢ Err SessionFault.Write → K.failed_calls sink.new ≡ K.failed_calls sink.old }
+    ensures written { IsSession (S.remaining source.old) (K.contents sink.old) (K.contents sink.new)
+        result }
+    ensures read { result ≡ Err SessionFault.Read
+        → IsReadFault (S.failed_calls source.old) (S.failed_calls source.new)
+        (S.remaining source.old) }
+    ensures no_read { result ≢ Err SessionFault.Read
+        → S.failed_calls source.new ≡ S.failed_calls source.old }
+    ensures write { result ≡ Err SessionFault.Write
+        → K.failed_calls sink.new ≡ K.failed_calls sink.old + 1 }
+    ensures no_write { result ≢ Err SessionFault.Write
+        → K.failed_calls sink.new ≡ K.failed_calls sink.old }
 {
     let alloc = rt.alloc();
     let Ok(desk) = seed.desk::<J, R, R>(rt, alloc, *rt) else {
@@ -102,15 +114,17 @@ where
     session_at(rt, &desk, source, sink, listener, workers, gate)
 }
 
-/// Answers the commands of a script one after another, each by one write as soon as its last line feed is read. Whether a
-/// command was refused. So many workers, at most 32, compute the open cells of all tests and models from each edit on. Where
-/// there are none the session runs jobs itself while a question waits for its cells, and these may be jobs of other cells.
-/// What is computed is kept for later questions. The bytes are the same for each number of workers, unless the jobs fill the
-/// store of values. Errors: `Read` where a read failed or the script did not end within 16,777,216 reads that gave bytes,
-/// `Write`, `Memory`, or `Shared` where the desk is not the session's alone; what was written by then is the output of the
-/// first commands, and of the next answer a front where a write failed. A listener hears of each answer behind its write and
-/// of each model that is put or changed, and how far a table is while cells of it are open; a gate hears of each job of a
-/// worker.
+/// Answers the commands of a script one after another, each by one write as soon as its last line
+/// feed is read. Whether a command was refused. So many workers, at most 32, compute the open cells
+/// of all tests and models from each edit on. Where there are none the session runs jobs itself
+/// while a question waits for its cells, and these may be jobs of other cells. What is computed is
+/// kept for later questions. The bytes are the same for each number of workers, unless the jobs
+/// fill the store of values. Errors: `Read` where a read failed or the script did not end within
+/// 16,777,216 reads that gave bytes, `Write`, `Memory`, or `Shared` where the desk is not the
+/// session's alone; what was written by then is the output of the first commands, and of the next
+/// answer a front where a write failed. A listener hears of each answer behind its write and of
+/// each model that is put or changed, and how far a table is while cells of it are open; a gate
+/// hears of each job of a worker.
 pub fn session<R, S, K, L, G>(
     rt: &R,
     source: &mut S,
@@ -127,14 +141,21 @@ where
     G: Gate + Drop + Send + Sync + 'static,
     requires source { S.failed_calls source.old < 2 ^ 64 - 1 }
     requires sink { K.failed_calls sink.old < 2 ^ 64 - 1 }
-    // The output of the script is written, or that of its first commands, with a front of the next answer after `Write`.
-    ensures written { IsSession (S.remaining source.old) (K.contents sink.old) (K.contents sink.new) result }
-    // `Read` comes after one failed read, or where the script has so many bytes that it is taken for one that does not
-    // end; `Write` comes after one failed write, and all else after none.
-    ensures read { result ≡ Err SessionFault.Read → IsReadFault (S.failed_calls source.old) (S.failed_calls source.new) (S.remaining source.old) }
-    ensures no_read { result ≢ Err SessionFault.Read → S.failed_calls source.new ≡ S.failed_calls source.old }
-    ensures write { result ≡ Err SessionFault.Write → K.failed_calls sink.new ≡ K.failed_calls sink.old + 1 }
-    ensures no_write { result ≢ Err SessionFault.Write → K.failed_calls sink.new ≡ K.failed_calls sink.old }
+    // The output of the script is written, or that of its first commands, with a front of the next
+    // answer after `Write`.
+    ensures written { IsSession (S.remaining source.old) (K.contents sink.old) (K.contents sink.new)
+        result }
+    // `Read` comes after one failed read, or where the script has so many bytes that it is taken
+    // for one that does not end; `Write` comes after one failed write, and all else after none.
+    ensures read { result ≡ Err SessionFault.Read
+        → IsReadFault (S.failed_calls source.old) (S.failed_calls source.new)
+        (S.remaining source.old) }
+    ensures no_read { result ≢ Err SessionFault.Read
+        → S.failed_calls source.new ≡ S.failed_calls source.old }
+    ensures write { result ≡ Err SessionFault.Write
+        → K.failed_calls sink.new ≡ K.failed_calls sink.old + 1 }
+    ensures no_write { result ≢ Err SessionFault.Write
+        → K.failed_calls sink.new ≡ K.failed_calls sink.old }
 {
     let Ok(seed) = DeskSeed::new(rt.alloc()) else {
         return Err(SessionFault::Memory);

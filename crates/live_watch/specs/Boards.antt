@@ -17,7 +17,8 @@ use Rattle.live_watch.specs.Lines.{test_table, behind_line}
 use Rattle.live_watch.specs.Edits.{held_of}
 use Rattle.live_watch.specs.Runs.{Standing}
 
--- the viewer has seen these operations, of which it made so many edits: it knows by them that its own texts are these
+-- the viewer has seen these operations, of which it made so many edits: it knows by them that its
+-- own texts are these
 abbrev pub KnowsTexts : List BoardOp → ℕ → BenchTexts → Type 0
 KnowsTexts seen made texts = (made < 2 ^ 64 - 1) × KnowsOwn seen made texts
 
@@ -42,15 +43,18 @@ IsClosedBy ops (Some name) = IsClosed ops name
 abbrev pub shown_lines : List BoardOp → List (Option (List ℕ)) → List (List ℕ)
 shown_lines ops names = map (shown_by ops) names
 
--- These are the lines of the files on the board after these operations, whose cells are closed, and right for its texts.
-pub record AreShown (ops : List BoardOp) (names : List (Option (List ℕ))) (lines : List (List ℕ)) : Type 0 where
+-- These are the lines of the files on the board after these operations, whose cells are closed, and
+-- right for its texts.
+pub record AreShown (ops : List BoardOp) (names : List (Option (List ℕ))) (lines : List (List ℕ))
+    : Type 0 where
   pub are : lines ≡ shown_lines ops names
   pub closed : Each (IsClosedBy ops) names
   pub right : ShowsRightCells ops
   pub legal : IsLegal ops
 
 -- So it is, and the board counts so many edits.
-pub record AreOwn (ops : List BoardOp) (made : ℕ) (names : List (Option (List ℕ))) (lines : List (List ℕ)) : Type 0 where
+pub record AreOwn (ops : List BoardOp) (made : ℕ) (names : List (Option (List ℕ)))
+    (lines : List (List ℕ)) : Type 0 where
   pub shown : AreShown ops names lines
   pub counted : edit_count ops ≡ made
 
@@ -58,6 +62,9 @@ pub record AreOwn (ops : List BoardOp) (made : ℕ) (names : List (Option (List 
 abbrev pub lists_of : List (Vec ℕ Global) → List (List ℕ)
 lists_of lines = map (λ v. v.items) lines
 
--- how things stand with these texts and names, the lines that were last written, and whether a text was refused
-abbrev pub standing_of : Texts → Vec (Option (List ℕ)) Global → Vec (Vec ℕ Global) Global → Bool → Standing
-standing_of texts names lines refused = record { held = held_of texts names; lines = lists_of lines.items; refused = refused }
+-- how things stand with these texts and names, the lines that were last written, and whether a text
+-- was refused
+abbrev pub standing_of : Texts → Vec (Option (List ℕ)) Global → Vec (Vec ℕ Global) Global → Bool
+    → Standing
+standing_of texts names lines refused =
+    record { held = held_of texts names; lines = lists_of lines.items; refused = refused }

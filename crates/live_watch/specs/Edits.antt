@@ -43,7 +43,8 @@ IsMade t e (Some fault) new = IsAnswer fault × Refuses t false e fault × (new 
 -- a version of a file is taken, or refused for that fault, and then what is held stays
 abbrev pub IsVersionTaken : File → (text : List ℕ) → Holding → Option EditFault → Holding → Type 0
 IsVersionTaken file text old None new = IsTaken file text old new
-IsVersionTaken file text old (Some fault) new = IsVersionRefused file text old.texts fault × (new ≡ old)
+IsVersionTaken file text old (Some fault) new =
+    IsVersionRefused file text old.texts fault × (new ≡ old)
 
 -- the edit is of a model
 abbrev pub IsOfModel : Edit → Type 0
@@ -54,7 +55,8 @@ IsOfModel (RemoveItem model item) = Unit {0}
 IsOfModel _ = ⊥
 
 -- these changes make the new items of those of the model
-pub record AreChanges (t : BenchTexts) (new : List Clause) (changes : List ItemChange) : Type 0 where
+pub record AreChanges (t : BenchTexts) (new : List Clause) (changes : List ItemChange)
+    : Type 0 where
   pub model : PlainModel
   pub there : model_named t model_name ≡ Some model
   pub applied : all_applied new changes (map (λ i. i.clause) model.items) ≡ new
@@ -68,4 +70,6 @@ pub record AreParts (t : BenchTexts) (new : Content) (parts : List TestPart) : T
 -- the tests are the same, or another one of that name stands in the place of the first of it
 abbrev pub AreSameBut : (name : List ℕ) → (old new : List Content) → Type 0
 AreSameBut name old new =
-    (new ≡ old) ⊎ ((test : Content) × (test.name ≡ name) × (test_index name old < length old) × (new ≡ put_at (test_index name old) test old))
+    (new ≡ old)
+    ⊎ ((test : Content) × (test.name ≡ name) × (test_index name old < length old)
+    × (new ≡ put_at (test_index name old) test old))

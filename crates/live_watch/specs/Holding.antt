@@ -17,8 +17,8 @@ use Rattle.session_edits.specs.Faults.{IsAnswer}
 abbrev pub model_name : List ℕ
 model_name = codes "model"
 
--- What is held of the files: the texts of the bench, and for the file of each test the name of the test that it holds, or none
--- where no version of it was accepted.
+-- What is held of the files: the texts of the bench, and for the file of each test the name of the
+-- test that it holds, or none where no version of it was accepted.
 pub record Holding : Type 0 where
   pub texts : BenchTexts
   pub names : List (Option (List ℕ))
@@ -45,7 +45,8 @@ pub record FilePath : Type 0 where
 -- the files of tests of these paths, from that index on
 abbrev pub test_files : ℕ → (tests : List (List ℕ)) → List FilePath
 test_files index [] = []
-test_files index (path ∷ tests) = record { file = TestFile index; path = path } ∷ test_files (index + 1) tests
+test_files index (path ∷ tests) =
+    record { file = TestFile index; path = path } ∷ test_files (index + 1) tests
 
 -- all files: that of the model, and those of the tests
 abbrev pub all_files : (model : List ℕ) → (tests : List (List ℕ)) → List FilePath
@@ -59,7 +60,9 @@ path_index path tests = position_or_len (λ t. bytes_eq t path) tests
 abbrev pub file_at : (model : List ℕ) (tests : List (List ℕ)) (path : List ℕ) → Option File
 file_at model tests path =
     if bytes_eq model path then Some ModelFile
-    else (if nat_lt (path_index path tests) (length tests) then Some (TestFile (path_index path tests)) else None)
+    else (if nat_lt (path_index path tests) (length tests) then Some
+    (TestFile (path_index path tests))
+    else None)
 
 -- ---- a version that is accepted
 
@@ -86,22 +89,28 @@ abbrev pub name_at : ℕ → (names : List (Option (List ℕ))) → Option (List
 name_at index names = get_or names index None
 
 -- the tests without the first of a name that a file held, unless a file holds one of that name
-abbrev pub without_unheld : Option (List ℕ) → (names : List (Option (List ℕ))) → List Content → List Content
+abbrev pub without_unheld : Option (List ℕ) → (names : List (Option (List ℕ))) → List Content
+    → List Content
 without_unheld None names tests = tests
-without_unheld (Some name) names tests = if list_any (is_name name) names then tests else remove tests (test_index name tests)
+without_unheld (Some name) names tests =
+    if list_any (is_name name) names then tests else remove tests (test_index name tests)
 
--- the tests that stay where the file of that index holds the test of this name: without the one that it held, if no file holds
--- one of its name then
+-- the tests that stay where the file of that index holds the test of this name: without the one
+-- that it held, if no file holds one of its name then
 abbrev pub tests_left : (index : ℕ) (name : List ℕ) → Holding → List Content
-tests_left index name held = without_unheld (name_at index held.names) (changed_at index (λ old. Some name) held.names) held.texts.tests
+tests_left index name held =
+    without_unheld (name_at index held.names) (changed_at index (λ old. Some name) held.names)
+    held.texts.tests
 
--- Of the file of a test: it holds the test that the text means from then on. This stands in the place of the first of its name
--- among the tests that stay, or behind them, and the model stays.
+-- Of the file of a test: it holds the test that the text means from then on. This stands in the
+-- place of the first of its name among the tests that stay, or behind them, and the model stays.
 pub record IsTestTaken (index : ℕ) (text : List ℕ) (old new : Holding) : Type 0 where
   pub test : Content
   pub reads : ReadsTest text test
   pub names : new.names ≡ changed_at index (λ name. Some test.name) old.names
-  pub tests : new.texts.tests ≡ put_at (test_index test.name (tests_left index test.name old)) test (tests_left index test.name old)
+  pub tests : new.texts.tests
+      ≡ put_at (test_index test.name (tests_left index test.name old)) test
+      (tests_left index test.name old)
   pub models : new.texts.models ≡ old.texts.models
 
 abbrev pub IsTaken : File → (text : List ℕ) → (old new : Holding) → Type 0

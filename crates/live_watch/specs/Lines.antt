@@ -28,7 +28,8 @@ pub record IsResult (t : BenchTexts) (name : List ℕ) (outcome : Outcome) : Typ
   pub model_is : model_named t model_name ≡ Some model
   pub right : IsOutcome test model outcome
 
--- The cell of the test of this name under the model: there is none where one of the two is not there.
+-- The cell of the test of this name under the model: there is none where one of the two is not
+-- there.
 abbrev pub IsTestCell : BenchTexts → (name : List ℕ) → Cell → Type 0
 IsTestCell t name NoCell = (test_named t name ≡ None) ⊎ (model_named t model_name ≡ None)
 IsTestCell t name Open = ⊥
@@ -46,7 +47,8 @@ IsFileLine t None line = line ≡ []
 IsFileLine t (Some name) line = IsTestLine t name line
 
 -- the lines of all files, in their order
-abbrev pub AreLinesOf : BenchTexts → (names : List (Option (List ℕ))) → (lines : List (List ℕ)) → Type 0
+abbrev pub AreLinesOf : BenchTexts → (names : List (Option (List ℕ))) → (lines : List (List ℕ))
+    → Type 0
 AreLinesOf t names lines = AllZip (IsFileLine t) names lines
 
 -- ---- the lines that are written
@@ -54,7 +56,8 @@ AreLinesOf t names lines = AllZip (IsFileLine t) names lines
 abbrev pub changed_line : (last now : List ℕ) → List ℕ
 changed_line last now = if bytes_eq now last then [] else now
 
--- those of the lines that differ from the last that were written of their files, in the order of the files
+-- those of the lines that differ from the last that were written of their files, in the order of
+-- the files
 abbrev pub changed_lines : (lasts nows : List (List ℕ)) → List ℕ
 changed_lines lasts [] = []
 changed_lines [] (now ∷ nows) = now ++ changed_lines [] nows

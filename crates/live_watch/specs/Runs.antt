@@ -17,16 +17,18 @@ abbrev pub line_before : (line : List ℕ) → (lines : List (List ℕ)) → Lis
 line_before [] lines = lines
 line_before (byte ∷ line) lines = (byte ∷ line) ∷ lines
 
--- The lines of these bytes that are not empty, where these stand before them in the first line. Each line ends in a line feed,
--- and the last one may lack it.
+-- The lines of these bytes that are not empty, where these stand before them in the first line.
+-- Each line ends in a line feed, and the last one may lack it.
 abbrev pub lines_from : (front bytes : List ℕ) → List (List ℕ)
 lines_from front [] = line_before front []
-lines_from front (byte ∷ bytes) = if byte == 10 then line_before front (lines_from [] bytes) else lines_from (front ++ byte ∷ []) bytes
+lines_from front (byte ∷ bytes) =
+    if byte == 10 then line_before front (lines_from [] bytes)
+    else lines_from (front ++ byte ∷ []) bytes
 
 -- ---- the answer to a line of the source
 
--- how things stand: what is held of the files, the lines that were last written of the files of tests, in their order, and
--- whether a text was refused so far
+-- how things stand: what is held of the files, the lines that were last written of the files of
+-- tests, in their order, and whether a text was refused so far
 pub record Standing : Type 0 where
   pub held : Holding
   pub lines : List (List ℕ)
@@ -49,65 +51,89 @@ pub record IsSettled (old new : Standing) (before after : List ℕ) : Type 0 whe
   pub right : AreLinesOf new.held.texts new.held.names new.lines
   pub written : AreWritten old.lines new.lines before after
 
--- A text of a file is accepted: what is held changes by it, and the answer is those of the lines that changed, and the number
--- of jobs.
-pub record IsAccepted (file : File) (text : List ℕ) (old new : Standing) (said : List ℕ) : Type 0 where
+-- A text of a file is accepted: what is held changes by it, and the answer is those of the lines
+-- that changed, and the number of jobs.
+pub record IsAccepted (file : File) (text : List ℕ) (old new : Standing) (said : List ℕ)
+    : Type 0 where
   pub held : Holding
   pub taken : IsTaken file text old.held held
   pub settled : IsSettled (with_held held old) new [] said
 
 -- it is refused, and the answer tells why
-pub record IsRefused (file : File) (path text : List ℕ) (old new : Standing) (said : List ℕ) : Type 0 where
+pub record IsRefused (file : File) (path text : List ℕ) (old new : Standing) (said : List ℕ)
+    : Type 0 where
   pub fault : EditFault
   pub refused : IsVersionRefused file text old.held.texts fault
   pub stands : new ≡ with_refusal old
   pub is : said ≡ refusal_of path fault
 
--- The answer to a line that is a path, what was read for it, and how things stand after it, by which file the path is of.
-pub data IsAnswer (path : List ℕ) (old new : Standing) : Option File → (read : List Reading) → (said : List ℕ) → Type 0 where
-  Unwatched : (said : List ℕ) → new ≡ old → said ≡ path ++ (codes ": not watched" ++ 10 ∷ []) → IsAnswer path old new None [] said
-  NotRead : (file : File) (said : List ℕ) → new ≡ old → said ≡ path ++ (codes ": not read" ++ 10 ∷ [])
+-- The answer to a line that is a path, what was read for it, and how things stand after it, by
+-- which file the path is of.
+pub data IsAnswer (path : List ℕ) (old new : Standing)
+    : Option File → (read : List Reading) → (said : List ℕ) → Type 0 where
+  Unwatched : (said : List ℕ) → new ≡ old → said ≡ path ++ (codes ": not watched" ++ 10 ∷ [])
+      → IsAnswer path old new None [] said
+  NotRead : (file : File) (said : List ℕ) → new ≡ old
+      → said ≡ path ++ (codes ": not read" ++ 10 ∷ [])
       → IsAnswer path old new (Some file) (record { path = path; version = Unread } ∷ []) said
-  Refused : (file : File) (text : Vec ℕ Global) (said : List ℕ) → IsRefused file path text.items old new said
+  Refused : (file : File) (text : Vec ℕ Global) (said : List ℕ)
+      → IsRefused file path text.items old new said
       → IsAnswer path old new (Some file) (record { path = path; version = Text text } ∷ []) said
-  Accepted : (file : File) (text : Vec ℕ Global) (said : List ℕ) → IsAccepted file text.items old new said
+  Accepted : (file : File) (text : Vec ℕ Global) (said : List ℕ)
+      → IsAccepted file text.items old new said
       → IsAnswer path old new (Some file) (record { path = path; version = Text text } ∷ []) said
 
 -- the answers to lines of the source, one after another
-pub data AreAnswers (model : List ℕ) (tests : List (List ℕ)) : (lines : List (List ℕ)) (old new : Standing) (read : List Reading) (said : List ℕ) → Type 0 where
+pub data AreAnswers (model : List ℕ) (tests : List (List ℕ))
+    : (lines : List (List ℕ)) (old new : Standing) (read : List Reading) (said : List ℕ)
+    → Type 0 where
   NoAnswer : (standing : Standing) → AreAnswers model tests [] standing standing [] []
-  OneMore : (lines : List (List ℕ)) (line : List ℕ) (old middle new : Standing) (read more : List Reading) (text said : List ℕ)
-      → AreAnswers model tests lines old middle read text → IsAnswer line middle new (file_at model tests line) more said
+  OneMore : (lines : List (List ℕ)) (line : List ℕ) (old middle new : Standing)
+      (read more : List Reading) (text said : List ℕ)
+      → AreAnswers model tests lines old middle read text
+      → IsAnswer line middle new (file_at model tests line) more said
       → AreAnswers model tests (lines ++ line ∷ []) old new (read ++ more) (text ++ said)
 
 -- ---- the beginning of a run
 
--- before the first version of any file, of so many of tests, where these lines were the last that were written
+-- before the first version of any file, of so many of tests, where these lines were the last that
+-- were written
 abbrev pub at_first : (count : ℕ) → (lasts : List (List ℕ)) → Standing
 at_first count lasts = record { held = nothing_held count; lines = lasts; refused = false }
 
--- the first versions of some files, one after another: each is accepted, or it is told why it is refused
-pub data AreBegun : List FilePath → (old new : Standing) (read : List Reading) (told : List ℕ) → Type 0 where
+-- the first versions of some files, one after another: each is accepted, or it is told why it is
+-- refused
+pub data AreBegun
+    : List FilePath → (old new : Standing) (read : List Reading) (told : List ℕ) → Type 0 where
   NoFile : (standing : Standing) → AreBegun [] standing standing [] []
-  Begun : (files : List FilePath) (file : FilePath) (text : Vec ℕ Global) (old middle : Standing) (held : Holding) (read : List Reading) (told : List ℕ)
+  Begun : (files : List FilePath) (file : FilePath) (text : Vec ℕ Global) (old middle : Standing)
+      (held : Holding) (read : List Reading) (told : List ℕ)
       → AreBegun files old middle read told → IsTaken file.file text.items middle.held held
-      → AreBegun (files ++ file ∷ []) old (with_held held middle) (read ++ record { path = file.path; version = Text text } ∷ []) told
-  NotBegun : (files : List FilePath) (file : FilePath) (text : Vec ℕ Global) (old middle : Standing) (read : List Reading) (told : List ℕ) (fault : EditFault)
-      → AreBegun files old middle read told → IsVersionRefused file.file text.items middle.held.texts fault
-      → AreBegun (files ++ file ∷ []) old (with_refusal middle) (read ++ record { path = file.path; version = Text text } ∷ []) (told ++ refusal_of file.path fault)
+      → AreBegun (files ++ file ∷ []) old (with_held held middle)
+      (read ++ record { path = file.path; version = Text text } ∷ []) told
+  NotBegun : (files : List FilePath) (file : FilePath) (text : Vec ℕ Global) (old middle : Standing)
+      (read : List Reading) (told : List ℕ) (fault : EditFault)
+      → AreBegun files old middle read told
+      → IsVersionRefused file.file text.items middle.held.texts fault
+      → AreBegun (files ++ file ∷ []) old (with_refusal middle)
+      (read ++ record { path = file.path; version = Text text } ∷ [])
+      (told ++ refusal_of file.path fault)
 
--- What is written at the start: what is told of the first versions that are refused, the line of each test, and the number of
--- jobs.
-pub record IsBegun (model : List ℕ) (tests lasts : List (List ℕ)) (new : Standing) (read : List Reading) (said : List ℕ) : Type 0 where
+-- What is written at the start: what is told of the first versions that are refused, the line of
+-- each test, and the number of jobs.
+pub record IsBegun (model : List ℕ) (tests lasts : List (List ℕ)) (new : Standing)
+    (read : List Reading) (said : List ℕ) : Type 0 where
   pub told : List ℕ
   pub middle : Standing
   pub begun : AreBegun (all_files model tests) (at_first (length tests) lasts) middle read told
   pub settled : IsSettled middle new told said
 
--- A whole run over the files of these paths is written: its beginning, and an answer to each line of the source that is not
--- empty, where it is known which bytes it had. Before it these lines were the last that were written. It is told what it read
--- of the files, and whether a text was refused.
-pub record IsRun (model : List ℕ) (tests lasts : List (List ℕ)) (refused : Bool) (source : Option (List ℕ)) (read_before read_after : Option (List Reading)) (before after : Option (List ℕ)) : Type 0 where
+-- A whole run over the files of these paths is written: its beginning, and an answer to each line
+-- of the source that is not empty, where it is known which bytes it had. Before it these lines were
+-- the last that were written. It is told what it read of the files, and whether a text was refused.
+pub record IsRun (model : List ℕ) (tests lasts : List (List ℕ)) (refused : Bool)
+    (source : Option (List ℕ)) (read_before read_after : Option (List Reading))
+    (before after : Option (List ℕ)) : Type 0 where
   pub begins : Standing
   pub ends : Standing
   pub first_read : List Reading
@@ -124,22 +150,29 @@ pub record IsRun (model : List ℕ) (tests lasts : List (List ℕ)) (refused : B
 
 -- ---- what was written before a fault
 
--- these are the first lines of the source behind the first part of its first line, where it is known which bytes it had
+-- these are the first lines of the source behind the first part of its first line, where it is
+-- known which bytes it had
 abbrev pub AreFrontOf : (front : List ℕ) → (source : Option (List ℕ)) → List (List ℕ) → Type 0
-AreFrontOf front source lines = (bytes : List ℕ) → source ≡ Some bytes → (more : List (List ℕ)) × (lines_from front bytes ≡ lines ++ more)
+AreFrontOf front source lines =
+    (bytes : List ℕ) → source ≡ Some bytes
+    → (more : List (List ℕ)) × (lines_from front bytes ≡ lines ++ more)
 
--- What a run writes up to a line of the source, of these readings, and how many more it makes at most for what it writes next:
--- nothing yet, and next the start, for which it reads each file; or the start and then the answers to the first lines, and next
--- the answer to one line.
-pub data IsRunText (model : List ℕ) (tests lasts : List (List ℕ)) (source : Option (List ℕ)) : (read : List Reading) (most : ℕ) (text : List ℕ) → Type 0 where
+-- What a run writes up to a line of the source, of these readings, and how many more it makes at
+-- most for what it writes next: nothing yet, and next the start, for which it reads each file; or
+-- the start and then the answers to the first lines, and next the answer to one line.
+pub data IsRunText (model : List ℕ) (tests lasts : List (List ℕ)) (source : Option (List ℕ))
+    : (read : List Reading) (most : ℕ) (text : List ℕ) → Type 0 where
   NothingYet : IsRunText model tests lasts source [] (length (all_files model tests)) []
-  FirstLines : (begins ends : Standing) (first_read read : List Reading) (first text : List ℕ) (lines : List (List ℕ))
-      → IsBegun model tests lasts begins first_read first → AreAnswers model tests lines begins ends read text → AreFrontOf [] source lines
+  FirstLines : (begins ends : Standing) (first_read read : List Reading) (first text : List ℕ)
+      (lines : List (List ℕ))
+      → IsBegun model tests lasts begins first_read first
+      → AreAnswers model tests lines begins ends read text → AreFrontOf [] source lines
       → IsRunText model tests lasts source (first_read ++ read) 1 (first ++ text)
 
--- A run over the files of these paths ended by a fault: what was written is a front of such a text, of what was read first. The
--- other readings were made for what was to be written next.
-pub record IsCut (model : List ℕ) (tests lasts : List (List ℕ)) (source : Option (List ℕ)) (read_before read_after : Option (List Reading)) (before after : Option (List ℕ)) : Type 0 where
+-- A run over the files of these paths ended by a fault: what was written is a front of such a text,
+-- of what was read first. The other readings were made for what was to be written next.
+pub record IsCut (model : List ℕ) (tests lasts : List (List ℕ)) (source : Option (List ℕ))
+    (read_before read_after : Option (List Reading)) (before after : Option (List ℕ)) : Type 0 where
   pub read : List Reading
   pub more : List Reading
   pub most : ℕ
@@ -152,18 +185,23 @@ pub record IsCut (model : List ℕ) (tests lasts : List (List ℕ)) (source : Op
 -- ---- parts of a run
 
 -- what is said of a text of a file, which is accepted or refused
-pub data IsTextAnswer (file : File) (path text : List ℕ) (old new : Standing) (said : List ℕ) : Type 0 where
+pub data IsTextAnswer (file : File) (path text : List ℕ) (old new : Standing) (said : List ℕ)
+    : Type 0 where
   TextAccepted : IsAccepted file text old new said → IsTextAnswer file path text old new said
   TextRefused : IsRefused file path text old new said → IsTextAnswer file path text old new said
 
 -- a text is taken, by whether it is accepted: what is told gains why it is refused
-pub data IsNoted (file : File) (path text : List ℕ) (old new : Standing) (before after : List ℕ) : Bool → Type 0 where
-  NotedTaken : (held : Holding) → IsTaken file text old.held held → new ≡ with_held held old → after ≡ before → IsNoted file path text old new before after true
-  NotedRefused : (fault : EditFault) → IsVersionRefused file text old.held.texts fault → new ≡ with_refusal old → after ≡ before ++ refusal_of path fault
+pub data IsNoted (file : File) (path text : List ℕ) (old new : Standing) (before after : List ℕ)
+    : Bool → Type 0 where
+  NotedTaken : (held : Holding) → IsTaken file text old.held held → new ≡ with_held held old
+      → after ≡ before → IsNoted file path text old new before after true
+  NotedRefused : (fault : EditFault) → IsVersionRefused file text old.held.texts fault
+      → new ≡ with_refusal old → after ≡ before ++ refusal_of path fault
       → IsNoted file path text old new before after false
 
 -- lines for which this holds were answered, and files read for them
-pub record HasAnswers (model : List ℕ) (tests : List (List ℕ)) (asks : List (List ℕ) → Type 0) (old new : Standing)
+pub record HasAnswers (model : List ℕ) (tests : List (List ℕ)) (asks : List (List ℕ) → Type 0)
+    (old new : Standing)
     (read_before read_after : Option (List Reading)) (before after : Option (List ℕ)) : Type 0 where
   pub lines : List (List ℕ)
   pub asked : asks lines
@@ -173,9 +211,10 @@ pub record HasAnswers (model : List ℕ) (tests : List (List ℕ)) (asks : List 
   pub reads : AreRead read_before read_after read
   pub gains : Appends before after text
 
--- Answers to lines for which this holds were made, for which files were read, and a front of them was written. For the next
--- line a file was read at most once.
-pub record HasFront (model : List ℕ) (tests : List (List ℕ)) (asks : List (List ℕ) → Type 0) (old : Standing)
+-- Answers to lines for which this holds were made, for which files were read, and a front of them
+-- was written. For the next line a file was read at most once.
+pub record HasFront (model : List ℕ) (tests : List (List ℕ)) (asks : List (List ℕ) → Type 0)
+    (old : Standing)
     (read_before read_after : Option (List Reading)) (before after : Option (List ℕ)) : Type 0 where
   pub lines : List (List ℕ)
   pub asked : asks lines
@@ -188,47 +227,59 @@ pub record HasFront (model : List ℕ) (tests : List (List ℕ)) (asks : List (L
   pub reads : AreRead read_before read_after (read ++ more)
   pub front : WritesFront before after text
 
--- first lines: of one that may be empty; of those that end in these bytes, behind the first part of the first
+-- first lines: of one that may be empty; of those that end in these bytes, behind the first part of
+-- the first
 abbrev pub IsFrontLine : (line : List ℕ) → List (List ℕ) → Type 0
 IsFrontLine line lines = (more : List (List ℕ)) × (line_before line [] ≡ lines ++ more)
 
 abbrev pub AreFrontIn : (front bytes : List ℕ) → List (List ℕ) → Type 0
-AreFrontIn front bytes lines = (rest : List ℕ) → (more : List (List ℕ)) × (lines_from front (bytes ++ rest) ≡ lines ++ more)
+AreFrontIn front bytes lines =
+    (rest : List ℕ) → (more : List (List ℕ)) × (lines_from front (bytes ++ rest) ≡ lines ++ more)
 
 -- it is the line, if it is not empty
 abbrev pub IsLine : (line : List ℕ) → List (List ℕ) → Type 0
 IsLine line lines = lines ≡ line_before line []
 
--- the lines that end in these bytes, behind the first part of the first, where the second part is left
+-- the lines that end in these bytes, behind the first part of the first, where the second part is
+-- left
 abbrev pub AreIn : (front bytes left : List ℕ) → List (List ℕ) → Type 0
-AreIn front bytes left lines = (rest : List ℕ) → lines_from front (bytes ++ rest) ≡ lines ++ lines_from left rest
+AreIn front bytes left lines =
+    (rest : List ℕ) → lines_from front (bytes ++ rest) ≡ lines ++ lines_from left rest
 
 -- the lines that a turn answers, where the source goes on or ends, and where its bytes are known
-abbrev pub AreOfTurn : (goes_on : Bool) → (front left : List ℕ) → (before after : Option (List ℕ)) → List (List ℕ) → Type 0
+abbrev pub AreOfTurn : (goes_on : Bool) → (front left : List ℕ) → (before after : Option (List ℕ))
+    → List (List ℕ) → Type 0
 AreOfTurn true front left before after lines =
-    (bytes : List ℕ) → before ≡ Some bytes → (rest : List ℕ) × (after ≡ Some rest) × (lines_from front bytes ≡ lines ++ lines_from left rest)
-AreOfTurn false front left before after lines = (bytes : List ℕ) → before ≡ Some bytes → lines ≡ lines_from front bytes
+    (bytes : List ℕ) → before ≡ Some bytes
+    → (rest : List ℕ) × (after ≡ Some rest)
+    × (lines_from front bytes ≡ lines ++ lines_from left rest)
+AreOfTurn false front left before after lines =
+    (bytes : List ℕ) → before ≡ Some bytes → lines ≡ lines_from front bytes
 
 -- all lines of the source
 abbrev pub AreAll : (source : Option (List ℕ)) → List (List ℕ) → Type 0
 AreAll source lines = (bytes : List ℕ) → source ≡ Some bytes → lines ≡ lines_from [] bytes
 
 -- a line was answered, for which this was read
-pub record IsAnswered (path : List ℕ) (file : Option File) (old new : Standing) (read_before read_after : Option (List Reading)) (said : List ℕ) : Type 0 where
+pub record IsAnswered (path : List ℕ) (file : Option File) (old new : Standing)
+    (read_before read_after : Option (List Reading)) (said : List ℕ) : Type 0 where
   pub read : List Reading
   pub answer : IsAnswer path old new file read said
   pub reads : AreRead read_before read_after read
 
 -- some files were begun, for which these were read, and what is told of them stands behind what was
-pub record HasBegun (files : List FilePath) (old new : Standing) (read_before read_after : Option (List Reading)) (told : List ℕ) : Type 0 where
+pub record HasBegun (files : List FilePath) (old new : Standing)
+    (read_before read_after : Option (List Reading)) (told : List ℕ) : Type 0 where
   pub read : List Reading
   pub begun : AreBegun files old new read told
   pub reads : AreRead read_before read_after read
 
 -- one file more was
-abbrev pub BeginsFile : FilePath → (old new : Standing) → (read_before read_after : Option (List Reading)) → (before after : List ℕ) → Type 0
+abbrev pub BeginsFile : FilePath → (old new : Standing)
+    → (read_before read_after : Option (List Reading)) → (before after : List ℕ) → Type 0
 BeginsFile file old new read_before read_after before after =
-    (text : Vec ℕ Global) × AreRead read_before read_after (record { path = file.path; version = Text text } ∷ [])
+    (text : Vec ℕ Global)
+    × AreRead read_before read_after (record { path = file.path; version = Text text } ∷ [])
     × (accepted : Bool) × IsNoted file.file file.path text.items old new before after accepted
 
 -- a run was begun, for which these were read

@@ -83,7 +83,8 @@ fn put_said(text: &mut Vec<u8>, name: &[u8], said: &[u8]) -> Result<(), AllocErr
 
 // The file that a line names, and its path.
 fn watched_path<'a>(paths: Paths<'a>, line: &[u8]) -> Option<(WatchedFile, &'a str)>
-    ensures file { option_map (λ f. file_of f.0) result ≡ file_at (model_path paths.entry) (test_paths paths.entry) line.now }
+    ensures file { option_map (λ f. file_of f.0) result
+        ≡ file_at (model_path paths.entry) (test_paths paths.entry) line.now }
     ensures path { IfSome result (λ f. f.1.now ≡ line.now) }
 {
     if paths.model.as_bytes() == line {
@@ -121,10 +122,14 @@ impl<'a, 'd, J: Naming + StoreName, R: Wait + Drop> Run<'a, 'd, J, R> {
         file: WatchedFile,
         version: Vec<u8>,
     ) -> Result<Option<EditFault>, AllocError>
-        requires ready { KnowsTexts self.old.watched.viewer self.old.watched.made (texts_of self.old.watched.texts) }
-        ensures ready { OnOk result (KnowsTexts self.new.watched.viewer self.new.watched.made (texts_of self.new.watched.texts)) }
+        requires ready { KnowsTexts self.old.watched.viewer self.old.watched.made
+            (texts_of self.old.watched.texts) }
+        ensures ready { OnOk result (KnowsTexts self.new.watched.viewer self.new.watched.made
+            (texts_of self.new.watched.texts)) }
         ensures paths { self.new.paths ≡ self.old.paths }
-        ensures taken { IfOk result (λ o. IsVersionTaken (file_of file) version.items (held_of self.old.watched.texts self.old.watched.names) o (held_of self.new.watched.texts self.new.watched.names)) }
+        ensures taken { IfOk result (λ o. IsVersionTaken (file_of file) version.items
+            (held_of self.old.watched.texts self.old.watched.names) o
+            (held_of self.new.watched.texts self.new.watched.names)) }
         ensures lines { self.new.lines ≡ self.old.lines }
         ensures refused { self.new.is_refused ≡ self.old.is_refused }
     {
@@ -144,10 +149,16 @@ impl<'a, 'd, J: Naming + StoreName, R: Wait + Drop> Run<'a, 'd, J, R> {
         version: Vec<u8>,
         text: &mut Vec<u8>,
     ) -> Result<bool, AllocError>
-        requires ready { KnowsTexts self.old.watched.viewer self.old.watched.made (texts_of self.old.watched.texts) }
-        ensures ready { OnOk result (KnowsTexts self.new.watched.viewer self.new.watched.made (texts_of self.new.watched.texts)) }
+        requires ready { KnowsTexts self.old.watched.viewer self.old.watched.made
+            (texts_of self.old.watched.texts) }
+        ensures ready { OnOk result (KnowsTexts self.new.watched.viewer self.new.watched.made
+            (texts_of self.new.watched.texts)) }
         ensures paths { self.new.paths ≡ self.old.paths }
-        ensures noted { IfOk result (IsNoted (file_of file) path.now version.items (standing_of self.old.watched.texts self.old.watched.names self.old.lines self.old.is_refused) (standing_of self.new.watched.texts self.new.watched.names self.new.lines self.new.is_refused) text.old.items text.new.items) }
+        ensures noted { IfOk result (IsNoted (file_of file) path.now version.items
+            (standing_of self.old.watched.texts self.old.watched.names self.old.lines
+            self.old.is_refused)
+            (standing_of self.new.watched.texts self.new.watched.names self.new.lines
+            self.new.is_refused) text.old.items text.new.items) }
     {
         match self.take(rt, alloc, file, version)? {
             Some(fault) => {
@@ -166,11 +177,17 @@ impl<'a, 'd, J: Naming + StoreName, R: Wait + Drop> Run<'a, 'd, J, R> {
         alloc: Global,
         text: &mut Vec<u8>,
     ) -> Result<(), SessionFault>
-        requires ready { KnowsTexts self.old.watched.viewer self.old.watched.made (texts_of self.old.watched.texts) }
-        ensures ready { OnOk result (KnowsTexts self.new.watched.viewer self.new.watched.made (texts_of self.new.watched.texts)) }
+        requires ready { KnowsTexts self.old.watched.viewer self.old.watched.made
+            (texts_of self.old.watched.texts) }
+        ensures ready { OnOk result (KnowsTexts self.new.watched.viewer self.new.watched.made
+            (texts_of self.new.watched.texts)) }
         ensures paths { self.new.paths ≡ self.old.paths }
         ensures fault { OnErr result (result ≡ Err SessionFault.Memory) }
-        ensures settled { OnOk result (IsSettled (standing_of self.old.watched.texts self.old.watched.names self.old.lines self.old.is_refused) (standing_of self.new.watched.texts self.new.watched.names self.new.lines self.new.is_refused) text.old.items text.new.items) }
+        ensures settled { OnOk result (IsSettled
+            (standing_of self.old.watched.texts self.old.watched.names self.old.lines
+            self.old.is_refused)
+            (standing_of self.new.watched.texts self.new.watched.names self.new.lines
+            self.new.is_refused) text.old.items text.new.items) }
     {
         let (jobs, lines) = self.watched.settled_lines(rt, alloc, &self.hands)?;
         memory(put_answer(text, &self.lines, &lines, jobs))?;
@@ -188,13 +205,22 @@ impl<'a, 'd, J: Naming + StoreName, R: Wait + Drop> Run<'a, 'd, J, R> {
         path: &str,
         text: &mut Vec<u8>,
     ) -> Result<(), SessionFault>
-        requires ready { KnowsTexts self.old.watched.viewer self.old.watched.made (texts_of self.old.watched.texts) }
-        ensures ready { OnOk result (KnowsTexts self.new.watched.viewer self.new.watched.made (texts_of self.new.watched.texts)) }
+        requires ready { KnowsTexts self.old.watched.viewer self.old.watched.made
+            (texts_of self.old.watched.texts) }
+        ensures ready { OnOk result (KnowsTexts self.new.watched.viewer self.new.watched.made
+            (texts_of self.new.watched.texts)) }
         ensures paths { self.new.paths ≡ self.old.paths }
         ensures fault { result ≢ Err SessionFault.Write }
         ensures unshared { result ≢ Err SessionFault.Shared }
-        ensures begun { OnOk result (BeginsFile (record { file = file_of file; path = path.now }) (standing_of self.old.watched.texts self.old.watched.names self.old.lines self.old.is_refused) (standing_of self.new.watched.texts self.new.watched.names self.new.lines self.new.is_refused) (V.readings versions.old) (V.readings versions.new) text.old.items text.new.items) }
-        ensures readings { OnErr result (HasReadAtMost 1 (V.readings versions.old) (V.readings versions.new)) }
+        ensures begun { OnOk result (BeginsFile (record { file = file_of file; path = path.now })
+            (standing_of self.old.watched.texts self.old.watched.names self.old.lines
+            self.old.is_refused)
+            (standing_of self.new.watched.texts self.new.watched.names self.new.lines
+            self.new.is_refused)
+            (V.readings versions.old)
+            (V.readings versions.new) text.old.items text.new.items) }
+        ensures readings { OnErr result (HasReadAtMost 1 (V.readings versions.old)
+            (V.readings versions.new)) }
     {
         match versions.version(alloc, path) {
             Version::Text(version) => {
@@ -214,13 +240,24 @@ impl<'a, 'd, J: Naming + StoreName, R: Wait + Drop> Run<'a, 'd, J, R> {
         versions: &mut V,
         paths: Paths<'a>,
     ) -> Result<Vec<u8>, SessionFault>
-        requires ready { KnowsTexts self.old.watched.viewer self.old.watched.made (texts_of self.old.watched.texts) }
-        ensures ready { OnOk result (KnowsTexts self.new.watched.viewer self.new.watched.made (texts_of self.new.watched.texts)) }
+        requires ready { KnowsTexts self.old.watched.viewer self.old.watched.made
+            (texts_of self.old.watched.texts) }
+        ensures ready { OnOk result (KnowsTexts self.new.watched.viewer self.new.watched.made
+            (texts_of self.new.watched.texts)) }
         ensures paths { self.new.paths ≡ self.old.paths }
         ensures fault { result ≢ Err SessionFault.Write }
         ensures unshared { result ≢ Err SessionFault.Shared }
-        ensures begun { IfOk result (λ t. HasBegun (all_files (model_path paths.entry) (test_paths paths.entry)) (standing_of self.old.watched.texts self.old.watched.names self.old.lines self.old.is_refused) (standing_of self.new.watched.texts self.new.watched.names self.new.lines self.new.is_refused) (V.readings versions.old) (V.readings versions.new) t.items) }
-        ensures readings { OnErr result (HasReadAtMost (length (all_files (model_path paths.entry) (test_paths paths.entry))) (V.readings versions.old) (V.readings versions.new)) }
+        ensures begun { IfOk result (λ t. HasBegun
+            (all_files (model_path paths.entry) (test_paths paths.entry))
+            (standing_of self.old.watched.texts self.old.watched.names self.old.lines
+            self.old.is_refused)
+            (standing_of self.new.watched.texts self.new.watched.names self.new.lines
+            self.new.is_refused)
+            (V.readings versions.old)
+            (V.readings versions.new) t.items) }
+        ensures readings { OnErr result (HasReadAtMost
+            (length (all_files (model_path paths.entry) (test_paths paths.entry)))
+            (V.readings versions.old) (V.readings versions.new)) }
     {
         let mut text = Vec::new(alloc);
         self.begin_file(
@@ -246,14 +283,25 @@ impl<'a, 'd, J: Naming + StoreName, R: Wait + Drop> Run<'a, 'd, J, R> {
         alloc: Global,
         versions: &mut V,
     ) -> Result<Vec<u8>, SessionFault>
-        requires ready { KnowsTexts self.old.watched.viewer self.old.watched.made (texts_of self.old.watched.texts) }
-        requires first { (standing_of self.old.watched.texts self.old.watched.names self.old.lines self.old.is_refused) ≡ at_first (length (test_paths self.old.paths)) (lists_of self.old.lines.items) }
-        ensures ready { OnOk result (KnowsTexts self.new.watched.viewer self.new.watched.made (texts_of self.new.watched.texts)) }
+        requires ready { KnowsTexts self.old.watched.viewer self.old.watched.made
+            (texts_of self.old.watched.texts) }
+        requires first { (standing_of self.old.watched.texts self.old.watched.names self.old.lines
+            self.old.is_refused)
+            ≡ at_first (length (test_paths self.old.paths)) (lists_of self.old.lines.items) }
+        ensures ready { OnOk result (KnowsTexts self.new.watched.viewer self.new.watched.made
+            (texts_of self.new.watched.texts)) }
         ensures paths { self.new.paths ≡ self.old.paths }
         ensures fault { result ≢ Err SessionFault.Write }
         ensures unshared { result ≢ Err SessionFault.Shared }
-        ensures begun { IfOk result (λ t. HasBegunRun (model_path self.old.paths) (test_paths self.old.paths) (lists_of self.old.lines.items) (standing_of self.new.watched.texts self.new.watched.names self.new.lines self.new.is_refused) (V.readings versions.old) (V.readings versions.new) t.items) }
-        ensures readings { OnErr result (HasReadAtMost (length (all_files (model_path self.old.paths) (test_paths self.old.paths))) (V.readings versions.old) (V.readings versions.new)) }
+        ensures begun { IfOk result (λ t. HasBegunRun (model_path self.old.paths)
+            (test_paths self.old.paths) (lists_of self.old.lines.items)
+            (standing_of self.new.watched.texts self.new.watched.names self.new.lines
+            self.new.is_refused)
+            (V.readings versions.old)
+            (V.readings versions.new) t.items) }
+        ensures readings { OnErr result (HasReadAtMost
+            (length (all_files (model_path self.old.paths) (test_paths self.old.paths)))
+            (V.readings versions.old) (V.readings versions.new)) }
     {
         let paths = self.paths;
         let mut text = self.begin_files(rt, alloc, versions, paths)?;
@@ -270,11 +318,17 @@ impl<'a, 'd, J: Naming + StoreName, R: Wait + Drop> Run<'a, 'd, J, R> {
         path: &[u8],
         version: Vec<u8>,
     ) -> Result<Vec<u8>, SessionFault>
-        requires ready { KnowsTexts self.old.watched.viewer self.old.watched.made (texts_of self.old.watched.texts) }
-        ensures ready { OnOk result (KnowsTexts self.new.watched.viewer self.new.watched.made (texts_of self.new.watched.texts)) }
+        requires ready { KnowsTexts self.old.watched.viewer self.old.watched.made
+            (texts_of self.old.watched.texts) }
+        ensures ready { OnOk result (KnowsTexts self.new.watched.viewer self.new.watched.made
+            (texts_of self.new.watched.texts)) }
         ensures paths { self.new.paths ≡ self.old.paths }
         ensures fault { OnErr result (result ≡ Err SessionFault.Memory) }
-        ensures answer { IfOk result (λ t. IsTextAnswer (file_of file) path.now version.items (standing_of self.old.watched.texts self.old.watched.names self.old.lines self.old.is_refused) (standing_of self.new.watched.texts self.new.watched.names self.new.lines self.new.is_refused) t.items) }
+        ensures answer { IfOk result (λ t. IsTextAnswer (file_of file) path.now version.items
+            (standing_of self.old.watched.texts self.old.watched.names self.old.lines
+            self.old.is_refused)
+            (standing_of self.new.watched.texts self.new.watched.names self.new.lines
+            self.new.is_refused) t.items) }
     {
         let mut text = Vec::new(alloc);
         let is_accepted = memory(self.accept(rt, alloc, file, path, version, &mut text))?;
@@ -294,11 +348,19 @@ impl<'a, 'd, J: Naming + StoreName, R: Wait + Drop> Run<'a, 'd, J, R> {
         path: &[u8],
         version: Version,
     ) -> Result<Vec<u8>, SessionFault>
-        requires ready { KnowsTexts self.old.watched.viewer self.old.watched.made (texts_of self.old.watched.texts) }
-        ensures ready { OnOk result (KnowsTexts self.new.watched.viewer self.new.watched.made (texts_of self.new.watched.texts)) }
+        requires ready { KnowsTexts self.old.watched.viewer self.old.watched.made
+            (texts_of self.old.watched.texts) }
+        ensures ready { OnOk result (KnowsTexts self.new.watched.viewer self.new.watched.made
+            (texts_of self.new.watched.texts)) }
         ensures paths { self.new.paths ≡ self.old.paths }
         ensures fault { OnErr result (result ≡ Err SessionFault.Memory) }
-        ensures answer { IfOk result (λ t. IsAnswer path.now (standing_of self.old.watched.texts self.old.watched.names self.old.lines self.old.is_refused) (standing_of self.new.watched.texts self.new.watched.names self.new.lines self.new.is_refused) (Some (file_of file)) (record { path = path.now; version = version } ∷ []) t.items) }
+        ensures answer { IfOk result (λ t. IsAnswer path.now
+            (standing_of self.old.watched.texts self.old.watched.names self.old.lines
+            self.old.is_refused)
+            (standing_of self.new.watched.texts self.new.watched.names self.new.lines
+            self.new.is_refused)
+            (Some (file_of file))
+            (record { path = path.now; version = version } ∷ []) t.items) }
     {
         match version {
             Version::Text(version) => self.answer_text(rt, alloc, file, path, version),
@@ -319,12 +381,22 @@ impl<'a, 'd, J: Naming + StoreName, R: Wait + Drop> Run<'a, 'd, J, R> {
         versions: &mut V,
         line: &[u8],
     ) -> Result<Vec<u8>, SessionFault>
-        requires ready { KnowsTexts self.old.watched.viewer self.old.watched.made (texts_of self.old.watched.texts) }
-        ensures ready { OnOk result (KnowsTexts self.new.watched.viewer self.new.watched.made (texts_of self.new.watched.texts)) }
+        requires ready { KnowsTexts self.old.watched.viewer self.old.watched.made
+            (texts_of self.old.watched.texts) }
+        ensures ready { OnOk result (KnowsTexts self.new.watched.viewer self.new.watched.made
+            (texts_of self.new.watched.texts)) }
         ensures paths { self.new.paths ≡ self.old.paths }
         ensures fault { OnErr result (result ≡ Err SessionFault.Memory) }
-        ensures answer { IfOk result (λ t. IsAnswered line.now (file_at (model_path self.old.paths) (test_paths self.old.paths) line.now) (standing_of self.old.watched.texts self.old.watched.names self.old.lines self.old.is_refused) (standing_of self.new.watched.texts self.new.watched.names self.new.lines self.new.is_refused) (V.readings versions.old) (V.readings versions.new) t.items) }
-        ensures readings { OnErr result (HasReadAtMost 1 (V.readings versions.old) (V.readings versions.new)) }
+        ensures answer { IfOk result (λ t. IsAnswered line.now
+            (file_at (model_path self.old.paths) (test_paths self.old.paths) line.now)
+            (standing_of self.old.watched.texts self.old.watched.names self.old.lines
+            self.old.is_refused)
+            (standing_of self.new.watched.texts self.new.watched.names self.new.lines
+            self.new.is_refused)
+            (V.readings versions.old)
+            (V.readings versions.new) t.items) }
+        ensures readings { OnErr result (HasReadAtMost 1 (V.readings versions.old)
+            (V.readings versions.new)) }
     {
         let paths = self.paths;
         match watched_path(paths, line) {
@@ -349,18 +421,38 @@ impl<'a, 'd, J: Naming + StoreName, R: Wait + Drop> Run<'a, 'd, J, R> {
         line: &[u8],
         sink: &mut K,
     ) -> Result<(), SessionFault>
-        requires ready { KnowsTexts self.old.watched.viewer self.old.watched.made (texts_of self.old.watched.texts) }
+        requires ready { KnowsTexts self.old.watched.viewer self.old.watched.made
+            (texts_of self.old.watched.texts) }
         requires sink { K.failed_calls sink.old < 2 ^ 64 - 1 }
-        ensures ready { OnOk result (KnowsTexts self.new.watched.viewer self.new.watched.made (texts_of self.new.watched.texts)) }
+        ensures ready { OnOk result (KnowsTexts self.new.watched.viewer self.new.watched.made
+            (texts_of self.new.watched.texts)) }
         ensures paths { self.new.paths ≡ self.old.paths }
         ensures writes { OnOk result (K.failed_calls sink.new ≡ K.failed_calls sink.old) }
-        ensures wrote { result ≡ Err SessionFault.Write → K.failed_calls sink.new ≡ K.failed_calls sink.old + 1 }
-        ensures cut { OnErr result (HasFront (model_path self.old.paths) (test_paths self.old.paths) (IsFrontLine line.now) (standing_of self.old.watched.texts self.old.watched.names self.old.lines self.old.is_refused) (V.readings versions.old) (V.readings versions.new) (K.contents sink.old) (K.contents sink.new)) }
-        ensures unfailed { result ≢ Err SessionFault.Write → K.failed_calls sink.new ≡ K.failed_calls sink.old }
+        ensures wrote { result ≡ Err SessionFault.Write
+            → K.failed_calls sink.new ≡ K.failed_calls sink.old + 1 }
+        ensures cut { OnErr result (HasFront (model_path self.old.paths) (test_paths self.old.paths)
+            (IsFrontLine line.now)
+            (standing_of self.old.watched.texts self.old.watched.names self.old.lines
+            self.old.is_refused)
+            (V.readings versions.old)
+            (V.readings versions.new)
+            (K.contents sink.old)
+            (K.contents sink.new)) }
+        ensures unfailed { result ≢ Err SessionFault.Write
+            → K.failed_calls sink.new ≡ K.failed_calls sink.old }
         ensures unread { result ≢ Err SessionFault.Read }
         ensures unshared { result ≢ Err SessionFault.Shared }
         // nothing for an empty line, and else one write, of what is answered to it
-        ensures answers { OnOk result (HasAnswers (model_path self.old.paths) (test_paths self.old.paths) (IsLine line.now) (standing_of self.old.watched.texts self.old.watched.names self.old.lines self.old.is_refused) (standing_of self.new.watched.texts self.new.watched.names self.new.lines self.new.is_refused) (V.readings versions.old) (V.readings versions.new) (K.contents sink.old) (K.contents sink.new)) }
+        ensures answers { OnOk result (HasAnswers (model_path self.old.paths)
+            (test_paths self.old.paths) (IsLine line.now)
+            (standing_of self.old.watched.texts self.old.watched.names self.old.lines
+            self.old.is_refused)
+            (standing_of self.new.watched.texts self.new.watched.names self.new.lines
+            self.new.is_refused)
+            (V.readings versions.old)
+            (V.readings versions.new)
+            (K.contents sink.old)
+            (K.contents sink.new)) }
     {
         if line.is_empty() {
             return Ok(());
@@ -380,15 +472,35 @@ impl<'a, 'd, J: Naming + StoreName, R: Wait + Drop> Run<'a, 'd, J, R> {
         byte: u8,
         sink: &mut K,
     ) -> Result<(), SessionFault>
-        requires ready { KnowsTexts self.old.watched.viewer self.old.watched.made (texts_of self.old.watched.texts) }
+        requires ready { KnowsTexts self.old.watched.viewer self.old.watched.made
+            (texts_of self.old.watched.texts) }
         requires sink { K.failed_calls sink.old < 2 ^ 64 - 1 }
-        ensures ready { OnOk result (KnowsTexts self.new.watched.viewer self.new.watched.made (texts_of self.new.watched.texts)) }
+        ensures ready { OnOk result (KnowsTexts self.new.watched.viewer self.new.watched.made
+            (texts_of self.new.watched.texts)) }
         ensures paths { self.new.paths ≡ self.old.paths }
         ensures writes { OnOk result (K.failed_calls sink.new ≡ K.failed_calls sink.old) }
-        ensures wrote { result ≡ Err SessionFault.Write → K.failed_calls sink.new ≡ K.failed_calls sink.old + 1 }
-        ensures answers { OnOk result (HasAnswers (model_path self.old.paths) (test_paths self.old.paths) (AreIn line.old.items (byte ∷ []) line.new.items) (standing_of self.old.watched.texts self.old.watched.names self.old.lines self.old.is_refused) (standing_of self.new.watched.texts self.new.watched.names self.new.lines self.new.is_refused) (V.readings versions.old) (V.readings versions.new) (K.contents sink.old) (K.contents sink.new)) }
-        ensures cut { OnErr result (HasFront (model_path self.old.paths) (test_paths self.old.paths) (AreFrontIn line.old.items (byte ∷ [])) (standing_of self.old.watched.texts self.old.watched.names self.old.lines self.old.is_refused) (V.readings versions.old) (V.readings versions.new) (K.contents sink.old) (K.contents sink.new)) }
-        ensures unfailed { result ≢ Err SessionFault.Write → K.failed_calls sink.new ≡ K.failed_calls sink.old }
+        ensures wrote { result ≡ Err SessionFault.Write
+            → K.failed_calls sink.new ≡ K.failed_calls sink.old + 1 }
+        ensures answers { OnOk result (HasAnswers (model_path self.old.paths)
+            (test_paths self.old.paths) (AreIn line.old.items (byte ∷ []) line.new.items)
+            (standing_of self.old.watched.texts self.old.watched.names self.old.lines
+            self.old.is_refused)
+            (standing_of self.new.watched.texts self.new.watched.names self.new.lines
+            self.new.is_refused)
+            (V.readings versions.old)
+            (V.readings versions.new)
+            (K.contents sink.old)
+            (K.contents sink.new)) }
+        ensures cut { OnErr result (HasFront (model_path self.old.paths) (test_paths self.old.paths)
+            (AreFrontIn line.old.items (byte ∷ []))
+            (standing_of self.old.watched.texts self.old.watched.names self.old.lines
+            self.old.is_refused)
+            (V.readings versions.old)
+            (V.readings versions.new)
+            (K.contents sink.old)
+            (K.contents sink.new)) }
+        ensures unfailed { result ≢ Err SessionFault.Write
+            → K.failed_calls sink.new ≡ K.failed_calls sink.old }
         ensures unread { result ≢ Err SessionFault.Read }
         ensures unshared { result ≢ Err SessionFault.Shared }
     {
@@ -411,15 +523,35 @@ impl<'a, 'd, J: Naming + StoreName, R: Wait + Drop> Run<'a, 'd, J, R> {
         bytes: &[u8],
         sink: &mut K,
     ) -> Result<(), SessionFault>
-        requires ready { KnowsTexts self.old.watched.viewer self.old.watched.made (texts_of self.old.watched.texts) }
+        requires ready { KnowsTexts self.old.watched.viewer self.old.watched.made
+            (texts_of self.old.watched.texts) }
         requires sink { K.failed_calls sink.old < 2 ^ 64 - 1 }
-        ensures ready { OnOk result (KnowsTexts self.new.watched.viewer self.new.watched.made (texts_of self.new.watched.texts)) }
+        ensures ready { OnOk result (KnowsTexts self.new.watched.viewer self.new.watched.made
+            (texts_of self.new.watched.texts)) }
         ensures paths { self.new.paths ≡ self.old.paths }
         ensures writes { OnOk result (K.failed_calls sink.new ≡ K.failed_calls sink.old) }
-        ensures wrote { result ≡ Err SessionFault.Write → K.failed_calls sink.new ≡ K.failed_calls sink.old + 1 }
-        ensures answers { OnOk result (HasAnswers (model_path self.old.paths) (test_paths self.old.paths) (AreIn line.old.items bytes.now line.new.items) (standing_of self.old.watched.texts self.old.watched.names self.old.lines self.old.is_refused) (standing_of self.new.watched.texts self.new.watched.names self.new.lines self.new.is_refused) (V.readings versions.old) (V.readings versions.new) (K.contents sink.old) (K.contents sink.new)) }
-        ensures cut { OnErr result (HasFront (model_path self.old.paths) (test_paths self.old.paths) (AreFrontIn line.old.items bytes.now) (standing_of self.old.watched.texts self.old.watched.names self.old.lines self.old.is_refused) (V.readings versions.old) (V.readings versions.new) (K.contents sink.old) (K.contents sink.new)) }
-        ensures unfailed { result ≢ Err SessionFault.Write → K.failed_calls sink.new ≡ K.failed_calls sink.old }
+        ensures wrote { result ≡ Err SessionFault.Write
+            → K.failed_calls sink.new ≡ K.failed_calls sink.old + 1 }
+        ensures answers { OnOk result (HasAnswers (model_path self.old.paths)
+            (test_paths self.old.paths) (AreIn line.old.items bytes.now line.new.items)
+            (standing_of self.old.watched.texts self.old.watched.names self.old.lines
+            self.old.is_refused)
+            (standing_of self.new.watched.texts self.new.watched.names self.new.lines
+            self.new.is_refused)
+            (V.readings versions.old)
+            (V.readings versions.new)
+            (K.contents sink.old)
+            (K.contents sink.new)) }
+        ensures cut { OnErr result (HasFront (model_path self.old.paths) (test_paths self.old.paths)
+            (AreFrontIn line.old.items bytes.now)
+            (standing_of self.old.watched.texts self.old.watched.names self.old.lines
+            self.old.is_refused)
+            (V.readings versions.old)
+            (V.readings versions.new)
+            (K.contents sink.old)
+            (K.contents sink.new)) }
+        ensures unfailed { result ≢ Err SessionFault.Write
+            → K.failed_calls sink.new ≡ K.failed_calls sink.old }
         ensures unread { result ≢ Err SessionFault.Read }
         ensures unshared { result ≢ Err SessionFault.Shared }
     {
@@ -429,7 +561,8 @@ impl<'a, 'd, J: Naming + StoreName, R: Wait + Drop> Run<'a, 'd, J, R> {
         Ok(())
     }
 
-    // Reads once, and answers the lines that end in what was read, or the last one at the end. Whether the source goes on.
+    // Reads once, and answers the lines that end in what was read, or the last one at the end.
+    // Whether the source goes on.
     fn take_turn<W: Wait, V: Versions, S: ByteSource, K: ByteSink>(
         &mut self,
         rt: &W,
@@ -439,18 +572,41 @@ impl<'a, 'd, J: Naming + StoreName, R: Wait + Drop> Run<'a, 'd, J, R> {
         source: &mut S,
         sink: &mut K,
     ) -> Result<bool, SessionFault>
-        requires ready { KnowsTexts self.old.watched.viewer self.old.watched.made (texts_of self.old.watched.texts) }
+        requires ready { KnowsTexts self.old.watched.viewer self.old.watched.made
+            (texts_of self.old.watched.texts) }
         requires source { S.failed_calls source.old < 2 ^ 64 - 1 }
         requires sink { K.failed_calls sink.old < 2 ^ 64 - 1 }
-        ensures ready { OnOk result (KnowsTexts self.new.watched.viewer self.new.watched.made (texts_of self.new.watched.texts)) }
+        ensures ready { OnOk result (KnowsTexts self.new.watched.viewer self.new.watched.made
+            (texts_of self.new.watched.texts)) }
         ensures paths { self.new.paths ≡ self.old.paths }
         ensures reads { OnOk result (S.failed_calls source.new ≡ S.failed_calls source.old) }
         ensures writes { OnOk result (K.failed_calls sink.new ≡ K.failed_calls sink.old) }
-        ensures wrote { result ≡ Err SessionFault.Write → K.failed_calls sink.new ≡ K.failed_calls sink.old + 1 }
-        ensures answers { IfOk result (λ goes_on. HasAnswers (model_path self.old.paths) (test_paths self.old.paths) (AreOfTurn goes_on line.old.items line.new.items (S.remaining source.old) (S.remaining source.new)) (standing_of self.old.watched.texts self.old.watched.names self.old.lines self.old.is_refused) (standing_of self.new.watched.texts self.new.watched.names self.new.lines self.new.is_refused) (V.readings versions.old) (V.readings versions.new) (K.contents sink.old) (K.contents sink.new)) }
-        ensures cut { OnErr result (HasFront (model_path self.old.paths) (test_paths self.old.paths) (AreFrontOf line.old.items (S.remaining source.old)) (standing_of self.old.watched.texts self.old.watched.names self.old.lines self.old.is_refused) (V.readings versions.old) (V.readings versions.new) (K.contents sink.old) (K.contents sink.new)) }
-        ensures unfailed { result ≢ Err SessionFault.Write → K.failed_calls sink.new ≡ K.failed_calls sink.old }
-        ensures unread { result ≢ Err SessionFault.Read → S.failed_calls source.new ≡ S.failed_calls source.old }
+        ensures wrote { result ≡ Err SessionFault.Write
+            → K.failed_calls sink.new ≡ K.failed_calls sink.old + 1 }
+        ensures answers { IfOk result (λ goes_on. HasAnswers (model_path self.old.paths)
+            (test_paths self.old.paths)
+            (AreOfTurn goes_on line.old.items line.new.items (S.remaining source.old)
+            (S.remaining source.new))
+            (standing_of self.old.watched.texts self.old.watched.names self.old.lines
+            self.old.is_refused)
+            (standing_of self.new.watched.texts self.new.watched.names self.new.lines
+            self.new.is_refused)
+            (V.readings versions.old)
+            (V.readings versions.new)
+            (K.contents sink.old)
+            (K.contents sink.new)) }
+        ensures cut { OnErr result (HasFront (model_path self.old.paths) (test_paths self.old.paths)
+            (AreFrontOf line.old.items (S.remaining source.old))
+            (standing_of self.old.watched.texts self.old.watched.names self.old.lines
+            self.old.is_refused)
+            (V.readings versions.old)
+            (V.readings versions.new)
+            (K.contents sink.old)
+            (K.contents sink.new)) }
+        ensures unfailed { result ≢ Err SessionFault.Write
+            → K.failed_calls sink.new ≡ K.failed_calls sink.old }
+        ensures unread { result ≢ Err SessionFault.Read
+            → S.failed_calls source.new ≡ S.failed_calls source.old }
         ensures unshared { result ≢ Err SessionFault.Shared }
     {
         let mut buffer = [0u8; 4096];
@@ -476,18 +632,39 @@ impl<'a, 'd, J: Naming + StoreName, R: Wait + Drop> Run<'a, 'd, J, R> {
         source: &mut S,
         sink: &mut K,
     ) -> Result<(), SessionFault>
-        requires ready { KnowsTexts self.old.watched.viewer self.old.watched.made (texts_of self.old.watched.texts) }
+        requires ready { KnowsTexts self.old.watched.viewer self.old.watched.made
+            (texts_of self.old.watched.texts) }
         requires source { S.failed_calls source.old < 2 ^ 64 - 1 }
         requires sink { K.failed_calls sink.old < 2 ^ 64 - 1 }
-        ensures ready { OnOk result (KnowsTexts self.new.watched.viewer self.new.watched.made (texts_of self.new.watched.texts)) }
+        ensures ready { OnOk result (KnowsTexts self.new.watched.viewer self.new.watched.made
+            (texts_of self.new.watched.texts)) }
         ensures paths { self.new.paths ≡ self.old.paths }
         ensures reads { OnOk result (S.failed_calls source.new ≡ S.failed_calls source.old) }
         ensures writes { OnOk result (K.failed_calls sink.new ≡ K.failed_calls sink.old) }
-        ensures wrote { result ≡ Err SessionFault.Write → K.failed_calls sink.new ≡ K.failed_calls sink.old + 1 }
-        ensures answers { OnOk result (HasAnswers (model_path self.old.paths) (test_paths self.old.paths) (AreAll (S.remaining source.old)) (standing_of self.old.watched.texts self.old.watched.names self.old.lines self.old.is_refused) (standing_of self.new.watched.texts self.new.watched.names self.new.lines self.new.is_refused) (V.readings versions.old) (V.readings versions.new) (K.contents sink.old) (K.contents sink.new)) }
-        ensures cut { OnErr result (HasFront (model_path self.old.paths) (test_paths self.old.paths) (AreFrontOf [] (S.remaining source.old)) (standing_of self.old.watched.texts self.old.watched.names self.old.lines self.old.is_refused) (V.readings versions.old) (V.readings versions.new) (K.contents sink.old) (K.contents sink.new)) }
-        ensures unfailed { result ≢ Err SessionFault.Write → K.failed_calls sink.new ≡ K.failed_calls sink.old }
-        ensures unread { result ≢ Err SessionFault.Read → S.failed_calls source.new ≡ S.failed_calls source.old }
+        ensures wrote { result ≡ Err SessionFault.Write
+            → K.failed_calls sink.new ≡ K.failed_calls sink.old + 1 }
+        ensures answers { OnOk result (HasAnswers (model_path self.old.paths)
+            (test_paths self.old.paths) (AreAll (S.remaining source.old))
+            (standing_of self.old.watched.texts self.old.watched.names self.old.lines
+            self.old.is_refused)
+            (standing_of self.new.watched.texts self.new.watched.names self.new.lines
+            self.new.is_refused)
+            (V.readings versions.old)
+            (V.readings versions.new)
+            (K.contents sink.old)
+            (K.contents sink.new)) }
+        ensures cut { OnErr result (HasFront (model_path self.old.paths) (test_paths self.old.paths)
+            (AreFrontOf [] (S.remaining source.old))
+            (standing_of self.old.watched.texts self.old.watched.names self.old.lines
+            self.old.is_refused)
+            (V.readings versions.old)
+            (V.readings versions.new)
+            (K.contents sink.old)
+            (K.contents sink.new)) }
+        ensures unfailed { result ≢ Err SessionFault.Write
+            → K.failed_calls sink.new ≡ K.failed_calls sink.old }
+        ensures unread { result ≢ Err SessionFault.Read
+            → S.failed_calls source.new ≡ S.failed_calls source.old }
         ensures unshared { result ≢ Err SessionFault.Shared }
     {
         let mut line = Vec::new(alloc);
@@ -500,8 +677,8 @@ impl<'a, 'd, J: Naming + StoreName, R: Wait + Drop> Run<'a, 'd, J, R> {
         Err(SessionFault::Read)
     }
 
-    /// Takes the first versions and writes what came of them, and then answers the lines of a source until it ends. Whether a
-    /// text was refused.
+    /// Takes the first versions and writes what came of them, and then answers the lines of a
+    /// source until it ends. Whether a text was refused.
     pub fn answer_all<W: Wait, V: Versions, S: ByteSource, K: ByteSink>(
         &mut self,
         rt: &W,
@@ -510,17 +687,28 @@ impl<'a, 'd, J: Naming + StoreName, R: Wait + Drop> Run<'a, 'd, J, R> {
         source: &mut S,
         sink: &mut K,
     ) -> Result<bool, SessionFault>
-        requires ready { KnowsTexts self.old.watched.viewer self.old.watched.made (texts_of self.old.watched.texts) }
-        requires first { (standing_of self.old.watched.texts self.old.watched.names self.old.lines self.old.is_refused) ≡ at_first (length (test_paths self.old.paths)) (lists_of self.old.lines.items) }
+        requires ready { KnowsTexts self.old.watched.viewer self.old.watched.made
+            (texts_of self.old.watched.texts) }
+        requires first { (standing_of self.old.watched.texts self.old.watched.names self.old.lines
+            self.old.is_refused)
+            ≡ at_first (length (test_paths self.old.paths)) (lists_of self.old.lines.items) }
         requires source { S.failed_calls source.old < 2 ^ 64 - 1 }
         requires sink { K.failed_calls sink.old < 2 ^ 64 - 1 }
         ensures reads { OnOk result (S.failed_calls source.new ≡ S.failed_calls source.old) }
         ensures writes { OnOk result (K.failed_calls sink.new ≡ K.failed_calls sink.old) }
-        ensures wrote { result ≡ Err SessionFault.Write → K.failed_calls sink.new ≡ K.failed_calls sink.old + 1 }
-        ensures run { IfOk result (λ refused. IsRun (model_path self.old.paths) (test_paths self.old.paths) (lists_of self.old.lines.items) refused (S.remaining source.old) (V.readings versions.old) (V.readings versions.new) (K.contents sink.old) (K.contents sink.new)) }
-        ensures cut { OnErr result (IsCut (model_path self.old.paths) (test_paths self.old.paths) (lists_of self.old.lines.items) (S.remaining source.old) (V.readings versions.old) (V.readings versions.new) (K.contents sink.old) (K.contents sink.new)) }
-        ensures unfailed { result ≢ Err SessionFault.Write → K.failed_calls sink.new ≡ K.failed_calls sink.old }
-        ensures unread { result ≢ Err SessionFault.Read → S.failed_calls source.new ≡ S.failed_calls source.old }
+        ensures wrote { result ≡ Err SessionFault.Write
+            → K.failed_calls sink.new ≡ K.failed_calls sink.old + 1 }
+        ensures run { IfOk result (λ refused. IsRun (model_path self.old.paths)
+            (test_paths self.old.paths) (lists_of self.old.lines.items) refused
+            (S.remaining source.old) (V.readings versions.old) (V.readings versions.new)
+            (K.contents sink.old) (K.contents sink.new)) }
+        ensures cut { OnErr result (IsCut (model_path self.old.paths) (test_paths self.old.paths)
+            (lists_of self.old.lines.items) (S.remaining source.old) (V.readings versions.old)
+            (V.readings versions.new) (K.contents sink.old) (K.contents sink.new)) }
+        ensures unfailed { result ≢ Err SessionFault.Write
+            → K.failed_calls sink.new ≡ K.failed_calls sink.old }
+        ensures unread { result ≢ Err SessionFault.Read
+            → S.failed_calls source.new ≡ S.failed_calls source.old }
         ensures unshared { result ≢ Err SessionFault.Shared }
     {
         let text = self.begin(rt, alloc, versions)?;

@@ -65,7 +65,8 @@ fn is_full(fault: &EditFault) -> bool {
     }
 }
 
-// Gives an edit to the desk, which tells the viewer, and says its number. Errors: out of memory, also where a worker gave up.
+// Gives an edit to the desk, which tells the viewer, and says its number. Errors: out of memory,
+// also where a worker gave up.
 fn give_edit<J: Naming + StoreName, R: Wait + Drop, W: Wait>(
     rt: &W,
     desk: &RunningDesk<J, R>,
@@ -82,7 +83,8 @@ fn give_edit<J: Naming + StoreName, R: Wait + Drop, W: Wait>(
 
 // The model, if it is there.
 fn held_model<'t>(texts: &'t Texts) -> Option<&'t NamedModel>
-    ensures { option_map (λ m. model_of m.now) result ≡ model_named (texts_of texts.now) model_name }
+    ensures { option_map (λ m. model_of m.now) result
+        ≡ model_named (texts_of texts.now) model_name }
 {
     let index = texts.model_index(model_name());
     texts.models().get(index)
@@ -102,7 +104,8 @@ fn changes_to(
     texts: &Texts,
     new: &ModelText,
 ) -> Result<Option<Vec<ItemChange>>, AllocError>
-    ensures { IfOk result (λ o. IfSome o (λ cs. AreChanges (texts_of texts.now) (clauses_of new.now.items.items) cs.items)) }
+    ensures { IfOk result (λ o. IfSome o (λ cs.
+        AreChanges (texts_of texts.now) (clauses_of new.now.items.items) cs.items)) }
 {
     match held_model(texts) {
         Some(model) => Ok(Some(item_changes(alloc, &model.text().items, &new.items)?)),
@@ -112,7 +115,8 @@ fn changes_to(
 
 // Whether the model has just the items of this one.
 fn holds_items(alloc: Global, texts: &Texts, new: &ModelText) -> Result<bool, AllocError>
-    ensures { IfOk result (λ is. IsTrue is → HoldsItems (clauses_of new.now.items.items) (texts_of texts.now)) }
+    ensures { IfOk result (λ is. IsTrue is
+        → HoldsItems (clauses_of new.now.items.items) (texts_of texts.now)) }
 {
     match changes_to(alloc, texts, new)? {
         Some(changes) => Ok(changes.is_empty()),
@@ -136,10 +140,12 @@ fn edit_to(
     }
 }
 
-// The parts that differ from the test of this name, or none where there is no such test or it has another shape.
+// The parts that differ from the test of this name, or none where there is no such test or it has
+// another shape.
 #[tactic(auto, using(crate::proofs::Taking::parts_of))]
 fn parts_to(alloc: Global, texts: &Texts, new: &Test) -> Result<Option<Vec<TestPart>>, AllocError>
-    ensures { IfOk result (λ o. IfSome o (λ ps. AreParts (texts_of texts.now) (content_of new.now) ps.items)) }
+    ensures { IfOk result (λ o.
+        IfSome o (λ ps. AreParts (texts_of texts.now) (content_of new.now) ps.items)) }
 {
     let old = match held_test(texts, new.name.as_bytes()) {
         Some(old) => old,
@@ -153,7 +159,8 @@ fn parts_to(alloc: Global, texts: &Texts, new: &Test) -> Result<Option<Vec<TestP
 
 // Whether the first test of this name is this one.
 fn holds_test(alloc: Global, texts: &Texts, new: &Test) -> Result<bool, AllocError>
-    ensures { IfOk result (λ is. IsTrue is → test_named (texts_of texts.now) new.now.name ≡ Some (content_of new.now)) }
+    ensures { IfOk result (λ is. IsTrue is
+        → test_named (texts_of texts.now) new.now.name ≡ Some (content_of new.now)) }
 {
     match parts_to(alloc, texts, new)? {
         Some(parts) => Ok(parts.is_empty()),
@@ -193,7 +200,8 @@ fn is_alone(names: &[Option<Name>], index: usize, name: &Name) -> bool {
     true
 }
 
-// Whether the test that the file of that index holds goes where it holds the one of this name from now on.
+// Whether the test that the file of that index holds goes where it holds the one of this name from
+// now on.
 fn is_leaving(names: &[Option<Name>], index: usize, new: &Name) -> bool {
     match names.get(index) {
         Some(Some(old)) => !old.is_same(new) && is_alone(names, index, old),
@@ -215,8 +223,8 @@ fn put_name(names: &mut Vec<Option<Name>>, index: usize, name: Name) -> Option<N
 }
 
 impl<'d, J: Naming + StoreName, R: Wait + Drop> Watched<'d, J, R> {
-    // Makes an edit of the texts, and at the desk. Why it is refused, if it is. Errors: out of memory, also where a worker gave
-    // up.
+    // Makes an edit of the texts, and at the desk. Why it is refused, if it is. Errors: out of
+    // memory, also where a worker gave up.
     fn make<W: Wait>(
         &mut self,
         rt: &W,
@@ -224,8 +232,10 @@ impl<'d, J: Naming + StoreName, R: Wait + Drop> Watched<'d, J, R> {
         edit: Edit,
     ) -> Result<Option<EditFault>, AllocError>
         requires ready { KnowsTexts self.old.viewer self.old.made (texts_of self.old.texts) }
-        ensures ready { OnOk result (KnowsTexts self.new.viewer self.new.made (texts_of self.new.texts)) }
-        ensures made { IfOk result (λ o. IsMade (texts_of self.old.texts) (edit_of edit) o (texts_of self.new.texts)) }
+        ensures ready { OnOk result (KnowsTexts self.new.viewer self.new.made
+            (texts_of self.new.texts)) }
+        ensures made { IfOk result (λ o.
+            IsMade (texts_of self.old.texts) (edit_of edit) o (texts_of self.new.texts)) }
         ensures names { self.new.names ≡ self.old.names }
     {
         own_edits_are_known(&self.texts);
@@ -246,7 +256,8 @@ impl<'d, J: Naming + StoreName, R: Wait + Drop> Watched<'d, J, R> {
     fn refusal(&mut self, alloc: Global, edit: &Edit) -> Result<Option<EditFault>, AllocError>
         requires ready { KnowsTexts self.old.viewer self.old.made (texts_of self.old.texts) }
         ensures ready { KnowsTexts self.new.viewer self.new.made (texts_of self.new.texts) }
-        ensures fault { IfOk result (λ o. IfSome o (λ fault. IsAnswer fault × Refuses (texts_of self.old.texts) false (edit_of edit.now) fault)) }
+        ensures fault { IfOk result (λ o. IfSome o (λ fault. IsAnswer fault
+            × Refuses (texts_of self.old.texts) false (edit_of edit.now) fault)) }
         ensures texts { texts_of self.new.texts ≡ texts_of self.old.texts }
         ensures names { self.new.names ≡ self.old.names }
     {
@@ -266,8 +277,10 @@ impl<'d, J: Naming + StoreName, R: Wait + Drop> Watched<'d, J, R> {
         change: ItemChange,
     ) -> Result<bool, AllocError>
         requires ready { KnowsTexts self.old.viewer self.old.made (texts_of self.old.texts) }
-        ensures ready { OnOk result (KnowsTexts self.new.viewer self.new.made (texts_of self.new.texts)) }
-        ensures tests { OnOk result ((texts_of self.new.texts).tests ≡ (texts_of self.old.texts).tests) }
+        ensures ready { OnOk result (KnowsTexts self.new.viewer self.new.made
+            (texts_of self.new.texts)) }
+        ensures tests { OnOk result ((texts_of self.new.texts).tests
+            ≡ (texts_of self.old.texts).tests) }
         ensures names { self.new.names ≡ self.old.names }
     {
         match edit_to(alloc, &self.texts, new, change)? {
@@ -287,8 +300,10 @@ impl<'d, J: Naming + StoreName, R: Wait + Drop> Watched<'d, J, R> {
         new: &ModelText,
     ) -> Result<(), AllocError>
         requires ready { KnowsTexts self.old.viewer self.old.made (texts_of self.old.texts) }
-        ensures ready { OnOk result (KnowsTexts self.new.viewer self.new.made (texts_of self.new.texts)) }
-        ensures tests { OnOk result ((texts_of self.new.texts).tests ≡ (texts_of self.old.texts).tests) }
+        ensures ready { OnOk result (KnowsTexts self.new.viewer self.new.made
+            (texts_of self.new.texts)) }
+        ensures tests { OnOk result ((texts_of self.new.texts).tests
+            ≡ (texts_of self.old.texts).tests) }
         ensures names { self.new.names ≡ self.old.names }
     {
         let changes = match changes_to(alloc, &self.texts, new)? {
@@ -304,8 +319,8 @@ impl<'d, J: Naming + StoreName, R: Wait + Drop> Watched<'d, J, R> {
         Ok(())
     }
 
-    // Makes the model this one, item by item or as a whole, where the bench accepts the whole. Errors: out of memory, also where
-    // the edits end otherwise, which they do not.
+    // Makes the model this one, item by item or as a whole, where the bench accepts the whole.
+    // Errors: out of memory, also where the edits end otherwise, which they do not.
     fn put_items<W: Wait>(
         &mut self,
         rt: &W,
@@ -315,9 +330,12 @@ impl<'d, J: Naming + StoreName, R: Wait + Drop> Watched<'d, J, R> {
     ) -> Result<(), AllocError>
         requires ready { KnowsTexts self.old.viewer self.old.made (texts_of self.old.texts) }
         requires whole { IsOfModel (edit_of whole) }
-        ensures ready { OnOk result (KnowsTexts self.new.viewer self.new.made (texts_of self.new.texts)) }
-        ensures items { OnOk result (HoldsItems (clauses_of new.now.items.items) (texts_of self.new.texts)) }
-        ensures tests { OnOk result ((texts_of self.new.texts).tests ≡ (texts_of self.old.texts).tests) }
+        ensures ready { OnOk result (KnowsTexts self.new.viewer self.new.made
+            (texts_of self.new.texts)) }
+        ensures items { OnOk result (HoldsItems (clauses_of new.now.items.items)
+            (texts_of self.new.texts)) }
+        ensures tests { OnOk result ((texts_of self.new.texts).tests
+            ≡ (texts_of self.old.texts).tests) }
         ensures names { self.new.names ≡ self.old.names }
     {
         self.change_items(rt, alloc, new)?;
@@ -340,8 +358,10 @@ impl<'d, J: Naming + StoreName, R: Wait + Drop> Watched<'d, J, R> {
         text: Vec<u8>,
     ) -> Result<Option<EditFault>, AllocError>
         requires ready { KnowsTexts self.old.viewer self.old.made (texts_of self.old.texts) }
-        ensures ready { OnOk result (KnowsTexts self.new.viewer self.new.made (texts_of self.new.texts)) }
-        ensures taken { IfOk result (λ o. IsVersionTaken ModelFile text.items (held_of self.old.texts self.old.names) o (held_of self.new.texts self.new.names)) }
+        ensures ready { OnOk result (KnowsTexts self.new.viewer self.new.made
+            (texts_of self.new.texts)) }
+        ensures taken { IfOk result (λ o. IsVersionTaken ModelFile text.items
+            (held_of self.old.texts self.old.names) o (held_of self.new.texts self.new.names)) }
     {
         let whole = Edit::PutModel {
             model: Vec::from_slice(alloc, model_name())?,
@@ -368,9 +388,12 @@ impl<'d, J: Naming + StoreName, R: Wait + Drop> Watched<'d, J, R> {
         part: TestPart,
     ) -> Result<bool, AllocError>
         requires ready { KnowsTexts self.old.viewer self.old.made (texts_of self.old.texts) }
-        ensures ready { OnOk result (KnowsTexts self.new.viewer self.new.made (texts_of self.new.texts)) }
-        ensures tests { OnOk result (AreSameBut new.now.name (texts_of self.old.texts).tests (texts_of self.new.texts).tests) }
-        ensures models { OnOk result ((texts_of self.new.texts).models ≡ (texts_of self.old.texts).models) }
+        ensures ready { OnOk result (KnowsTexts self.new.viewer self.new.made
+            (texts_of self.new.texts)) }
+        ensures tests { OnOk result (AreSameBut new.now.name (texts_of self.old.texts).tests
+            (texts_of self.new.texts).tests) }
+        ensures models { OnOk result ((texts_of self.new.texts).models
+            ≡ (texts_of self.old.texts).models) }
         ensures names { self.new.names ≡ self.old.names }
     {
         let edit = part_edit(alloc, new, part)?;
@@ -381,9 +404,12 @@ impl<'d, J: Naming + StoreName, R: Wait + Drop> Watched<'d, J, R> {
     // Makes the test of this name this one, part by part, as far as the parts are accepted.
     fn change_parts<W: Wait>(&mut self, rt: &W, alloc: Global, new: &Test) -> Result<(), AllocError>
         requires ready { KnowsTexts self.old.viewer self.old.made (texts_of self.old.texts) }
-        ensures ready { OnOk result (KnowsTexts self.new.viewer self.new.made (texts_of self.new.texts)) }
-        ensures tests { OnOk result (AreSameBut new.now.name (texts_of self.old.texts).tests (texts_of self.new.texts).tests) }
-        ensures models { OnOk result ((texts_of self.new.texts).models ≡ (texts_of self.old.texts).models) }
+        ensures ready { OnOk result (KnowsTexts self.new.viewer self.new.made
+            (texts_of self.new.texts)) }
+        ensures tests { OnOk result (AreSameBut new.now.name (texts_of self.old.texts).tests
+            (texts_of self.new.texts).tests) }
+        ensures models { OnOk result ((texts_of self.new.texts).models
+            ≡ (texts_of self.old.texts).models) }
         ensures names { self.new.names ≡ self.old.names }
     {
         let parts = match parts_to(alloc, &self.texts, new)? {
@@ -399,8 +425,8 @@ impl<'d, J: Naming + StoreName, R: Wait + Drop> Watched<'d, J, R> {
         Ok(())
     }
 
-    // Makes the test of this name this one, part by part or as a whole, where the bench accepts the whole. Errors: out of memory,
-    // also where it does not accept it.
+    // Makes the test of this name this one, part by part or as a whole, where the bench accepts the
+    // whole. Errors: out of memory, also where it does not accept it.
     fn put_test<W: Wait>(
         &mut self,
         rt: &W,
@@ -410,9 +436,13 @@ impl<'d, J: Naming + StoreName, R: Wait + Drop> Watched<'d, J, R> {
     ) -> Result<(), AllocError>
         requires ready { KnowsTexts self.old.viewer self.old.made (texts_of self.old.texts) }
         requires only { (c : Content) → ReadsTest text.items c → content_of new.now ≡ c }
-        ensures ready { OnOk result (KnowsTexts self.new.viewer self.new.made (texts_of self.new.texts)) }
-        ensures tests { OnOk result ((texts_of self.new.texts).tests ≡ put_at (test_index new.now.name (texts_of self.old.texts).tests) (content_of new.now) (texts_of self.old.texts).tests) }
-        ensures models { OnOk result ((texts_of self.new.texts).models ≡ (texts_of self.old.texts).models) }
+        ensures ready { OnOk result (KnowsTexts self.new.viewer self.new.made
+            (texts_of self.new.texts)) }
+        ensures tests { OnOk result ((texts_of self.new.texts).tests
+            ≡ put_at (test_index new.now.name (texts_of self.old.texts).tests)
+            (content_of new.now) (texts_of self.old.texts).tests) }
+        ensures models { OnOk result ((texts_of self.new.texts).models
+            ≡ (texts_of self.old.texts).models) }
         ensures names { self.new.names ≡ self.old.names }
     {
         self.change_parts(rt, alloc, new)?;
@@ -433,9 +463,12 @@ impl<'d, J: Naming + StoreName, R: Wait + Drop> Watched<'d, J, R> {
         name: Option<Name>,
     ) -> Result<(), AllocError>
         requires ready { KnowsTexts self.old.viewer self.old.made (texts_of self.old.texts) }
-        ensures ready { OnOk result (KnowsTexts self.new.viewer self.new.made (texts_of self.new.texts)) }
-        ensures tests { OnOk result ((texts_of self.new.texts).tests ≡ without_unheld name self.old.names.items (texts_of self.old.texts).tests) }
-        ensures models { OnOk result ((texts_of self.new.texts).models ≡ (texts_of self.old.texts).models) }
+        ensures ready { OnOk result (KnowsTexts self.new.viewer self.new.made
+            (texts_of self.new.texts)) }
+        ensures tests { OnOk result ((texts_of self.new.texts).tests
+            ≡ without_unheld name self.old.names.items (texts_of self.old.texts).tests) }
+        ensures models { OnOk result ((texts_of self.new.texts).models
+            ≡ (texts_of self.old.texts).models) }
         ensures names { self.new.names ≡ self.old.names }
     {
         let name = match name {
@@ -453,7 +486,8 @@ impl<'d, J: Naming + StoreName, R: Wait + Drop> Watched<'d, J, R> {
         }
     }
 
-    // The file of that index holds this test from now on, which the bench accepts once the test that leaves is dropped.
+    // The file of that index holds this test from now on, which the bench accepts once the test
+    // that leaves is dropped.
     fn hold_test<W: Wait>(
         &mut self,
         rt: &W,
@@ -465,8 +499,10 @@ impl<'d, J: Naming + StoreName, R: Wait + Drop> Watched<'d, J, R> {
         requires ready { KnowsTexts self.old.viewer self.old.made (texts_of self.old.texts) }
         requires reads { ReadsTest text.items (content_of new.now) }
         requires only { (c : Content) → ReadsTest text.items c → content_of new.now ≡ c }
-        ensures ready { OnOk result (KnowsTexts self.new.viewer self.new.made (texts_of self.new.texts)) }
-        ensures taken { OnOk result (IsTestTaken index text.items (held_of self.old.texts self.old.names) (held_of self.new.texts self.new.names)) }
+        ensures ready { OnOk result (KnowsTexts self.new.viewer self.new.made
+            (texts_of self.new.texts)) }
+        ensures taken { OnOk result (IsTestTaken index text.items
+            (held_of self.old.texts self.old.names) (held_of self.new.texts self.new.names)) }
     {
         let name = new.name.copied(alloc)?;
         let old = put_name(&mut self.names, index, name);
@@ -475,7 +511,8 @@ impl<'d, J: Naming + StoreName, R: Wait + Drop> Watched<'d, J, R> {
         Ok(())
     }
 
-    /// Takes a version of the file of that index. Why it is refused, if it is. Errors: out of memory.
+    /// Takes a version of the file of that index. Why it is refused, if it is. Errors: out of
+    /// memory.
     pub fn take_test<W: Wait>(
         &mut self,
         rt: &W,
@@ -484,8 +521,10 @@ impl<'d, J: Naming + StoreName, R: Wait + Drop> Watched<'d, J, R> {
         text: Vec<u8>,
     ) -> Result<Option<EditFault>, AllocError>
         requires ready { KnowsTexts self.old.viewer self.old.made (texts_of self.old.texts) }
-        ensures ready { OnOk result (KnowsTexts self.new.viewer self.new.made (texts_of self.new.texts)) }
-        ensures taken { IfOk result (λ o. IsVersionTaken (TestFile index) text.items (held_of self.old.texts self.old.names) o (held_of self.new.texts self.new.names)) }
+        ensures ready { OnOk result (KnowsTexts self.new.viewer self.new.made
+            (texts_of self.new.texts)) }
+        ensures taken { IfOk result (λ o. IsVersionTaken (TestFile index) text.items
+            (held_of self.old.texts self.old.names) o (held_of self.new.texts self.new.names)) }
     {
         let whole = Edit::PutTest {
             text: Vec::from_slice(alloc, &text)?,

@@ -34,9 +34,10 @@ fn listed_once<'a>(
     Ok(once)
 }
 
-/// Watches the files of a model and of tests, with so many workers: standard input names those that have a later version, and
-/// what `watch` writes goes to standard output. The errors are told of files that cannot be read, of texts that are refused and
-/// of a model's fault. A path that stands twice among the tests is watched once. Whether a text was refused. Errors: those of `watch`.
+/// Watches the files of a model and of tests, with so many workers: standard input names those that
+/// have a later version, and what `watch` writes goes to standard output. The errors are told of
+/// files that cannot be read, of texts that are refused and of a model's fault. A path that stands
+/// twice among the tests is watched once. Whether a text was refused. Errors: those of `watch`.
 pub fn watch_files<'a, R, E: Print>(
     rt: &R,
     errors: &E,

@@ -1,6 +1,7 @@
-//! Watching: a desk of one model and some tests, whose files are read again on demand. Only the items and the parts that
-//! differ are edited, and only what the edits reach is computed again. Read specs/Holding first: what a version of a file
-//! makes of what is held; then Lines, Runs and Ends.
+//! Watching: a desk of one model and some tests, whose files are read again on demand. Only the
+//! items and the parts that differ are edited, and only what the edits reach is computed again.
+//! Read specs/Holding first: what a version of a file makes of what is held; then Lines, Runs and
+//! Ends.
 #![tactic(auto)]
 
 mod answers;

@@ -54,7 +54,8 @@ fn behind_line(text: &[u8]) -> &[u8]
     }
 }
 
-/// The line of a test, as in a table of it alone, or none where its cell is open. Errors: out of memory.
+/// The line of a test, as in a table of it alone, or none where its cell is open. Errors: out of
+/// memory.
 pub fn test_line<J: Naming>(
     alloc: Global,
     view: &View<J, RunningTexts>,
@@ -73,7 +74,8 @@ pub fn test_line<J: Naming>(
     }
 }
 
-// The line of the test that a file holds, which is empty where no version was accepted, or none where its cell is open.
+// The line of the test that a file holds, which is empty where no version was accepted, or none
+// where its cell is open.
 fn line_now<J: Naming>(
     alloc: Global,
     view: &View<J, RunningTexts>,
@@ -96,7 +98,8 @@ fn lines_now<J: Naming>(
     names: &[Option<Name>],
 ) -> Result<Option<Vec<Vec<u8>>>, AllocError>
     requires { IsLegal view.now }
-    ensures lines { IfOk result (λ o. IfSome o (λ v. lists_of v.items ≡ shown_lines view.now names.now)) }
+    ensures lines { IfOk result (λ o.
+        IfSome o (λ v. lists_of v.items ≡ shown_lines view.now names.now)) }
     ensures closed { IfOk result (λ o. IfSome o (λ v. Each (IsClosedBy view.now) names.now)) }
 {
     let mut lines = Vec::with_capacity(alloc, names.len())?;
@@ -109,7 +112,8 @@ fn lines_now<J: Naming>(
     Ok(Some(lines))
 }
 
-// What is to be read of the board: the lines of the tests of these names, where it counts so many edits.
+// What is to be read of the board: the lines of the tests of these names, where it counts so many
+// edits.
 #[derive(Clone, Copy)]
 struct Asked<'p> {
     alloc: Global,
@@ -117,8 +121,9 @@ struct Asked<'p> {
     made: u64,
 }
 
-// Reads the board that was published last: the lines, or none where a cell is open. The viewer comes back, and has seen the
-// operations of that board. Errors: out of memory, also where there are edits of someone else.
+// Reads the board that was published last: the lines, or none where a cell is open. The viewer
+// comes back, and has seen the operations of that board. Errors: out of memory, also where there
+// are edits of someone else.
 fn read_board<'p, J: Naming>(
     viewer: Viewer<J, RunningTexts>,
     asked: Asked<'p>,
@@ -127,7 +132,8 @@ fn read_board<'p, J: Naming>(
     Result<Option<Vec<Vec<u8>>>, AllocError>,
 )
     ensures begins { IsPrefix viewer result.0 }
-    ensures lines { IfOk result.1 (λ o. IfSome o (λ v. AreOwn result.0 asked.entry.made asked.entry.names.now (lists_of v.items))) }
+    ensures lines { IfOk result.1 (λ o. IfSome o (λ v.
+        AreOwn result.0 asked.entry.made asked.entry.names.now (lists_of v.items))) }
 {
     match newest_view(viewer) {
         Ok(view) => {
@@ -167,7 +173,8 @@ fn put_changed_lines(
     lasts: &[Vec<u8>],
     nows: &[Vec<u8>],
 ) -> Result<(), AllocError>
-    ensures { OnOk result (text.new.items ≡ text.old.items ++ changed_lines (lists_of lasts.now) (lists_of nows.now)) }
+    ensures { OnOk result (text.new.items
+        ≡ text.old.items ++ changed_lines (lists_of lasts.now) (lists_of nows.now)) }
 {
     for index in 0..nows.len() {
         put_changed_line(text, last_line(lasts, index), &nows[index])?;
@@ -184,27 +191,31 @@ fn put_jobs(text: &mut Vec<u8>, jobs: u64) -> Result<(), AllocError>
     put_bytes(text, b"\n")
 }
 
-/// Appends those of the lines that differ from the last that were written, and the number of jobs. Errors: out of memory.
+/// Appends those of the lines that differ from the last that were written, and the number of jobs.
+/// Errors: out of memory.
 pub fn put_answer(
     text: &mut Vec<u8>,
     lasts: &[Vec<u8>],
     nows: &[Vec<u8>],
     jobs: u64,
 ) -> Result<(), AllocError>
-    ensures { OnOk result (AreWritten (lists_of lasts.now) (lists_of nows.now) text.old.items text.new.items) }
+    ensures { OnOk result (AreWritten (lists_of lasts.now) (lists_of nows.now) text.old.items
+        text.new.items) }
 {
     put_changed_lines(text, lasts, nows)?;
     put_jobs(text, jobs)
 }
 
 impl<'d, J: Naming + StoreName, R: Wait + Drop> Watched<'d, J, R> {
-    /// The lines of all files, from the board that was published last, or none where a cell is open. Errors: out of memory.
+    /// The lines of all files, from the board that was published last, or none where a cell is
+    /// open. Errors: out of memory.
     pub fn lines_now(&mut self, alloc: Global) -> Result<Option<Vec<Vec<u8>>>, AllocError>
         requires ready { KnowsTexts self.old.viewer self.old.made (texts_of self.old.texts) }
         ensures ready { KnowsTexts self.new.viewer self.new.made (texts_of self.new.texts) }
         ensures texts { self.new.texts ≡ self.old.texts }
         ensures names { self.new.names ≡ self.old.names }
-        ensures lines { IfOk result (λ o. IfSome o (λ v. AreLinesOf (texts_of self.new.texts) self.new.names.items (lists_of v.items))) }
+        ensures lines { IfOk result (λ o. IfSome o (λ v.
+            AreLinesOf (texts_of self.new.texts) self.new.names.items (lists_of v.items))) }
     {
         let asked = Asked {
             alloc,

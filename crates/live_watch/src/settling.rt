@@ -44,7 +44,8 @@ impl<'d, J: Naming + StoreName, R: Wait + Drop> Watched<'d, J, R> {
         }
     }
 
-    // Takes a job and runs it, if there is any. Whether there was one. Errors: `Memory`, also where the store is full.
+    // Takes a job and runs it, if there is any. Whether there was one. Errors: `Memory`, also where
+    // the store is full.
     fn take_job<W: Wait>(&self, rt: &W, alloc: Global) -> Result<bool, SessionFault>
         ensures fault { OnErr result (result ≡ Err SessionFault.Memory) }
     {
@@ -58,7 +59,8 @@ impl<'d, J: Naming + StoreName, R: Wait + Drop> Watched<'d, J, R> {
         }
     }
 
-    // Runs jobs until there is none, and says how many. Errors: `Memory`, also where the store is full.
+    // Runs jobs until there is none, and says how many. Errors: `Memory`, also where the store is
+    // full.
     fn take_jobs<W: Wait>(&self, rt: &W, alloc: Global) -> Result<u64, SessionFault>
         ensures fault { OnErr result (result ≡ Err SessionFault.Memory) }
     {
@@ -71,10 +73,12 @@ impl<'d, J: Naming + StoreName, R: Wait + Drop> Watched<'d, J, R> {
         Ok(u64::MAX)
     }
 
-    // Waits until each cell is settled and published. Errors: `Memory`, also where a worker gave up.
+    // Waits until each cell is settled and published. Errors: `Memory`, also where a worker gave
+    // up.
     fn wait_settled<W: Wait>(&mut self, rt: &W) -> Result<(), SessionFault>
         requires ready { KnowsTexts self.old.viewer self.old.made (texts_of self.old.texts) }
-        ensures ready { OnOk result (KnowsTexts self.new.viewer self.new.made (texts_of self.new.texts)) }
+        ensures ready { OnOk result (KnowsTexts self.new.viewer self.new.made
+            (texts_of self.new.texts)) }
         ensures texts { self.new.texts ≡ self.old.texts }
         ensures names { self.new.names ≡ self.old.names }
         ensures fault { OnErr result (result ≡ Err SessionFault.Memory) }
@@ -85,8 +89,8 @@ impl<'d, J: Naming + StoreName, R: Wait + Drop> Watched<'d, J, R> {
         }
     }
 
-    // Has the jobs run until each cell is settled and published, and says how many there were. Errors: `Memory`, also where
-    // the store is full or a worker gave up.
+    // Has the jobs run until each cell is settled and published, and says how many there were.
+    // Errors: `Memory`, also where the store is full or a worker gave up.
     fn settle<W: Wait>(
         &mut self,
         rt: &W,
@@ -94,7 +98,8 @@ impl<'d, J: Naming + StoreName, R: Wait + Drop> Watched<'d, J, R> {
         hands: &Hands<'d, J, R>,
     ) -> Result<u64, SessionFault>
         requires ready { KnowsTexts self.old.viewer self.old.made (texts_of self.old.texts) }
-        ensures ready { OnOk result (KnowsTexts self.new.viewer self.new.made (texts_of self.new.texts)) }
+        ensures ready { OnOk result (KnowsTexts self.new.viewer self.new.made
+            (texts_of self.new.texts)) }
         ensures texts { self.new.texts ≡ self.old.texts }
         ensures names { self.new.names ≡ self.old.names }
         ensures fault { OnErr result (result ≡ Err SessionFault.Memory) }
@@ -113,8 +118,8 @@ impl<'d, J: Naming + StoreName, R: Wait + Drop> Watched<'d, J, R> {
         }
     }
 
-    /// Has the jobs run until each cell is settled, and says how many there were, and what the line of each file is. Errors:
-    /// `Memory`, also where the store is full or a worker gave up.
+    /// Has the jobs run until each cell is settled, and says how many there were, and what the line
+    /// of each file is. Errors: `Memory`, also where the store is full or a worker gave up.
     pub fn settled_lines<W: Wait>(
         &mut self,
         rt: &W,
@@ -122,10 +127,12 @@ impl<'d, J: Naming + StoreName, R: Wait + Drop> Watched<'d, J, R> {
         hands: &Hands<'d, J, R>,
     ) -> Result<(u64, Vec<Vec<u8>>), SessionFault>
         requires ready { KnowsTexts self.old.viewer self.old.made (texts_of self.old.texts) }
-        ensures ready { OnOk result (KnowsTexts self.new.viewer self.new.made (texts_of self.new.texts)) }
+        ensures ready { OnOk result (KnowsTexts self.new.viewer self.new.made
+            (texts_of self.new.texts)) }
         ensures texts { self.new.texts ≡ self.old.texts }
         ensures names { self.new.names ≡ self.old.names }
-        ensures lines { IfOk result (λ r. AreLinesOf (texts_of self.new.texts) self.new.names.items (lists_of r.1.items)) }
+        ensures lines { IfOk result (λ r.
+            AreLinesOf (texts_of self.new.texts) self.new.names.items (lists_of r.1.items)) }
         ensures fault { OnErr result (result ≡ Err SessionFault.Memory) }
     {
         let mut jobs: u64 = 0;

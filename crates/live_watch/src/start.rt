@@ -45,8 +45,11 @@ fn run_at<'a, 'd, J: Naming + StoreName, R: AllocGlobal + Wait + Drop>(
 ) -> Result<Run<'a, 'd, J, R>, AllocError>
     ensures lines { IfOk result (λ run. run.lines.items ≡ []) }
     ensures paths { IfOk result (λ run. run.paths ≡ paths.entry) }
-    ensures first { IfOk result (λ run. standing_of run.watched.texts run.watched.names run.lines run.is_refused ≡ at_first (length (test_paths run.paths)) (lists_of run.lines.items)) }
-    ensures ready { IfOk result (λ run. KnowsTexts run.watched.viewer run.watched.made (texts_of run.watched.texts)) }
+    ensures first { IfOk result (λ run. standing_of run.watched.texts run.watched.names run.lines
+        run.is_refused
+        ≡ at_first (length (test_paths run.paths)) (lists_of run.lines.items)) }
+    ensures ready { IfOk result (λ run.
+        KnowsTexts run.watched.viewer run.watched.made (texts_of run.watched.texts)) }
 {
     let alloc = rt.alloc();
     let viewer = match desk.viewer(rt) {
@@ -101,7 +104,8 @@ where
     K: ByteSink + Drop,
     requires source { S.failed_calls source < 2 ^ 64 - 1 }
     requires sink { K.failed_calls sink < 2 ^ 64 - 1 }
-    ensures { IfOk result (λ e. IsEnded S.failed_calls S.remaining K.failed_calls V.readings K.contents (model_path paths.entry) (test_paths paths.entry) versions source sink e) }
+    ensures { IfOk result (λ e. IsEnded S.failed_calls S.remaining K.failed_calls V.readings
+        K.contents (model_path paths.entry) (test_paths paths.entry) versions source sink e) }
 {
     let mut run = run_at(rt, desk, hands, paths)?;
     let mut versions = versions;
@@ -134,7 +138,8 @@ where
     K: ByteSink + Drop,
     requires source { S.failed_calls source < 2 ^ 64 - 1 }
     requires sink { K.failed_calls sink < 2 ^ 64 - 1 }
-    ensures { IfOk result (λ e. IsEnded S.failed_calls S.remaining K.failed_calls V.readings K.contents (model_path paths.entry) (test_paths paths.entry) versions source sink e) }
+    ensures { IfOk result (λ e. IsEnded S.failed_calls S.remaining K.failed_calls V.readings
+        K.contents (model_path paths.entry) (test_paths paths.entry) versions source sink e) }
 {
     let hands = hands_of(turnstile, workers);
     let ended = attend(rt, turnstile.desk(), hands, paths, versions, source, sink);
@@ -159,7 +164,8 @@ where
     K: ByteSink + Drop,
     requires source { S.failed_calls source < 2 ^ 64 - 1 }
     requires sink { K.failed_calls sink < 2 ^ 64 - 1 }
-    ensures { IfOk result (λ e. IsEnded S.failed_calls S.remaining K.failed_calls V.readings K.contents (model_path paths.entry) (test_paths paths.entry) versions source sink e) }
+    ensures { IfOk result (λ e. IsEnded S.failed_calls S.remaining K.failed_calls V.readings
+        K.contents (model_path paths.entry) (test_paths paths.entry) versions source sink e) }
 {
     let turnstile = Turnstile::new(desk);
     let gate = &turnstile;
@@ -171,7 +177,9 @@ where
         || -> Result<Ended<V, S, K>, AllocError>
             requires source { S.failed_calls source < 2 ^ 64 - 1 }
             requires sink { K.failed_calls sink < 2 ^ 64 - 1 }
-            ensures { IfOk result (λ e. IsEnded S.failed_calls S.remaining K.failed_calls V.readings K.contents (model_path paths.entry) (test_paths paths.entry) versions source sink e) }
+            ensures { IfOk result (λ e. IsEnded S.failed_calls S.remaining K.failed_calls V.readings
+                K.contents (model_path paths.entry) (test_paths paths.entry) versions source
+                sink e) }
         { attend_workers(rt, gate, workers, paths, versions, source, sink) },
     );
     match worked {
@@ -199,7 +207,8 @@ where
     requires values { seed.values.values ≡ J.shelves }
     requires source { S.failed_calls source < 2 ^ 64 - 1 }
     requires sink { K.failed_calls sink < 2 ^ 64 - 1 }
-    ensures { IfOk result (λ e. IsEnded S.failed_calls S.remaining K.failed_calls V.readings K.contents (model_path paths.entry) (test_paths paths.entry) versions source sink e) }
+    ensures { IfOk result (λ e. IsEnded S.failed_calls S.remaining K.failed_calls V.readings
+        K.contents (model_path paths.entry) (test_paths paths.entry) versions source sink e) }
 {
     match seed.desk::<J, R, R>(rt, rt.alloc(), *rt) {
         Ok(desk) => watch_at(rt, &desk, workers, paths, versions, source, sink),
@@ -207,12 +216,14 @@ where
     }
 }
 
-/// Puts the model and the tests of some files on a desk, settles it, and writes a line for each test and the number of jobs.
-/// Then for each line of the source, which names one of the files, reads the file again, edits what differs, settles the desk
-/// and writes the lines that changed and the number of jobs. So many workers run the jobs, or the calling thread where there
-/// are none. It ends with the fault `Read` where a file cannot be read at the start, a read failed, or the source did not end
-/// within 16,777,216 reads, with `Write`, or with `Memory`, also where a worker gave up. Errors: a growth or the start of a
-/// worker was refused, before anything was read or written.
+/// Puts the model and the tests of some files on a desk, settles it, and writes a line for each
+/// test and the number of jobs. Then for each line of the source, which names one of the files,
+/// reads the file again, edits what differs, settles the desk and writes the lines that changed and
+/// the number of jobs. So many workers run the jobs, or the calling thread where there are none. It
+/// ends with the fault `Read` where a file cannot be read at the start, a read failed, or the
+/// source did not end within 16,777,216 reads, with `Write`, or with `Memory`, also where a worker
+/// gave up. Errors: a growth or the start of a worker was refused, before anything was read or
+/// written.
 pub fn watch<'a, R, V, S, K>(
     rt: &R,
     model: &'a str,
@@ -229,11 +240,13 @@ where
     K: ByteSink + Drop,
     requires source { S.failed_calls source < 2 ^ 64 - 1 }
     requires sink { K.failed_calls sink < 2 ^ 64 - 1 }
-    // Where it answers, no read and no write failed, and a whole run was written, of the versions that were read. Where it ends
-    // by a fault, what failed is told, and what was written is a front of what a run writes up to a line of the source, of the
-    // versions that were read first. What was read then is at most one version, or where nothing was written, no more than
-    // there are files.
-    ensures { IfOk result (λ e. IsEnded S.failed_calls S.remaining K.failed_calls V.readings K.contents model.now (map (λ t. t.now) tests.now) versions source sink e) }
+    // Where it answers, no read and no write failed, and a whole run was written, of the versions
+    // that were read. Where it ends by a fault, what failed is told, and what was written is a
+    // front of what a run writes up to a line of the source, of the versions that were read first.
+    // What was read then is at most one version, or where nothing was written, no more than there
+    // are files.
+    ensures { IfOk result (λ e. IsEnded S.failed_calls S.remaining K.failed_calls V.readings
+        K.contents model.now (map (λ t. t.now) tests.now) versions source sink e) }
 {
     match DeskSeed::new(rt.alloc()) {
         Ok(seed) => {

@@ -8,8 +8,9 @@ use litmusbench::{TextFile, model_fault, model_refusal_lines, test_refusal_lines
 use std::alloc::{AllocError, Global};
 use std::io::Write;
 
-/// Hands on the versions of a model and of tests, and tells a writer of each text that is refused, and of the first fault of a
-/// model whose text reads: once, as long as later versions leave it as it is. What cannot be told is left out.
+/// Hands on the versions of a model and of tests, and tells a writer of each text that is refused,
+/// and of the first fault of a model whose text reads: once, as long as later versions leave it as
+/// it is. What cannot be told is left out.
 #[derive(Drop)]
 pub struct VersionTeller<'a, V, W> {
     versions: V,

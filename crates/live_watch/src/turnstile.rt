@@ -23,9 +23,10 @@ struct Turns {
     jobs: u64,
 }
 
-/// Lets workers begin their jobs while it is open, and counts them. A job that was given out before the last edit is lost, and
-/// not counted: its node is given out again where it still has work. So the jobs that are counted are those of the texts after
-/// that edit, whenever the workers came for them.
+/// Lets workers begin their jobs while it is open, and counts them. A job that was given out before
+/// the last edit is lost, and not counted: its node is given out again where it still has work. So
+/// the jobs that are counted are those of the texts after that edit, whenever the workers came for
+/// them.
 #[derive(Drop)]
 pub struct Turnstile<'d, J: Naming + StoreName, X: BoardTexts, R: Wait + Drop>
 where
@@ -58,7 +59,8 @@ impl<'d, J: Naming + StoreName, X: BoardTexts, R: Wait + Drop> Turnstile<'d, J, 
         self.desk
     }
 
-    /// Lets the jobs begin that are given out after the edit of this number, and counts them from 0.
+    /// Lets the jobs begin that are given out after the edit of this number, and counts them from
+    /// 0.
     pub fn open<W: Wait>(&self, rt: &W, last: u64) {
         let mut turns = self.turns.lock(rt);
         *turns = Turns {
@@ -77,7 +79,8 @@ impl<'d, J: Naming + StoreName, X: BoardTexts, R: Wait + Drop> Turnstile<'d, J, 
         turns.jobs
     }
 
-    // Waits until it is open. Whether the job of this claim was given out before the last edit: else it is counted.
+    // Waits until it is open. Whether the job of this claim was given out before the last edit:
+    // else it is counted.
     fn is_late<W: Wait>(&self, rt: &W, claim: u64) -> bool {
         for _ in rt.forever() {
             let mut turns = self.turns.lock(rt);
@@ -104,7 +107,8 @@ impl<'d, J: Naming + StoreName, X: BoardTexts, R: Wait + Drop> Gate for Turnstil
     fn end<W: Wait>(&self, _rt: &W, _claim: u64) {}
 }
 
-/// Runs a body beside so many workers whose jobs the turnstile lets begin, as `with_workers` does, with its errors.
+/// Runs a body beside so many workers whose jobs the turnstile lets begin, as `with_workers` does,
+/// with its errors.
 pub fn beside_workers<'d, J, X, R, W, T, F>(
     rt: &W,
     alloc: Global,

@@ -29,7 +29,8 @@ pub trait Versions {
 
     /// The present version of the file of this path.
     fn version(&mut self, alloc: Global, path: &str) -> Version
-        ensures { AreRead (readings self.old) (readings self.new) (record { path = path.now; version = result } ∷ []) };
+        ensures { AreRead (readings self.old) (readings self.new)
+            (record { path = path.now; version = result } ∷ []) };
 }
 
 /// The files of the system. A writer is told of a file that cannot be read, with the reason.

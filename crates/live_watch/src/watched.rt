@@ -29,7 +29,8 @@ pub enum WatchedFile {
     Test(usize),
 }
 
-/// A desk and a viewer of its board, the texts that it was given, and the tests that the files hold.
+/// A desk and a viewer of its board, the texts that it was given, and the tests that the files
+/// hold.
 #[derive(Drop)]
 pub struct Watched<'d, J: Naming + StoreName, R: Wait + Drop> {
     /// Where the edits are made.
@@ -42,7 +43,8 @@ pub struct Watched<'d, J: Naming + StoreName, R: Wait + Drop> {
     pub made: u64,
     /// The number of the last edit.
     pub last: u64,
-    /// Of the file of each test the name of the test that it holds, where a version of it was accepted.
+    /// Of the file of each test the name of the test that it holds, where a version of it was
+    /// accepted.
     pub names: Vec<Option<Name>>,
 }
 

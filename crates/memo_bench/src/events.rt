@@ -25,7 +25,8 @@ use std::collections::BTreeMap;
 use std::sync::Arc;
 use value_store::{Store, StoreName, Token};
 
-/// Puts a prepared edit in place, drops what is kept of nodes that the texts don't keep, and marks what is settled.
+/// Puts a prepared edit in place, drops what is kept of nodes that the texts don't keep, and marks
+/// what is settled.
 fn put_in_place<K: StoreName, T: Texts>(
     texts: &mut T,
     memos: &mut Memos<Token<K, T::Value>>,
@@ -37,7 +38,8 @@ fn put_in_place<K: StoreName, T: Texts>(
     requires later { T.last texts.old < number }
     ensures commits { T.commits texts.old prepared number texts.new }
     ensures last { T.last texts.new ≤ number }
-    ensures memos { as_memos memos.new.entries ≡ filter (λ m. T.keeps texts.new m.node) (as_memos memos.old.entries) }
+    ensures memos { as_memos memos.new.entries
+        ≡ filter (λ m. T.keeps texts.new m.node) (as_memos memos.old.entries) }
     ensures marks { T.is_valid texts.new → IsMarkedTo (T.net texts.new) memos.new.entries [] }
     ensures room { spare memos.old ≤ spare memos.new }
 {
@@ -73,9 +75,9 @@ impl<K: StoreName, T: Texts> Graph<K, T> {
         }
     }
 
-    /// Makes an edit, which gets the next number. A refusal, by the texts or because the numbers are
-    /// spent, leaves what the texts say, their last edit, the memos, the claims and the numbers as
-    /// they were.
+    /// Makes an edit, which gets the next number. A refusal, by the texts or because the numbers
+    /// are spent, leaves what the texts say, their last edit, the memos, the claims and the numbers
+    /// as they were.
     pub fn edit(&mut self, alloc: Global, edit: T::Edit) -> Result<u64, T::Fault>
         requires right { HasRightMemos self.old }
         requires fresh { HasFreshClaims self.old }
@@ -84,10 +86,13 @@ impl<K: StoreName, T: Texts> Graph<K, T> {
         ensures fresh { HasFreshClaims self.new }
         ensures marks { IsMarked self.new }
         ensures number { IfOk result (λ number. number ≡ self.new.taken) }
-        ensures edited { IfOk result (λ number. T.edited self.old.texts edit number self.new.texts) }
+        ensures edited { IfOk result (λ number.
+            T.edited self.old.texts edit number self.new.texts) }
         ensures unspent { OnOk result (self.old.taken < LAST) }
-        ensures step { OnOk result (Edits (T.keeps self.new.texts) (state_of self.old) (state_of self.new)) }
-        ensures fault { IfErr result (λ fault. T.refuses self.old.texts edit (leb LAST self.old.taken) fault) }
+        ensures step { OnOk result (Edits (T.keeps self.new.texts) (state_of self.old)
+            (state_of self.new)) }
+        ensures fault { IfErr result (λ fault.
+            T.refuses self.old.texts edit (leb LAST self.old.taken) fault) }
         ensures err { OnErr result (state_of self.new ≡ state_of self.old) }
         ensures no_edit { OnErr result (T.last self.new.texts ≡ T.last self.old.texts) }
         ensures since { OnErr result (T.since self.old.texts self.new.texts) }
@@ -100,8 +105,8 @@ impl<K: StoreName, T: Texts> Graph<K, T> {
         }
     }
 
-    /// Makes an edit as `edit` does, where the witness, who is told of it before it is put in place, does not hold it back.
-    /// None where the witness does: then all is as after a refusal.
+    /// Makes an edit as `edit` does, where the witness, who is told of it before it is put in
+    /// place, does not hold it back. None where the witness does: then all is as after a refusal.
     pub fn edit_told<W: Witness<T>>(
         &mut self,
         alloc: Global,
@@ -111,17 +116,22 @@ impl<K: StoreName, T: Texts> Graph<K, T> {
         requires right { HasRightMemos self.old }
         requires fresh { HasFreshClaims self.old }
         requires marks { IsMarked self.old }
-        requires may_tell { (t : T) (p : T.Prepared) → T.prepares self.old.texts edit p t → W.may_tell witness.old t p (self.old.taken + 1) }
+        requires may_tell { (t : T) (p : T.Prepared) → T.prepares self.old.texts edit p t
+            → W.may_tell witness.old t p (self.old.taken + 1) }
         ensures right { HasRightMemos self.new }
         ensures fresh { HasFreshClaims self.new }
         ensures marks { IsMarked self.new }
         ensures number { IfOk result (λ r. IfSome r (λ number. number ≡ self.new.taken)) }
-        ensures edited { IfOk result (λ r. IfSome r (λ number. T.edited self.old.texts edit number self.new.texts)) }
+        ensures edited { IfOk result (λ r.
+            IfSome r (λ number. T.edited self.old.texts edit number self.new.texts)) }
         ensures unspent { OnOk result (self.old.taken < LAST) }
-        ensures step { IfOk result (λ r. IfSome r (λ _. Edits (T.keeps self.new.texts) (state_of self.old) (state_of self.new))) }
-        ensures told { IfOk result (λ r. IfSome r (λ number. IsTold T.prepares T.commits W.told self.old.texts edit number self.new.texts witness.old witness.new)) }
+        ensures step { IfOk result (λ r. IfSome r (λ _.
+            Edits (T.keeps self.new.texts) (state_of self.old) (state_of self.new))) }
+        ensures told { IfOk result (λ r. IfSome r (λ number. IsTold T.prepares T.commits W.told
+            self.old.texts edit number self.new.texts witness.old witness.new)) }
         ensures held { IfOk result (λ r. IfNone r (W.held witness.old witness.new)) }
-        ensures fault { IfErr result (λ fault. T.refuses self.old.texts edit (leb LAST self.old.taken) fault) }
+        ensures fault { IfErr result (λ fault.
+            T.refuses self.old.texts edit (leb LAST self.old.taken) fault) }
         ensures unseen { OnErr result (witness.new ≡ witness.old) }
         ensures err { OnNone result (state_of self.new ≡ state_of self.old) }
         ensures no_edit { OnNone result (T.last self.new.texts ≡ T.last self.old.texts) }
@@ -148,8 +158,8 @@ impl<K: StoreName, T: Texts> Graph<K, T> {
         Ok(Some(number))
     }
 
-    /// Hands out a node that has work, if any has. It makes the room for all that its return keeps. Errors: B1 where the numbers
-    /// are spent, want of memory.
+    /// Hands out a node that has work, if any has. It makes the room for all that its return keeps.
+    /// Errors: B1 where the numbers are spent, want of memory.
     pub fn claim(&mut self, alloc: Global) -> Result<Option<Job<K, T>>, ClaimFault>
         requires right { HasRightMemos self.old }
         requires fresh { HasFreshClaims self.old }
@@ -159,7 +169,8 @@ impl<K: StoreName, T: Texts> Graph<K, T> {
         ensures fresh { HasFreshClaims self.new }
         ensures marks { IsMarked self.new }
         ensures given { IfOk result (λ r. IfSome r (λ job. GivesJob self.old job self.new)) }
-        ensures earlier { IfOk result (λ r. IfSome r (λ job. job.before.items ≡ tokens_of job.node self.old.memos.entries)) }
+        ensures earlier { IfOk result (λ r.
+            IfSome r (λ job. job.before.items ≡ tokens_of job.node self.old.memos.entries)) }
         ensures none { IfOk result (λ r. IfNone r ((n : Node) → IsWork (state_of self.old) n → ⊥)) }
         ensures none_same { IfOk result (λ r. IfNone r (state_of self.new ≡ state_of self.old)) }
         ensures spent { LAST ≤ self.old.taken → result ≡ Err ClaimFault.Spent }
@@ -247,8 +258,10 @@ impl<K: StoreName, T: Texts> Graph<K, T> {
     pub fn all_settled(&self) -> bool
         requires right { HasRightMemos self.now }
         requires marks { IsMarked self.now }
-        ensures yes { IsTrue result → (n : Node) → Has ((T.net self.now.texts).used) n → IsSettledIn self.now n }
-        ensures no { IsFalse result → (n : Node) × Has ((T.net self.now.texts).used) n × (IsSettledIn self.now n → ⊥) }
+        ensures yes { IsTrue result → (n : Node) → Has ((T.net self.now.texts).used) n
+            → IsSettledIn self.now n }
+        ensures no { IsFalse result
+            → (n : Node) × Has ((T.net self.now.texts).used) n × (IsSettledIn self.now n → ⊥) }
     {
         are_used_marked(&self.texts, &self.memos)
     }

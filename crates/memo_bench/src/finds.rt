@@ -36,7 +36,10 @@ pub fn first_stale<K: StoreName, T: Texts>(
     node: Node,
     inputs: &[Input],
 ) -> u64
-    ensures { result ≡ stale_stamp 0 (present_inputs (T.net texts.now) (as_memos memos.now.entries) ((T.net texts.now).inputs node)) inputs.now }
+    ensures { result
+        ≡ stale_stamp 0
+        (present_inputs (T.net texts.now) (as_memos memos.now.entries)
+        ((T.net texts.now).inputs node)) inputs.now }
 {
     let mut last = 0;
     let count = texts.input_count(node);
@@ -63,7 +66,8 @@ pub fn values_are<K: StoreName, T: Texts>(
     keys: &[Key],
     values: &[Token<K, T::Value>],
 ) -> bool
-    ensures { result ≡ all_hold T.same (at (as_memos memos.now.entries)) keys.now (shown_values values.now) }
+    ensures { result
+        ≡ all_hold T.same (at (as_memos memos.now.entries)) keys.now (shown_values values.now) }
 {
     let mut j = 0;
     for key in keys {

@@ -25,7 +25,8 @@ pub struct Graph<K: StoreName, T: Texts> {
     pub claims: OpenClaims,
     /// How many numbers are taken.
     pub taken: u64,
-    /// Nodes that may have work, of which a claim looks at the last first. A node that has work need not be among them.
+    /// Nodes that may have work, of which a claim looks at the last first. A node that has work
+    /// need not be among them.
     pub(crate) waiting: Vec<Node>,
     /// Where among the used nodes the search for work goes on, once none of these has any.
     pub(crate) next: usize,

@@ -93,14 +93,16 @@ fn inputs_of<K: StoreName, T: Texts>(
 ) -> Result<Held<K, T::Value>, AllocError>
     requires { values_at (at (as_memos memos.now.entries)) ((T.net texts.now).inputs node) ≢ None }
     ensures keys { IfOk result (λ r. r.0.items ≡ (T.net texts.now).inputs node) }
-    ensures values { IfOk result (λ r. Some (shown_values r.1.items) ≡ values_at (at (as_memos memos.now.entries)) ((T.net texts.now).inputs node)) }
+    ensures values { IfOk result (λ r. Some (shown_values r.1.items)
+        ≡ values_at (at (as_memos memos.now.entries)) ((T.net texts.now).inputs node)) }
 {
     let keys = present_keys(alloc, texts, node)?;
     let values = present_values(alloc, texts, memos, node)?;
     Ok((keys, values))
 }
 
-/// The job of a node under a number, with what it is given now and the present values of its inputs. Errors: want of memory.
+/// The job of a node under a number, with what it is given now and the present values of its
+/// inputs. Errors: want of memory.
 pub(crate) fn job_of<K: StoreName, T: Texts>(
     alloc: Global,
     texts: &T,
@@ -110,11 +112,13 @@ pub(crate) fn job_of<K: StoreName, T: Texts>(
     claim: u64,
 ) -> Result<Job<K, T>, AllocError>
     requires there { T.is_there texts.now node }
-    requires values { values_at (at (as_memos memos.now.entries)) ((T.net texts.now).inputs node) ≢ None }
+    requires values { values_at (at (as_memos memos.now.entries)) ((T.net texts.now).inputs node)
+        ≢ None }
     ensures claim { IfOk result (λ job. (job.claim ≡ claim) × (job.node ≡ node)) }
     ensures given { IfOk result (λ job. (T.net texts.now).gives node job.given ≡ true) }
     ensures keys { IfOk result (λ job. job.keys.items ≡ (T.net texts.now).inputs node) }
-    ensures values { IfOk result (λ job. Some (shown_values job.values.items) ≡ values_at (at (as_memos memos.now.entries)) ((T.net texts.now).inputs node)) }
+    ensures values { IfOk result (λ job. Some (shown_values job.values.items)
+        ≡ values_at (at (as_memos memos.now.entries)) ((T.net texts.now).inputs node)) }
     ensures earlier { IfOk result (λ job. job.before.items ≡ tokens_of node memos.now.entries) }
 {
     let given = texts.give(alloc, node)?;
@@ -136,10 +140,14 @@ pub(crate) fn job_of<K: StoreName, T: Texts>(
 pub(crate) type Results<K, V> = (Vec<Output<Token<K, V>>>, Vec<u64>);
 
 impl<K: StoreName, T: Texts> Job<K, T> {
-    // The node's outputs in the store, with room for their names. Errors: want of memory, a full store.
+    // The node's outputs in the store, with room for their names. Errors: want of memory, a full
+    // store.
     fn results<R: Wait>(&self, rt: &R, alloc: Global) -> Result<Results<K, T::Value>, StoreFault>
-        ensures computed { IfOk result (λ r. T.makes self.now.node self.now.given self.now.keys.items (shown_values self.now.values.items) (named_values (shown_outputs r.0.items))) }
-        ensures kept { IfOk result (λ r. Each (λ o. KeepsToken self.now.before.items o.name o.value) r.0.items) }
+        ensures computed { IfOk result (λ r. T.makes self.now.node self.now.given
+            self.now.keys.items (shown_values self.now.values.items)
+            (named_values (shown_outputs r.0.items))) }
+        ensures kept { IfOk result (λ r.
+            Each (λ o. KeepsToken self.now.before.items o.name o.value) r.0.items) }
         ensures empty { IfOk result (λ r. vec_len r.1 ≡ 0) }
         ensures room { IfOk result (λ r. length r.0.items ≤ vec_capacity r.1) }
     {
@@ -166,7 +174,8 @@ impl<K: StoreName, T: Texts> Job<K, T> {
     pub fn run<R: Wait>(self, rt: &R, alloc: Global) -> Result<Done<K, T>, (Job<K, T>, StoreFault)>
         ensures same { IfOk result (IsOfJob self) }
         ensures computed { IfOk result (λ done. IsComputed T.makes done) }
-        ensures kept { IfOk result (λ done. Each (λ o. KeepsToken self.before.items o.name o.value) done.outputs.items) }
+        ensures kept { IfOk result (λ done.
+            Each (λ o. KeepsToken self.before.items o.name o.value) done.outputs.items) }
         ensures empty { IfOk result (λ done. vec_len done.names ≡ 0) }
         ensures room { IfOk result (λ done. length done.outputs.items ≤ vec_capacity done.names) }
         ensures err { IfErr result (λ refusal. refusal.0 ≡ self) }
@@ -224,7 +233,8 @@ impl<K: StoreName, T: Texts> Done<K, T> {
     /// The same return once more.
     pub fn copy(&self, alloc: Global) -> Result<Done<K, T>, AllocError>
         ensures same { IfOk result (λ copy. return_from copy ≡ return_from self.now) }
-        ensures computed { IfOk result (λ copy. IsComputed T.makes self.now → IsComputed T.makes copy) }
+        ensures computed { IfOk result (λ copy. IsComputed T.makes self.now
+            → IsComputed T.makes copy) }
         ensures empty { IfOk result (λ copy. vec_len copy.names ≡ 0) }
         ensures room { IfOk result (λ copy. length copy.outputs.items ≤ vec_capacity copy.names) }
     {

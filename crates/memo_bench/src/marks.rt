@@ -94,7 +94,8 @@ fn mark<K: StoreName, V: Drop>(memos: &mut Memos<Token<K, V>>, node: Node)
     }
 }
 
-/// Marks a node where it is to be marked, and then what stands on it; notes what has to be computed next. It takes no memory.
+/// Marks a node where it is to be marked, and then what stands on it; notes what has to be computed
+/// next. It takes no memory.
 pub fn settle<K: StoreName, T: Texts>(
     texts: &T,
     memos: &mut Memos<Token<K, T::Value>>,
@@ -103,7 +104,9 @@ pub fn settle<K: StoreName, T: Texts>(
 )
     ensures memos { as_memos memos.new.entries ≡ as_memos memos.old.entries }
     ensures fewer { unmarked_count memos.new.entries ≤ unmarked_count memos.old.entries }
-    ensures marks { T.is_valid texts.now → (rest : List NodeRecord) → IsMarkedTo (T.net texts.now) memos.old.entries (node ∷ rest) → IsMarkedTo (T.net texts.now) memos.new.entries rest }
+    ensures marks { T.is_valid texts.now → (rest : List NodeRecord)
+        → IsMarkedTo (T.net texts.now) memos.old.entries (node ∷ rest)
+        → IsMarkedTo (T.net texts.now) memos.new.entries rest }
     ensures room { spare memos.new ≡ spare memos.old }
 {
     if !can_mark(texts, memos, waiting, node) {
@@ -116,7 +119,8 @@ pub fn settle<K: StoreName, T: Texts>(
     }
 }
 
-/// Marks what is settled, where nothing is marked yet, and notes what has to be computed next. It takes no memory.
+/// Marks what is settled, where nothing is marked yet, and notes what has to be computed next. It
+/// takes no memory.
 pub fn settle_all<K: StoreName, T: Texts>(
     texts: &T,
     memos: &mut Memos<Token<K, T::Value>>,
@@ -135,7 +139,8 @@ pub fn settle_all<K: StoreName, T: Texts>(
 
 /// Whether every used node is marked.
 pub fn are_used_marked<K: StoreName, T: Texts>(texts: &T, memos: &Memos<Token<K, T::Value>>) -> bool
-    ensures yes { IsTrue result → AreMarked (T.net texts.now) memos.now.entries (length (T.net texts.now).used) }
+    ensures yes { IsTrue result
+        → AreMarked (T.net texts.now) memos.now.entries (length (T.net texts.now).used) }
     ensures no { IsFalse result → HasUnmarked (T.net texts.now) memos.now.entries }
 {
     let count = texts.used_count();

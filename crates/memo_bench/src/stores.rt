@@ -25,7 +25,8 @@ fn output_is<K: StoreName, T: Texts>(
     name: u64,
     token: &Token<K, T::Value>,
 ) -> bool
-    ensures { result ≡ holds_value T.same (output_at name (shown_outputs outputs.now)) token.now.value }
+    ensures { result
+        ≡ holds_value T.same (output_at name (shown_outputs outputs.now)) token.now.value }
 {
     match output_token(outputs, name) {
         None => false,
@@ -42,8 +43,11 @@ fn restamp_one<K: StoreName, T: Texts>(
     names: &mut Vec<u64>,
 )
     requires { vec_len names.old < vec_capacity names.old }
-    ensures output { shown_output output.new ≡ stamped_output T.same (shown_outputs old.now) number (shown_output output.old) }
-    ensures names { names.new.items ≡ names.old.items ++ name_if_changed T.same (shown_outputs old.now) (shown_output output.old) }
+    ensures output { shown_output output.new
+        ≡ stamped_output T.same (shown_outputs old.now) number (shown_output output.old) }
+    ensures names { names.new.items
+        ≡ names.old.items
+        ++ name_if_changed T.same (shown_outputs old.now) (shown_output output.old) }
     ensures len { vec_len names.new ≤ vec_len names.old + 1 }
     ensures capacity { vec_capacity names.old ≤ vec_capacity names.new }
 {
@@ -58,8 +62,8 @@ fn restamp_one<K: StoreName, T: Texts>(
     }
 }
 
-/// Stamps the outputs of a return: one that was there with this value keeps its stamp, any other gets the number, and
-/// its name is noted.
+/// Stamps the outputs of a return: one that was there with this value keeps its stamp, any other
+/// gets the number, and its name is noted.
 fn restamp<K: StoreName, T: Texts>(
     store: &Store<K, T::Value>,
     old: &[Output<Token<K, T::Value>>],
@@ -69,16 +73,18 @@ fn restamp<K: StoreName, T: Texts>(
 )
     requires empty { vec_len names.old ≡ 0 }
     requires room { length outputs.old ≤ vec_capacity names.old }
-    ensures outputs { shown_outputs outputs.new ≡ stamped_outputs T.same (shown_outputs old.now) number (shown_outputs outputs.old) }
-    ensures names { names.new.items ≡ changed_names T.same (shown_outputs old.now) (shown_outputs outputs.old) }
+    ensures outputs { shown_outputs outputs.new
+        ≡ stamped_outputs T.same (shown_outputs old.now) number (shown_outputs outputs.old) }
+    ensures names { names.new.items
+        ≡ changed_names T.same (shown_outputs old.now) (shown_outputs outputs.old) }
 {
     for i in 0..outputs.len() {
         restamp_one::<K, T>(store, old, number, &mut outputs[i], names);
     }
 }
 
-/// Stamps a vector of outputs over what is kept of a node: one that was there with this value keeps its stamp, any other gets
-/// the number, and its name is noted.
+/// Stamps a vector of outputs over what is kept of a node: one that was there with this value keeps
+/// its stamp, any other gets the number, and its name is noted.
 pub fn restamp_all<K: StoreName, T: Texts>(
     store: &Store<K, T::Value>,
     memos: &Memos<Token<K, T::Value>>,
@@ -89,8 +95,12 @@ pub fn restamp_all<K: StoreName, T: Texts>(
 )
     requires empty { vec_len names.old ≡ 0 }
     requires room { length outputs.old.items ≤ vec_capacity names.old }
-    ensures outputs { shown_outputs outputs.new.items ≡ stamped_outputs T.same (outputs_of (memo_of node (as_memos memos.now.entries))) number (shown_outputs outputs.old.items) }
-    ensures names { names.new.items ≡ changed_names T.same (outputs_of (memo_of node (as_memos memos.now.entries))) (shown_outputs outputs.old.items) }
+    ensures outputs { shown_outputs outputs.new.items
+        ≡ stamped_outputs T.same (outputs_of (memo_of node (as_memos memos.now.entries))) number
+        (shown_outputs outputs.old.items) }
+    ensures names { names.new.items
+        ≡ changed_names T.same (outputs_of (memo_of node (as_memos memos.now.entries)))
+        (shown_outputs outputs.old.items) }
 {
     let old = outputs_in(memos, node);
     restamp::<K, T>(store, old, number, outputs.as_mut_slice(), names);
@@ -103,8 +113,11 @@ pub fn store_memo<K: StoreName, V: Drop>(
     kept: Kept<Token<K, V>>,
 )
     requires { 0 < spare memos.old }
-    ensures memos { as_memos memos.new.entries ≡ put_memo (as_memo (node, kept)) (as_memos memos.old.entries) }
-    ensures flags { (n : NodeRecord) → mark_of memos.new.entries n ≡ (if same_node n node then kept.settled else mark_of memos.old.entries n) }
+    ensures memos { as_memos memos.new.entries
+        ≡ put_memo (as_memo (node, kept)) (as_memos memos.old.entries) }
+    ensures flags { (n : NodeRecord)
+        → mark_of memos.new.entries n
+        ≡ (if same_node n node then kept.settled else mark_of memos.old.entries n) }
     ensures room { spare memos.old ≤ spare memos.new + 1 }
 {
     match memos.insert(node, kept) {
@@ -113,7 +126,8 @@ pub fn store_memo<K: StoreName, V: Drop>(
     }
 }
 
-/// Opens a claim under a number, and makes room for what its return keeps. Errors: want of memory, and then nothing is opened.
+/// Opens a claim under a number, and makes room for what its return keeps. Errors: want of memory,
+/// and then nothing is opened.
 pub fn open_claim<K: StoreName, V: Drop>(
     memos: &mut Memos<Token<K, V>>,
     claims: &mut OpenClaims,
@@ -123,7 +137,8 @@ pub fn open_claim<K: StoreName, V: Drop>(
     requires small { length claims.old.entries < 2 ^ 63 }
     requires room { length claims.old.entries ≤ spare memos.old }
     ensures memos { memos.new.entries ≡ memos.old.entries }
-    ensures opened { OnOk result (claims.new.entries ≡ insert_entry nat_cmp claims.old.entries number claim) }
+    ensures opened { OnOk result (claims.new.entries
+        ≡ insert_entry nat_cmp claims.old.entries number claim) }
     ensures room { length claims.new.entries ≤ spare memos.new }
     ensures small { length claims.new.entries < 2 ^ 63 }
     ensures fault { IfErr result (λ fault. fault ≡ ClaimFault.OutOfMemory) }
@@ -138,7 +153,8 @@ pub fn open_claim<K: StoreName, V: Drop>(
 
 /// Drops the memos of nodes that the texts don't keep, and takes every mark away.
 pub fn drop_gone<K: StoreName, T: Texts>(texts: &T, memos: &mut Memos<Token<K, T::Value>>)
-    ensures memos { as_memos memos.new.entries ≡ filter (λ m. T.keeps texts.now m.node) (as_memos memos.old.entries) }
+    ensures memos { as_memos memos.new.entries
+        ≡ filter (λ m. T.keeps texts.now m.node) (as_memos memos.old.entries) }
     ensures none { (n : NodeRecord) → mark_of memos.new.entries n ≡ false }
     ensures room { spare memos.old ≤ spare memos.new }
 {

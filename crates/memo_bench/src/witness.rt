@@ -19,7 +19,8 @@ pub trait Witness<T: Texts> {
     /// Tells it of a prepared edit. False where it holds the edit back.
     fn tell(&mut self, alloc: Global, texts: &T, prepared: &T::Prepared, number: u64) -> bool
         requires { may_tell self.old texts.now prepared.now number }
-        ensures { MatchBool result (told self.old texts.now prepared.now number self.new) (held self.old self.new) };
+        ensures { MatchBool result (told self.old texts.now prepared.now number self.new)
+            (held self.old self.new) };
 }
 
 /// Holds no edit back.

@@ -26,7 +26,10 @@ fn is_open<K: StoreName, T: Texts>(
     claims: &OpenClaims,
     node: Node,
 ) -> bool
-    ensures { result ≡ is_out node (present_inputs (T.net texts.now) (as_memos memos.now.entries) ((T.net texts.now).inputs node)) claims.now.entries }
+    ensures { result
+        ≡ is_out node
+        (present_inputs (T.net texts.now) (as_memos memos.now.entries)
+        ((T.net texts.now).inputs node)) claims.now.entries }
 {
     for (_, claim) in claims.iter() {
         if is_same_node(node, claim.node) {
@@ -71,8 +74,10 @@ fn work_between<K: StoreName, T: Texts>(
     requires marks { IsMarkedTo (T.net texts.now) memos.now.entries [] }
     requires within { end ≤ length (T.net texts.now).used }
     requires order { first ≤ end }
-    ensures found { IfSome result (IsWorkAt (T.net texts.now) memos.now.entries claims.now.entries) }
-    ensures none { IfNone result (IsIdle (T.net texts.now) memos.now.entries claims.now.entries first end) }
+    ensures found { IfSome result (IsWorkAt (T.net texts.now) memos.now.entries
+        claims.now.entries) }
+    ensures none { IfNone result (IsIdle (T.net texts.now) memos.now.entries claims.now.entries
+        first end) }
 {
     for i in first..end {
         if has_work(texts, memos, claims, texts.used_at(i)) {
@@ -90,8 +95,10 @@ fn find_work<K: StoreName, T: Texts>(
     next: usize,
 ) -> Option<usize>
     requires marks { IsMarkedTo (T.net texts.now) memos.now.entries [] }
-    ensures found { IfSome result (IsWorkAt (T.net texts.now) memos.now.entries claims.now.entries) }
-    ensures none { IfNone result (IsIdle (T.net texts.now) memos.now.entries claims.now.entries 0 (length (T.net texts.now).used)) }
+    ensures found { IfSome result (IsWorkAt (T.net texts.now) memos.now.entries
+        claims.now.entries) }
+    ensures none { IfNone result (IsIdle (T.net texts.now) memos.now.entries claims.now.entries 0
+        (length (T.net texts.now).used)) }
 {
     let count = texts.used_count();
     let start = next.min(count);
@@ -110,7 +117,8 @@ fn find_waiting<K: StoreName, T: Texts>(
 ) -> Option<Node>
     requires { IsMarkedTo (T.net texts.now) memos.now.entries [] }
     ensures used { IfSome result (λ n. has_node n (T.net texts.now).used ≡ true) }
-    ensures work { IfSome result (λ n. can_work (T.net texts.now) memos.now.entries claims.now.entries n ≡ true) }
+    ensures work { IfSome result (λ n. can_work (T.net texts.now) memos.now.entries
+        claims.now.entries n ≡ true) }
 {
     while let Some(node) = waiting.last() {
         let node = *node;
@@ -122,8 +130,9 @@ fn find_waiting<K: StoreName, T: Texts>(
     None
 }
 
-/// A node that has work, if any has: the last of those that may have some, else the first of the used ones from an index on,
-/// where the next search goes on. A search that nothing follows finds the same node again.
+/// A node that has work, if any has: the last of those that may have some, else the first of the
+/// used ones from an index on, where the next search goes on. A search that nothing follows finds
+/// the same node again.
 pub fn find_node<K: StoreName, T: Texts>(
     texts: &T,
     memos: &Memos<Token<K, T::Value>>,
@@ -133,8 +142,10 @@ pub fn find_node<K: StoreName, T: Texts>(
 ) -> Option<Node>
     requires { IsMarkedTo (T.net texts.now) memos.now.entries [] }
     ensures used { IfSome result (λ n. Has (T.net texts.now).used n) }
-    ensures work { IfSome result (λ n. can_work (T.net texts.now) memos.now.entries claims.now.entries n ≡ true) }
-    ensures none { IfNone result (IsIdle (T.net texts.now) memos.now.entries claims.now.entries 0 (length (T.net texts.now).used)) }
+    ensures work { IfSome result (λ n. can_work (T.net texts.now) memos.now.entries
+        claims.now.entries n ≡ true) }
+    ensures none { IfNone result (IsIdle (T.net texts.now) memos.now.entries claims.now.entries 0
+        (length (T.net texts.now).used)) }
 {
     if let Some(node) = find_waiting(texts, memos, claims, waiting) {
         return Some(node);
@@ -167,7 +178,9 @@ pub fn current_inputs<K: StoreName, T: Texts>(
     memos: &Memos<Token<K, T::Value>>,
     node: Node,
 ) -> Result<Vec<Input>, AllocError>
-    ensures { IfOk result (λ inputs. inputs.items ≡ present_inputs (T.net texts.now) (as_memos memos.now.entries) ((T.net texts.now).inputs node)) }
+    ensures { IfOk result (λ inputs. inputs.items
+        ≡ present_inputs (T.net texts.now) (as_memos memos.now.entries)
+        ((T.net texts.now).inputs node)) }
 {
     let mut inputs = Vec::new(alloc);
     let count = texts.input_count(node);
@@ -186,7 +199,8 @@ fn hold_all<K: StoreName, T: Texts>(
     memos: &Memos<Token<K, T::Value>>,
     node: Node,
 ) -> Result<Option<Vec<Token<K, T::Value>>>, AllocError>
-    ensures { IfOk result (λ r. option_map (λ ts. shown_values ts.items) r ≡ values_at (at (as_memos memos.now.entries)) ((T.net texts.now).inputs node)) }
+    ensures { IfOk result (λ r. option_map (λ ts. shown_values ts.items) r
+        ≡ values_at (at (as_memos memos.now.entries)) ((T.net texts.now).inputs node)) }
 {
     let mut values = Vec::new(alloc);
     let count = texts.input_count(node);
@@ -210,7 +224,8 @@ pub fn present_values<K: StoreName, T: Texts>(
     node: Node,
 ) -> Result<Vec<Token<K, T::Value>>, AllocError>
     requires { values_at (at (as_memos memos.now.entries)) ((T.net texts.now).inputs node) ≢ None }
-    ensures { IfOk result (λ values. Some (shown_values values.items) ≡ values_at (at (as_memos memos.now.entries)) ((T.net texts.now).inputs node)) }
+    ensures { IfOk result (λ values. Some (shown_values values.items)
+        ≡ values_at (at (as_memos memos.now.entries)) ((T.net texts.now).inputs node)) }
 {
     match hold_all(alloc, texts, memos, node)? {
         Some(values) => Ok(values),
@@ -220,7 +235,8 @@ pub fn present_values<K: StoreName, T: Texts>(
 
 /// What is kept of a node's outputs.
 pub fn outputs_in<K: StoreName, V>(memos: &Memos<Token<K, V>>, node: Node) -> &[Output<Token<K, V>>]
-    ensures shown { shown_outputs result.now ≡ outputs_of (memo_of node (as_memos memos.now.entries)) }
+    ensures shown { shown_outputs result.now
+        ≡ outputs_of (memo_of node (as_memos memos.now.entries)) }
     ensures tokens { result.now ≡ tokens_of node memos.now.entries }
 {
     match stored_outputs(memos, node) {
@@ -249,7 +265,8 @@ pub fn run_node<K: StoreName, T: Texts>(
     keys: &[Key],
     values: &[Token<K, T::Value>],
 ) -> Result<Vec<Output<T::Value>>, AllocError>
-    ensures { IfOk result (λ outputs. T.makes node given.now keys.now (shown_values values.now) (named_values outputs.items)) }
+    ensures { IfOk result (λ outputs. T.makes node given.now keys.now (shown_values values.now)
+        (named_values outputs.items)) }
 {
     let mut all = Vec::new(alloc);
     for value in values {
@@ -316,7 +333,8 @@ fn put_one<R: Wait, K: StoreName, T: Texts>(
     }
 }
 
-/// Puts outputs into the store, where their earlier tokens do not show them. Errors: the store is full, want of memory.
+/// Puts outputs into the store, where their earlier tokens do not show them. Errors: the store is
+/// full, want of memory.
 pub fn put_all<R: Wait, K: StoreName, T: Texts>(
     rt: &R,
     alloc: Global,
@@ -324,7 +342,8 @@ pub fn put_all<R: Wait, K: StoreName, T: Texts>(
     before: &[Output<Token<K, T::Value>>],
     outputs: Vec<Output<T::Value>>,
 ) -> Result<Vec<Output<Token<K, T::Value>>>, StoreFault>
-    ensures values { IfOk result (λ all. named_values (shown_outputs all.items) ≡ named_values outputs.items) }
+    ensures values { IfOk result (λ all. named_values (shown_outputs all.items)
+        ≡ named_values outputs.items) }
     ensures kept { IfOk result (λ all. Each (λ o. KeepsToken before.now o.name o.value) all.items) }
 {
     let mut all = match Vec::with_capacity(alloc, outputs.len()) {

@@ -1,4 +1,5 @@
--- What texts owe to the core, cited by the trait `Texts`, and what holds of any run, cited by `laws`.
+-- What texts owe to the core, cited by the trait `Texts`, and what holds of any run, cited by
+-- `laws`.
 use Rattle.std.specs.Prelude.{◌≡◌, ◌<◌, ◌↔◌, ℕ, List, [], Bool, true}
 use Rattle.std.specs.List.{AllByRecursion as Each}
 use Rattle.memo_core.specs.declared.keys.Node.{Node}
@@ -12,8 +13,8 @@ use Rattle.memo_core.specs.Run.{Bench, Event, Meaning, Run, IsStart, IsFreshFrom
 abbrev pub IsUsedClosed : {G : Type 0} → Net G → Type 0
 IsUsedClosed net = (n : Node) → Has net.used n → Each (Has net.used) (input_nodes (net.inputs n))
 
--- each used node that has an output of another among its inputs is listed as its user, and only used
--- nodes are listed as users of a used node
+-- each used node that has an output of another among its inputs is listed as its user, and only
+-- used nodes are listed as users of a used node
 pub record AreUsers {G : Type 0} (net : Net G) (users : Node → List Node) : Type 0 where
   pub listed : (n u : Node) → Has net.used u → Has (input_nodes (net.inputs u)) n → Has (users n) u
   pub are_used : (n u : Node) → Has net.used n → Has (users n) u → Has net.used u
@@ -26,7 +27,8 @@ Falls net rank = (n : Node) → Each (λ m. rank m < rank n) (input_nodes (net.i
 abbrev pub GivenStays : {T G : Type 0} → (T → Type 0) → (T → T → Type 0) → (T → Net G) → Type 0
 GivenStays {T} {G} is_valid since net =
     (t u : T) (n : Node) (g : G) → is_valid u → since t u → (net u).inputs n ≡ (net t).inputs n
-    → Each (IsSamePart (net t) (net u)) ((net u).inputs n) → (net t).gives n g ≡ true → (net u).gives n g ≡ true
+    → Each (IsSamePart (net t) (net u)) ((net u).inputs n) → (net t).gives n g ≡ true
+    → (net u).gives n g ≡ true
 
 abbrev pub meaning : {T E V G : Type 0} → (T → Net G) → (T → Type 0) → (T → T → Type 0)
     → Making V G → (T → Node → Bool) → (T → E → ℕ → T → Type 0) → (T → ℕ) → Meaning T E V G
@@ -40,17 +42,23 @@ meaning net is_valid since makes keeps edited last = record {
   last = last;
 }
 
--- after any list of events, a settled node holds what is made of what its job is given now and of the present values of its present inputs
+-- after any list of events, a settled node holds what is made of what its job is given now and of
+-- the present values of its present inputs
 abbrev pub SettledIsSolved : {T E V G : Type 0} → Meaning T E V G → (T → Node → Type 0) → Type 0
 SettledIsSolved {T} {E} {V} {G} means is_there =
-    (events : List (Event E V G)) (start end : Bench T V) → IsStart means.is_valid means.net start → Run means start events end
-    → (n : Node) → is_there end.texts n → IsSettled (means.net end.texts) end.memos n → IsSolved means.makes (means.net end.texts) end.memos n
+    (events : List (Event E V G)) (start end : Bench T V) → IsStart means.is_valid means.net start
+    → Run means start events end
+    → (n : Node) → is_there end.texts n → IsSettled (means.net end.texts) end.memos n
+    → IsSolved means.makes (means.net end.texts) end.memos n
 
--- so does a node that is not settled, where its memo's inputs and stamps are the present ones, as far as its inputs have values
+-- so does a node that is not settled, where its memo's inputs and stamps are the present ones, as
+-- far as its inputs have values
 abbrev pub MatchingIsMade : {T E V G : Type 0} → Meaning T E V G → Type 0
 MatchingIsMade {T} {E} {V} {G} means =
-    (events : List (Event E V G)) (start end : Bench T V) → IsStart means.is_valid means.net start → Run means start events end
-    → (n : Node) → Matches (means.net end.texts) end.memos n → IsMadeOfPresent means.makes (means.net end.texts) end.memos n
+    (events : List (Event E V G)) (start end : Bench T V) → IsStart means.is_valid means.net start
+    → Run means start events end
+    → (n : Node) → Matches (means.net end.texts) end.memos n
+    → IsMadeOfPresent means.makes (means.net end.texts) end.memos n
 
 -- and its inputs all have values, so it holds what is made of their present values, as a settled
 -- node does
@@ -65,7 +73,8 @@ MatchingIsSolved {T} {E} {V} {G} means =
 abbrev pub ReturnsSettle : (V G : Type 0) → Type 0
 ReturnsSettle V G =
     (old new : State V G) (r : Return V G) → IsFreshFrom old.memos old.claims → Accepts old r new
-    → Each (IsSettled old.net old.memos) (input_nodes (old.net.inputs r.node)) → IsProgress old new r.node
+    → Each (IsSettled old.net old.memos) (input_nodes (old.net.inputs r.node))
+    → IsProgress old new r.node
 
 -- whether each node is settled
 abbrev pub DecidesSettled : {V G : Type 0} → State V G → (Node → Bool) → Type 0
@@ -74,42 +83,60 @@ DecidesSettled s settled = (n : Node) → (settled n ≡ true) ↔ IsSettled s.n
 -- such a return lowers the number of used nodes that are not settled
 abbrev pub ReturnsLower : (V G : Type 0) → Type 0
 ReturnsLower V G =
-    (old new : State V G) (r : Return V G) (before after : Node → Bool) → DecidesSettled old before → DecidesSettled new after → IsFreshFrom old.memos old.claims → Accepts old r new
-    → Each (IsSettled old.net old.memos) (input_nodes (old.net.inputs r.node)) → count_unsettled after old.net.used < count_unsettled before old.net.used
+    (old new : State V G) (r : Return V G) (before after : Node → Bool) → DecidesSettled old before
+    → DecidesSettled new after → IsFreshFrom old.memos old.claims → Accepts old r new
+    → Each (IsSettled old.net old.memos) (input_nodes (old.net.inputs r.node))
+    → count_unsettled after old.net.used < count_unsettled before old.net.used
 
 -- a return that is taken keeps the open claims apart
 abbrev pub ReturnsKeepApart : (V G : Type 0) → Type 0
-ReturnsKeepApart V G = (old new : State V G) (r : Return V G) → IsFreshFrom old.memos old.claims → Accepts old r new → IsFreshFrom new.memos new.claims
+ReturnsKeepApart V G =
+    (old new : State V G) (r : Return V G) → IsFreshFrom old.memos old.claims → Accepts old r new
+    → IsFreshFrom new.memos new.claims
 
 -- so does a claim that is given
 abbrev pub ClaimsKeepApart : (V G : Type 0) → Type 0
 ClaimsKeepApart V G =
-    (old new : State V G) (number : ℕ) (n : Node) (given : G) (keys : List Key) (values : List V) → IsFreshFrom old.memos old.claims → Gives old number n given keys values new → IsFreshFrom new.memos new.claims
+    (old new : State V G) (number : ℕ) (n : Node) (given : G) (keys : List Key) (values : List V)
+    → IsFreshFrom old.memos old.claims → Gives old number n given keys values new
+    → IsFreshFrom new.memos new.claims
 
 -- an edit that touches nothing under a settled node leaves it settled
 abbrev pub UntouchedStaysSettled : (V G : Type 0) → Type 0
 UntouchedStaysSettled V G =
-    (keep : Node → Bool) (old new : State V G) (n : Node) → Edits keep old new → ((d : ℕ) → IsUntouchedBy d keep old.net new.net n) → IsSettled old.net old.memos n → IsSettled new.net new.memos n
+    (keep : Node → Bool) (old new : State V G) (n : Node) → Edits keep old new
+    → ((d : ℕ) → IsUntouchedBy d keep old.net new.net n) → IsSettled old.net old.memos n
+    → IsSettled new.net new.memos n
 
 -- an edit leaves the memo of each node that is kept
 abbrev pub KeptIsSame : (V G : Type 0) → Type 0
-KeptIsSame V G = (keep : Node → Bool) (old new : State V G) (n : Node) → Edits keep old new → keep n ≡ true → memo_of n new.memos ≡ memo_of n old.memos
+KeptIsSame V G =
+    (keep : Node → Bool) (old new : State V G) (n : Node) → Edits keep old new → keep n ≡ true
+    → memo_of n new.memos ≡ memo_of n old.memos
 
 -- what a job held stays the present values as long as the stamps are the present ones
 abbrev pub ValuesStayPresent : {T E V G : Type 0} → Meaning T E V G → Type 0
 ValuesStayPresent {T} {E} {V} {G} means =
-    (events : List (Event E V G)) (then end : Bench T V) (keys : List Key) (values : List V) → Run means then events end
-    → IsPinned (at then.memos) then.taken (present_inputs (means.net end.texts) end.memos keys) values
-    → Each (λ i. 0 < i.stamp) (outputs_among (present_inputs (means.net end.texts) end.memos keys)) → ArePresent (at end.memos) keys values
+    (events : List (Event E V G)) (then end : Bench T V) (keys : List Key) (values : List V)
+    → Run means then events end
+    → IsPinned (at then.memos) then.taken (present_inputs (means.net end.texts) end.memos keys)
+    values
+    → Each (λ i. 0 < i.stamp) (outputs_among (present_inputs (means.net end.texts) end.memos keys))
+    → ArePresent (at end.memos) keys values
 
--- what a job was given is what its node is given, as long as its inputs and their parts are the present ones
+-- what a job was given is what its node is given, as long as its inputs and their parts are the
+-- present ones
 abbrev pub GivenStaysPresent : {T E V G : Type 0} → Meaning T E V G → Type 0
 GivenStaysPresent {T} {E} {V} {G} means =
-    (events : List (Event E V G)) (then end : Bench T V) (n : Node) (g : G) → means.is_valid then.texts → Run means then events end
-    → (means.net end.texts).inputs n ≡ (means.net then.texts).inputs n → Each (IsSamePart (means.net then.texts) (means.net end.texts)) ((means.net end.texts).inputs n)
+    (events : List (Event E V G)) (then end : Bench T V) (n : Node) (g : G)
+    → means.is_valid then.texts → Run means then events end
+    → (means.net end.texts).inputs n ≡ (means.net then.texts).inputs n
+    → Each (IsSamePart (means.net then.texts) (means.net end.texts))
+    ((means.net end.texts).inputs n)
     → (means.net then.texts).gives n g ≡ true → (means.net end.texts).gives n g ≡ true
 
 -- where no node has work and no claim is open, each used node is settled
 abbrev pub QuietIsSettled : (V G : Type 0) → Type 0
 QuietIsSettled V G =
-    (s : State V G) (rank : Node → ℕ) → Falls s.net rank → IsUsedClosed s.net → s.claims ≡ [] → ((n : Node) → IsWork s n → ⊥) → (n : Node) → Has s.net.used n → IsSettled s.net s.memos n
+    (s : State V G) (rank : Node → ℕ) → Falls s.net rank → IsUsedClosed s.net → s.claims ≡ []
+    → ((n : Node) → IsWork s n → ⊥) → (n : Node) → Has s.net.used n → IsSettled s.net s.memos n

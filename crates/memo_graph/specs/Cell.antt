@@ -17,40 +17,51 @@ use Rattle.verdict.specs.declared.answer.Refusal.TheVariants as refusals
 use Rattle.verdict.specs.Kept.{Flag}
 use Rattle.memo_graph.specs.Answers.{AreSaid}
 
--- the evaluation of the test's condition on the candidates of a space, from these answers of checks and flags
+-- the evaluation of the test's condition on the candidates of a space, from these answers of checks
+-- and flags
 abbrev pub IsEvaluationFrom : Space → Test → List (List Bool) → List Flag → Evaluation → Type 0
-IsEvaluationFrom space test checks flags e = IsEvaluation space.locations.items (shown_in space) test.condition.quantifier (formula_of test.condition.proposition) test.observed.items checks flags e
+IsEvaluationFrom space test checks flags e =
+    IsEvaluation space.locations.items (shown_in space) test.condition.quantifier
+    (formula_of test.condition.proposition) test.observed.items checks flags e
 
 -- what the test says from these
 abbrev pub IsOutcomeFrom : Space → Test → List (List Bool) → List Flag → Outcome → Type 0
-IsOutcomeFrom space test checks flags o = IsOutcome space.locations.items (shown_in space) test.condition.quantifier (formula_of test.condition.proposition) test.observed.items checks flags o
+IsOutcomeFrom space test checks flags o =
+    IsOutcome space.locations.items (shown_in space) test.condition.quantifier
+    (formula_of test.condition.proposition) test.observed.items checks flags o
 
 -- what the test says from some answers of checks and flags over the candidates of a space
 abbrev pub IsSaid : Space → Test → Outcome → Type 0
-IsSaid space test o = (checks : List (List Bool)) × (flags : List Flag) × IsOutcomeFrom space test checks flags o
+IsSaid space test o =
+    (checks : List (List Bool)) × (flags : List Flag) × IsOutcomeFrom space test checks flags o
 
--- a fault of the model, why the test has no space, or the evaluation of its condition from some answers over its own
--- space
+-- a fault of the model, why the test has no space, or the evaluation of its condition from some
+-- answers over its own space
 abbrev pub IsResult : Test → OutcomeResult → Type 0
 IsResult test (Refused (refusals.Model k)) = Unit {0}
 IsResult test (Refused (refusals.Space r)) = IsRefusal test r
-IsResult test (Evaluated e) = (space : Space) × ListsExecutions test space × (checks : List (List Bool)) × (flags : List Flag) × IsEvaluationFrom space test checks flags e
+IsResult test (Evaluated e) =
+    (space : Space) × ListsExecutions test space × (checks : List (List Bool)) × (flags : List Flag)
+    × IsEvaluationFrom space test checks flags e
 
 -- an outcome of the test: its condition as it is printed, and a result
 pub record IsCell (test : Test) (o : Outcome) : Type 0 where
   pub kind : o.kind ≡ test.condition.quantifier
-  pub text : o.condition ≡ condition_text test.condition.quantifier (formula_of test.condition.proposition)
+  pub text : o.condition
+      ≡ condition_text test.condition.quantifier (formula_of test.condition.proposition)
   pub result : IsResult test o.result
 
--- the evaluation of the test on the candidates of a space, from what the checks and flags among the items of a model answer
--- there
+-- the evaluation of the test on the candidates of a space, from what the checks and flags among the
+-- items of a model answer there
 abbrev pub IsEvaluationBy : List ResolvedItem → Space → Test → Evaluation → Type 0
 IsEvaluationBy items space test e =
-    (checks : List (List Bool)) × (flags : List Flag) × AreSaid space (reverse items) checks flags × IsEvaluationFrom space test checks flags e
+    (checks : List (List Bool)) × (flags : List Flag) × AreSaid space (reverse items) checks flags
+    × IsEvaluationFrom space test checks flags e
 
 -- likewise, on those of the test
 abbrev pub IsEvaluationOver : List ResolvedItem → Test → Evaluation → Type 0
-IsEvaluationOver items test e = (space : Space) × ListsExecutions test space × IsEvaluationBy items space test e
+IsEvaluationOver items test e =
+    (space : Space) × ListsExecutions test space × IsEvaluationBy items space test e
 
 -- P for a fault of the model, otherwise Q, and R of an evaluation too
 abbrev pub OfModel : (ModelFault → Type 0) → Type 0 → (Evaluation → Type 0) → OutcomeResult → Type 0

@@ -45,7 +45,9 @@ ColumnsAt a index P = (d : Vec Column Global) → P (slice_index_or a.columns.it
 
 -- the columns of each item that checks and flags reach are known
 abbrev pub HasAllColumns : Space → List ResolvedItem → ItemAnswers → Type 0
-HasAllColumns space items a = (j : ℕ) → j < length items → IsReached items j → ColumnsAt a j (IsValued space (reverse items) j)
+HasAllColumns space items a =
+    (j : ℕ) → j < length items → IsReached items j
+    → ColumnsAt a j (IsValued space (reverse items) j)
 
 -- the item gives columns
 abbrev pub IsGroup : Role → Type 0
@@ -69,26 +71,37 @@ AreKeptIn space checks kept = AreKeptBy checks (length (shown_in space)) kept
 
 -- on which candidates all checks among the items hold, and the answers of the flags among them
 abbrev pub AreJudged : Space → List ResolvedItem → List Bool → List Flag → Type 0
-AreJudged space rs kept flags = (checks : List (List Bool)) × AreSaid space rs checks flags × AreKeptIn space checks kept
+AreJudged space rs kept flags =
+    (checks : List (List Bool)) × AreSaid space rs checks flags × AreKeptIn space checks kept
 
 -- what the item at that index gives, from what was known, is known too
-pub record IsAnswered (space : Space) (index : ℕ) (r : ResolvedItem) (old new : ItemAnswers) : Type 0 where
+pub record IsAnswered (space : Space) (index : ℕ) (r : ResolvedItem) (old new : ItemAnswers)
+    : Type 0 where
   pub inputs : List (Bor Column)
   pub found : AreFound old.columns.items r.inputs.items inputs
   pub count : vec_len new.columns ≡ vec_len old.columns
-  pub others : (j : ℕ) → (j ≡ index → ⊥) → (d : Vec Column Global) → slice_index_or new.columns.items j d ≡ slice_index_or old.columns.items j d
-  pub here : index < vec_len old.columns → ColumnsAt old index (λ cs. cs ≡ []) → ColumnsAt new index (ColumnsOf r.role inputs space)
-  pub said : (checks : List (List Bool)) → AreKeptIn space checks (kept_of old) → (more : List (List Bool)) × AreKeptIn space more (kept_of new) × IsSaidBy r.role (AnswersOf r.role inputs space) (λ cs fs. (cs ≡ checks) × (fs ≡ flags_of old)) more (flags_of new)
+  pub others : (j : ℕ) → (j ≡ index → ⊥) → (d : Vec Column Global)
+      → slice_index_or new.columns.items j d ≡ slice_index_or old.columns.items j d
+  pub here : index < vec_len old.columns → ColumnsAt old index (λ cs. cs ≡ [])
+      → ColumnsAt new index (ColumnsOf r.role inputs space)
+  pub said : (checks : List (List Bool)) → AreKeptIn space checks (kept_of old)
+      → (more : List (List Bool)) × AreKeptIn space more (kept_of new)
+      × IsSaidBy r.role (AnswersOf r.role inputs space)
+      (λ cs fs. (cs ≡ checks) × (fs ≡ flags_of old)) more (flags_of new)
 
--- of the items before that number, the columns of those at these indexes are known, and the answers of all
-pub record AreKnown (space : Space) (items : List ResolvedItem) (indexes : List ℕ) (n : ℕ) (a : ItemAnswers) : Type 0 where
+-- of the items before that number, the columns of those at these indexes are known, and the answers
+-- of all
+pub record AreKnown (space : Space) (items : List ResolvedItem) (indexes : List ℕ) (n : ℕ)
+    (a : ItemAnswers) : Type 0 where
   pub count : vec_len a.columns ≡ length items
-  pub values : (j : ℕ) → j < n → Contains indexes j → ColumnsAt a j (IsValued space (reverse (take (suc j) items)) j)
+  pub values : (j : ℕ) → j < n → Contains indexes j
+      → ColumnsAt a j (IsValued space (reverse (take (suc j) items)) j)
   pub empty : (j : ℕ) → n ≤ j → j < length items → ColumnsAt a j (λ cs. cs ≡ [])
   pub said : AreJudged space (reverse (take n items)) (kept_of a) (flags_of a)
 
 -- that many of the indexes are behind, which rise
-pub record AreKnownTo (space : Space) (items : List ResolvedItem) (indexes : List ℕ) (p : ℕ) (a : ItemAnswers) : Type 0 where
+pub record AreKnownTo (space : Space) (items : List ResolvedItem) (indexes : List ℕ) (p : ℕ)
+    (a : ItemAnswers) : Type 0 where
   pub number : ℕ
   pub within : number ≤ length items
   pub below : (q d : ℕ) → q < p → slice_index_or indexes q d < number

@@ -1,4 +1,5 @@
--- Laws of what evaluating from nothing gives: `laws` proves them. The relation itself is in specs/FromScratch.
+-- Laws of what evaluating from nothing gives: `laws` proves them. The relation itself is in
+-- specs/FromScratch.
 use Rattle.std.specs.Prelude.{◌≡◌, ℕ, ◌<◌, List, length}
 use denote.Ref.{Bor}
 use Rattle.text_values.specs.declared.test.Test.{Test}
@@ -24,14 +25,18 @@ pub record HasOneFault (model : ModelText) : Type 0 where
 -- a model with a fault has one outcome with a test
 abbrev pub HasOneRefusal : Test → ModelText → Type 0
 HasOneRefusal test model =
-    (o p : Outcome) (k : ModelFault) → IsFromScratch test model o → IsFromScratch test model p → o.result ≡ Refused (refusals.Model k)
+    (o p : Outcome) (k : ModelFault) → IsFromScratch test model o → IsFromScratch test model p
+    → o.result ≡ Refused (refusals.Model k)
     → (p.kind ≡ o.kind) × (p.condition ≡ o.condition) × (p.result ≡ o.result)
 
--- in the candidate of that number, where the names of other items have these columns, any two lists of least values have the
--- same pairs
+-- in the candidate of that number, where the names of other items have these columns, any two lists
+-- of least values have the same pairs
 abbrev pub HasOneLeast : Candidate → List (Bor Column) → ℕ → List RelTree → Type 0
 HasOneLeast one inputs index trees =
     (values others : List Relation) → AreMonotone trees
-    → IsLeast (events_of one) (EventsAt (events_of one) one inputs index) (PairsAt (events_of one) one inputs index) trees values
-    → IsLeast (events_of one) (EventsAt (events_of one) one inputs index) (PairsAt (events_of one) one inputs index) trees others
-    → (x : ℕ) → x < length trees → (a b : ℕ) → Of (events_of one) values x a b → Of (events_of one) others x a b
+    → IsLeast (events_of one) (EventsAt (events_of one) one inputs index)
+    (PairsAt (events_of one) one inputs index) trees values
+    → IsLeast (events_of one) (EventsAt (events_of one) one inputs index)
+    (PairsAt (events_of one) one inputs index) trees others
+    → (x : ℕ) → x < length trees → (a b : ℕ) → Of (events_of one) values x a b
+    → Of (events_of one) others x a b

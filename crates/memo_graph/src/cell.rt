@@ -86,8 +86,8 @@ fn column_of<'c>(columns: &'c [Vec<Column>], name: &Input) -> Option<&'c Column>
     }
 }
 
-/// The values of the names of other items that the item uses, in its order, of those that are known.
-/// Errors: want of memory.
+/// The values of the names of other items that the item uses, in its order, of those that are
+/// known. Errors: want of memory.
 pub fn inputs<'c>(
     alloc: Global,
     columns: &'c [Vec<Column>],
@@ -115,7 +115,9 @@ fn group_columns(
 ) -> Result<Vec<Column>, AllocError>
     requires { IsOver evaluator.old space.now }
     ensures over { IsOver evaluator.new space.now }
-    ensures found { IfOk result (λ v. (inputs : List (Bor Column)) × AreFound columns.now item.now.inputs.items inputs × WantedColumnsOf wanted.now item.now.role inputs space.now v.items) }
+    ensures found { IfOk result (λ v. (inputs : List (Bor Column))
+        × AreFound columns.now item.now.inputs.items inputs
+        × WantedColumnsOf wanted.now item.now.role inputs space.now v.items) }
 {
     let inputs = inputs(alloc, columns, item)?;
     evaluator.group_wanted(alloc, item, wanted, space, &inputs)
@@ -131,7 +133,9 @@ fn check_answers(
 ) -> Result<Vec<bool>, AllocError>
     requires { IsOver evaluator.old space.now }
     ensures over { IsOver evaluator.new space.now }
-    ensures found { IfOk result (λ v. (inputs : List (Bor Column)) × AreFound columns.now item.now.inputs.items inputs × AnswersOf item.now.role inputs space.now v.items) }
+    ensures found { IfOk result (λ v. (inputs : List (Bor Column))
+        × AreFound columns.now item.now.inputs.items inputs
+        × AnswersOf item.now.role inputs space.now v.items) }
 {
     let inputs = inputs(alloc, columns, item)?;
     evaluator.check(alloc, item, space, &inputs)
@@ -148,7 +152,9 @@ fn kept_answers(
 ) -> Result<Vec<bool>, AllocError>
     requires { IsOver evaluator.old space.now }
     ensures over { IsOver evaluator.new space.now }
-    ensures found { IfOk result (λ v. (inputs : List (Bor Column)) × AreFound columns.now item.now.inputs.items inputs × KeptAnswersOf kept.now item.now.role inputs space.now v.items) }
+    ensures found { IfOk result (λ v. (inputs : List (Bor Column))
+        × AreFound columns.now item.now.inputs.items inputs
+        × KeptAnswersOf kept.now item.now.role inputs space.now v.items) }
 {
     let inputs = inputs(alloc, columns, item)?;
     evaluator.check_kept(alloc, item, space, &inputs, kept)
@@ -160,7 +166,8 @@ fn push_flag<'a>(
     name: &'a Name,
     holds: Vec<bool>,
 ) -> Result<(), AllocError>
-    ensures { OnOk result (of_flags flags.new.items ≡ of_flags flags.old.items ++ (name.now, holds.items) ∷ []) }
+    ensures { OnOk result (of_flags flags.new.items
+        ≡ of_flags flags.old.items ++ (name.now, holds.items) ∷ []) }
 {
     flags.push(FlagAnswer { name, holds })?;
     Ok(())
@@ -177,7 +184,9 @@ fn answer_flag<'a>(
 ) -> Result<(), AllocError>
     requires { IsOver evaluator.old space.now }
     ensures over { IsOver evaluator.new space.now }
-    ensures answered { (check : CheckCode) → item.now.role ≡ Role.Check check → check.flag ≡ Some name.now → OnOk result (IsAnswered space.now at item.now answers.old answers.new) }
+    ensures answered { (check : CheckCode) → item.now.role ≡ Role.Check check
+        → check.flag ≡ Some name.now
+        → OnOk result (IsAnswered space.now at item.now answers.old answers.new) }
 {
     let holds = check_answers(alloc, evaluator, space, item, &answers.columns)?;
     push_flag(&mut answers.flags, name, holds)
@@ -194,7 +203,8 @@ fn answer_kept<'a>(
 ) -> Result<(), AllocError>
     requires { IsOver evaluator.old space.now }
     ensures over { IsOver evaluator.new space.now }
-    ensures answered { (check : CheckCode) → item.now.role ≡ Role.Check check → check.flag ≡ None → OnOk result (IsAnswered space.now at item.now answers.old answers.new) }
+    ensures answered { (check : CheckCode) → item.now.role ≡ Role.Check check → check.flag ≡ None
+        → OnOk result (IsAnswered space.now at item.now answers.old answers.new) }
 {
     answers.kept = kept_answers(
         alloc,
@@ -218,7 +228,8 @@ fn answer_check<'a>(
 ) -> Result<(), AllocError>
     requires { IsOver evaluator.old space.now }
     ensures over { IsOver evaluator.new space.now }
-    ensures answered { item.now.role ≡ Role.Check check.now → OnOk result (IsAnswered space.now at item.now answers.old answers.new) }
+    ensures answered { item.now.role ≡ Role.Check check.now
+        → OnOk result (IsAnswered space.now at item.now answers.old answers.new) }
 {
     match &check.flag {
         Some(name) => answer_flag(alloc, evaluator, space, at, item, name, answers),
@@ -228,8 +239,10 @@ fn answer_check<'a>(
 
 fn put_columns(columns: &mut Vec<Vec<Column>>, at: usize, found: Vec<Column>)
     ensures count { vec_len columns.new ≡ vec_len columns.old }
-    ensures others { (j : ℕ) → (j ≡ at → ⊥) → (d : Vec Column Global) → slice_index_or columns.new.items j d ≡ slice_index_or columns.old.items j d }
-    ensures here { at < vec_len columns.old → (d : Vec Column Global) → slice_index_or columns.new.items at d ≡ found }
+    ensures others { (j : ℕ) → (j ≡ at → ⊥) → (d : Vec Column Global)
+        → slice_index_or columns.new.items j d ≡ slice_index_or columns.old.items j d }
+    ensures here { at < vec_len columns.old → (d : Vec Column Global)
+        → slice_index_or columns.new.items at d ≡ found }
 {
     if at < columns.len() {
         columns[at] = found;
@@ -248,7 +261,9 @@ fn answer_group(
 ) -> Result<(), AllocError>
     requires { IsOver evaluator.old space.now }
     ensures over { IsOver evaluator.new space.now }
-    ensures answered { IsGroup item.now.role → OnOk result (IsAnsweredBut (IsLeftOut wanted.now at) space.now at item.now answers.old answers.new) }
+    ensures answered { IsGroup item.now.role
+        → OnOk result (IsAnsweredBut (IsLeftOut wanted.now at) space.now at item.now answers.old
+        answers.new) }
 {
     let found = group_columns(alloc, evaluator, space, item, wanted, &answers.columns)?;
     put_columns(&mut answers.columns, at, found);
@@ -266,7 +281,8 @@ fn answer_item<'a>(
 ) -> Result<(), AllocError>
     requires { IsOver evaluator.old space.now }
     ensures over { IsOver evaluator.new space.now }
-    ensures answered { OnOk result (IsAnsweredBut (IsLeftOut wanted.now at) space.now at item.now answers.old answers.new) }
+    ensures answered { OnOk result (IsAnsweredBut (IsLeftOut wanted.now at) space.now at item.now
+        answers.old answers.new) }
 {
     match &item.role {
         Role::Group { .. } => answer_group(alloc, evaluator, space, at, item, wanted, answers),
@@ -275,8 +291,8 @@ fn answer_item<'a>(
     }
 }
 
-// Answers the item at that index, of whose names those get values that an item behind it uses, and lets columns go that
-// none uses.
+// Answers the item at that index, of whose names those get values that an item behind it uses, and
+// lets columns go that none uses.
 fn answer_next<'a>(
     alloc: Global,
     evaluator: &mut Evaluator,
@@ -289,7 +305,8 @@ fn answer_next<'a>(
 ) -> Result<(), AllocError>
     requires { IsOver evaluator.old space.now }
     ensures over { IsOver evaluator.new space.now }
-    ensures answered { OnOk result (IsAnsweredBut (IsGone last.now (at + 1)) space.now at item.now answers.old answers.new) }
+    ensures answered { OnOk result (IsAnsweredBut (IsGone last.now (at + 1)) space.now at item.now
+        answers.old answers.new) }
 {
     last.list_wanted(at, item, wanted)?;
     let wanted = wanted.as_slice();
@@ -304,9 +321,12 @@ pub fn answers<'a>(
     space: &Space,
     resolved: &'a Resolved,
 ) -> Result<ItemAnswers<'a>, AllocError>
-    ensures said { let items = resolved.now.items.items in AreSound items → IfOk result (λ a. AreJudged space.now (reverse items) (kept_of a) (flags_of a)) }
+    ensures said { let items = resolved.now.items.items in
+        AreSound items
+        → IfOk result (λ a. AreJudged space.now (reverse items) (kept_of a) (flags_of a)) }
     ensures long { IfOk result (λ a. length (kept_of a) ≡ length (shown_in space.now)) }
-    ensures columns { let items = resolved.now.items.items in AreSound items → IfOk result (HasAllColumns space.now items) }
+    ensures columns { let items = resolved.now.items.items in
+        AreSound items → IfOk result (HasAllColumns space.now items) }
     ensures count { IfOk result (λ a. vec_len a.columns ≡ length resolved.now.items.items) }
     ensures no_others { IfOk result (HasNoOtherColumns resolved.now.items.items) }
 {
@@ -314,8 +334,8 @@ pub fn answers<'a>(
     answers_by(alloc, &mut evaluator, space, resolved, Keeping::All)
 }
 
-/// As `answers`, by an evaluator that has evaluated nothing, or items over this space. All columns are there in the end
-/// where all are to be kept.
+/// As `answers`, by an evaluator that has evaluated nothing, or items over this space. All columns
+/// are there in the end where all are to be kept.
 fn answers_by<'a>(
     alloc: Global,
     evaluator: &mut Evaluator,
@@ -325,9 +345,12 @@ fn answers_by<'a>(
 ) -> Result<ItemAnswers<'a>, AllocError>
     requires { IsOver evaluator.old space.now }
     ensures over { IsOver evaluator.new space.now }
-    ensures said { let items = resolved.now.items.items in AreSound items → IfOk result (λ a. AreJudged space.now (reverse items) (kept_of a) (flags_of a)) }
+    ensures said { let items = resolved.now.items.items in
+        AreSound items
+        → IfOk result (λ a. AreJudged space.now (reverse items) (kept_of a) (flags_of a)) }
     ensures long { IfOk result (λ a. length (kept_of a) ≡ length (shown_in space.now)) }
-    ensures columns { let items = resolved.now.items.items in keeping ≡ Keeping.All → AreSound items → IfOk result (HasAllColumns space.now items) }
+    ensures columns { let items = resolved.now.items.items in
+        keeping ≡ Keeping.All → AreSound items → IfOk result (HasAllColumns space.now items) }
     ensures count { IfOk result (λ a. vec_len a.columns ≡ length resolved.now.items.items) }
     ensures no_others { IfOk result (HasNoOtherColumns resolved.now.items.items) }
 {
@@ -375,7 +398,9 @@ pub(crate) fn evaluated(
     requires { IsOver evaluator.old space.now }
     ensures over { IsOver evaluator.new space.now }
     ensures said { IfOk result (λ o. IsSaid space.now test.now o) }
-    ensures answers { AreSound resolved.now.items.items → IfOk result (λ o. IsEvaluatedAs (IsEvaluationBy resolved.now.items.items space.now test.now) o.result) }
+    ensures answers { AreSound resolved.now.items.items
+        → IfOk result (λ o. IsEvaluatedAs
+        (IsEvaluationBy resolved.now.items.items space.now test.now) o.result) }
 {
     let found = answers_by(alloc, evaluator, space, resolved, Keeping::WhileNeeded)?;
     let flags = raised(alloc, &found.flags)?;
@@ -391,7 +416,9 @@ pub(crate) fn evaluated(
 
 pub(crate) fn refused(alloc: Global, test: &Test, refusal: Refusal) -> Result<Outcome, AllocError>
     ensures kind { IfOk result (λ o. o.kind ≡ test.now.condition.quantifier) }
-    ensures text { IfOk result (λ o. o.condition ≡ condition_text test.now.condition.quantifier (formula_of test.now.condition.proposition)) }
+    ensures text { IfOk result (λ o. o.condition
+        ≡ condition_text test.now.condition.quantifier
+        (formula_of test.now.condition.proposition)) }
     ensures refusal { IfOk result (λ o. o.result ≡ OutcomeResult.Refused refusal) }
 {
     Ok(Outcome {
@@ -410,14 +437,18 @@ fn over_space_alone(
 ) -> Result<Outcome, AllocError>
     requires { IsSpaceFor test.now space.now }
     ensures cell { IfOk result (λ o. IsCell test.now o) }
-    ensures model { IfOk result (λ o. OfModel (λ _. ⊥) (Unit {0}) (λ e. AreSound resolved.now.items.items → IsEvaluationOver resolved.now.items.items test.now e) o.result) }
+    ensures model { IfOk result (λ o. OfModel (λ _. ⊥) (Unit {0})
+        (λ e. AreSound resolved.now.items.items
+        → IsEvaluationOver resolved.now.items.items test.now e) o.result) }
 {
     over_space(alloc, &mut Evaluator::new(alloc), test, resolved, space)
 }
 
 fn over_candidates(alloc: Global, test: &Test, resolved: &Resolved) -> Result<Outcome, AllocError>
     ensures cell { IfOk result (λ o. IsCell test.now o) }
-    ensures model { IfOk result (λ o. OfModel (λ _. ⊥) (Unit {0}) (λ e. AreSound resolved.now.items.items → IsEvaluationOver resolved.now.items.items test.now e) o.result) }
+    ensures model { IfOk result (λ o. OfModel (λ _. ⊥) (Unit {0})
+        (λ e. AreSound resolved.now.items.items
+        → IsEvaluationOver resolved.now.items.items test.now e) o.result) }
 {
     let space = space_for(alloc, test)?;
     over_space_alone(alloc, test, resolved, &space)

@@ -17,8 +17,8 @@ pub(crate) enum Keeping {
     WhileNeeded,
 }
 
-/// The last user of each name: the last used item that has the name among its inputs, and the first item where none has.
-/// A name that is not noted here has users to the end.
+/// The last user of each name: the last used item that has the name among its inputs, and the first
+/// item where none has. A name that is not noted here has users to the end.
 #[derive(Drop)]
 pub(crate) struct LastUsers {
     /// For each item the slot of its first name.
@@ -132,8 +132,8 @@ impl LastUsers {
         }
     }
 
-    /// Lists which names of the item at that index are wanted: those that an item behind it uses, and those whose users are
-    /// not noted. Errors: want of memory.
+    /// Lists which names of the item at that index are wanted: those that an item behind it uses,
+    /// and those whose users are not noted. Errors: want of memory.
     pub(crate) fn list_wanted(
         &self,
         at: usize,
@@ -150,7 +150,8 @@ impl LastUsers {
     }
 }
 
-/// Until where the columns of names are kept: behind the last of their users, or to the end. Errors: want of memory.
+/// Until where the columns of names are kept: behind the last of their users, or to the end.
+/// Errors: want of memory.
 pub(crate) fn last_users(
     alloc: Global,
     keeping: Keeping,

@@ -26,5 +26,6 @@ pub fn refusals_of_models_are_one(test: &Test, model: &ModelText)
 
 /// In a candidate, two lists of least values that satisfy the equations of a group are the same.
 pub fn least_values_are_one()
-    ensures { (one : Candidate) (inputs : List (Bor Column)) (index : ℕ) (trees : List RelTree) → HasOneLeast one inputs index trees }
+    ensures { (one : Candidate) (inputs : List (Bor Column)) (index : ℕ) (trees : List RelTree)
+        → HasOneLeast one inputs index trees }
 {}

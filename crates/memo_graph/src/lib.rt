@@ -1,5 +1,6 @@
-//! One test under one model, evaluated from nothing. Read `specs/FromScratch` first: `eval_cell` gives what it says, and
-//! `laws` says of what it is the only answer. `eval_suite` gives it for many tests under many models: specs/Suites.
+//! One test under one model, evaluated from nothing. Read `specs/FromScratch` first: `eval_cell`
+//! gives what it says, and `laws` says of what it is the only answer. `eval_suite` gives it for
+//! many tests under many models: specs/Suites.
 #![tactic(auto)]
 
 mod cell;

@@ -72,7 +72,9 @@ pub(crate) fn over_space(
     requires over { ForOk space.now (IsOver evaluator.old) }
     ensures over { ForOk space.now (IsOver evaluator.new) }
     ensures cell { IfOk result (λ o. IsCell test.now o) }
-    ensures model { IfOk result (λ o. OfModel (λ _. ⊥) (Unit {0}) (λ e. AreSound resolved.now.items.items → IsEvaluationOver resolved.now.items.items test.now e) o.result) }
+    ensures model { IfOk result (λ o. OfModel (λ _. ⊥) (Unit {0})
+        (λ e. AreSound resolved.now.items.items
+        → IsEvaluationOver resolved.now.items.items test.now e) o.result) }
 {
     match space {
         Ok(space) => evaluated(alloc, evaluator, test, resolved, space),
@@ -91,7 +93,8 @@ fn under_model(
     requires space { IsSpaceFor test.now space.now }
     requires over { ForOk space.now (IsOver evaluator.old) }
     ensures over { ForOk space.now (IsOver evaluator.new) }
-    ensures outcome { (text : ModelText) → IsResolvedAs text model.now → IfOk result (IsFromScratch test.now text) }
+    ensures outcome { (text : ModelText) → IsResolvedAs text model.now
+        → IfOk result (IsFromScratch test.now text) }
 {
     match model {
         Ok(resolved) => over_space(alloc, evaluator, test, resolved, space),
@@ -107,7 +110,8 @@ fn each_model(
     models: &[Result<Resolved, ModelFault>],
 ) -> Result<Vec<Outcome>, AllocError>
     requires { IsSpaceFor test.now space.now }
-    ensures { (texts : List (Bor ModelText)) → AreResolvedAs texts models.now → IfOk result (λ v. AreOutcomes texts test.now v.items) }
+    ensures { (texts : List (Bor ModelText)) → AreResolvedAs texts models.now
+        → IfOk result (λ v. AreOutcomes texts test.now v.items) }
 {
     let mut evaluator = Evaluator::new(alloc);
     let mut outcomes = Vec::with_capacity(alloc, models.len())?;
@@ -117,14 +121,15 @@ fn each_model(
     Ok(outcomes)
 }
 
-/// What the test says under each model, whose items are resolved: as `eval_cell` gives it, over candidates that are made
-/// once. Errors: want of memory.
+/// What the test says under each model, whose items are resolved: as `eval_cell` gives it, over
+/// candidates that are made once. Errors: want of memory.
 pub fn eval_row(
     alloc: Global,
     test: &Test,
     models: &[Result<Resolved, ModelFault>],
 ) -> Result<Vec<Outcome>, AllocError>
-    ensures { (texts : List (Bor ModelText)) → AreResolvedAs texts models.now → IfOk result (λ v. AreOutcomes texts test.now v.items) }
+    ensures { (texts : List (Bor ModelText)) → AreResolvedAs texts models.now
+        → IfOk result (λ v. AreOutcomes texts test.now v.items) }
 {
     let space = space_for(alloc, test)?;
     each_model(alloc, test, &space, models)
@@ -136,7 +141,8 @@ fn each_test(
     tests: &[Test],
     models: &[Result<Resolved, ModelFault>],
 ) -> Result<Vec<Vec<Outcome>>, AllocError>
-    ensures { (texts : List (Bor ModelText)) → AreResolvedAs texts models.now → IfOk result (λ rows. AreRows texts tests.now rows.items) }
+    ensures { (texts : List (Bor ModelText)) → AreResolvedAs texts models.now
+        → IfOk result (λ rows. AreRows texts tests.now rows.items) }
 {
     let mut rows = Vec::with_capacity(alloc, tests.len())?;
     for test in tests {
@@ -145,8 +151,9 @@ fn each_test(
     Ok(rows)
 }
 
-/// What each test says under each model: for each test one outcome a model, as `eval_cell` gives it. The candidates of
-/// a test are made once, and a model is resolved once. Errors: want of memory.
+/// What each test says under each model: for each test one outcome a model, as `eval_cell` gives
+/// it. The candidates of a test are made once, and a model is resolved once. Errors: want of
+/// memory.
 pub fn eval_suite(
     alloc: Global,
     tests: &[Test],

@@ -1,4 +1,5 @@
--- What people are told of a model whose text reads and that has a fault. `model_fault_lines` cites `IsTold`.
+-- What people are told of a model whose text reads and that has a fault. `model_fault_lines` cites
+-- `IsTold`.
 use Rattle.std.specs.Prelude.{◌≡◌, ℕ, suc, List, [], ◌++◌, map, slice_get, slice_index_or, Some, codes, decimal}
 use Rattle.text_values.specs.declared.model.Item.{Item}
 use Rattle.text_values.specs.ModelValue.{Clause}
@@ -17,14 +18,22 @@ use Rattle.fault_lines.specs.Lines.{rule_said}
 abbrev pub item_number : List ℕ → ℕ → ℕ
 item_number numbers index = slice_index_or numbers index (suc index)
 
--- the model and the number of the item, the rule with its words, the sign that is at fault, and the item as it is printed
-unfoldable pub fault_told : (name : List ℕ) (number : ℕ) (fault : ModelFault) (sign : List ℕ) → Clause → List ℕ
+-- the model and the number of the item, the rule with its words, the sign that is at fault, and the
+-- item as it is printed
+unfoldable pub fault_told : (name : List ℕ) (number : ℕ) (fault : ModelFault) (sign : List ℕ)
+    → Clause → List ℕ
 fault_told name number fault sign item =
-    name ++ codes ": item " ++ decimal number ++ codes ": " ++ rule_said 77 (fault_number fault) (rule_words 77 (fault_number fault))
+    name ++ codes ": item " ++ decimal number ++ codes ": "
+    ++ rule_said 77 (fault_number fault) (rule_words 77 (fault_number fault))
     ++ codes ", found `" ++ sign ++ codes "`\n" ++ printed_item item ++ codes "\n"
 
 -- nothing of a model without fault, and of another what its first fault is and where it stands
-pub data IsTold (name : List ℕ) (numbers : List ℕ) (items : List Item) (text : List ℕ) : Type 0 where
-  IsFaultless : HasNoFault [] outermost 0 (map kinds.clause_of items) → text ≡ [] → IsTold name numbers items text
-  IsFaulty : (place : ItemFault) → IsPlace (map kinds.clause_of items) place → (item : Item) → slice_get items place.item ≡ Some item
-      → text ≡ fault_told name (item_number numbers place.item) place.fault place.sign.now (clause_of item) → IsTold name numbers items text
+pub data IsTold (name : List ℕ) (numbers : List ℕ) (items : List Item) (text : List ℕ)
+    : Type 0 where
+  IsFaultless : HasNoFault [] outermost 0 (map kinds.clause_of items) → text ≡ []
+      → IsTold name numbers items text
+  IsFaulty : (place : ItemFault) → IsPlace (map kinds.clause_of items) place → (item : Item)
+      → slice_get items place.item ≡ Some item
+      → text
+      ≡ fault_told name (item_number numbers place.item) place.fault place.sign.now
+      (clause_of item) → IsTold name numbers items text

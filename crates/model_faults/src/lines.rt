@@ -23,7 +23,10 @@ fn put_fault(
     place: &ItemFault<'_>,
     item: &Item,
 ) -> Result<(), AllocError>
-    ensures { OnOk result (lines.new.items ≡ lines.old.items ++ fault_told name.now number place.now.fault place.now.sign.now (clause_of item.now)) }
+    ensures { OnOk result (lines.new.items
+        ≡ lines.old.items
+        ++ fault_told name.now number place.now.fault place.now.sign.now
+        (clause_of item.now)) }
 {
     let number_of_fault = place.fault.number();
     put_bytes(lines, name)?;
@@ -72,8 +75,9 @@ fn lines_of(
     Ok(lines)
 }
 
-/// What is told of the first fault of a model of that name, whose items have these numbers or, where none is given, those of
-/// their places from 1 on: nothing where the model has no fault. Errors: out of memory.
+/// What is told of the first fault of a model of that name, whose items have these numbers or,
+/// where none is given, those of their places from 1 on: nothing where the model has no fault.
+/// Errors: out of memory.
 pub fn model_fault_lines(
     alloc: Global,
     name: &[u8],

@@ -1,6 +1,6 @@
--- The nodes that a model gives each test, with their inputs in order: texts first, then the space, then what other nodes give.
--- An output of a group goes by the number of its name, as other items see it, in the history of its item: `histories` gives that
--- of each item, by the item's number.
+-- The nodes that a model gives each test, with their inputs in order: texts first, then the space,
+-- then what other nodes give. An output of a group goes by the number of its name, as other items
+-- see it, in the history of its item: `histories` gives that of each item, by the item's number.
 use Rattle.std.specs.Prelude.{ℕ, ◌==◌, List, [], ◌∷◌, ◌++◌, map, get_or, slice_get, Option, Some, None, if◌then◌else◌}
 use Rattle.memo_core.specs.declared.keys.Kind.{Kind}
 use Rattle.memo_core.specs.declared.keys.Kind.TheVariants as kinds
@@ -39,7 +39,8 @@ function_key numbers f = slots.Item (number_at numbers f)
 abbrev pub item_history : List ItemRow → List (Option SharedItem) → ℕ → List SeenName
 item_history [] roles number = []
 item_history (i ∷ is) [] number = []
-item_history (i ∷ is) (r ∷ rs) number = if i.number == number then held_history r else item_history is rs number
+item_history (i ∷ is) (r ∷ rs) number =
+    if i.number == number then held_history r else item_history is rs number
 
 -- likewise as the code holds them
 abbrev pub histories_in : Histories → ℕ → List SeenName
@@ -60,31 +61,40 @@ input_name items i = name_of (slice_get items i.item) i.position
 
 -- the column of a name of another item
 abbrev pub name_key : (ℕ → List SeenName) → List ℕ → List ResolvedItem → Input → SlotKey
-name_key histories numbers items i = slots.Value kinds.Group (number_at numbers i.item) (number_of (histories (number_at numbers i.item)) (input_name items i))
+name_key histories numbers items i =
+    slots.Value kinds.Group (number_at numbers i.item) (number_of
+    (histories (number_at numbers i.item)) (input_name items i))
 
 abbrev pub space_key : SlotKey
 space_key = slots.Value kinds.Space 0 0
 
--- the inputs of an item of that number: its own text, the texts of the functions that it applies, the space, and the names that it uses
-abbrev pub item_keys : (ℕ → List SeenName) → List ℕ → List ResolvedItem → ℕ → ResolvedItem → List SlotKey
+-- the inputs of an item of that number: its own text, the texts of the functions that it applies,
+-- the space, and the names that it uses
+abbrev pub item_keys : (ℕ → List SeenName) → List ℕ → List ResolvedItem → ℕ → ResolvedItem
+    → List SlotKey
 item_keys histories numbers items own r =
-    slots.Item own ∷ map (function_key numbers) r.functions.items ++ space_key ∷ map (name_key histories numbers items) r.inputs.items
+    slots.Item own ∷ map (function_key numbers) r.functions.items
+    ++ space_key ∷ map (name_key histories numbers items) r.inputs.items
 
 -- the node of an item, where it has one
 abbrev pub slots_of : Role → ℕ → List SlotKey → List PlainSlot
-slots_of (roles.Group recursive bodies) own keys = record { kind = kinds.Group; of = own; inputs = keys } ∷ []
+slots_of (roles.Group recursive bodies) own keys =
+    record { kind = kinds.Group; of = own; inputs = keys } ∷ []
 slots_of (roles.Check check) own keys = record { kind = kinds.Check; of = own; inputs = keys } ∷ []
 slots_of roles.Silent own keys = []
 
-abbrev pub item_slots : (ℕ → List SeenName) → List ℕ → List ResolvedItem → ℕ → Option ResolvedItem → List PlainSlot
+abbrev pub item_slots : (ℕ → List SeenName) → List ℕ → List ResolvedItem → ℕ → Option ResolvedItem
+    → List PlainSlot
 item_slots histories numbers items own None = []
-item_slots histories numbers items own (Some r) = slots_of r.role own (item_keys histories numbers items own r)
+item_slots histories numbers items own (Some r) =
+    slots_of r.role own (item_keys histories numbers items own r)
 
 -- of the items at some indexes
 abbrev pub used_slots : (ℕ → List SeenName) → List ℕ → List ResolvedItem → List ℕ → List PlainSlot
 used_slots histories numbers items [] = []
 used_slots histories numbers items (i ∷ is) =
-    item_slots histories numbers items (number_at numbers i) (slice_get items i) ++ used_slots histories numbers items is
+    item_slots histories numbers items (number_at numbers i) (slice_get items i)
+    ++ used_slots histories numbers items is
 
 -- ---- the inputs of a verdict
 
@@ -111,18 +121,24 @@ key_by f own (Some r) = f r.role own
 -- of the items at some indexes
 abbrev pub keys_by : (Role → ℕ → List SlotKey) → List ℕ → List ResolvedItem → List ℕ → List SlotKey
 keys_by f numbers items [] = []
-keys_by f numbers items (i ∷ is) = key_by f (number_at numbers i) (slice_get items i) ++ keys_by f numbers items is
+keys_by f numbers items (i ∷ is) =
+    key_by f (number_at numbers i) (slice_get items i) ++ keys_by f numbers items is
 
--- the condition, what is observed, the texts of flags, the space, and the answers of checks and flags
+-- the condition, what is observed, the texts of flags, the space, and the answers of checks and
+-- flags
 abbrev pub verdict_keys : List ℕ → List ResolvedItem → List ℕ → List SlotKey
 verdict_keys numbers items used =
-    slots.Test 2 ∷ slots.Test 3 ∷ keys_by flag_key numbers items used ++ space_key ∷ keys_by answer_key numbers items used
+    slots.Test 2 ∷ slots.Test 3 ∷ keys_by flag_key numbers items used
+    ++ space_key ∷ keys_by answer_key numbers items used
 
 -- of a model without fault: its items, and its verdict
-abbrev pub sound_slots : (ℕ → List SeenName) → ℕ → List ℕ → List ResolvedItem → List ℕ → List PlainSlot
+abbrev pub sound_slots : (ℕ → List SeenName) → ℕ → List ℕ → List ResolvedItem → List ℕ
+    → List PlainSlot
 sound_slots histories id numbers items used =
-    used_slots histories numbers items used ++ record { kind = kinds.Verdict; of = id; inputs = verdict_keys numbers items used } ∷ []
+    used_slots histories numbers items used
+    ++ record { kind = kinds.Verdict; of = id; inputs = verdict_keys numbers items used } ∷ []
 
 -- of a model with a fault: the condition and the fault
 abbrev pub faulty_slots : ℕ → List PlainSlot
-faulty_slots id = record { kind = kinds.Verdict; of = id; inputs = slots.Test 2 ∷ slots.Fault id ∷ [] } ∷ []
+faulty_slots id =
+    record { kind = kinds.Verdict; of = id; inputs = slots.Test 2 ∷ slots.Fault id ∷ [] } ∷ []

@@ -1,4 +1,5 @@
--- The nodes that several models give each test. Read it after Slots. The law `tables_are_ordered` cites it.
+-- The nodes that several models give each test. Read it after Slots. The law `tables_are_ordered`
+-- cites it.
 use Rattle.std.specs.Prelude.{◌≡◌, ⊤, ℕ, ◌<◌, List, [], ◌∷◌, ◌++◌, length, slice_get, Option, Some, None}
 use Rattle.std.specs.List.{AllByRecursion as Each, flat_map}
 use Rattle.memo_core.specs.declared.keys.Kind.TheVariants as kinds
@@ -11,8 +12,8 @@ use Rattle.binding_graph.specs.declared.resolved.Role.TheVariants as roles
 use Rattle.shared_items.specs.Naming.{SeenName}
 use Rattle.model_slots.specs.Slots.{PlainSlot, sound_slots, faulty_slots}
 
--- A model by its number, as it is read. It has no fault: its items with their numbers, and the indexes of those that checks
--- and flags reach. Or it has that fault.
+-- A model by its number, as it is read. It has no fault: its items with their numbers, and the
+-- indexes of those that checks and flags reach. Or it has that fault.
 pub data ModelReading : Type 0 where
   Sound : (id : ℕ) (numbers : List ℕ) (items : List ResolvedItem) (used : List ℕ) → ModelReading
   Faulty : (id : ℕ) (fault : ModelFault) → ModelReading
@@ -26,17 +27,20 @@ name_count roles.Silent = 0
 
 -- the name is one of the group at its index
 abbrev pub IsNameOf : List ResolvedItem → Input → Type 0
-IsNameOf items name = (r : ResolvedItem) × (slice_get items name.item ≡ Some r) × (name.position < name_count r.role)
+IsNameOf items name =
+    (r : ResolvedItem) × (slice_get items name.item ≡ Some r) × (name.position < name_count r.role)
 
 -- each name is one of a group among these items
 abbrev pub UsesNames : List ResolvedItem → List ℕ → Option ResolvedItem → Type 0
 UsesNames items before None = ⊤
-UsesNames items before (Some r) = Each (λ name. Has before name.item × IsNameOf items name) r.inputs.items
+UsesNames items before (Some r) =
+    Each (λ name. Has before name.item × IsNameOf items name) r.inputs.items
 
 -- the used items in their order: each uses names of those before it alone, the latest first
 abbrev pub AreOrderedItems : List ResolvedItem → List ℕ → List ℕ → Type 0
 AreOrderedItems items before [] = ⊤
-AreOrderedItems items before (i ∷ is) = UsesNames items before (slice_get items i) × AreOrderedItems items (i ∷ before) is
+AreOrderedItems items before (i ∷ is) =
+    UsesNames items before (slice_get items i) × AreOrderedItems items (i ∷ before) is
 
 abbrev pub IsOrderedModel : ModelReading → Type 0
 IsOrderedModel (Sound id numbers items used) = AreOrderedItems items [] used

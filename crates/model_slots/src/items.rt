@@ -52,7 +52,8 @@ fn function_keys(
 
 // The name at a position of an item with its kind, an empty one where there is none.
 fn bound_name(role: &Role, position: usize) -> (&[u8], ValueKind)
-    ensures { record { name = result.0.now; kind = result.1 } ≡ get_or (names_in (role_content role.now)) position no_name }
+    ensures { record { name = result.0.now; kind = result.1 }
+        ≡ get_or (names_in (role_content role.now)) position no_name }
 {
     match role {
         Role::Group { bodies, .. } => {
@@ -84,7 +85,8 @@ fn name_key(
     items: &[ResolvedItem],
     input: &Input,
 ) -> SlotKey
-    ensures { let all = histories_in histories.now in result ≡ name_key all numbers.now items.now input.now }
+    ensures { let all = histories_in histories.now in
+        result ≡ name_key all numbers.now items.now input.now }
 {
     let own = number_at(numbers, input.item);
     let history = item_history(histories.rows, histories.roles, own);
@@ -100,7 +102,8 @@ fn name_keys(
     items: &[ResolvedItem],
     inputs: &[Input],
 ) -> Result<Vec<SlotKey>, AllocError>
-    ensures { let all = histories_in histories.now in IfOk result (λ v. v.items ≡ map (name_key all numbers.now items.now) inputs.now) }
+    ensures { let all = histories_in histories.now in
+        IfOk result (λ v. v.items ≡ map (name_key all numbers.now items.now) inputs.now) }
 {
     let mut keys = Vec::with_capacity(alloc, inputs.len())?;
     for input in inputs {
@@ -118,7 +121,8 @@ fn item_keys(
     own: u64,
     item: &ResolvedItem,
 ) -> Result<Vec<SlotKey>, AllocError>
-    ensures { let all = histories_in histories.now in IfOk result (λ v. v.items ≡ item_keys all numbers.now items.now own item.now) }
+    ensures { let all = histories_in histories.now in
+        IfOk result (λ v. v.items ≡ item_keys all numbers.now items.now own item.now) }
 {
     let functions = function_keys(alloc, numbers, &item.functions)?;
     let names = name_keys(alloc, histories, numbers, items, &item.inputs)?;
@@ -137,7 +141,8 @@ fn put_slot(
     of: u64,
     inputs: Vec<SlotKey>,
 ) -> Result<(), AllocError>
-    ensures { IfOk result (λ _. map plain slots.new.items ≡ map plain slots.old.items ++ slots_of role.now of inputs.items) }
+    ensures { IfOk result (λ _. map plain slots.new.items
+        ≡ map plain slots.old.items ++ slots_of role.now of inputs.items) }
 {
     match role {
         Role::Group { .. } => {
@@ -163,7 +168,9 @@ fn put_item(
     items: &[ResolvedItem],
     index: usize,
 ) -> Result<(), AllocError>
-    ensures { let all = histories_in histories.now in IfOk result (λ _. map plain slots.new.items ≡ map plain slots.old.items ++ used_slots all numbers.now items.now (index ∷ [])) }
+    ensures { let all = histories_in histories.now in
+        IfOk result (λ _. map plain slots.new.items
+        ≡ map plain slots.old.items ++ used_slots all numbers.now items.now (index ∷ [])) }
 {
     match items.get(index) {
         Some(item) => {
@@ -184,7 +191,9 @@ pub(crate) fn put_items(
     items: &[ResolvedItem],
     used: &[usize],
 ) -> Result<(), AllocError>
-    ensures { let all = histories_in histories.now in IfOk result (λ _. map plain slots.new.items ≡ map plain slots.old.items ++ used_slots all numbers.now items.now used.now) }
+    ensures { let all = histories_in histories.now in
+        IfOk result (λ _. map plain slots.new.items
+        ≡ map plain slots.old.items ++ used_slots all numbers.now items.now used.now) }
 {
     for index in used {
         put_item(alloc, slots, histories, numbers, items, *index)?;

@@ -7,7 +7,8 @@ ghost use Rattle.model_slots.specs.Kinds.{node_kind};
 use memo_core::keys::Kind;
 use text_values::Item;
 
-/// The kind of node that an item is by its text, if it is one: a group of bindings, or a check or a flag.
+/// The kind of node that an item is by its text, if it is one: a group of bindings, or a check or a
+/// flag.
 pub fn node_kind(item: &Item) -> Option<Kind>
     ensures { result ≡ node_kind (clause_of item.now) }
 {

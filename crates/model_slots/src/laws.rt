@@ -8,8 +8,10 @@ ghost use Rattle.bench_nodes.specs.Order.{IsOrdered};
 ghost use Rattle.model_slots.specs.Slots.{plain};
 ghost use Rattle.model_slots.specs.Tables.{ModelReading, IsOrderedModel, all_slots};
 
-/// In a table of the slots of models whose items use names of earlier items alone, each slot stands behind those that it
-/// uses.
+/// In a table of the slots of models whose items use names of earlier items alone, each slot stands
+/// behind those that it uses.
 pub fn tables_are_ordered()
-    ensures { (table : NodeTable) (histories : ℕ → List SeenName) (models : List ModelReading) → map plain table.slots.items ≡ all_slots histories models → Each IsOrderedModel models → IsOrdered table }
+    ensures { (table : NodeTable) (histories : ℕ → List SeenName) (models : List ModelReading)
+        → map plain table.slots.items ≡ all_slots histories models → Each IsOrderedModel models
+        → IsOrdered table }
 {}

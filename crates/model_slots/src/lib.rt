@@ -1,5 +1,6 @@
-//! The nodes that a model gives each test: one for each group, check and flag that checks and flags reach, and one for
-//! the verdict. Read `specs/Slots`, then `specs/Tables`: the nodes of several models.
+//! The nodes that a model gives each test: one for each group, check and flag that checks and flags
+//! reach, and one for the verdict. Read `specs/Slots`, then `specs/Tables`: the nodes of several
+//! models.
 #![tactic(auto)]
 
 mod histories;

@@ -48,7 +48,8 @@ fn put_flag_at(
     items: &[ResolvedItem],
     index: usize,
 ) -> Result<(), AllocError>
-    ensures { IfOk result (λ _. keys.new.items ≡ keys.old.items ++ keys_by flag_key numbers.now items.now (index ∷ [])) }
+    ensures { IfOk result (λ _. keys.new.items
+        ≡ keys.old.items ++ keys_by flag_key numbers.now items.now (index ∷ [])) }
 {
     match items.get(index) {
         Some(item) => put_flag(keys, &item.role, number_at(numbers, index)),
@@ -62,7 +63,8 @@ fn put_flags(
     items: &[ResolvedItem],
     used: &[usize],
 ) -> Result<(), AllocError>
-    ensures { IfOk result (λ _. keys.new.items ≡ keys.old.items ++ keys_by flag_key numbers.now items.now used.now) }
+    ensures { IfOk result (λ _. keys.new.items
+        ≡ keys.old.items ++ keys_by flag_key numbers.now items.now used.now) }
 {
     for index in used {
         put_flag_at(keys, numbers, items, *index)?;
@@ -77,7 +79,8 @@ fn put_answer_at(
     items: &[ResolvedItem],
     index: usize,
 ) -> Result<(), AllocError>
-    ensures { IfOk result (λ _. keys.new.items ≡ keys.old.items ++ keys_by answer_key numbers.now items.now (index ∷ [])) }
+    ensures { IfOk result (λ _. keys.new.items
+        ≡ keys.old.items ++ keys_by answer_key numbers.now items.now (index ∷ [])) }
 {
     match items.get(index) {
         Some(item) => put_answer(keys, &item.role, number_at(numbers, index)),
@@ -91,7 +94,8 @@ fn put_answers(
     items: &[ResolvedItem],
     used: &[usize],
 ) -> Result<(), AllocError>
-    ensures { IfOk result (λ _. keys.new.items ≡ keys.old.items ++ keys_by answer_key numbers.now items.now used.now) }
+    ensures { IfOk result (λ _. keys.new.items
+        ≡ keys.old.items ++ keys_by answer_key numbers.now items.now used.now) }
 {
     for index in used {
         put_answer_at(keys, numbers, items, *index)?;
@@ -116,8 +120,8 @@ fn verdict_keys(
     Ok(keys)
 }
 
-/// The nodes of a model of that number without fault, where items have these histories: its items with their numbers, and the
-/// indexes of those that checks and flags reach. Errors: out of memory.
+/// The nodes of a model of that number without fault, where items have these histories: its items
+/// with their numbers, and the indexes of those that checks and flags reach. Errors: out of memory.
 pub fn model_slots(
     alloc: Global,
     histories: &Histories<'_>,
@@ -126,7 +130,8 @@ pub fn model_slots(
     items: &[ResolvedItem],
     used: &[usize],
 ) -> Result<Vec<Slot>, AllocError>
-    ensures { let all = histories_in histories.now in IfOk result (λ v. map plain v.items ≡ sound_slots all id numbers.now items.now used.now) }
+    ensures { let all = histories_in histories.now in
+        IfOk result (λ v. map plain v.items ≡ sound_slots all id numbers.now items.now used.now) }
 {
     let inputs = verdict_keys(alloc, numbers, items, used)?;
     let mut slots = Vec::new(alloc);

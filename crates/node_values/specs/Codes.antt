@@ -1,4 +1,5 @@
--- By which code propositions are told apart: their parts in the order of a reader, each operator before its operands.
+-- By which code propositions are told apart: their parts in the order of a reader, each operator
+-- before its operands.
 use Rattle.std.specs.Prelude.{◌≡◌, Bool, true, List, [], ◌∷◌, ◌⊎◌, refl}
 use Rattle.std.specs.Coded.{Coded, code_by, coded_list, coded_bool, coded×, coded⊎}
 use base.Stored.{coded_unit}
@@ -48,9 +49,14 @@ pub formulas-marks : (a : Formula) (rest : List Mark) → formulas (marks a rest
 formulas-marks (Constant b) rest = refl
 formulas-marks (Holds p v) rest = refl
 formulas-marks (Not a) rest = ap with_not (formulas-marks a rest)
-formulas-marks (Join op a b) rest = ap (with_join op) (formulas-marks a (marks b rest) ∙ ap (λ (l : List Formula). a ∷ l) (formulas-marks b rest))
+formulas-marks (Join op a b) rest =
+    ap (with_join op) (formulas-marks a (marks b rest) ∙ ap (λ (l : List Formula). a ∷ l)
+    (formulas-marks b rest))
 
 abbrev pub formula_code : Coded Formula
 formula_code =
-    code_by (List Mark) (coded_list (coded⊎ (coded⊎ coded_bool (coded× place.the_row.coded value.the_row.coded)) (coded⊎ coded_unit connective.the_row.coded)))
-    (λ a. marks a []) (λ ms. first_formula (formulas ms)) (λ a. ap first_formula (formulas-marks a []))
+    code_by (List Mark) (coded_list (coded⊎
+    (coded⊎ coded_bool (coded× place.the_row.coded value.the_row.coded))
+    (coded⊎ coded_unit connective.the_row.coded)))
+    (λ a. marks a []) (λ ms. first_formula (formulas ms))
+    (λ a. ap first_formula (formulas-marks a []))

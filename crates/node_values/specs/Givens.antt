@@ -8,8 +8,8 @@ use Rattle.binding_kinds.specs.declared.fault.ModelFault.{ModelFault}
 use Rattle.shared_items.specs.Items.{RoleContent}
 use Rattle.node_values.specs.Parts.{SpacePartsContent}
 
--- a condition, the observables that are shown beside its own, and for each check and flag of the model, in the order of the
--- text, the name of the flag
+-- a condition, the observables that are shown beside its own, and for each check and flag of the
+-- model, in the order of the text, the name of the flag
 pub record VerdictPartsContent : Type 0 where
   pub kind : Quantifier
   pub proposition : Formula
@@ -24,12 +24,24 @@ pub record FaultPartsContent : Type 0 where
 
 -- what a verdict is given with a condition
 abbrev pub asked : Condition → List Place → List (Option (List ℕ)) → VerdictPartsContent
-asked condition observed flags = record { kind = condition.quantifier; proposition = formula_of condition.proposition; observed = observed; flags = flags }
+asked condition observed flags =
+    record {
+      kind = condition.quantifier;
+      proposition = formula_of condition.proposition;
+      observed = observed;
+      flags = flags;
+    }
 
 abbrev pub faulted : Condition → ModelFault → FaultPartsContent
-faulted condition fault = record { kind = condition.quantifier; proposition = formula_of condition.proposition; fault = fault }
+faulted condition fault =
+    record {
+      kind = condition.quantifier;
+      proposition = formula_of condition.proposition;
+      fault = fault;
+    }
 
--- An item is given as what it does, wherever it stands among the items, and with the numbers by which its outputs go.
+-- An item is given as what it does, wherever it stands among the items, and with the numbers by
+-- which its outputs go.
 pub data GivenContent : Type 0 where
   ForSpace : (parts : SpacePartsContent) → GivenContent
   ForItem : (role : RoleContent) (numbers : List ℕ) → GivenContent

@@ -22,12 +22,20 @@ pub record IsSpaceOf (t : Test) (s : SpaceContent) : Type 0 where
 
 -- the space of some parts, or why they have none, is that of each test that has them
 abbrev pub IsOfEachTest : SpacePartsContent → Test → Type 0
-IsOfEachTest parts t = HasParts parts t → ((s : SpaceContent) → IsPartSpace parts s → IsSpaceOf t s) × ((r : EvalRefusal) → IsPartRefusal parts r → IsRefusal t r)
+IsOfEachTest parts t =
+    HasParts parts t
+    → ((s : SpaceContent) → IsPartSpace parts s → IsSpaceOf t s)
+    × ((r : EvalRefusal) → IsPartRefusal parts r → IsRefusal t r)
 
 -- a verdict gives one outcome, from the values of its inputs
 abbrev pub HasOneVerdict : VerdictPartsContent → List NodeContent → Type 0
-HasOneVerdict parts values = (a b : List NodeContent) → Makes (ForVerdict parts) values a → Makes (ForVerdict parts) values b → a ≡ b
+HasOneVerdict parts values =
+    (a b : List NodeContent) → Makes (ForVerdict parts) values a → Makes (ForVerdict parts) values b
+    → a ≡ b
 
--- a node gives a value for each number by which its outputs go, whatever the values of its inputs are
+-- a node gives a value for each number by which its outputs go, whatever the values of its inputs
+-- are
 abbrev pub HasNames : GivenContent → Type 0
-HasNames given = (values outputs : List NodeContent) → Makes given values outputs → length outputs ≡ length (output_names given)
+HasNames given =
+    (values outputs : List NodeContent) → Makes given values outputs
+    → length outputs ≡ length (output_names given)

@@ -1,5 +1,5 @@
--- What a node gives: from what it is given of the texts, and from the values of the nodes that it uses, of which the first
--- is the space.
+-- What a node gives: from what it is given of the texts, and from the values of the nodes that it
+-- uses, of which the first is the space.
 use Rattle.std.specs.Prelude.{ℕ, ◌≡◌, Bool, List, [], ◌∷◌, map, length, Option, Some, None}
 use denote.Ref.{Bor}
 use Rattle.text_values.specs.declared.test.Quantifier.{Quantifier}
@@ -31,8 +31,10 @@ IsSpaceValue parts (OfColumn column) = ⊥
 IsSpaceValue parts (OfCheck answers) = ⊥
 IsSpaceValue parts (OfOutcome outcome) = ⊥
 
--- the columns of the names of an item that does this over a space, from the columns of the names that it uses
-pub record HasColumns (role : RoleContent) (space : SpaceContent) (columns : List Column) (cs : List Column) : Type 0 where
+-- the columns of the names of an item that does this over a space, from the columns of the names
+-- that it uses
+pub record HasColumns (role : RoleContent) (space : SpaceContent) (columns : List Column)
+    (cs : List Column) : Type 0 where
   pub read : Role
   pub reading : role_content read ≡ role
   pub over : Space
@@ -42,7 +44,8 @@ pub record HasColumns (role : RoleContent) (space : SpaceContent) (columns : Lis
   pub values : ColumnsOf read inputs over cs
 
 -- the answers of a check or a flag, likewise
-pub record HasAnswers (role : RoleContent) (space : SpaceContent) (columns : List Column) (answers : List Bool) : Type 0 where
+pub record HasAnswers (role : RoleContent) (space : SpaceContent) (columns : List Column)
+    (answers : List Bool) : Type 0 where
   pub read : Role
   pub reading : role_content read ≡ role
   pub over : Space
@@ -53,14 +56,18 @@ pub record HasAnswers (role : RoleContent) (space : SpaceContent) (columns : Lis
 
 -- a group gives the column of each of its names, a check or a flag its answers
 abbrev pub IsMadeBy : RoleContent → SpaceContent → List Column → List NodeContent → Type 0
-IsMadeBy (Group recursive bodies) space columns outputs = (cs : List Column) × (outputs ≡ map OfColumn cs) × HasColumns (Group recursive bodies) space columns cs
+IsMadeBy (Group recursive bodies) space columns outputs =
+    (cs : List Column) × (outputs ≡ map OfColumn cs)
+    × HasColumns (Group recursive bodies) space columns cs
 IsMadeBy (Check negated word code flag) space columns outputs =
-    (answers : List Bool) × (outputs ≡ OfCheck answers ∷ []) × HasAnswers (Check negated word code flag) space columns answers
+    (answers : List Bool) × (outputs ≡ OfCheck answers ∷ [])
+    × HasAnswers (Check negated word code flag) space columns answers
 IsMadeBy Silent space columns outputs = outputs ≡ []
 
 -- an outcome that says why there is no evaluation
 abbrev pub refused : Quantifier → Formula → Refusal → Outcome
-refused kind proposition refusal = record { kind = kind; condition = condition_text kind proposition; result = Refused refusal }
+refused kind proposition refusal =
+    record { kind = kind; condition = condition_text kind proposition; result = Refused refusal }
 
 -- the answers of the checks, which have no name of a flag
 abbrev pub checks_among : List (Option (List ℕ)) → List (List Bool) → List (List Bool)
@@ -76,14 +83,18 @@ flags_among (n ∷ ns) [] = []
 flags_among (None ∷ ns) (a ∷ more) = flags_among ns more
 flags_among (Some name ∷ ns) (a ∷ more) = (name, a) ∷ flags_among ns more
 
--- the outcome of a condition over a space, from the answers of checks and flags in the order of the text
+-- the outcome of a condition over a space, from the answers of checks and flags in the order of the
+-- text
 abbrev pub IsVerdict : VerdictPartsContent → SpaceContent → List (List Bool) → Outcome → Type 0
 IsVerdict parts space answers o =
-    IsOutcome space.locations space.executions parts.kind parts.proposition parts.observed (checks_among parts.flags answers) (flags_among parts.flags answers) o
+    IsOutcome space.locations space.executions parts.kind parts.proposition parts.observed
+    (checks_among parts.flags answers) (flags_among parts.flags answers) o
 
 -- where the test has no space, it says why
-abbrev pub IsVerdictOver : Option EvalRefusal → VerdictPartsContent → List NodeContent → Outcome → Type 0
-IsVerdictOver (Some refusal) parts values o = o ≡ refused parts.kind parts.proposition (refusals.Space refusal)
+abbrev pub IsVerdictOver : Option EvalRefusal → VerdictPartsContent → List NodeContent → Outcome
+    → Type 0
+IsVerdictOver (Some refusal) parts values o =
+    o ≡ refused parts.kind parts.proposition (refusals.Space refusal)
 IsVerdictOver None parts values o = IsVerdict parts (space_of values) (answers_of values) o
 
 -- what an item gives
@@ -92,10 +103,14 @@ MakesItem role values outputs = IsMadeBy role (space_of values) (columns_of valu
 
 -- what a node gives: an item as many values as it has numbers
 abbrev pub Makes : GivenContent → List NodeContent → List NodeContent → Type 0
-Makes (ForSpace parts) values outputs = (v : NodeContent) × (outputs ≡ v ∷ []) × IsSpaceValue parts v
-Makes (ForItem role numbers) values outputs = MakesItem role values outputs × (length outputs ≡ length numbers)
-Makes (ForVerdict parts) values outputs = (o : Outcome) × (outputs ≡ OfOutcome o ∷ []) × IsVerdictOver (refusal_of values) parts values o
-Makes (ForFault parts) values outputs = outputs ≡ OfOutcome (refused parts.kind parts.proposition (refusals.Model parts.fault)) ∷ []
+Makes (ForSpace parts) values outputs =
+    (v : NodeContent) × (outputs ≡ v ∷ []) × IsSpaceValue parts v
+Makes (ForItem role numbers) values outputs =
+    MakesItem role values outputs × (length outputs ≡ length numbers)
+Makes (ForVerdict parts) values outputs =
+    (o : Outcome) × (outputs ≡ OfOutcome o ∷ []) × IsVerdictOver (refusal_of values) parts values o
+Makes (ForFault parts) values outputs =
+    outputs ≡ OfOutcome (refused parts.kind parts.proposition (refusals.Model parts.fault)) ∷ []
 
 -- ---- the numbers by which the outputs of a node go, in the order of its values
 

@@ -19,13 +19,16 @@ pub record SpacePartsContent : Type 0 where
   pub locations : List (List ℕ)
 
 abbrev pub parts_of : List InitEntry → List Thread → List (List ℕ) → SpacePartsContent
-parts_of init threads locations = record { init = init; threads = map steps_of threads; locations = locations }
+parts_of init threads locations =
+    record { init = init; threads = map steps_of threads; locations = locations }
 
 -- the test has these parts: its locations are those of the initial values and the others
 pub record HasParts (parts : SpacePartsContent) (t : Test) : Type 0 where
   pub init : t.init.items ≡ parts.init
   pub threads : map steps_of t.threads.items ≡ parts.threads
-  pub locations : (n : List ℕ) → Contains (test_names t) n ↔ (Contains (flat_map entry_names parts.init) n ⊎ Contains parts.locations n)
+  pub locations : (n : List ℕ)
+      → Contains (test_names t) n
+      ↔ (Contains (flat_map entry_names parts.init) n ⊎ Contains parts.locations n)
 
 -- the space of the parts, or why they have none: that of a test that has them
 pub record IsPartSpace (parts : SpacePartsContent) (s : SpaceContent) : Type 0 where

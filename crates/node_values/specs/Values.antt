@@ -6,7 +6,8 @@ use Rattle.cat_eval.specs.declared.column.Column.{Column}
 use Rattle.verdict.specs.declared.answer.Outcome.{Outcome}
 use Rattle.node_values.specs.Spaces.{SpaceContent, no_executions}
 
--- a space, or why a test has none; the column of a name; the answers of a check or a flag; an outcome
+-- a space, or why a test has none; the column of a name; the answers of a check or a flag; an
+-- outcome
 pub data NodeContent : Type 0 where
   OfSpace : (space : SpaceContent) → NodeContent
   OfRefusal : (refusal : EvalRefusal) → NodeContent

@@ -38,8 +38,8 @@ impl Given {
         Given::new(alloc, GivenParts::Item(item.again()?))
     }
 
-    /// What a verdict is given with this condition, these observables, and for each check and flag the name of the flag.
-    /// Errors: out of memory.
+    /// What a verdict is given with this condition, these observables, and for each check and flag
+    /// the name of the flag. Errors: out of memory.
     pub fn of_verdict(
         alloc: Global,
         condition: &Condition,
@@ -56,7 +56,8 @@ impl Given {
         Given::new(alloc, GivenParts::Verdict(parts))
     }
 
-    /// What a verdict is given with this condition under a model with this fault. Errors: out of memory.
+    /// What a verdict is given with this condition under a model with this fault. Errors: out of
+    /// memory.
     pub fn of_fault(
         alloc: Global,
         condition: &Condition,

@@ -35,7 +35,8 @@ pub struct VerdictParts {
     pub condition: Condition,
     /// The observables that states show beside those of the condition.
     pub observed: Vec<Place>,
-    /// For each check and flag of the model, in the order of the text, the name of the flag; none for a check.
+    /// For each check and flag of the model, in the order of the text, the name of the flag; none
+    /// for a check.
     pub flags: Vec<Option<Name>>,
 }
 
@@ -53,7 +54,8 @@ pub struct FaultParts {
 pub enum GivenParts {
     /// What the space of a test is given.
     Space(SpaceParts),
-    /// What a group, a check or a flag is given: an item, of which contracts see what it does and the numbers of its outputs.
+    /// What a group, a check or a flag is given: an item, of which contracts see what it does and
+    /// the numbers of its outputs.
     Item(SharedItem),
     /// What a verdict is given.
     Verdict(VerdictParts),
@@ -88,13 +90,17 @@ impl Model for Given {
 }
 
 fn same_condition(this: &Condition, that: &Condition) -> bool
-    ensures { IsTrue result ↔ ((this.now.quantifier ≡ that.now.quantifier) × (formula_of this.now.proposition ≡ formula_of that.now.proposition)) }
+    ensures { IsTrue result
+        ↔ ((this.now.quantifier ≡ that.now.quantifier)
+        × (formula_of this.now.proposition ≡ formula_of that.now.proposition)) }
 {
     is_same_condition(this, that)
 }
 
 fn same_item(this: &SharedItem, that: &SharedItem) -> bool
-    ensures { IsTrue result ↔ ((shared_role this.now ≡ shared_role that.now) × (shared_outputs this.now ≡ shared_outputs that.now)) }
+    ensures { IsTrue result
+        ↔ ((shared_role this.now ≡ shared_role that.now)
+        × (shared_outputs this.now ≡ shared_outputs that.now)) }
 {
     let role = &this.item().role;
     same_role(role, &that.item().role) && same_outputs(role, this.history(), that.history())
@@ -113,7 +119,8 @@ impl GivenParts {
     }
 
     fn is_space(&self, init: &[InitEntry], threads: &[Thread], locations: &[Name]) -> bool
-        ensures { IsTrue result ↔ (ForSpace (parts_of init.now threads.now locations.now) ≡ given_content self.now) }
+        ensures { IsTrue result
+            ↔ (ForSpace (parts_of init.now threads.now locations.now) ≡ given_content self.now) }
     {
         match self {
             GivenParts::Space(parts) => {
@@ -139,7 +146,8 @@ impl GivenParts {
     }
 
     fn is_item(&self, item: &SharedItem) -> bool
-        ensures { IsTrue result ↔ (ForItem (shared_role item.now) (shared_outputs item.now) ≡ given_content self.now) }
+        ensures { IsTrue result
+            ↔ (ForItem (shared_role item.now) (shared_outputs item.now) ≡ given_content self.now) }
     {
         match self {
             GivenParts::Space(_) => false,
@@ -150,7 +158,8 @@ impl GivenParts {
     }
 
     fn is_verdict(&self, condition: &Condition, observed: &[Place], flags: &[Option<Name>]) -> bool
-        ensures { IsTrue result ↔ (ForVerdict (asked condition.now observed.now flags.now) ≡ given_content self.now) }
+        ensures { IsTrue result
+            ↔ (ForVerdict (asked condition.now observed.now flags.now) ≡ given_content self.now) }
     {
         match self {
             GivenParts::Space(_) => false,
@@ -165,7 +174,8 @@ impl GivenParts {
     }
 
     fn is_fault(&self, condition: &Condition, fault: ModelFault) -> bool
-        ensures { IsTrue result ↔ (ForFault (faulted condition.now fault) ≡ given_content self.now) }
+        ensures { IsTrue result
+            ↔ (ForFault (faulted condition.now fault) ≡ given_content self.now) }
     {
         match self {
             GivenParts::Space(_) => false,
@@ -197,7 +207,8 @@ impl Given {
         })
     }
 
-    /// Which checks a verdict is told to be flags, by their names; none where it is for another node.
+    /// Which checks a verdict is told to be flags, by their names; none where it is for another
+    /// node.
     pub fn flags(&self) -> &[Option<Name>]
         ensures { result.now ≡ given_flags self.now }
     {
@@ -206,36 +217,39 @@ impl Given {
 
     /// Whether it is what the space of these parts is given.
     pub fn is_space(&self, init: &[InitEntry], threads: &[Thread], locations: &[Name]) -> bool
-        ensures { IsTrue result ↔ (ForSpace (parts_of init.now threads.now locations.now) ≡ self.now) }
+        ensures { IsTrue result
+            ↔ (ForSpace (parts_of init.now threads.now locations.now) ≡ self.now) }
     {
         self.parts.is_space(init, threads, locations)
     }
 
-    /// The numbers by which the outputs of the node go, in the order of its values: of a group those of its names in its
-    /// history, of each other node 0. Errors: out of memory.
+    /// The numbers by which the outputs of the node go, in the order of its values: of a group
+    /// those of its names in its history, of each other node 0. Errors: out of memory.
     pub fn output_names(&self, alloc: Global) -> Result<Vec<u64>, AllocError>
         ensures { IfOk result (λ v. v.items ≡ output_names self.now) }
     {
         self.parts.output_names(alloc)
     }
 
-    /// Whether it is what a group, a check or a flag is given that does what this item does, and whose
-    /// outputs go by the same numbers.
+    /// Whether it is what a group, a check or a flag is given that does what this item does, and
+    /// whose outputs go by the same numbers.
     pub fn is_item(&self, item: &SharedItem) -> bool
-        ensures { IsTrue result ↔ (ForItem (shared_role item.now) (shared_outputs item.now) ≡ self.now) }
+        ensures { IsTrue result
+            ↔ (ForItem (shared_role item.now) (shared_outputs item.now) ≡ self.now) }
     {
         self.parts.is_item(item)
     }
 
-    /// Whether it is what a verdict is given with this condition, these observables, and for each check and flag the name of
-    /// the flag.
+    /// Whether it is what a verdict is given with this condition, these observables, and for each
+    /// check and flag the name of the flag.
     pub fn is_verdict(
         &self,
         condition: &Condition,
         observed: &[Place],
         flags: &[Option<Name>],
     ) -> bool
-        ensures { IsTrue result ↔ (ForVerdict (asked condition.now observed.now flags.now) ≡ self.now) }
+        ensures { IsTrue result
+            ↔ (ForVerdict (asked condition.now observed.now flags.now) ≡ self.now) }
     {
         self.parts.is_verdict(condition, observed, flags)
     }

@@ -19,7 +19,8 @@ pub fn space_is_of_each_test()
 
 /// A verdict gives one outcome, from the values of its inputs.
 pub fn verdict_is_one()
-    ensures { (parts : VerdictPartsContent) (values : List NodeContent) → HasOneVerdict parts values }
+    ensures { (parts : VerdictPartsContent) (values : List NodeContent)
+        → HasOneVerdict parts values }
 {}
 
 /// A node gives a value for each number by which its outputs go.

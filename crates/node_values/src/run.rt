@@ -37,7 +37,8 @@ fn no_space(alloc: Global) -> Space
 
 // The space among the values of inputs.
 fn first_space<'v>(values: &[&'v NodeValue]) -> Option<&'v Space>
-    ensures { option_map (λ s. space_content s.now) result ≡ first_space (map (λ v. v.now) values.now) }
+    ensures { option_map (λ s. space_content s.now) result
+        ≡ first_space (map (λ v. v.now) values.now) }
 {
     match values.first() {
         Some(value) => value.space(),
@@ -55,7 +56,8 @@ fn refusal_of(values: &[&NodeValue]) -> Option<EvalRefusal>
 }
 
 fn columns_of<'v>(alloc: Global, values: &[&'v NodeValue]) -> Result<Vec<&'v Column>, AllocError>
-    ensures { IfOk result (λ v. map (λ c. c.now) v.items ≡ columns_of (map (λ v. v.now) values.now)) }
+    ensures { IfOk result (λ v. map (λ c. c.now) v.items
+        ≡ columns_of (map (λ v. v.now) values.now)) }
 {
     let mut columns = Vec::with_capacity(alloc, values.len())?;
     for value in values {
@@ -67,7 +69,8 @@ fn columns_of<'v>(alloc: Global, values: &[&'v NodeValue]) -> Result<Vec<&'v Col
 }
 
 fn answers_of<'v>(alloc: Global, values: &[&'v NodeValue]) -> Result<Vec<&'v [bool]>, AllocError>
-    ensures { IfOk result (λ v. map (λ a. a.now) v.items ≡ answers_of (map (λ v. v.now) values.now)) }
+    ensures { IfOk result (λ v. map (λ a. a.now) v.items
+        ≡ answers_of (map (λ v. v.now) values.now)) }
 {
     let mut found = Vec::with_capacity(alloc, values.len())?;
     for value in values {
@@ -84,7 +87,8 @@ fn checks_among<'a>(
     flags: &[Option<Name>],
     answers: &[&'a [bool]],
 ) -> Result<Vec<&'a [bool]>, AllocError>
-    ensures { IfOk result (λ v. map (λ a. a.now) v.items ≡ checks_among flags.now (map (λ a. a.now) answers.now)) }
+    ensures { IfOk result (λ v. map (λ a. a.now) v.items
+        ≡ checks_among flags.now (map (λ a. a.now) answers.now)) }
 {
     let mut checks = Vec::with_capacity(alloc, answers.len())?;
     for at in 0..flags.len().min(answers.len()) {
@@ -102,7 +106,8 @@ fn flags_among<'a>(
     flags: &'a [Option<Name>],
     answers: &[&'a [bool]],
 ) -> Result<Vec<Raised<'a>>, AllocError>
-    ensures { IfOk result (λ v. of_raised v.items ≡ flags_among flags.now (map (λ a. a.now) answers.now)) }
+    ensures { IfOk result (λ v. of_raised v.items
+        ≡ flags_among flags.now (map (λ a. a.now) answers.now)) }
 {
     let mut raised = Vec::with_capacity(alloc, flags.len())?;
     for at in 0..flags.len().min(answers.len()) {
@@ -145,7 +150,8 @@ fn part_test(alloc: Global, parts: &SpaceParts) -> Result<Test, AllocError>
 
 // The space of a test, or why it has none.
 fn test_space(alloc: Global, test: &Test) -> Result<NodeValue, AllocError>
-    ensures { (parts : SpacePartsContent) → HasParts parts test.now → IfOk result (IsSpaceValue parts) }
+    ensures { (parts : SpacePartsContent) → HasParts parts test.now
+        → IfOk result (IsSpaceValue parts) }
 {
     match space(alloc, test) {
         Ok(found) => Ok(NodeValue::of_space(found)),
@@ -185,7 +191,10 @@ fn group_columns<'v>(
     values: &[&'v NodeValue],
     space: &Space,
 ) -> Result<Vec<Column>, AllocError>
-    ensures { let given = map (λ v. v.now) values.now in space_content space.now ≡ space_of given → IfOk result (λ v. HasColumns (role_content item.now.role) (space_of given) (columns_of given) v.items) }
+    ensures { let given = map (λ v. v.now) values.now in
+        space_content space.now ≡ space_of given
+        → IfOk result (λ v. HasColumns (role_content item.now.role) (space_of given)
+        (columns_of given) v.items) }
 {
     let inputs = columns_of(alloc, values)?;
     eval_group(alloc, item, space, &inputs)
@@ -197,7 +206,10 @@ fn check_answers<'v>(
     values: &[&'v NodeValue],
     space: &Space,
 ) -> Result<Vec<bool>, AllocError>
-    ensures { let given = map (λ v. v.now) values.now in space_content space.now ≡ space_of given → IfOk result (λ v. HasAnswers (role_content item.now.role) (space_of given) (columns_of given) v.items) }
+    ensures { let given = map (λ v. v.now) values.now in
+        space_content space.now ≡ space_of given
+        → IfOk result (λ v. HasAnswers (role_content item.now.role) (space_of given)
+        (columns_of given) v.items) }
 {
     let inputs = columns_of(alloc, values)?;
     eval_check(alloc, item, space, &inputs)
@@ -209,7 +221,10 @@ fn item_values<'v>(
     values: &[&'v NodeValue],
     space: &Space,
 ) -> Result<Vec<NodeValue>, AllocError>
-    ensures { let given = map (λ v. v.now) values.now in space_content space.now ≡ space_of given → IfOk result (λ v. IsMadeBy (role_content item.now.role) (space_of given) (columns_of given) v.items) }
+    ensures { let given = map (λ v. v.now) values.now in
+        space_content space.now ≡ space_of given
+        → IfOk result (λ v.
+        IsMadeBy (role_content item.now.role) (space_of given) (columns_of given) v.items) }
 {
     match &item.role {
         Role::Group { .. } => {
@@ -230,7 +245,10 @@ fn evaluated<'v>(
     values: &[&'v NodeValue],
     space: &Space,
 ) -> Result<Outcome, AllocError>
-    ensures { let given = map (λ v. v.now) values.now in space_content space.now ≡ space_of given → IfOk result (λ o. IsVerdict (verdict_parts parts.now) (space_of given) (answers_of given) o) }
+    ensures { let given = map (λ v. v.now) values.now in
+        space_content space.now ≡ space_of given
+        → IfOk result (λ o.
+        IsVerdict (verdict_parts parts.now) (space_of given) (answers_of given) o) }
 {
     let answers = answers_of(alloc, values)?;
     let checks = checks_among(alloc, &parts.flags, &answers)?;
@@ -246,7 +264,8 @@ fn evaluated<'v>(
 }
 
 fn refused(alloc: Global, condition: &Condition, refusal: Refusal) -> Result<Outcome, AllocError>
-    ensures { IfOk result (λ o. o ≡ refused condition.now.quantifier (formula_of condition.now.proposition) refusal) }
+    ensures { IfOk result (λ o. o
+        ≡ refused condition.now.quantifier (formula_of condition.now.proposition) refusal) }
 {
     Ok(Outcome {
         kind: condition.quantifier,
@@ -261,7 +280,9 @@ fn verdict_over<'v>(
     values: &[&'v NodeValue],
     space: &Space,
 ) -> Result<Outcome, AllocError>
-    ensures { let given = map (λ v. v.now) values.now in space_content space.now ≡ space_of given → IfOk result (λ o. IsVerdictOver (refusal_of given) (verdict_parts parts.now) given o) }
+    ensures { let given = map (λ v. v.now) values.now in
+        space_content space.now ≡ space_of given
+        → IfOk result (λ o. IsVerdictOver (refusal_of given) (verdict_parts parts.now) given o) }
 {
     match refusal_of(values) {
         Some(refusal) => refused(alloc, &parts.condition, Refusal::Space(refusal)),
@@ -276,7 +297,9 @@ fn made_over<'v>(
     values: &[&'v NodeValue],
     space: &Space,
 ) -> Result<Vec<NodeValue>, AllocError>
-    ensures { let given = map (λ v. v.now) values.now in space_content space.now ≡ space_of given → IfOk result (λ v. Makes (given_content parts.now) given v.items) }
+    ensures { let given = map (λ v. v.now) values.now in
+        space_content space.now ≡ space_of given
+        → IfOk result (λ v. Makes (given_content parts.now) given v.items) }
 {
     match parts {
         GivenParts::Space(parts) => one_value(alloc, space_value(alloc, parts)?),
@@ -298,7 +321,8 @@ fn made<'v>(
     parts: &'v GivenParts,
     values: &[&'v NodeValue],
 ) -> Result<Vec<NodeValue>, AllocError>
-    ensures { IfOk result (λ v. Makes (given_content parts.now) (map (λ v. v.now) values.now) v.items) }
+    ensures { IfOk result (λ v.
+        Makes (given_content parts.now) (map (λ v. v.now) values.now) v.items) }
 {
     match first_space(values) {
         Some(space) => made_over(alloc, parts, values, space),
@@ -306,9 +330,10 @@ fn made<'v>(
     }
 }
 
-/// What a node gives, from what it is given of the texts and from the values of the nodes that it uses, the space first and
-/// then in the order of its inputs. Over a test without a space, columns and answers are those over no candidates, and the
-/// outcome says why there is no space. Errors: out of memory.
+/// What a node gives, from what it is given of the texts and from the values of the nodes that it
+/// uses, the space first and then in the order of its inputs. Over a test without a space, columns
+/// and answers are those over no candidates, and the outcome says why there is no space. Errors:
+/// out of memory.
 pub fn run_node<'v>(
     alloc: Global,
     given: &'v Given,

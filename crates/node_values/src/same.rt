@@ -172,7 +172,8 @@ fn same_bodies(these: &[Body], those: &[Body]) -> bool
 }
 
 fn same_check(this: &CheckCode, that: &CheckCode) -> bool
-    ensures { IsTrue result ↔ (role_content (Role.Check this.now) ≡ role_content (Role.Check that.now)) }
+    ensures { IsTrue result
+        ↔ (role_content (Role.Check this.now) ≡ role_content (Role.Check that.now)) }
 {
     this.negated == that.negated
         && this.word == that.word

@@ -16,7 +16,8 @@ numbers_of m = map (λ i. i.number) m.items
 abbrev pub all_numbers : List PlainModel → List ℕ
 all_numbers models = flat_map numbers_of models
 
--- no two tests and no two models have one name, no two items one number, and the next item gets a greater one
+-- no two tests and no two models have one name, no two items one number, and the next item gets a
+-- greater one
 pub record IsOrderly (t : BenchTexts) : Type 0 where
   pub tests : AreApart (map (λ c. c.name) t.tests)
   pub models : AreApart (map (λ m. m.name) t.models)

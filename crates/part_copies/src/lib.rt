@@ -1,5 +1,5 @@
-//! Copies of litmus tests and of their parts: a copy means what the part means, wherever the two lie in memory.
-//! Read `content_of` in the specs of text_values first.
+//! Copies of litmus tests and of their parts: a copy means what the part means, wherever the two
+//! lie in memory. Read `content_of` in the specs of text_values first.
 #![tactic(auto)]
 
 mod places;

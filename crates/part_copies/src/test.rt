@@ -34,7 +34,8 @@ fn copied_proposition(alloc: Global, proposition: &Proposition) -> Result<Propos
 /// A copy of a condition. Errors: out of memory.
 pub fn copied_condition(alloc: Global, condition: &Condition) -> Result<Condition, AllocError>
     ensures quantifier { IfOk result (λ c. c.quantifier ≡ condition.now.quantifier) }
-    ensures proposition { IfOk result (λ c. formula_of c.proposition ≡ formula_of condition.now.proposition) }
+    ensures proposition { IfOk result (λ c. formula_of c.proposition
+        ≡ formula_of condition.now.proposition) }
 {
     Ok(Condition {
         quantifier: condition.quantifier,

@@ -83,12 +83,14 @@ pub record IsWithin (p : Program) (k : ℕ) : Type 0 where
   pub values : List Value
   pub round : IsRound p k values
   pub few : length values ≤ 16
-  pub runs : (t : Thread) → Contains (threads_of p) t → (n : ℕ) × HasFreeRuns t values n × (n ≤ 4096)
+  pub runs : (t : Thread) → Contains (threads_of p) t
+      → (n : ℕ) × HasFreeRuns t values n × (n ≤ 4096)
 
 -- the combinations of runs of threads over the values
 abbrev pub HasCombinations : List Thread → List Value → ℕ → Type 0
 HasCombinations [] V n = n ≡ 1
-HasCombinations (t ∷ ts) V n = (here : ℕ) × (rest : ℕ) × HasRuns t V here × HasCombinations ts V rest × (n ≡ here * rest)
+HasCombinations (t ∷ ts) V n =
+    (here : ℕ) × (rest : ℕ) × HasRuns t V here × HasCombinations ts V rest × (n ≡ here * rest)
 
 -- what may be, and why not: before the first round and after each, as many as the text has loads
 pub record IsDomain (p : Program) (V : List Value) : Type 0 where
@@ -132,13 +134,16 @@ HasFewRuns p V k = (j : ℕ) → j < k → (n : ℕ) × HasFreeRuns (thread_of p
 
 abbrev pub IsRoundFault : Program → List Value → DomainFault → Type 0
 IsRoundFault p V (Refused TooManyValues) = 16 < length V
-IsRoundFault p V (Refused TooManyRuns) = (length V ≤ 16) × (j : ℕ) × (j < vec_len p.threads) × (n : ℕ) × HasFreeRuns (thread_of p j) V n × (4096 < n)
+IsRoundFault p V (Refused TooManyRuns) =
+    (length V ≤ 16) × (j : ℕ) × (j < vec_len p.threads) × (n : ℕ) × HasFreeRuns (thread_of p j) V n
+    × (4096 < n)
 IsRoundFault p V (Refused _) = ⊥
 IsRoundFault p V (OutOfMemory e) = Unit {0}
 
 -- and that of the combinations
 abbrev pub IsCombinationFault : Program → List Value → DomainFault → Type 0
-IsCombinationFault p V (Refused TooManyCombinations) = (n : ℕ) × HasCombinations (threads_of p) V n × (1048576 < n)
+IsCombinationFault p V (Refused TooManyCombinations) =
+    (n : ℕ) × HasCombinations (threads_of p) V n × (1048576 < n)
 IsCombinationFault p V (Refused _) = ⊥
 IsCombinationFault p V (OutOfMemory e) = Unit {0}
 

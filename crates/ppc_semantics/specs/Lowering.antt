@@ -84,7 +84,9 @@ pub record AreNames (found names : List (List ℕ)) : Type 0 where
   pub exact : (n : List ℕ) → Contains names n ↔ Contains found n
 
 abbrev pub AreLines : List Step → List Line → Type 0
-AreLines thread lines = (labels : List (List ℕ)) × AreNames (flat_map labels_in thread) labels × (lines ≡ map (line_of labels) thread)
+AreLines thread lines =
+    (labels : List (List ℕ)) × AreNames (flat_map labels_in thread) labels
+    × (lines ≡ map (line_of labels) thread)
 
 -- the locations that a test names
 abbrev pub place_names : Place → List (List ℕ)
@@ -105,7 +107,9 @@ formula_names (Not a) = formula_names a
 formula_names (Join op a b) = formula_names a ++ formula_names b
 
 abbrev pub test_names : Test → List (List ℕ)
-test_names t = (flat_map entry_names t.init.items ++ formula_names (formula_of t.condition.proposition)) ++ flat_map place_names t.observed.items
+test_names t =
+    (flat_map entry_names t.init.items ++ formula_names (formula_of t.condition.proposition))
+    ++ flat_map place_names t.observed.items
 
 -- the entry is the last that names the observable
 pub record IsLastEntry (init : List InitEntry) (p : Place) (e : InitEntry) : Type 0 where
@@ -115,30 +119,38 @@ pub record IsLastEntry (init : List InitEntry) (p : Place) (e : InitEntry) : Typ
   pub place : e.place ≡ p
   pub last : All (λ f. f.place ≡ p → ⊥) behind
 
--- the initial value of an observable: what its entry says, the last if there are more, and 0 if there is none
+-- the initial value of an observable: what its entry says, the last if there are more, and 0 if
+-- there is none
 abbrev pub Starts : List InitEntry → Place → List (List ℕ) → Value → Type 0
 Starts init p names v =
     ((e : InitEntry) × IsLastEntry init p e × (v ≡ value_of names e.value))
     ⊎ (All (λ e. e.place ≡ p → ⊥) init × (v ≡ Number 0))
 
 -- what the locations hold at the start, in their order
-pub record AreInitial (init : List InitEntry) (names : List (List ℕ)) (values : List Value) : Type 0 where
+pub record AreInitial (init : List InitEntry) (names : List (List ℕ)) (values : List Value)
+    : Type 0 where
   pub each_one : length values ≡ length names
-  pub starts : (k : ℕ) → k < length names → Starts init (places.Location (slice_index_or names k [])) names (slice_index_or values k NoValue)
+  pub starts : (k : ℕ) → k < length names
+      → Starts init (places.Location (slice_index_or names k [])) names
+      (slice_index_or values k NoValue)
 
 -- what the registers of a thread hold at the start
-pub record AreRegisters (init : List InitEntry) (names : List (List ℕ)) (t : ℕ) (file : List Value) : Type 0 where
+pub record AreRegisters (init : List InitEntry) (names : List (List ℕ)) (t : ℕ) (file : List Value)
+    : Type 0 where
   pub each_one : length file ≡ 32
-  pub starts : (r : ℕ) → r < 32 → Starts init (places.Register t r) names (slice_index_or file r NoValue)
+  pub starts : (r : ℕ) → r < 32
+      → Starts init (places.Register t r) names (slice_index_or file r NoValue)
 
-pub record AreFiles (init : List InitEntry) (names : List (List ℕ)) (threads : ℕ) (files : List (List Value)) : Type 0 where
+pub record AreFiles (init : List InitEntry) (names : List (List ℕ)) (threads : ℕ)
+    (files : List (List Value)) : Type 0 where
   pub each_one : length files ≡ threads
   pub starts : (t : ℕ) → t < threads → AreRegisters init names t (slice_index_or files t [])
 
 -- the lines of all threads
 pub record AreThreads (threads : List Thread) (lines : List (Vec Line Global)) : Type 0 where
   pub each_one : length lines ≡ length threads
-  pub each : (t : ℕ) (thread : Thread) (made : Vec Line Global) → t < length threads → AreLines (slice_index_or threads t thread).steps.items (slice_index_or lines t made).items
+  pub each : (t : ℕ) (thread : Thread) (made : Vec Line Global) → t < length threads
+      → AreLines (slice_index_or threads t thread).steps.items (slice_index_or lines t made).items
 
 -- the program of a test
 pub record IsProgram (t : Test) (p : Program) : Type 0 where
@@ -170,4 +182,5 @@ put_location names (places.Register t r) v values = values
 
 abbrev pub put_register : Place → Value → List (List Value) → List (List Value)
 put_register (places.Location name) v files = files
-put_register (places.Register t r) v files = slice_set files t (slice_set (slice_index_or files t []) r v)
+put_register (places.Register t r) v files =
+    slice_set files t (slice_set (slice_index_or files t []) r v)

@@ -1,5 +1,5 @@
-//! The semantics of a test: its program, the domain of values, and the runs of its threads. Read specs/Domain.antt
-//! first (`IsDomain`), then specs/Lowering.antt (the program of a test).
+//! The semantics of a test: its program, the domain of values, and the runs of its threads. Read
+//! specs/Domain.antt first (`IsDomain`), then specs/Lowering.antt (the program of a test).
 #![tactic(auto)]
 
 mod fault;

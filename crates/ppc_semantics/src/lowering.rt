@@ -20,10 +20,12 @@ fn compare(left: &Name, right: &Name) -> Ordering
     left.as_bytes().cmp(right.as_bytes())
 }
 
-/// `Ok` of the index of the name among names sorted by their bytes, or `Err` of the index where it belongs.
+/// `Ok` of the index of the name among names sorted by their bytes, or `Err` of the index where it
+/// belongs.
 fn index_of_name(names: &[Name], name: &Name) -> Result<usize, usize>
     ensures bound { IsSearchInRange result (length names.now) }
-    ensures position { IsBinarySearchResult (λ other. low.name_cmp other name.now) names.now result }
+    ensures position { IsBinarySearchResult (λ other. low.name_cmp other name.now) names.now
+        result }
 {
     names.binary_search_by(
         |other: &Name| -> Ordering
@@ -63,7 +65,8 @@ fn number_of(names: &[Name], name: &Name) -> usize
 fn note_place(alloc: Global, names: &mut Vec<Name>, place: &Place) -> Result<(), AllocError>
     requires { AllPairs low.IsBefore names.old.items }
     ensures rising { AllPairs low.IsBefore names.new.items }
-    ensures noted { OnOk result (low.Adds (low.place_names place.now) names.old.items names.new.items) }
+    ensures noted { OnOk result (low.Adds (low.place_names place.now) names.old.items
+        names.new.items) }
 {
     match place {
         Place::Location(name) => note(alloc, names, name),
@@ -79,7 +82,8 @@ fn note_value(
 ) -> Result<(), AllocError>
     requires { AllPairs low.IsBefore names.old.items }
     ensures rising { AllPairs low.IsBefore names.new.items }
-    ensures noted { OnOk result (low.Adds (low.value_names value.now) names.old.items names.new.items) }
+    ensures noted { OnOk result (low.Adds (low.value_names value.now) names.old.items
+        names.new.items) }
 {
     match value {
         text_values::Value::Address(name) => note(alloc, names, name),
@@ -96,7 +100,8 @@ fn note_both(
 ) -> Result<(), AllocError>
     requires { AllPairs low.IsBefore names.old.items }
     ensures rising { AllPairs low.IsBefore names.new.items }
-    ensures noted { OnOk result (low.Adds (low.place_names place.now ++ low.value_names value.now) names.old.items names.new.items) }
+    ensures noted { OnOk result (low.Adds (low.place_names place.now ++ low.value_names value.now)
+        names.old.items names.new.items) }
 {
     note_place(alloc, names, place)?;
     note_value(alloc, names, value)?;
@@ -111,7 +116,8 @@ fn note_proposition(
 ) -> Result<(), AllocError>
     requires { AllPairs low.IsBefore names.old.items }
     ensures rising { AllPairs low.IsBefore names.new.items }
-    ensures noted { OnOk result (low.Adds (low.formula_names (formula_of proposition.now)) names.old.items names.new.items) }
+    ensures noted { OnOk result (low.Adds (low.formula_names (formula_of proposition.now))
+        names.old.items names.new.items) }
 {
     match proposition {
         Proposition::Constant(_) => Ok(()),
@@ -128,7 +134,8 @@ fn note_proposition(
 fn note_init(alloc: Global, names: &mut Vec<Name>, init: &[InitEntry]) -> Result<(), AllocError>
     requires { AllPairs low.IsBefore names.old.items }
     ensures rising { AllPairs low.IsBefore names.new.items }
-    ensures noted { OnOk result (low.Adds (flat_map low.entry_names init.now) names.old.items names.new.items) }
+    ensures noted { OnOk result (low.Adds (flat_map low.entry_names init.now) names.old.items
+        names.new.items) }
 {
     for entry in init {
         note_both(alloc, names, &entry.place, &entry.value)?;
@@ -140,7 +147,8 @@ fn note_init(alloc: Global, names: &mut Vec<Name>, init: &[InitEntry]) -> Result
 fn note_places(alloc: Global, names: &mut Vec<Name>, places: &[Place]) -> Result<(), AllocError>
     requires { AllPairs low.IsBefore names.old.items }
     ensures rising { AllPairs low.IsBefore names.new.items }
-    ensures noted { OnOk result (low.Adds (flat_map low.place_names places.now) names.old.items names.new.items) }
+    ensures noted { OnOk result (low.Adds (flat_map low.place_names places.now) names.old.items
+        names.new.items) }
 {
     for place in places {
         note_place(alloc, names, place)?;
@@ -148,8 +156,9 @@ fn note_places(alloc: Global, names: &mut Vec<Name>, places: &[Place]) -> Result
     Ok(())
 }
 
-/// Returns the names of all locations of the test, each once, in the order of their bytes: those that its init block, its
-/// condition and its observed places name, and those that occur as addresses among the values.
+/// Returns the names of all locations of the test, each once, in the order of their bytes: those
+/// that its init block, its condition and its observed places name, and those that occur as
+/// addresses among the values.
 ///
 /// # Errors
 ///
@@ -178,7 +187,9 @@ fn value_of(locations: &[Name], value: &text_values::Value) -> Value
 /// Writes the value of the entry at the number of its location, if it is for one.
 fn put_location(locations: &[Name], entry: &InitEntry, initial: &mut Vec<Value>)
     requires { AllPairs low.IsBefore locations.now }
-    ensures { initial.new.items ≡ low.put_location locations.now entry.now.place (low.value_of locations.now entry.now.value) initial.old.items }
+    ensures { initial.new.items
+        ≡ low.put_location locations.now entry.now.place
+        (low.value_of locations.now entry.now.value) initial.old.items }
 {
     match &entry.place {
         Place::Location(name) => {
@@ -210,7 +221,9 @@ fn initial_of(
 /// Writes the value of the entry into its register, if it is for one of a thread that is there.
 fn put_register(locations: &[Name], entry: &InitEntry, registers: &mut Vec<[Value; 32]>)
     requires { AllPairs low.IsBefore locations.now }
-    ensures { registers.new.items ≡ low.put_register entry.now.place (low.value_of locations.now entry.now.value) registers.old.items }
+    ensures { registers.new.items
+        ≡ low.put_register entry.now.place (low.value_of locations.now entry.now.value)
+        registers.old.items }
 {
     match &entry.place {
         Place::Location(_) => {}
@@ -300,7 +313,8 @@ fn instruction_of(labels: &[Name], instruction: &Written) -> Instruction
 fn note_label(alloc: Global, labels: &mut Vec<Name>, step: &Step) -> Result<(), AllocError>
     requires { AllPairs low.IsBefore labels.old.items }
     ensures rising { AllPairs low.IsBefore labels.new.items }
-    ensures noted { OnOk result (low.Adds (low.labels_in step.now) labels.old.items labels.new.items) }
+    ensures noted { OnOk result (low.Adds (low.labels_in step.now) labels.old.items
+        labels.new.items) }
 {
     match step {
         Step::Label(name) => note(alloc, labels, name),
@@ -355,7 +369,8 @@ fn threads_of(alloc: Global, threads: &[Thread]) -> Result<Vec<Vec<Line>>, Alloc
 }
 
 /// The program of a test. Locations are numbered in the order of their name bytes, and so are the
-/// labels of each thread. Locations and registers without an entry start at 0. Errors: out of memory.
+/// labels of each thread. Locations and registers without an entry start at 0. Errors: out of
+/// memory.
 pub fn program(alloc: Global, test: &Test) -> Result<Program, AllocError>
     ensures program { IfOk result (λ p. low.IsProgram test.now p) }
     ensures proper { IfOk result (λ p. AreProper p) }

@@ -99,7 +99,8 @@ fn load_count(program: &Program) -> usize
 /// The initial values of the locations.
 fn initial_values(alloc: Global, program: &Program) -> Result<Vec<Value>, AllocError>
     ensures set { IfOk result (λ v. IsSet v.items) }
-    ensures values { IfOk result (λ v. (u : Value) → Contains v.items u ↔ (Contains program.now.initial.items u × IsOne u)) }
+    ensures values { IfOk result (λ v. (u : Value)
+        → Contains v.items u ↔ (Contains program.now.initial.items u × IsOne u)) }
 {
     let mut values = Vec::new(alloc);
     for value in &program.initial {
@@ -112,7 +113,8 @@ fn initial_values(alloc: Global, program: &Program) -> Result<Vec<Value>, AllocE
 fn next_values(alloc: Global, program: &Program, values: &[Value]) -> Result<Vec<Value>, AllocError>
     requires { IsSet values.now }
     ensures set { IfOk result (λ v. IsSet v.items) }
-    ensures added { IfOk result (λ v. AreAdded (StoresFreely (dom.threads_of program.now) (Contains values.now)) values.now v.items) }
+    ensures added { IfOk result (λ v. AreAdded
+        (StoresFreely (dom.threads_of program.now) (Contains values.now)) values.now v.items) }
 {
     let mut next = Vec::from_slice(alloc, values)?;
     for thread in 0..program.threads.len() {
@@ -135,7 +137,8 @@ fn thread_count(
     thread: usize,
     size: usize,
 ) -> Result<u32, DomainFault>
-    ensures counted { IfOk result (λ n. (V : List Value) → AllPairs IsLess V → length V ≡ size → (m : ℕ) × HasFreeRuns (all.thread_of program.now thread) V m × (n ≡ min m 4097)) }
+    ensures counted { IfOk result (λ n. (V : List Value) → AllPairs IsLess V → length V ≡ size
+        → (m : ℕ) × HasFreeRuns (all.thread_of program.now thread) V m × (n ≡ min m 4097)) }
     ensures fault { IfErr result (λ e. dom.IsMemory e) }
 {
     match free_count(alloc, thread_lines(program, thread), size) {
@@ -148,7 +151,8 @@ fn thread_count(
 fn check_round(alloc: Global, program: &Program, values: &[Value]) -> Result<(), DomainFault>
     requires { IsSet values.now }
     ensures few { OnOk result (length values.now ≤ 16) }
-    ensures runs { OnOk result (dom.HasFewRuns program.now values.now (vec_len program.now.threads)) }
+    ensures runs { OnOk result (dom.HasFewRuns program.now values.now
+        (vec_len program.now.threads)) }
     ensures fault { IfErr result (λ e. dom.IsRoundFault program.now values.now e) }
 {
     if values.len() > MAX_VALUES {
@@ -175,7 +179,8 @@ fn runs_in_thread(
     values: &[Value],
 ) -> Result<usize, DomainFault>
     requires { IsSet values.now }
-    ensures counted { IfOk result (λ n. all.HasRuns (all.thread_of program.now thread) values.now n) }
+    ensures counted { IfOk result (λ n.
+        all.HasRuns (all.thread_of program.now thread) values.now n) }
     ensures fault { IfErr result (λ e. dom.IsMemory e) }
 {
     let first = State::first(program, thread);
@@ -196,7 +201,9 @@ fn size_of(values: &[Value]) -> usize
 /// Whether the numbers of free runs tell that there are few enough combinations of runs.
 fn are_surely_few(alloc: Global, program: &Program, values: &[Value]) -> Result<bool, AllocError>
     requires { IsSet values.now }
-    ensures { IfOk result (λ b. IsTrue b → (n : ℕ) × dom.HasCombinations (dom.threads_of program.now) values.now n × (n ≤ 1048576)) }
+    ensures { IfOk result (λ b. IsTrue b
+        → (n : ℕ) × dom.HasCombinations (dom.threads_of program.now) values.now n
+        × (n ≤ 1048576)) }
 {
     let size = size_of(values);
     let mut product: u64 = 1;
@@ -216,7 +223,8 @@ fn are_surely_few(alloc: Global, program: &Program, values: &[Value]) -> Result<
 /// The bound of the combinations of runs, by counting the runs.
 fn count_combinations(alloc: Global, program: &Program, values: &[Value]) -> Result<(), DomainFault>
     requires { IsSet values.now }
-    ensures few { OnOk result ((n : ℕ) × dom.HasCombinations (dom.threads_of program.now) values.now n × (n ≤ 1048576)) }
+    ensures few { OnOk result ((n : ℕ)
+        × dom.HasCombinations (dom.threads_of program.now) values.now n × (n ≤ 1048576)) }
     ensures fault { IfErr result (λ e. dom.IsCombinationFault program.now values.now e) }
 {
     let mut product: u64 = 1;
@@ -237,7 +245,8 @@ fn count_combinations(alloc: Global, program: &Program, values: &[Value]) -> Res
 /// The bound of the combinations of runs.
 fn check_combinations(alloc: Global, program: &Program, values: &[Value]) -> Result<(), DomainFault>
     requires { IsSet values.now }
-    ensures few { OnOk result ((n : ℕ) × dom.HasCombinations (dom.threads_of program.now) values.now n × (n ≤ 1048576)) }
+    ensures few { OnOk result ((n : ℕ)
+        × dom.HasCombinations (dom.threads_of program.now) values.now n × (n ≤ 1048576)) }
     ensures fault { IfErr result (λ e. dom.IsCombinationFault program.now values.now e) }
 {
     match are_surely_few(alloc, program, values) {
@@ -250,7 +259,8 @@ fn check_combinations(alloc: Global, program: &Program, values: &[Value]) -> Res
 /// The values before the first round.
 fn first_round(alloc: Global, program: &Program) -> Result<Vec<Value>, DomainFault>
     ensures set { IfOk result (λ v. IsSet v.items) }
-    ensures round { IfOk result (λ v. dom.AreProper program.now → dom.IsNextRound program.now 0 v.items) }
+    ensures round { IfOk result (λ v. dom.AreProper program.now
+        → dom.IsNextRound program.now 0 v.items) }
     ensures fault { IfErr result (λ e. dom.IsMemory e) }
 {
     match initial_values(alloc, program) {
@@ -263,8 +273,10 @@ fn first_round(alloc: Global, program: &Program) -> Result<Vec<Value>, DomainFau
 fn next_round(alloc: Global, program: &Program, values: &[Value]) -> Result<Vec<Value>, DomainFault>
     requires { IsSet values.now }
     ensures set { IfOk result (λ v. IsSet v.items) }
-    ensures round { IfOk result (λ v. (k : ℕ) → dom.IsRound program.now k values.now → dom.IsNextRound program.now (k + 1) v.items) }
-    ensures unchanged { IfOk result (λ v. length values.now ≡ length v.items → values.now ≡ v.items) }
+    ensures round { IfOk result (λ v. (k : ℕ) → dom.IsRound program.now k values.now
+        → dom.IsNextRound program.now (k + 1) v.items) }
+    ensures unchanged { IfOk result (λ v. length values.now ≡ length v.items
+        → values.now ≡ v.items) }
     ensures fault { IfErr result (λ e. dom.IsMemory e) }
 {
     match next_values(alloc, program, values) {
@@ -277,8 +289,10 @@ fn next_round(alloc: Global, program: &Program, values: &[Value]) -> Result<Vec<
 fn last_round(alloc: Global, program: &Program) -> Result<Vec<Value>, DomainFault>
     requires { dom.event_total program.now ≤ 128 }
     ensures set { IfOk result (λ v. IsSet v.items) }
-    ensures round { IfOk result (λ v. dom.AreProper program.now → dom.IsRound program.now (dom.load_total program.now) v.items) }
-    ensures within { OnOk result (dom.AreProper program.now → (k : ℕ) → k ≤ dom.load_total program.now → dom.IsWithin program.now k) }
+    ensures round { IfOk result (λ v. dom.AreProper program.now
+        → dom.IsRound program.now (dom.load_total program.now) v.items) }
+    ensures within { OnOk result (dom.AreProper program.now → (k : ℕ)
+        → k ≤ dom.load_total program.now → dom.IsWithin program.now k) }
     ensures fault { IfErr result (λ e. dom.AreProper program.now → dom.IsFault program.now e) }
 {
     let mut values = first_round(alloc, program)?;
@@ -297,15 +311,16 @@ fn last_round(alloc: Global, program: &Program) -> Result<Vec<Value>, DomainFaul
 
 /// The values that loads can read: the initial values of the locations and, for as many domain
 /// rounds as the program has loads, the values that some free run over the values so far stores. In
-/// a free run each conditional branch is taken or not, each load reads any value, and no access is a
-/// fault.
+/// a free run each conditional branch is taken or not, each load reads any value, and no access is
+/// a fault.
 ///
 /// Limits, in this order: 128 locations, loads, stores and fences together; before the first round
-/// and after each round 16 values, then 4,096 free runs of a thread; 1,048,576 combinations of runs.
-/// Errors: the first limit that is exceeded, or out of memory.
+/// and after each round 16 values, then 4,096 free runs of a thread; 1,048,576 combinations of
+/// runs. Errors: the first limit that is exceeded, or out of memory.
 pub fn domain_of(alloc: Global, program: &Program) -> Result<Domain, DomainFault>
     ensures set { IfOk result (λ d. IsSet d.values.items) }
-    ensures domain { IfOk result (λ d. dom.AreProper program.now → dom.IsDomain program.now d.values.items) }
+    ensures domain { IfOk result (λ d. dom.AreProper program.now
+        → dom.IsDomain program.now d.values.items) }
     ensures fault { IfErr result (λ e. dom.AreProper program.now → dom.IsFault program.now e) }
 {
     if event_count(program) > MAX_EVENTS {

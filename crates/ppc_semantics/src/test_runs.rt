@@ -17,7 +17,9 @@ pub fn runs(
     thread: usize,
     domain: &Domain,
 ) -> Result<Vec<Run>, AllocError>
-    ensures runs { IfOk result (λ v. AllPairs IsLess domain.now.values.items → thread < vec_len test.now.threads → low.ShowsTestRuns test.now thread domain.now.values.items v.items) }
+    ensures runs { IfOk result (λ v. AllPairs IsLess domain.now.values.items
+        → thread < vec_len test.now.threads
+        → low.ShowsTestRuns test.now thread domain.now.values.items v.items) }
     ensures no_thread { IfOk result (λ v. vec_len test.now.threads ≤ thread → v.items ≡ []) }
 {
     let program = program(alloc, test)?;

@@ -1,6 +1,6 @@
--- Laws of items that are read again: after an edit of its model an item that says what it said does what it did, if the names of
--- other items that it uses and the functions that it applies are what they were, as other items see them
--- (`items_are_read_again`). Read `ItemLaws` first.
+-- Laws of items that are read again: after an edit of its model an item that says what it said does
+-- what it did, if the names of other items that it uses and the functions that it applies are what
+-- they were, as other items see them (`items_are_read_again`). Read `ItemLaws` first.
 use Rattle.std.specs.Prelude.{◌≡◌, ℕ, ◌<◌, List, [], length, map, reverse, slice_get, option_map, Option, Some, None}
 use Rattle.std.specs.List.{AllByRecursion as Each}
 use Rattle.text_values.specs.declared.model.Item.{Item}
@@ -20,7 +20,8 @@ use Rattle.reading_laws.specs.ItemLaws.{SayTheSame}
 
 -- ---- models
 
--- a model as it is read: the numbers of its items, the items, and what these are resolved to, in the order of the text
+-- a model as it is read: the numbers of its items, the items, and what these are resolved to, in
+-- the order of the text
 pub record ReadModel : Type 0 where
   pub numbers : List ℕ
   pub items : List Item
@@ -34,7 +35,8 @@ HasNumber m index number = slice_get m.numbers index ≡ Some number
 abbrev pub outermost : List Predefined → List Naming
 outermost ps = reverse (map naming_of ps)
 
--- each item has a number of its own, none has a fault, and they are resolved to these, where the first sees those names
+-- each item has a number of its own, none has a fault, and they are resolved to these, where the
+-- first sees those names
 pub record IsSound (names : List Naming) (m : ReadModel) : Type 0 where
   pub numbered : length m.numbers ≡ length m.items
   pub apart : (a b number : ℕ) → HasNumber m a number → HasNumber m b number → a ≡ b
@@ -43,11 +45,12 @@ pub record IsSound (names : List Naming) (m : ReadModel) : Type 0 where
   pub as_resolved : AreResolved [] [] names 0 (map clause_of m.items) m.resolved
   pub labelled : AreLabelled m.items m.resolved
 
--- The items that both models have stand in one order. Without this the law would fail: of two items that bind one name the
--- later is found.
+-- The items that both models have stand in one order. Without this the law would fail: of two items
+-- that bind one name the later is found.
 abbrev pub AreInOneOrder : ReadModel → ReadModel → Type 0
 AreInOneOrder m w =
-    (a b c d first second : ℕ) → HasNumber m a first → HasNumber m b second → HasNumber w c first → HasNumber w d second → a < b → c < d
+    (a b c d first second : ℕ) → HasNumber m a first → HasNumber m b second → HasNumber w c first
+    → HasNumber w d second → a < b → c < d
 
 -- the item of that number stands at that index
 pub record IsItemOf (m : ReadModel) (number index : ℕ) (x : Item) (r : ResolvedItem) : Type 0 where
@@ -105,12 +108,15 @@ pub record IsSeenFunction (m : ReadModel) (f : ℕ) : Type 0 where
 -- all that an item uses is seen so
 abbrev pub UsesAreSeen : Type 0
 UsesAreSeen =
-    (ps : List Predefined) (m : ReadModel) (number k : ℕ) (x : Item) (r : ResolvedItem) → IsSound (outermost ps) m → IsItemOf m number k x r
+    (ps : List Predefined) (m : ReadModel) (number k : ℕ) (x : Item) (r : ResolvedItem)
+    → IsSound (outermost ps) m → IsItemOf m number k x r
     → Each (IsSeenInput m) r.inputs.items × Each (IsSeenFunction m) r.functions.items
 
--- an item of one number and one text that uses the same in two models of one order does the same in both
+-- an item of one number and one text that uses the same in two models of one order does the same in
+-- both
 abbrev pub ItemsAreReadAgain : Type 0
 ItemsAreReadAgain =
     (ps : List Predefined) (m w : ReadModel) (number k l : ℕ) (x y : Item) (r q : ResolvedItem)
     → IsSound (outermost ps) m → IsSound (outermost ps) w → AreInOneOrder m w
-    → IsItemOf m number k x r → IsItemOf w number l y q → SayTheSame x y → UseTheSame m w r q → role_content r.role ≡ role_content q.role
+    → IsItemOf m number k x r → IsItemOf w number l y q → SayTheSame x y → UseTheSame m w r q
+    → role_content r.role ≡ role_content q.role

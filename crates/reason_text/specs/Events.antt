@@ -14,7 +14,8 @@ use Rattle.reason_text.specs.declared.event.ToldEvent.{ToldEvent}
 abbrev pub lettered : ℕ → List ℕ
 lettered n = (97 + n % 26) ∷ (if nat_lt n 26 then [] else decimal (n / 26))
 
--- the name of an event: the initial stores, which are the first, are `I0` and so on, and the others have small letters
+-- the name of an event: the initial stores, which are the first, are `I0` and so on, and the others
+-- have small letters
 unfoldable pub event_name : ℕ → ℕ → List ℕ
 event_name initial n = if nat_lt n initial then codes "I" ++ decimal n else lettered (n - initial)
 
@@ -24,14 +25,18 @@ value_told true locations value = codes "=" ++ value_text locations (value_shown
 value_told false locations value = []
 
 unfoldable pub access_text : List ℕ → Bool → List (List ℕ) → ℕ → Value → List ℕ
-access_text letter shows locations location value = letter ++ codes "[" ++ name_at locations location ++ codes "]" ++ value_told shows locations value
+access_text letter shows locations location value =
+    letter ++ codes "[" ++ name_at locations location ++ codes "]"
+    ++ value_told shows locations value
 
 unfoldable pub fence_told : List ℕ → List ℕ
 fence_told name = codes "F[" ++ name ++ codes "]"
 
 unfoldable pub action_text : Bool → List (List ℕ) → Action → List ℕ
-action_text shows locations (actions.Read location value) = access_text (codes "R") shows locations location value
-action_text shows locations (actions.Write location value) = access_text (codes "W") shows locations location value
+action_text shows locations (actions.Read location value) =
+    access_text (codes "R") shows locations location value
+action_text shows locations (actions.Write location value) =
+    access_text (codes "W") shows locations location value
 action_text shows locations (actions.Fence f) = fence_told (fence_text f)
 
 unfoldable pub thread_text : Option ℕ → List ℕ
@@ -40,17 +45,21 @@ thread_text (Some thread) = codes "P" ++ decimal thread
 
 -- an access by one register, as `stw r1,0(r2)`, and by the sum of two
 unfoldable pub plain_access : List ℕ → ℕ → ℕ → List ℕ
-plain_access word first base = word ++ codes " r" ++ decimal first ++ codes ",0(r" ++ decimal base ++ codes ")"
+plain_access word first base =
+    word ++ codes " r" ++ decimal first ++ codes ",0(r" ++ decimal base ++ codes ")"
 
 unfoldable pub indexed_access : List ℕ → ℕ → ℕ → ℕ → List ℕ
-indexed_access word first base index = word ++ codes " r" ++ decimal first ++ codes ",r" ++ decimal base ++ codes ",r" ++ decimal index
+indexed_access word first base index =
+    word ++ codes " r" ++ decimal first ++ codes ",r" ++ decimal base ++ codes ",r" ++ decimal index
 
 -- the instruction of an event; others make no event
 unfoldable pub instruction_text : Instruction → List ℕ
 instruction_text (instructions.Load target base) = plain_access (codes "lwz") target base
-instruction_text (instructions.LoadIndexed target base index) = indexed_access (codes "lwzx") target base index
+instruction_text (instructions.LoadIndexed target base index) =
+    indexed_access (codes "lwzx") target base index
 instruction_text (instructions.Store source base) = plain_access (codes "stw") source base
-instruction_text (instructions.StoreIndexed source base index) = indexed_access (codes "stwx") source base index
+instruction_text (instructions.StoreIndexed source base index) =
+    indexed_access (codes "stwx") source base index
 instruction_text (instructions.Barrier f) = fence_text f
 instruction_text instruction = []
 
@@ -61,4 +70,6 @@ instruction_told (Some instruction) = codes "  " ++ instruction_text instruction
 -- an event on a line: its name, what it does, its thread and its instruction
 unfoldable pub event_line : Bool → List (List ℕ) → ℕ → ToldEvent → List ℕ
 event_line shows locations initial e =
-    codes "  " ++ event_name initial e.number ++ codes ": " ++ action_text shows locations e.event.action ++ codes "  " ++ thread_text e.event.thread ++ instruction_told e.instruction ++ codes "\n"
+    codes "  " ++ event_name initial e.number ++ codes ": "
+    ++ action_text shows locations e.event.action ++ codes "  " ++ thread_text e.event.thread
+    ++ instruction_told e.instruction ++ codes "\n"

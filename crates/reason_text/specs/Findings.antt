@@ -1,5 +1,6 @@
--- What is told of the executions that satisfy a proposition: how many a model keeps, with the events of the first of them, and how
--- many it forbids, with the reasons. Reasons that differ in values alone are told once, by the first, with their number.
+-- What is told of the executions that satisfy a proposition: how many a model keeps, with the
+-- events of the first of them, and how many it forbids, with the reasons. Reasons that differ in
+-- values alone are told once, by the first, with their number.
 use Rattle.std.specs.Prelude.{ℕ, ◌==◌, ◌||◌, List, [], ◌∷◌, ◌++◌, Bool, true, false, if◌then◌else◌}
 use Rattle.std.specs.Prelude.{nat_eq, length, map, decimal, codes, Vec}
 use Rattle.std.specs.List.{flat_map, list_any, count_by}
@@ -25,7 +26,8 @@ number_in locations kinds reason = count_by (is_of_kind (kind_of locations reaso
 
 -- a reason with the number of those of its kind
 unfoldable pub once_text : List (List ℕ) → ℕ → Reason → List ℕ
-once_text locations count reason = decimal count ++ codes " by " ++ reason_text true locations (length locations) reason
+once_text locations count reason =
+    decimal count ++ codes " by " ++ reason_text true locations (length locations) reason
 
 -- what is told of a reason where these kinds are told already, and the kinds that are told then
 abbrev pub new_text : List (List ℕ) → List (List ℕ) → List (List ℕ) → Reason → List ℕ
@@ -45,7 +47,8 @@ told_with locations told reason =
 -- the reasons where these kinds are told already
 abbrev pub told_text : List (List ℕ) → List (List ℕ) → List (List ℕ) → List Reason → List ℕ
 told_text locations kinds told [] = []
-told_text locations kinds told (r ∷ rs) = new_text locations kinds told r ++ told_text locations kinds (told_with locations told r) rs
+told_text locations kinds told (r ∷ rs) =
+    new_text locations kinds told r ++ told_text locations kinds (told_with locations told r) rs
 
 -- the reasons, the first of each kind
 unfoldable pub reasons_text : List (List ℕ) → List Reason → List ℕ
@@ -60,5 +63,7 @@ reasons_if told locations rs = if told then reasons_text locations rs else []
 -- the reasons are told where no execution is kept, and where they are asked for
 unfoldable pub findings_text : Bool → List (List ℕ) → Findings → List ℕ
 findings_text asked locations f =
-    count_line (codes "Kept ") f.kept ++ flat_map (event_line true locations (length locations)) f.shown.items
-    ++ count_line (codes "Forbidden ") (length f.reasons.items) ++ reasons_if (asked || (f.kept == 0)) locations f.reasons.items
+    count_line (codes "Kept ") f.kept
+    ++ flat_map (event_line true locations (length locations)) f.shown.items
+    ++ count_line (codes "Forbidden ") (length f.reasons.items)
+    ++ reasons_if (asked || (f.kept == 0)) locations f.reasons.items

@@ -61,7 +61,8 @@ pub fn put_name(text: &mut Vec<u8>, initial_count: usize, n: usize) -> Result<()
 }
 
 fn put_run_value(text: &mut Vec<u8>, locations: &[Name], value: RunValue) -> Result<(), AllocError>
-    ensures { OnOk result (text.new.items ≡ text.old.items ++ value_text locations.now (value_shown value)) }
+    ensures { OnOk result (text.new.items
+        ≡ text.old.items ++ value_text locations.now (value_shown value)) }
 {
     match value {
         RunValue::Number(number) => put_value(text, &Value::Number(number.cast_signed())),
@@ -76,7 +77,8 @@ fn put_value_told(
     telling: Telling<'_>,
     value: RunValue,
 ) -> Result<(), AllocError>
-    ensures { OnOk result (text.new.items ≡ text.old.items ++ value_told telling.entry.shows telling.entry.locations.now value) }
+    ensures { OnOk result (text.new.items
+        ≡ text.old.items ++ value_told telling.entry.shows telling.entry.locations.now value) }
 {
     if telling.shows {
         put_bytes(text, b"=")?;
@@ -94,7 +96,10 @@ fn put_access(
     location: usize,
     value: RunValue,
 ) -> Result<(), AllocError>
-    ensures { OnOk result (text.new.items ≡ text.old.items ++ access_text letter.now telling.entry.shows telling.entry.locations.now location value) }
+    ensures { OnOk result (text.new.items
+        ≡ text.old.items
+        ++ access_text letter.now telling.entry.shows telling.entry.locations.now location
+        value) }
 {
     put_bytes(text, letter)?;
     put_bytes(text, b"[")?;
@@ -119,7 +124,9 @@ pub fn put_action(
     telling: Telling<'_>,
     action: Action,
 ) -> Result<(), AllocError>
-    ensures { OnOk result (text.new.items ≡ text.old.items ++ action_text telling.entry.shows telling.entry.locations.now action) }
+    ensures { OnOk result (text.new.items
+        ≡ text.old.items
+        ++ action_text telling.entry.shows telling.entry.locations.now action) }
 {
     match action {
         Action::Read { location, value } => put_access(text, b"R", telling, location, value),
@@ -161,7 +168,8 @@ fn put_indexed(
     base: u8,
     index: u8,
 ) -> Result<(), AllocError>
-    ensures { OnOk result (text.new.items ≡ text.old.items ++ indexed_access word.now first base index) }
+    ensures { OnOk result (text.new.items
+        ≡ text.old.items ++ indexed_access word.now first base index) }
 {
     put_bytes(text, word)?;
     put_bytes(text, b" r")?;
@@ -211,7 +219,10 @@ pub fn put_event(
     telling: Telling<'_>,
     event: ToldEvent,
 ) -> Result<(), AllocError>
-    ensures { OnOk result (text.new.items ≡ text.old.items ++ event_line telling.entry.shows telling.entry.locations.now telling.entry.initial_count event) }
+    ensures { OnOk result (text.new.items
+        ≡ text.old.items
+        ++ event_line telling.entry.shows telling.entry.locations.now
+        telling.entry.initial_count event) }
 {
     put_bytes(text, b"  ")?;
     put_name(text, telling.initial_count, event.number)?;
@@ -229,7 +240,11 @@ pub fn put_events(
     telling: Telling<'_>,
     events: &[ToldEvent],
 ) -> Result<(), AllocError>
-    ensures { OnOk result (text.new.items ≡ text.old.items ++ flat_map (event_line telling.entry.shows telling.entry.locations.now telling.entry.initial_count) events.now) }
+    ensures { OnOk result (text.new.items
+        ≡ text.old.items
+        ++ flat_map
+        (event_line telling.entry.shows telling.entry.locations.now
+        telling.entry.initial_count) events.now) }
 {
     for event in events {
         put_event(text, telling, *event)?;

@@ -94,7 +94,8 @@ fn put_once(
     count: usize,
     reason: &Reason,
 ) -> Result<(), AllocError>
-    ensures { OnOk result (text.new.items ≡ text.old.items ++ once_text locations.now count reason.now) }
+    ensures { OnOk result (text.new.items
+        ≡ text.old.items ++ once_text locations.now count reason.now) }
 {
     put_decimal(text, count as u64)?;
     put_bytes(text, b" by ")?;
@@ -110,8 +111,10 @@ fn put_new(
     told: &mut Vec<Vec<u8>>,
     reason: &Reason,
 ) -> Result<(), AllocError>
-    ensures text { OnOk result (text.new.items ≡ text.old.items ++ new_for locations.now kinds.now told.old.items reason.now) }
-    ensures told { OnOk result (texts_in told.new.items ≡ told_with locations.now (texts_in told.old.items) reason.now) }
+    ensures text { OnOk result (text.new.items
+        ≡ text.old.items ++ new_for locations.now kinds.now told.old.items reason.now) }
+    ensures told { OnOk result (texts_in told.new.items
+        ≡ told_with locations.now (texts_in told.old.items) reason.now) }
 {
     let kind = reason_kind(alloc, locations, reason)?;
     if is_among(told, &kind) {
@@ -129,7 +132,8 @@ fn put_told(
     kinds: &[Vec<u8>],
     reasons: &[Reason],
 ) -> Result<(), AllocError>
-    ensures { OnOk result (text.new.items ≡ text.old.items ++ told_text locations.now (texts_in kinds.now) [] reasons.now) }
+    ensures { OnOk result (text.new.items
+        ≡ text.old.items ++ told_text locations.now (texts_in kinds.now) [] reasons.now) }
 {
     let mut told = Vec::new(alloc);
     for reason in reasons {
@@ -145,7 +149,8 @@ fn put_reasons(
     locations: &[Name],
     reasons: &[Reason],
 ) -> Result<(), AllocError>
-    ensures { OnOk result (text.new.items ≡ text.old.items ++ reasons_text locations.now reasons.now) }
+    ensures { OnOk result (text.new.items
+        ≡ text.old.items ++ reasons_text locations.now reasons.now) }
 {
     let kinds = kinds_of(alloc, locations, reasons)?;
     put_told(alloc, text, locations, &kinds, reasons)
@@ -158,7 +163,8 @@ fn put_reasons_if(
     locations: &[Name],
     reasons: &[Reason],
 ) -> Result<(), AllocError>
-    ensures { OnOk result (text.new.items ≡ text.old.items ++ reasons_if told locations.now reasons.now) }
+    ensures { OnOk result (text.new.items
+        ≡ text.old.items ++ reasons_if told locations.now reasons.now) }
 {
     if told {
         put_reasons(alloc, text, locations, reasons)
@@ -176,8 +182,9 @@ fn put_count(text: &mut Vec<u8>, word: &[u8], count: usize) -> Result<(), AllocE
     put_bytes(text, b"\n")
 }
 
-/// Appends what is found: how many executions are kept, with the events of the first, and how many are
-/// forbidden, with the reasons where none is kept or where they are asked for. Errors: want of memory.
+/// Appends what is found: how many executions are kept, with the events of the first, and how many
+/// are forbidden, with the reasons where none is kept or where they are asked for. Errors: want of
+/// memory.
 #[tactic(auto, unfolding(crate::specs::Findings::findings_text))]
 pub fn put_findings(
     alloc: Global,
@@ -186,7 +193,8 @@ pub fn put_findings(
     locations: &[Name],
     findings: &Findings,
 ) -> Result<(), AllocError>
-    ensures { OnOk result (text.new.items ≡ text.old.items ++ findings_text asked locations.now findings.now) }
+    ensures { OnOk result (text.new.items
+        ≡ text.old.items ++ findings_text asked locations.now findings.now) }
 {
     put_count(text, b"Kept ", findings.kept)?;
     put_events(text, telling(locations, true), &findings.shown)?;

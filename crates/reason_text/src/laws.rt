@@ -5,5 +5,6 @@ ghost use Rattle.reason_text.specs.Events.{event_name};
 
 /// Two events have two names, however many of the first are initial stores.
 pub fn names_are_apart()
-    ensures { (initial m n : ℕ) → m < 2 ^ 64 → n < 2 ^ 64 → event_name initial m ≡ event_name initial n → m ≡ n }
+    ensures { (initial m n : ℕ) → m < 2 ^ 64 → n < 2 ^ 64
+        → event_name initial m ≡ event_name initial n → m ≡ n }
 {}

@@ -1,5 +1,5 @@
-//! Why a check refuses an execution, as text. Read specs/Events first (the line of an event), then specs/Reasons and specs/Findings.
-//! `laws` says that no two events have one name.
+//! Why a check refuses an execution, as text. Read specs/Events first (the line of an event), then
+//! specs/Reasons and specs/Findings. `laws` says that no two events have one name.
 #![tactic(auto)]
 
 mod event;

@@ -41,7 +41,8 @@ fn put_step(text: &mut Vec<u8>, initial_count: usize, step: &ToldStep) -> Result
 }
 
 fn put_steps(text: &mut Vec<u8>, initial_count: usize, steps: &[ToldStep]) -> Result<(), AllocError>
-    ensures { OnOk result (text.new.items ≡ text.old.items ++ flat_map (step_text initial_count) steps.now) }
+    ensures { OnOk result (text.new.items
+        ≡ text.old.items ++ flat_map (step_text initial_count) steps.now) }
 {
     for step in steps {
         put_step(text, initial_count, step)?;
@@ -56,7 +57,8 @@ fn put_walk(
     first: Option<usize>,
     steps: &[ToldStep],
 ) -> Result<(), AllocError>
-    ensures { OnOk result (text.new.items ≡ text.old.items ++ walk_line initial_count first steps.now) }
+    ensures { OnOk result (text.new.items
+        ≡ text.old.items ++ walk_line initial_count first steps.now) }
 {
     match first {
         None => put_bytes(
@@ -80,13 +82,17 @@ fn put_check(text: &mut Vec<u8>, check: &[u8]) -> Result<(), AllocError>
     put_bytes(text, b"\n")
 }
 
-/// Appends why a check refuses an execution: the check, the events, and the steps. Errors: want of memory.
+/// Appends why a check refuses an execution: the check, the events, and the steps. Errors: want of
+/// memory.
 pub fn put_reason(
     text: &mut Vec<u8>,
     telling: Telling<'_>,
     reason: &Reason,
 ) -> Result<(), AllocError>
-    ensures { OnOk result (text.new.items ≡ text.old.items ++ reason_text telling.entry.shows telling.entry.locations.now telling.entry.initial_count reason.now) }
+    ensures { OnOk result (text.new.items
+        ≡ text.old.items
+        ++ reason_text telling.entry.shows telling.entry.locations.now
+        telling.entry.initial_count reason.now) }
 {
     put_check(text, &reason.check)?;
     put_events(text, telling, &reason.events)?;

@@ -15,9 +15,10 @@ use Rattle.memo_graph.specs.Known.{AreFound}
 use Rattle.reasons.specs.declared.checks.CheckValues.{CheckValues}
 use Rattle.reasons.specs.declared.checks.FirstRefusal.{FirstRefusal}
 
--- the values are those of the expression of this check, and of its factors, where the names of other items have the columns
--- that are found
-pub record IsChecked (space : Space) (columns : List (Vec Column Global)) (items : List ResolvedItem) (c : CheckValues) : Type 0 where
+-- the values are those of the expression of this check, and of its factors, where the names of
+-- other items have the columns that are found
+pub record IsChecked (space : Space) (columns : List (Vec Column Global))
+    (items : List ResolvedItem) (c : CheckValues) : Type 0 where
   pub item : ResolvedItem
   pub stands : slice_get items c.item ≡ Some item
   pub check : item.role ≡ roles.Check c.check.now
@@ -25,7 +26,8 @@ pub record IsChecked (space : Space) (columns : List (Vec Column Global)) (items
   pub inputs : List (Bor Column)
   pub found : AreFound columns item.inputs.items inputs
   pub values : AreValues c.check.now.code inputs space c.values
-  pub factors : c.check.now.word ≡ words.Irreflexive → AreFactorValues c.check.now.code inputs space c.factors.items
+  pub factors : c.check.now.word ≡ words.Irreflexive
+      → AreFactorValues c.check.now.code inputs space c.factors.items
 
 -- the item is a check and no flag
 abbrev pub is_unnamed : {A : Type 0} → Option A → Bool
@@ -44,7 +46,8 @@ index_if false index = []
 -- the indexes of the items that are checks and no flags, where the first item has this index
 abbrev pub check_indexes : ℕ → List ResolvedItem → List ℕ
 check_indexes index [] = []
-check_indexes index (item ∷ items) = index_if (is_check item.role) index ++ check_indexes (index + 1) items
+check_indexes index (item ∷ items) =
+    index_if (is_check item.role) index ++ check_indexes (index + 1) items
 
 abbrev pub items_of : List CheckValues → List ℕ
 items_of checks = map (λ c. c.item) checks
@@ -55,10 +58,13 @@ Accepts c k = IsRefusal c.check.now c.values k None
 
 -- the checks before an index accept the candidate
 abbrev pub AcceptBelow : List CheckValues → ℕ → ℕ → Type 0
-AcceptBelow checks k end = (j : ℕ) → j < end → (d : CheckValues) → j < length checks → Accepts (slice_index_or checks j d) k
+AcceptBelow checks k end =
+    (j : ℕ) → j < end → (d : CheckValues) → j < length checks
+    → Accepts (slice_index_or checks j d) k
 
 -- the first check that refuses the candidate, and why
 pub record IsFirstRefusal (checks : List CheckValues) (k : ℕ) (first : FirstRefusal) : Type 0 where
   pub within : first.index < length checks
   pub before : AcceptBelow checks k first.index
-  pub refuses : (d : CheckValues) → let c = slice_index_or checks first.index d in IsRefusal c.check.now c.values k (Some first.witness)
+  pub refuses : (d : CheckValues) → let c =
+      slice_index_or checks first.index d in IsRefusal c.check.now c.values k (Some first.witness)

@@ -1,5 +1,5 @@
--- Which executions of a test are drawn under a model, and how: `draw` cites `IsDrawn`. Read first specs/Checked and Told, and
--- Drawn and Texts of execution_graph.
+-- Which executions of a test are drawn under a model, and how: `draw` cites `IsDrawn`. Read first
+-- specs/Checked and Told, and Drawn and Texts of execution_graph.
 use Rattle.std.specs.Prelude.{ℕ, ◌≡◌, ◌<◌, ◌≤◌, ◌+◌, ◌↔◌, Option, Some, None, MatchOption, vec_len}
 use Rattle.std.specs.Prelude.{Bool, true, false, ◌&&◌, not}
 use Rattle.std.specs.Prelude.{List, [], ◌∷◌, ◌++◌, map, length, slice_get, slice_index_or, codes, decimal}
@@ -65,10 +65,12 @@ pub record Subject : Type 0 where
 
 -- what carries a step is not told deeper
 abbrev pub judgement : ModelText → List ResolvedItem → NameValues → Judgement
-judgement model resolved values = record { text = model.items.items; items = resolved; values = values; is_deep = false }
+judgement model resolved values =
+    record { text = model.items.items; items = resolved; values = values; is_deep = false }
 
 abbrev pub subject : Test → Space → Judgement → List CheckValues → List ShownValues → Subject
-subject test space model checks shown = record { test = test; space = space; model = model; checks = checks; shown = shown }
+subject test space model checks shown =
+    record { test = test; space = space; model = model; checks = checks; shown = shown }
 
 -- ---- the boxes of a graph: events
 
@@ -97,12 +99,14 @@ abbrev pub AreBoxesOf : Scene → (ℕ → Type 0) → Option ℕ → List ToldE
 AreBoxesOf scene IsDrawn thread boxes = AreBoxes scene (IsBoxed scene.events IsDrawn thread) boxes
 
 -- the drawn events of a thread, in program order
-pub record IsCluster (scene : Scene) (IsDrawn : ℕ → Type 0) (thread : ℕ) (c : Cluster) : Type 0 where
+pub record IsCluster (scene : Scene) (IsDrawn : ℕ → Type 0) (thread : ℕ) (c : Cluster)
+    : Type 0 where
   pub number : c.thread ≡ thread
   pub boxes : AreBoxesOf scene IsDrawn (Some thread) c.events.items
 
 -- one for each of so many threads
-pub record AreClusters (scene : Scene) (IsDrawn : ℕ → Type 0) (threads : ℕ) (clusters : List Cluster) : Type 0 where
+pub record AreClusters (scene : Scene) (IsDrawn : ℕ → Type 0) (threads : ℕ)
+    (clusters : List Cluster) : Type 0 where
   pub count : length clusters ≡ threads
   pub each : (t : ℕ) (c : Cluster) → slice_get clusters t ≡ Some c → IsCluster scene IsDrawn t c
 
@@ -112,7 +116,8 @@ pub record AreClusters (scene : Scene) (IsDrawn : ℕ → Type 0) (threads : ℕ
 abbrev pub relations : List (Predefined × Ink)
 relations =
     (names.ProgramOrder, inks.Order)
-    ∷ (names.ReadsFrom, inks.ReadsFrom) ∷ (names.Coherence, inks.Coherence) ∷ (names.FromReads, inks.FromReads)
+    ∷ (names.ReadsFrom, inks.ReadsFrom) ∷ (names.Coherence, inks.Coherence)
+    ∷ (names.FromReads, inks.FromReads)
     ∷ (names.AddressDependency, inks.Dependency) ∷ (names.DataDependency, inks.Dependency)
     ∷ (names.ControlDependency, inks.Dependency)
     ∷ (names.SyncOrder, inks.Fence) ∷ (names.LwsyncOrder, inks.Fence)
@@ -128,7 +133,8 @@ abbrev pub PairsOf : Candidate → Predefined → ℕ → ℕ → Type 0
 PairsOf one name = PairsAt (events_of one) one [] 0 (sources.Predefined name)
 
 -- the edges of one of them between the drawn events
-pub record AreLines (one : Candidate) (IsDrawn : ℕ → Type 0) (relation : Predefined × Ink) (e : Edges) : Type 0 where
+pub record AreLines (one : Candidate) (IsDrawn : ℕ → Type 0) (relation : Predefined × Ink)
+    (e : Edges) : Type 0 where
   pub name : e.name.items ≡ spelling relation.0
   pub ink : e.ink ≡ relation.1
   pub pairs : AreEdges (DrawnAmong IsDrawn (PairsOf one relation.0)) e.pairs.items
@@ -140,7 +146,8 @@ pub record AreShownLines (k : ℕ) (IsDrawn : ℕ → Type 0) (v : ShownValues) 
   pub pairs : AreEdges (DrawnAmong IsDrawn (HasPair v.values k)) e.pairs.items
 
 -- those of the language, and then those that the model shows
-pub record AreAllLines (s : Subject) (k : ℕ) (one : Candidate) (IsDrawn : ℕ → Type 0) (es : List Edges) : Type 0 where
+pub record AreAllLines (s : Subject) (k : ℕ) (one : Candidate) (IsDrawn : ℕ → Type 0)
+    (es : List Edges) : Type 0 where
   pub known : List Edges
   pub shown : List Edges
   pub both : es ≡ known ++ shown
@@ -151,7 +158,8 @@ pub record AreAllLines (s : Subject) (k : ℕ) (one : Candidate) (IsDrawn : ℕ 
 
 -- no check refuses the candidate, or this is the first that does
 abbrev pub IsJudged : List CheckValues → ℕ → Option FirstRefusal → Type 0
-IsJudged checks k found = MatchOption found (AcceptBelow checks k (length checks)) (IsFirstRefusal checks k)
+IsJudged checks k found =
+    MatchOption found (AcceptBelow checks k (length checks)) (IsFirstRefusal checks k)
 
 -- the check that refuses, as it is printed
 abbrev pub IsCheckText : List CheckValues → List Item → FirstRefusal → List ℕ → Type 0
@@ -163,7 +171,8 @@ IsCheckText checks items first text =
 abbrev pub IsFate : List CheckValues → List Item → Option FirstRefusal → List ℕ → Type 0
 IsFate checks items None fate = fate ≡ codes ": kept"
 IsFate checks items (Some first) fate =
-    (check : List ℕ) × IsCheckText checks items first check × (fate ≡ codes ": forbidden by " ++ check)
+    (check : List ℕ) × IsCheckText checks items first check
+    × (fate ≡ codes ": forbidden by " ++ check)
 
 -- the name of the test and the number of the candidate before it
 unfoldable pub title_text : List ℕ → ℕ → List ℕ → List ℕ
@@ -171,11 +180,14 @@ title_text name k fate = name ++ codes ", execution " ++ decimal k ++ fate
 
 -- ---- the graph of an execution
 
--- the steps of the reason why the check refuses the candidate, and where they begin; a kept execution has none
-abbrev pub AreSteps : Judgement → List CheckValues → Scene → Option FirstRefusal → Option ℕ → List ToldStep → Type 0
+-- the steps of the reason why the check refuses the candidate, and where they begin; a kept
+-- execution has none
+abbrev pub AreSteps : Judgement → List CheckValues → Scene → Option FirstRefusal → Option ℕ
+    → List ToldStep → Type 0
 AreSteps model checks scene None first steps = (first ≡ None) × (steps ≡ [])
 AreSteps model checks scene (Some refusal) first steps =
-    (r : Reason) × IsRefusedFor model checks scene refusal r × (first ≡ r.first) × (steps ≡ r.steps.items)
+    (r : Reason) × IsRefusedFor model checks scene refusal r × (first ≡ r.first)
+    × (steps ≡ r.steps.items)
 
 -- the candidate of number k: its events, and the instructions that they come from
 pub record IsSceneOf (test : Test) (k : ℕ) (one : Candidate) (scene : Scene) : Type 0 where
@@ -188,19 +200,23 @@ abbrev pub step_ends : (first : Option ℕ) → List ToldStep → List ℕ
 step_ends None steps = []
 step_ends (Some first) steps = first ∷ map (λ s. s.to) steps
 
--- the events of the threads are drawn, and the initial stores that loads read or that are ends of steps
+-- the events of the threads are drawn, and the initial stores that loads read or that are ends of
+-- steps
 abbrev pub IsDrawnIn : Candidate → (ends : List ℕ) → ℕ → Type 0
 IsDrawnIn one ends = IsDrawnEvent one.0.events.items (one.1.0 ++ ends)
 
 -- the candidate of number k, with its events and its pairs, and the steps of the reason
-pub record IsGraph (s : Subject) (k : ℕ) (one : Candidate) (found : Option FirstRefusal) (d : Drawing) : Type 0 where
+pub record IsGraph (s : Subject) (k : ℕ) (one : Candidate) (found : Option FirstRefusal)
+    (d : Drawing) : Type 0 where
   pub scene : Scene
   pub stands : IsSceneOf s.test k one scene
   pub fate : List ℕ
   pub told : IsFate s.checks s.model.text found fate
   pub title : d.title.items ≡ title_text s.test.name k fate
-  pub initial : AreBoxesOf scene (IsDrawnIn one (step_ends d.first d.steps.items)) None d.initial.items
-  pub clusters : AreClusters scene (IsDrawnIn one (step_ends d.first d.steps.items)) (vec_len s.test.threads) d.clusters.items
+  pub initial : AreBoxesOf scene (IsDrawnIn one (step_ends d.first d.steps.items)) None
+      d.initial.items
+  pub clusters : AreClusters scene (IsDrawnIn one (step_ends d.first d.steps.items))
+      (vec_len s.test.threads) d.clusters.items
   pub edges : AreAllLines s k one (IsDrawnIn one (step_ends d.first d.steps.items)) d.edges.items
   pub steps : AreSteps s.model s.checks scene found d.first d.steps.items
 
@@ -214,22 +230,28 @@ is_wanted wanteds.All satisfied kept = true
 
 abbrev pub has_asked : Subject → Candidate → Bool
 has_asked s one =
-    is_satisfied s.space.locations.items (formula_of s.test.condition.proposition) (shown_of s.space.registers.items one)
+    is_satisfied s.space.locations.items (formula_of s.test.condition.proposition)
+    (shown_of s.space.registers.items one)
 
 -- the candidate of number k, what comes of it, and whether it is asked for
-pub record IsFound (wanted : Wanted) (s : Subject) (k : ℕ) (one : Candidate) (found : Option FirstRefusal) (answer : Bool) : Type 0 where
+pub record IsFound (wanted : Wanted) (s : Subject) (k : ℕ) (one : Candidate)
+    (found : Option FirstRefusal) (answer : Bool) : Type 0 where
   pub is : IsAt s.space k one
   pub judged : IsJudged s.checks k found
   pub asked : is_wanted wanted (has_asked s one) (is_none found) ≡ answer
 
--- of the candidates before a number, the drawings of those that are asked for, until there are so many
+-- of the candidates before a number, the drawings of those that are asked for, until there are so
+-- many
 pub data AreDrawings (wanted : Wanted) (most : ℕ) (s : Subject) : ℕ → List Drawing → Type 0 where
   NoDrawing : AreDrawings wanted most s 0 []
-  OneDrawn : (k : ℕ) (ds : List Drawing) (one : Candidate) (found : Option FirstRefusal) (d : Drawing)
-      → AreDrawings wanted most s k ds → length ds < most → IsFound wanted s k one found true → IsGraph s k one found d
+  OneDrawn : (k : ℕ) (ds : List Drawing) (one : Candidate) (found : Option FirstRefusal)
+      (d : Drawing)
+      → AreDrawings wanted most s k ds → length ds < most → IsFound wanted s k one found true
+      → IsGraph s k one found d
       → AreDrawings wanted most s (k + 1) (ds ++ d ∷ [])
   OneLeft : (k : ℕ) (ds : List Drawing) (one : Candidate) (found : Option FirstRefusal)
-      → AreDrawings wanted most s k ds → IsFound wanted s k one found false → AreDrawings wanted most s (k + 1) ds
+      → AreDrawings wanted most s k ds → IsFound wanted s k one found false
+      → AreDrawings wanted most s (k + 1) ds
   OneTooMany : (k : ℕ) (ds : List Drawing)
       → AreDrawings wanted most s k ds → most ≤ length ds → AreDrawings wanted most s (k + 1) ds
 
@@ -237,14 +259,16 @@ pub data AreDrawings (wanted : Wanted) (most : ℕ) (s : Subject) : ℕ → List
 
 -- the texts of the drawings, one after another
 abbrev pub drawings_text : Space → List Drawing → List ℕ
-drawings_text space ds = flat_map (drawing_text space.locations.items (length space.locations.items)) ds
+drawings_text space ds =
+    flat_map (drawing_text space.locations.items (length space.locations.items)) ds
 
 -- the text of the drawings of the candidates before a number
 abbrev pub AreDrawingsOf : Wanted → ℕ → Subject → ℕ → List ℕ → Type 0
-AreDrawingsOf wanted most s n text = (ds : List Drawing) × AreDrawings wanted most s n ds × (text ≡ drawings_text s.space ds)
+AreDrawingsOf wanted most s n text =
+    (ds : List Drawing) × AreDrawings wanted most s n ds × (text ≡ drawings_text s.space ds)
 
--- these are the checks of the resolved items, with the values of their expressions in the candidates of the space, and the
--- values of all names
+-- these are the checks of the resolved items, with the values of their expressions in the
+-- candidates of the space, and the values of all names
 pub record AreChecks (s : Subject) : Type 0 where
   pub answers : ItemAnswers
   pub valued : HasAllColumns s.space s.model.items answers
@@ -255,7 +279,8 @@ pub record AreChecks (s : Subject) : Type 0 where
   pub all_names : names_in s.model.values.predefined.now ≡ relation_names PREDEFINED
 
 -- the drawings of a test over its space, of all candidates, by the checks of a model without fault
-pub record AreDrawn (wanted : Wanted) (most : ℕ) (test : Test) (model : ModelText) (text : List ℕ) : Type 0 where
+pub record AreDrawn (wanted : Wanted) (most : ℕ) (test : Test) (model : ModelText) (text : List ℕ)
+    : Type 0 where
   pub resolved : List ResolvedItem
   pub resolves : AreItemsOf model resolved
   pub space : Space
@@ -265,16 +290,23 @@ pub record AreDrawn (wanted : Wanted) (most : ℕ) (test : Test) (model : ModelT
   pub shown : List ShownValues
   pub all_shown : AreAllShown space model shown
   pub checked : AreChecks (subject test space (judgement model resolved values) checks shown)
-  pub drawn : AreDrawingsOf wanted most (subject test space (judgement model resolved values) checks shown) (candidate_count space) text
+  pub drawn : AreDrawingsOf wanted most
+      (subject test space (judgement model resolved values) checks shown) (candidate_count space)
+      text
 
 -- a comment of `dot`
 unfoldable pub refused_comment : List ℕ → ℕ → List ℕ
 refused_comment letter number = codes "// Refused " ++ letter ++ decimal number ++ codes "\n"
 
--- what is drawn of a test under a model: of a model with a fault, and of a test that is refused, a comment tells its number
-pub data IsDrawn (wanted : Wanted) (most : ℕ) (test : Test) (model : ModelText) (text : List ℕ) : Type 0 where
+-- what is drawn of a test under a model: of a model with a fault, and of a test that is refused, a
+-- comment tells its number
+pub data IsDrawn (wanted : Wanted) (most : ℕ) (test : Test) (model : ModelText) (text : List ℕ)
+    : Type 0 where
   HasFault : (fault : ModelFault) → IsFaultOf model fault
-      → text ≡ refused_comment (codes "M") (model_faults.number fault) → IsDrawn wanted most test model text
+      → text ≡ refused_comment (codes "M") (model_faults.number fault)
+      → IsDrawn wanted most test model text
   HasNoSpace : IsFaultless model → (refusal : EvalRefusal) → IsRefusal test refusal
-      → text ≡ refused_comment (codes "E") (refusals.number refusal) → IsDrawn wanted most test model text
-  HasGraphs : IsFaultless model → AreDrawn wanted most test model text → IsDrawn wanted most test model text
+      → text ≡ refused_comment (codes "E") (refusals.number refusal)
+      → IsDrawn wanted most test model text
+  HasGraphs : IsFaultless model → AreDrawn wanted most test model text
+      → IsDrawn wanted most test model text

@@ -1,4 +1,5 @@
--- The values of a model in each candidate. The contracts of evaluated.rt cite it; read Checked and Language first.
+-- The values of a model in each candidate. The contracts of evaluated.rt cite it; read Checked and
+-- Language first.
 use Rattle.std.specs.Prelude.{◌≡◌, List}
 use Rattle.std.specs.List.{All}
 use Rattle.binding_graph.specs.declared.resolved.ResolvedItem.{ResolvedItem}
@@ -10,7 +11,8 @@ use Rattle.reasons.specs.declared.evaluated.Evaluated.{Evaluated}
 use Rattle.reasons.specs.Checked.{IsChecked, check_indexes, items_of}
 use Rattle.reasons.specs.Language.{IsOfLanguage, names_in, relation_names}
 
--- the columns of all names that checks use, the checks that are no flags, and the names of the language, with their values
+-- the columns of all names that checks use, the checks that are no flags, and the names of the
+-- language, with their values
 pub record IsEvaluated (space : Space) (items : List ResolvedItem) (e : Evaluated) : Type 0 where
   pub columns : AreSound items → HasAllColumns space items e.answers
   pub each_check : All (IsChecked space e.answers.columns.items items) e.checks.items

@@ -14,8 +14,8 @@ use Rattle.step_labels.specs.Inside.{body_at, names_inside}
 use Rattle.step_labels.specs.Labels.{Relates, IsInnermost}
 use Rattle.step_labels.specs.Operands.{AreOperands}
 
--- the items as the model writes them, and resolved; the values of the names in the candidates; whether what carries a step is
--- told one level deeper
+-- the items as the model writes them, and resolved; the values of the names in the candidates;
+-- whether what carries a step is told one level deeper
 pub record Judgement : Type 0 where
   pub text : List Item
   pub items : List ResolvedItem
@@ -44,17 +44,21 @@ abbrev pub inner_text : List ResolvedItem → Option ModelName → List ℕ
 inner_text items None = []
 inner_text items (Some name) = codes ":" ++ spelled items name
 
--- what is told behind a name: nothing, or the innermost of the names in what it stands for that relates the events
-pub record IsInner (items : List ResolvedItem) (values : NameValues) (pair : EventPair) (name : ModelName) (text : List ℕ) : Type 0 where
+-- what is told behind a name: nothing, or the innermost of the names in what it stands for that
+-- relates the events
+pub record IsInner (items : List ResolvedItem) (values : NameValues) (pair : EventPair)
+    (name : ModelName) (text : List ℕ) : Type 0 where
   pub found : Option ModelName
   pub innermost : IsInnermost items (Relates values pair) (names_within items name) found
   pub told : text ≡ inner_text items found
 
-abbrev pub IsBehind : Bool → List ResolvedItem → NameValues → EventPair → ModelName → List ℕ → Type 0
+abbrev pub IsBehind : Bool → List ResolvedItem → NameValues → EventPair → ModelName → List ℕ
+    → Type 0
 IsBehind false items values pair name text = text ≡ []
 IsBehind true items values pair name text = IsInner items values pair name text
 
-pub record IsNamed (j : Judgement) (pair : EventPair) (name : ModelName) (text : List ℕ) : Type 0 where
+pub record IsNamed (j : Judgement) (pair : EventPair) (name : ModelName) (text : List ℕ)
+    : Type 0 where
   pub behind : List ℕ
   pub told : IsBehind j.is_deep j.items j.values pair name behind
   pub whole : text ≡ spelled j.items name ++ behind
@@ -67,8 +71,10 @@ abbrev pub inputs_of : Option ResolvedItem → List Input
 inputs_of None = []
 inputs_of (Some r) = r.inputs.items
 
--- the innermost name of an expression of the item at an index that relates the two events; nothing where none does
-pub record IsLabel (j : Judgement) (item : ℕ) (code : Code) (pair : EventPair) (text : List ℕ) : Type 0 where
+-- the innermost name of an expression of the item at an index that relates the two events; nothing
+-- where none does
+pub record IsLabel (j : Judgement) (item : ℕ) (code : Code) (pair : EventPair) (text : List ℕ)
+    : Type 0 where
   pub operands : List ModelName
   pub united : AreOperands item (inputs_of (slice_get j.items item)) code operands
   pub found : Option ModelName

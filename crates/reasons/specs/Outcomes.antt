@@ -1,4 +1,5 @@
--- What a model says of the candidates of a test that satisfy its proposition. Read Checked and Told first.
+-- What a model says of the candidates of a test that satisfy its proposition. Read Checked and Told
+-- first.
 use Rattle.std.specs.Prelude.{ℕ, ◌≡◌, ◌+◌, ◌==◌, List, [], ◌∷◌, ◌++◌, Bool, true, false, if◌then◌else◌, length, Some, slice_get}
 use Rattle.text_values.specs.declared.test.Test.{Test}
 use Rattle.text_values.specs.TestValue.{formula_of}
@@ -22,7 +23,8 @@ pub record Case : Type 0 where
   pub checks : List CheckValues
 
 abbrev pub satisfies : Case → Shown → Bool
-satisfies c shown = is_satisfied c.space.locations.items (formula_of c.test.condition.proposition) shown
+satisfies c shown =
+    is_satisfied c.space.locations.items (formula_of c.test.condition.proposition) shown
 
 -- the candidate of number k, which does or does not satisfy the proposition
 pub record IsCandidate (c : Case) (k : ℕ) (satisfied : Bool) (scene : Scene) : Type 0 where
@@ -49,7 +51,8 @@ pub record IsKept (c : Case) (k : ℕ) (events : List ToldEvent) : Type 0 where
   pub told : events ≡ program_events c scene
 
 -- this check refuses the candidate for this reason
-pub record IsRefusedFor (model : Judgement) (checks : List CheckValues) (scene : Scene) (first : FirstRefusal) (reason : Reason)
+pub record IsRefusedFor (model : Judgement) (checks : List CheckValues) (scene : Scene)
+    (first : FirstRefusal) (reason : Reason)
     : Type 0 where
   pub check : CheckValues
   pub here : slice_get checks first.index ≡ Some check
@@ -68,13 +71,15 @@ pub record IsForbidden (c : Case) (k : ℕ) (reason : Reason) : Type 0 where
 abbrev pub first_shown : ℕ → List ToldEvent → List ToldEvent → List ToldEvent
 first_shown kept shown events = if kept == 0 then events else shown
 
--- Of the first k candidates those that satisfy the proposition: how many are kept, the events of the first of these, and why
--- each of the others is refused.
+-- Of the first k candidates those that satisfy the proposition: how many are kept, the events of
+-- the first of these, and why each of the others is refused.
 pub data AreFindings (c : Case) : ℕ → ℕ → List ToldEvent → List Reason → Type 0 where
   NoCandidate : AreFindings c 0 0 [] []
   OtherNext : (k kept : ℕ) (shown : List ToldEvent) (reasons : List Reason)
       → AreFindings c k kept shown reasons → IsOther c k → AreFindings c (k + 1) kept shown reasons
   KeptNext : (k kept : ℕ) (shown events : List ToldEvent) (reasons : List Reason)
-      → AreFindings c k kept shown reasons → IsKept c k events → AreFindings c (k + 1) (kept + 1) (first_shown kept shown events) reasons
+      → AreFindings c k kept shown reasons → IsKept c k events
+      → AreFindings c (k + 1) (kept + 1) (first_shown kept shown events) reasons
   ForbiddenNext : (k kept : ℕ) (shown : List ToldEvent) (reasons : List Reason) (reason : Reason)
-      → AreFindings c k kept shown reasons → IsForbidden c k reason → AreFindings c (k + 1) kept shown (reasons ++ reason ∷ [])
+      → AreFindings c k kept shown reasons → IsForbidden c k reason
+      → AreFindings c (k + 1) kept shown (reasons ++ reason ∷ [])

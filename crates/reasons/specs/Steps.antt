@@ -1,4 +1,5 @@
--- The steps of a reason: where they begin, where they lead, and what carries each. Read Labels first.
+-- The steps of a reason: where they begin, where they lead, and what carries each. Read Labels
+-- first.
 use Rattle.std.specs.Prelude.{ℕ, ◌≡◌, ◌<◌, ◌⊎◌, length, List, [], ◌∷◌, ◌++◌, Option, Some, None, if◌then◌else◌, nat_eq, map}
 use Rattle.std.specs.List.{AllZip, list_any}
 use Rattle.binding_graph.specs.declared.resolved.Code.{Code}
@@ -36,7 +37,8 @@ starts_through [] runs = []
 starts_through (f ∷ fs) [] = []
 starts_through (f ∷ fs) (run ∷ runs) = starts_at f.code run ++ starts_through fs runs
 
--- the steps of a walk through the factors of the check's expression from the event back to it, in the candidate of number k
+-- the steps of a walk through the factors of the check's expression from the event back to it, in
+-- the candidate of number k
 pub record IsWalkBack (check : CheckValues) (k event : ℕ) (starts : List StepStart) : Type 0 where
   pub links : List Link
   pub runs : List (List ℕ)
@@ -46,7 +48,9 @@ pub record IsWalkBack (check : CheckValues) (k event : ℕ) (starts : List StepS
 
 -- from the event back to it: such a walk, of one step or more, or one step of the whole expression
 abbrev pub LeadsBack : CheckValues → ℕ → ℕ → List StepStart → Type 0
-LeadsBack check k event starts = (IsWalkBack check k event starts × (0 < length starts)) ⊎ (starts ≡ start_at check.check.now.code event ∷ [])
+LeadsBack check k event starts =
+    (IsWalkBack check k event starts × (0 < length starts))
+    ⊎ (starts ≡ start_at check.check.now.code event ∷ [])
 
 -- where the steps begin that show why the check refuses the candidate of number k
 abbrev pub AreStarts : CheckValues → ℕ → Witness → List StepStart → Type 0
@@ -60,7 +64,8 @@ abbrev pub ends_of_cycle : List ℕ → Option (ℕ × ℕ)
 ends_of_cycle [] = None
 ends_of_cycle (event ∷ events) = Some (event, event)
 
--- the events where the first step begins and where the last leads; what a negated check asks for has none
+-- the events where the first step begins and where the last leads; what a negated check asks for
+-- has none
 abbrev pub ends_of : Witness → Option (ℕ × ℕ)
 ends_of (shown.Cycle events) = ends_of_cycle events.items
 ends_of (shown.Reflexive event) = Some (event, event)
@@ -97,7 +102,8 @@ AreSteps j item k (Some ends) starts steps = AreStepsTo j item k starts ends.1 s
 
 -- an event more, if it is not among them
 abbrev pub with_event : List ℕ → ℕ → List ℕ
-with_event numbers event = if list_any (λ y. nat_eq y event) numbers then numbers else numbers ++ event ∷ []
+with_event numbers event =
+    if list_any (λ y. nat_eq y event) numbers then numbers else numbers ++ event ∷ []
 
 abbrev pub with_events : List ℕ → List StepStart → List ℕ
 with_events numbers [] = numbers

@@ -21,7 +21,12 @@ pub record Scene : Type 0 where
   pub instructions : List (Option Instruction)
 
 abbrev pub told_as : Scene → ℕ → Event → ToldEvent
-told_as scene number event = record { number = number; event = event; instruction = slice_index_or scene.instructions number None }
+told_as scene number event =
+    record {
+      number = number;
+      event = event;
+      instruction = slice_index_or scene.instructions number None;
+    }
 
 abbrev pub told_at : Scene → ℕ → Option ToldEvent
 told_at scene number = option_map (told_as scene number) (slice_get scene.events number)
@@ -43,9 +48,10 @@ abbrev pub written : Option Item → List ℕ
 written None = []
 written (Some item) = printed_item (clause_of item)
 
--- Why the check refuses the candidate, by the witness: the check as it is printed, the events where the steps begin and
--- end, where the first begins, and the steps.
-pub record IsReason (j : Judgement) (scene : Scene) (check : CheckValues) (witness : Witness) (r : Reason) : Type 0 where
+-- Why the check refuses the candidate, by the witness: the check as it is printed, the events where
+-- the steps begin and end, where the first begins, and the steps.
+pub record IsReason (j : Judgement) (scene : Scene) (check : CheckValues) (witness : Witness)
+    (r : Reason) : Type 0 where
   pub starts : List StepStart
   pub begins : AreStarts check scene.candidate witness starts
   pub named : r.check.items ≡ written (slice_get j.text check.item)

@@ -21,10 +21,21 @@ use Rattle.step_labels.specs.declared.unions.ModelName.{ModelName}
 use Rattle.step_labels.specs.Labels.{Relates, IsInnermost}
 
 abbrev pub judgement_of : Judged → Bool → Judgement
-judgement_of judged deep = record { text = judged.text.now; items = judged.items.now; values = judged.values; is_deep = deep }
+judgement_of judged deep =
+    record {
+      text = judged.text.now;
+      items = judged.items.now;
+      values = judged.values;
+      is_deep = deep;
+    }
 
 abbrev pub scene_of : Told → Scene
-scene_of told = record { candidate = told.candidate; events = told.events.now; instructions = told.instructions.now }
+scene_of told =
+    record {
+      candidate = told.candidate;
+      events = told.events.now;
+      instructions = told.instructions.now;
+    }
 
 abbrev pub start_of : Start → StepStart
 start_of start = record { event = start.event; code = start.code.now }
@@ -33,7 +44,13 @@ abbrev pub leg_of : Leg → StepLeg
 leg_of leg = record { from = leg.from; to = leg.to; code = leg.code.now }
 
 abbrev pub case_of : Test → Space → Judged → Bool → Case
-case_of test space judged deep = record { test = test; space = space; model = judgement_of judged deep; checks = judged.checks.now }
+case_of test space judged deep =
+    record {
+      test = test;
+      space = space;
+      model = judgement_of judged deep;
+      checks = judged.checks.now;
+    }
 
 -- what comes of the candidate of number k
 abbrev pub IsOutcome : Case → ℕ → Outcome → Type 0
@@ -44,23 +61,29 @@ IsOutcome c k (outcomes.Forbidden reason) = IsForbidden c k reason
 -- what comes of it where it satisfies the proposition
 abbrev pub IsOutcomeIf : Case → Scene → Outcome → Type 0
 IsOutcomeIf c scene outcome =
-    IsCandidate c scene.candidate true scene → AreInstructions c.test scene.events scene.instructions → IsOutcome c scene.candidate outcome
+    IsCandidate c scene.candidate true scene
+    → AreInstructions c.test scene.events scene.instructions
+    → IsOutcome c scene.candidate outcome
 
 -- of these names the innermost that relates the events
 abbrev pub IsInnermostOf : Judged → EventPair → List ModelName → Option ModelName → Type 0
-IsInnermostOf judged pair names found = IsInnermost judged.items.now (Relates judged.values pair) names found
+IsInnermostOf judged pair names found =
+    IsInnermost judged.items.now (Relates judged.values pair) names found
 
 -- the findings with one outcome more
-pub record AreWith (count : ℕ) (events : List ToldEvent) (told : List Reason) (new : Findings) : Type 0 where
+pub record AreWith (count : ℕ) (events : List ToldEvent) (told : List Reason) (new : Findings)
+    : Type 0 where
   pub kept : new.kept ≡ count
   pub shown : new.shown.items ≡ events
   pub reasons : new.reasons.items ≡ told
 
 abbrev pub AreWithKept : List ToldEvent → Findings → Findings → Type 0
-AreWithKept events old new = AreWith (old.kept + 1) (first_shown old.kept old.shown.items events) old.reasons.items new
+AreWithKept events old new =
+    AreWith (old.kept + 1) (first_shown old.kept old.shown.items events) old.reasons.items new
 
 abbrev pub AreWithReason : Reason → Findings → Findings → Type 0
-AreWithReason reason old new = AreWith old.kept old.shown.items (old.reasons.items ++ reason ∷ []) new
+AreWithReason reason old new =
+    AreWith old.kept old.shown.items (old.reasons.items ++ reason ∷ []) new
 
 abbrev pub IsAdded : Outcome → Findings → Findings → Type 0
 IsAdded outcomes.Other old new = AreWith old.kept old.shown.items old.reasons.items new

@@ -30,21 +30,25 @@ use Rattle.reasons.specs.Outcomes.{Case, AreFindings}
 abbrev pub head_text : Test → List ℕ
 head_text test =
     codes "Test " ++ test.name ++ codes "\nCondition "
-    ++ condition_text test.condition.quantifier (formula_of test.condition.proposition) ++ codes "\n"
+    ++ condition_text test.condition.quantifier (formula_of test.condition.proposition)
+    ++ codes "\n"
 
 abbrev pub refusal_text : List ℕ → ℕ → List ℕ
 refusal_text letter number = codes "Refused " ++ letter ++ decimal number ++ codes "\n"
 
 -- the findings over all candidates
-abbrev pub HasFound : Asked → Test → ModelText → List ResolvedItem → Space → List CheckValues → NameValues → Findings → Type 0
+abbrev pub HasFound : Asked → Test → ModelText → List ResolvedItem → Space → List CheckValues
+    → NameValues → Findings → Type 0
 HasFound asked test model items space checks values f =
     let judgement : Judgement = record { text = model.items.items; items = items; values = values; is_deep = asked.is_deep } in
     let case : Case = record { test = test; space = space; model = judgement; checks = checks } in
     AreFindings case (candidate_count space) f.kept f.shown.items f.reasons.items
 
--- What is found of the candidates of the space: the columns of all names that checks use, the checks that are no flags, with
--- their values, and the names of the language, with theirs; and the findings over all candidates.
-pub record IsExplained (asked : Asked) (test : Test) (model : ModelText) (items : List ResolvedItem) (space : Space) (text : List ℕ)
+-- What is found of the candidates of the space: the columns of all names that checks use, the
+-- checks that are no flags, with their values, and the names of the language, with theirs; and the
+-- findings over all candidates.
+pub record IsExplained (asked : Asked) (test : Test) (model : ModelText) (items : List ResolvedItem)
+    (space : Space) (text : List ℕ)
     : Type 0 where
   pub found : ItemAnswers
   pub columns : HasAllColumns space items found
@@ -61,16 +65,21 @@ pub record IsExplained (asked : Asked) (test : Test) (model : ModelText) (items 
 
 -- the candidates of the test, or why it has none
 abbrev pub IsOverSpace : Asked → Test → ModelText → List ResolvedItem → List ℕ → Type 0
-IsOverSpace asked test model items text = (space : Space) × ListsExecutions test space × IsExplained asked test model items space text
+IsOverSpace asked test model items text =
+    (space : Space) × ListsExecutions test space × IsExplained asked test model items space text
 
 abbrev pub IsSpaceRefused : Test → List ℕ → Type 0
-IsSpaceRefused test text = (r : EvalRefusal) × IsRefusal test r × (text ≡ refusal_text (codes "E") (eval_refusals.number r))
+IsSpaceRefused test text =
+    (r : EvalRefusal) × IsRefusal test r
+    × (text ≡ refusal_text (codes "E") (eval_refusals.number r))
 
 abbrev pub IsSaidOver : Asked → Test → ModelText → List ResolvedItem → List ℕ → Type 0
-IsSaidOver asked test model items text = IsOverSpace asked test model items text ⊎ IsSpaceRefused test text
+IsSaidOver asked test model items text =
+    IsOverSpace asked test model items text ⊎ IsSpaceRefused test text
 
 -- over the items of a model without a fault
-pub record IsOverItems (asked : Asked) (test : Test) (model : ModelText) (text : List ℕ) : Type 0 where
+pub record IsOverItems (asked : Asked) (test : Test) (model : ModelText) (text : List ℕ)
+    : Type 0 where
   pub faultless : IsFaultless model
   pub items : List ResolvedItem
   pub resolved : AreItemsOf model items
@@ -78,7 +87,8 @@ pub record IsOverItems (asked : Asked) (test : Test) (model : ModelText) (text :
 
 -- or the first fault of the model
 abbrev pub IsFaulted : ModelText → List ℕ → Type 0
-IsFaulted model text = (k : ModelFault) × IsFaultOf model k × (text ≡ refusal_text (codes "M") (model_faults.number k))
+IsFaulted model text =
+    (k : ModelFault) × IsFaultOf model k × (text ≡ refusal_text (codes "M") (model_faults.number k))
 
 abbrev pub IsSaid : Asked → Test → ModelText → List ℕ → Type 0
 IsSaid asked test model text = IsOverItems asked test model text ⊎ IsFaulted model text

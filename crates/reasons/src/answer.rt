@@ -74,7 +74,8 @@ pub fn forbidden(
     refusal: &FirstRefusal,
 ) -> Result<Reason, AllocError>
     requires { IsFirstRefusal judged.checks.now told.candidate refusal.now }
-    ensures { IfOk result (IsRefusedFor (judgement_of judged.entry is_deep) judged.entry.checks.now (scene_of told.entry) refusal.now) }
+    ensures { IfOk result (IsRefusedFor (judgement_of judged.entry is_deep) judged.entry.checks.now
+        (scene_of told.entry) refusal.now) }
 {
     let check = &judged.checks[refusal.index];
     reason_told(alloc, judged, is_deep, told, check, &refusal.witness)
@@ -89,7 +90,8 @@ fn judged_outcome(
     is_deep: bool,
     told: Told<'_>,
 ) -> Result<Outcome, AllocError>
-    ensures { IfOk result (IsOutcomeIf (case_of test.now space.now judged.entry is_deep) (scene_of told.entry)) }
+    ensures { IfOk result (IsOutcomeIf (case_of test.now space.now judged.entry is_deep)
+        (scene_of told.entry)) }
 {
     match first_refusal(alloc, judged.checks, told.candidate)? {
         None => Ok(Outcome::Kept(program_events(alloc, space.locations.len(), told)?)),
@@ -187,7 +189,8 @@ fn findings_of(
     is_deep: bool,
 ) -> Result<Findings, AllocError>
     requires { candidate_count space.now ≤ 16384 }
-    ensures { IfOk result (AreFoundOf (case_of test.now space.now judged.entry is_deep) (candidate_count space.now)) }
+    ensures { IfOk result (AreFoundOf (case_of test.now space.now judged.entry is_deep)
+        (candidate_count space.now)) }
 {
     let runs = all_runs(alloc, test)?;
     let mut findings = Findings {
@@ -214,7 +217,8 @@ fn put_explained(
 ) -> Result<(), AllocError>
     requires sound { AreSound resolved.now.items.items }
     requires few { candidate_count space.now ≤ 16384 }
-    ensures { OnOk result (GoesOn text.old.items text.new.items (IsExplained asked test.now model.now resolved.now.items.items space.now)) }
+    ensures { OnOk result (GoesOn text.old.items text.new.items (IsExplained asked test.now
+        model.now resolved.now.items.items space.now)) }
 {
     let evaluated = Evaluated::of(alloc, space, resolved)?;
     let judged = evaluated.as_judged(model, resolved);
@@ -253,7 +257,8 @@ fn put_over_candidates(
     resolved: &Resolved,
 ) -> Result<(), AllocError>
     requires { AreSound resolved.now.items.items }
-    ensures { OnOk result (GoesOn text.old.items text.new.items (IsSaidOver asked test.now model.now resolved.now.items.items)) }
+    ensures { OnOk result (GoesOn text.old.items text.new.items (IsSaidOver asked test.now model.now
+        resolved.now.items.items)) }
 {
     match space(alloc, test) {
         Ok(space) => put_explained(alloc, text, asked, test, model, resolved, &space),
@@ -279,8 +284,8 @@ fn put_body(
     }
 }
 
-/// Why a model forbids what the condition of a test asks for, and an execution that it keeps. Errors:
-/// want of memory.
+/// Why a model forbids what the condition of a test asks for, and an execution that it keeps.
+/// Errors: want of memory.
 pub fn why(
     alloc: Global,
     asked: Asked,

@@ -50,7 +50,8 @@ fn boxed(told: Told<'_>, number: usize) -> ToldEvent
     requires { number < length told.events.now }
     ensures number { result.number ≡ number }
     ensures event { slice_get told.entry.events.now number ≡ Some result.event }
-    ensures instruction { result.instruction ≡ slice_index_or told.entry.instructions.now number None }
+    ensures instruction { result.instruction
+        ≡ slice_index_or told.entry.instructions.now number None }
 {
     let event = told.events[number];
     let instruction = instruction_at(told.instructions, number);
@@ -69,7 +70,8 @@ pub fn boxes(
     thread: Option<usize>,
 ) -> Result<Vec<ToldEvent>, AllocError>
     requires { drawn.now.count ≡ length told.events.now }
-    ensures { IfOk result (λ v. AreBoxesOf (scene_of told.entry) (IsMember drawn.now) thread v.items) }
+    ensures { IfOk result (λ v.
+        AreBoxesOf (scene_of told.entry) (IsMember drawn.now) thread v.items) }
 {
     let mut boxes = Vec::new(alloc);
     for number in 0..told.events.len() {
@@ -101,7 +103,8 @@ pub fn clusters(
     threads: usize,
 ) -> Result<Vec<Cluster>, AllocError>
     requires { drawn.now.count ≡ length told.events.now }
-    ensures { IfOk result (λ v. AreClusters (scene_of told.entry) (IsMember drawn.now) threads v.items) }
+    ensures { IfOk result (λ v.
+        AreClusters (scene_of told.entry) (IsMember drawn.now) threads v.items) }
 {
     let mut clusters = Vec::new(alloc);
     for thread in 0..threads {

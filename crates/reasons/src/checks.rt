@@ -54,7 +54,8 @@ fn factors_of(
     space: &Space,
     inputs: &[&Column],
 ) -> Result<Vec<FactorValues>, AllocError>
-    ensures { IfOk result (λ v. check.now.word ≡ CheckWord.Irreflexive → AreFactorValues check.now.code inputs.now space.now v.items) }
+    ensures { IfOk result (λ v. check.now.word ≡ CheckWord.Irreflexive
+        → AreFactorValues check.now.code inputs.now space.now v.items) }
 {
     match check.word {
         CheckWord::Irreflexive => factor_values(alloc, &check.code, space, inputs),
@@ -72,7 +73,9 @@ fn checked<'a>(
     item: &ResolvedItem,
     check: &'a CheckCode,
 ) -> Result<CheckValues<'a>, AllocError>
-    ensures checked { IfOk result (λ c. (items : _) → slice_get items index ≡ Some item.now → item.now.role ≡ Role.Check check.now → check.now.flag ≡ None → IsChecked space.now columns.now items c) }
+    ensures checked { IfOk result (λ c. (items : _) → slice_get items index ≡ Some item.now
+        → item.now.role ≡ Role.Check check.now → check.now.flag ≡ None
+        → IsChecked space.now columns.now items c) }
     ensures item { IfOk result (λ c. c.item ≡ index) }
 {
     let found = inputs(alloc, columns, item)?;
@@ -95,8 +98,11 @@ fn check_of<'a>(
     index: usize,
     item: &'a ResolvedItem,
 ) -> Result<Option<CheckValues<'a>>, AllocError>
-    ensures checked { IfOk result (λ found. IfSome found (λ c. (items : _) → slice_get items index ≡ Some item.now → IsChecked space.now columns.now items c)) }
-    ensures all { IfOk result (λ found. items_of (option_to_list found) ≡ index_if (is_check item.now.role) index) }
+    ensures checked { IfOk result (λ found. IfSome found (λ c. (items : _)
+        → slice_get items index ≡ Some item.now
+        → IsChecked space.now columns.now items c)) }
+    ensures all { IfOk result (λ found. items_of (option_to_list found)
+        ≡ index_if (is_check item.now.role) index) }
 {
     match &item.role {
         Role::Check(check) => match &check.flag {
@@ -107,8 +113,8 @@ fn check_of<'a>(
     }
 }
 
-/// The checks among the items that are no flags, in order, where `columns` are the values of the names
-/// of each item. Errors: want of memory.
+/// The checks among the items that are no flags, in order, where `columns` are the values of the
+/// names of each item. Errors: want of memory.
 pub fn all_checks<'a>(
     alloc: Global,
     space: &Space,
@@ -141,14 +147,16 @@ fn refusal_by(
     refusal_of(alloc, check.check, &check.values, candidate)
 }
 
-/// The first of the checks that refuses the candidate of this number, and why; none where all accept
-/// it. Errors: want of memory.
+/// The first of the checks that refuses the candidate of this number, and why; none where all
+/// accept it. Errors: want of memory.
 pub fn first_refusal(
     alloc: Global,
     checks: &[CheckValues<'_>],
     candidate: usize,
 ) -> Result<Option<FirstRefusal>, AllocError>
-    ensures { IfOk result (λ found. MatchOption found (AcceptBelow checks.now candidate (length checks.now)) (IsFirstRefusal checks.now candidate)) }
+    ensures { IfOk result (λ found. MatchOption found
+        (AcceptBelow checks.now candidate (length checks.now))
+        (IsFirstRefusal checks.now candidate)) }
 {
     for index in 0..checks.len() {
         if let Some(witness) = refusal_by(alloc, &checks[index], candidate)? {

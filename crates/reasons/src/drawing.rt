@@ -43,8 +43,8 @@ pub enum Wanted {
     All,
 }
 
-// Whether an execution is asked for that has what the test asks for, or not, and that the model keeps,
-// or not.
+// Whether an execution is asked for that has what the test asks for, or not, and that the model
+// keeps, or not.
 fn is_wanted(wanted: Wanted, satisfied: bool, kept: bool) -> bool
     ensures { result ≡ drawings.is_wanted wanted satisfied kept }
 {
@@ -91,7 +91,8 @@ fn check_text(
 ) -> Result<Vec<u8>, AllocError>
     requires within { refusal.now.index < length judged.checks.now }
     requires named { All (λ c. c.item < length judged.text.now) judged.checks.now }
-    ensures { IfOk result (λ v. IsCheckText judged.entry.checks.now judged.entry.text.now refusal.now v.items) }
+    ensures { IfOk result (λ v.
+        IsCheckText judged.entry.checks.now judged.entry.text.now refusal.now v.items) }
 {
     let check = &judged.checks[refusal.index];
     print_item(alloc, &judged.text[check.item])
@@ -106,7 +107,8 @@ fn fate_of(
 ) -> Result<Vec<u8>, AllocError>
     requires judged { IsJudged judged.checks.now candidate found.now }
     requires named { All (λ c. c.item < length judged.text.now) judged.checks.now }
-    ensures { IfOk result (λ v. IsFate judged.entry.checks.now judged.entry.text.now found.now v.items) }
+    ensures { IfOk result (λ v.
+        IsFate judged.entry.checks.now judged.entry.text.now found.now v.items) }
 {
     match found {
         None => Vec::from_slice(alloc, b": kept"),
@@ -127,7 +129,8 @@ fn steps_of(
     found: &Option<FirstRefusal>,
 ) -> Result<(Option<usize>, Vec<ToldStep>), AllocError>
     requires { IsJudged judged.checks.now told.candidate found.now }
-    ensures { IfOk result (λ r. AreSteps (judgement_of judged.entry false) judged.entry.checks.now (scene_of told.entry) found.now r.0 r.1.items) }
+    ensures { IfOk result (λ r. AreSteps (judgement_of judged.entry false) judged.entry.checks.now
+        (scene_of told.entry) found.now r.0 r.1.items) }
 {
     match found {
         None => Ok((None, Vec::new(alloc))),
@@ -166,7 +169,8 @@ fn edges_of(
 ) -> Result<Vec<Edges>, AllocError>
     requires ready { AreReady (subject_of scene) scene.relations.now }
     requires count { HasCount scene.space.now candidate drawn.now.count }
-    ensures { IfOk result (λ v. AreEdgesAt (subject_of scene.entry) candidate (IsMember drawn.now) v.items) }
+    ensures { IfOk result (λ v.
+        AreEdgesAt (subject_of scene.entry) candidate (IsMember drawn.now) v.items) }
 {
     let mut lines = all_lines(alloc, scene.space, scene.relations, candidate, drawn)?;
     let mut shown = shown_lines(alloc, scene.space, scene.shown, candidate, drawn)?;
@@ -219,7 +223,8 @@ fn put_candidate(
     requires ready { AreReady (subject_of scene) scene.relations.now }
     requires runs { AreAllRuns scene.test.now scene.runs.now }
     requires within { candidate < candidate_count scene.space.now }
-    ensures { IfOk result (AddsDrawing wanted (subject_of scene.entry) candidate text.old.items text.new.items) }
+    ensures { IfOk result (AddsDrawing wanted (subject_of scene.entry) candidate text.old.items
+        text.new.items) }
 {
     let Some(execution) = scene.space.execution(alloc, candidate)? else {
         return Ok(false);
@@ -250,7 +255,8 @@ fn candidates_text(
     requires ready { AreReady (subject_of scene) scene.relations.now }
     requires runs { AreAllRuns scene.test.now scene.runs.now }
     requires few { candidate_count scene.space.now < 2 ^ 64 }
-    ensures { IfOk result (λ v. AreDrawingsOf wanted most (subject_of scene.entry) (candidate_count scene.entry.space.now) v.items) }
+    ensures { IfOk result (λ v. AreDrawingsOf wanted most (subject_of scene.entry)
+        (candidate_count scene.entry.space.now) v.items) }
 {
     let mut text = Vec::new(alloc);
     let mut count = 0;
@@ -325,8 +331,8 @@ fn resolved_text(
     }
 }
 
-/// Drawings of executions of a test under a model, at most so many, for `dot`; of a model with a fault and
-/// of a test that is refused, a comment that tells its number. Errors: want of memory.
+/// Drawings of executions of a test under a model, at most so many, for `dot`; of a model with a
+/// fault and of a test that is refused, a comment that tells its number. Errors: want of memory.
 pub fn draw(
     alloc: Global,
     test: &Test,

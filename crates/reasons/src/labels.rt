@@ -98,7 +98,8 @@ fn innermost_in(
     input: Input,
     pair: EventPair,
 ) -> Result<Option<ModelName>, AllocError>
-    ensures { IfOk result (IsInnermostOf judged.entry pair (names_inside judged.entry.items.now input)) }
+    ensures { IfOk result (IsInnermostOf judged.entry pair
+        (names_inside judged.entry.items.now input)) }
 {
     let names = names_inside(alloc, judged.items, input)?;
     innermost(
@@ -118,7 +119,8 @@ fn innermost_within(
     name: ModelName,
     pair: EventPair,
 ) -> Result<Option<ModelName>, AllocError>
-    ensures { IfOk result (IsInnermostOf judged.entry pair (names_within judged.entry.items.now name)) }
+    ensures { IfOk result (IsInnermostOf judged.entry pair
+        (names_within judged.entry.items.now name)) }
 {
     match name {
         ModelName::Predefined(_) => Ok(None),
@@ -141,7 +143,8 @@ fn inner_text(
     name: ModelName,
     pair: EventPair,
 ) -> Result<Vec<u8>, AllocError>
-    ensures { IfOk result (λ v. IsInner judged.entry.items.now judged.entry.values pair name v.items) }
+    ensures { IfOk result (λ v.
+        IsInner judged.entry.items.now judged.entry.values pair name v.items) }
 {
     match innermost_within(alloc, judged, name, pair)? {
         Some(inner) => behind_colon(alloc, spelled(judged.items, inner)),
@@ -157,7 +160,8 @@ fn text_behind(
     name: ModelName,
     pair: EventPair,
 ) -> Result<Vec<u8>, AllocError>
-    ensures { IfOk result (λ v. IsBehind is_deep judged.entry.items.now judged.entry.values pair name v.items) }
+    ensures { IfOk result (λ v.
+        IsBehind is_deep judged.entry.items.now judged.entry.values pair name v.items) }
 {
     if is_deep {
         inner_text(alloc, judged, name, pair)
@@ -182,9 +186,9 @@ fn named(
     Ok(text)
 }
 
-/// The innermost name of an expression of the item at an index that relates the two events, as a model
-/// writes it; nothing where none does. Deep, it is told with the innermost name in what that name stands for.
-/// Errors: want of memory.
+/// The innermost name of an expression of the item at an index that relates the two events, as a
+/// model writes it; nothing where none does. Deep, it is told with the innermost name in what that
+/// name stands for. Errors: want of memory.
 pub fn label(
     alloc: Global,
     judged: Judged<'_>,
@@ -193,7 +197,8 @@ pub fn label(
     code: &Code,
     pair: EventPair,
 ) -> Result<Vec<u8>, AllocError>
-    ensures { IfOk result (λ v. IsLabel (judgement_of judged.entry is_deep) item code.now pair v.items) }
+    ensures { IfOk result (λ v.
+        IsLabel (judgement_of judged.entry is_deep) item code.now pair v.items) }
 {
     let names = operands(alloc, item, inputs_at(judged.items, item), code)?;
     match innermost(alloc, judged.items, &judged.values, &names, item, pair)? {

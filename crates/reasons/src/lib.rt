@@ -1,4 +1,5 @@
-//! Why a model forbids what a test asks for. Read specs/Checked first: the checks, and the first that refuses a candidate.
+//! Why a model forbids what a test asks for. Read specs/Checked first: the checks, and the first
+//! that refuses a candidate.
 #![tactic(auto)]
 
 mod answer;

@@ -87,7 +87,8 @@ pub fn drawn_relations(alloc: Global, space: &Space) -> Result<Vec<DrawnRelation
 
 // The value in a candidate.
 fn relation_at(values: &Column, candidate: usize) -> Rel
-    ensures { (s : Events) (r : Relation) → IsFor kinds.OfRelation values.now → HasValue values.now candidate s r → result ≡ r }
+    ensures { (s : Events) (r : Relation) → IsFor kinds.OfRelation values.now
+        → HasValue values.now candidate s r → result ≡ r }
 {
     let mut relation = Rel::empty(0);
     if let Column::Relations(relations) = values {
@@ -101,7 +102,8 @@ fn relation_at(values: &Column, candidate: usize) -> Rel
 // The pairs of the relation in a candidate.
 fn relation_of(space: &Space, value: &PredefinedValue, candidate: usize) -> Rel
     requires { IsOfLanguage space.now value.now }
-    ensures { (one : Candidate) → IsAt space.now candidate one → IsRelation result (events_of one) (PairsOf one value.now.name) }
+    ensures { (one : Candidate) → IsAt space.now candidate one
+        → IsRelation result (events_of one) (PairsOf one value.now.name) }
 {
     let _space = space;
     relation_at(&value.column, candidate)
@@ -117,7 +119,8 @@ fn lines_of(
 ) -> Result<Edges, AllocError>
     requires value { IsOfLanguage space.now relation.now.value }
     requires count { HasCount space.now candidate drawn.now.count }
-    ensures { IfOk result (AreLinesAt space.now candidate (IsMember drawn.now) (relation.now.value.name, relation.now.ink)) }
+    ensures { IfOk result (AreLinesAt space.now candidate (IsMember drawn.now)
+        (relation.now.value.name, relation.now.ink)) }
 {
     let pairs = relation_of(space, &relation.value, candidate);
     let pairs = edges(alloc, &pairs, drawn)?;
@@ -184,7 +187,8 @@ fn shown_line(
     })
 }
 
-/// The edges of each relation that a model shows between the events that are drawn. Errors: want of memory.
+/// The edges of each relation that a model shows between the events that are drawn. Errors: want of
+/// memory.
 pub fn shown_lines(
     alloc: Global,
     space: &Space,
@@ -194,7 +198,8 @@ pub fn shown_lines(
 ) -> Result<Vec<Edges>, AllocError>
     requires sized { All (λ v. IsSized space.now v.values) shown.now }
     requires count { HasCount space.now candidate drawn.now.count }
-    ensures { IfOk result (λ v. AllZip (AreShownLines candidate (IsMember drawn.now)) shown.now v.items) }
+    ensures { IfOk result (λ v.
+        AllZip (AreShownLines candidate (IsMember drawn.now)) shown.now v.items) }
 {
     let _space = space;
     let mut lines = Vec::new(alloc);

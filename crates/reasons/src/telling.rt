@@ -128,7 +128,8 @@ fn step(
     candidate: usize,
     leg: Leg<'_>,
 ) -> Result<ToldStep, AllocError>
-    ensures { IfOk result (IsStep (judgement_of judged.entry is_deep) item candidate (leg_of leg.entry)) }
+    ensures { IfOk result (IsStep (judgement_of judged.entry is_deep) item candidate
+        (leg_of leg.entry)) }
 {
     let pair = EventPair {
         candidate,
@@ -149,7 +150,8 @@ fn steps_to(
     starts: &[Start<'_>],
     end: usize,
 ) -> Result<Vec<ToldStep>, AllocError>
-    ensures { IfOk result (λ v. AreStepsTo (judgement_of judged.entry is_deep) item candidate (map start_of starts.now) end v.items) }
+    ensures { IfOk result (λ v. AreStepsTo (judgement_of judged.entry is_deep) item candidate
+        (map start_of starts.now) end v.items) }
 {
     let legs = legs_to(alloc, starts, end)?;
     let mut steps = Vec::with_capacity(alloc, legs.len())?;
@@ -165,7 +167,8 @@ fn add_starts<'a>(
     code: &'a Code,
     events: &[usize],
 ) -> Result<(), AllocError>
-    ensures { OnOk result (map start_of starts.new.items ≡ map start_of starts.old.items ++ starts_at code.now events.now) }
+    ensures { OnOk result (map start_of starts.new.items
+        ≡ map start_of starts.old.items ++ starts_at code.now events.now) }
 {
     for event in events {
         starts.push(Start {
@@ -204,7 +207,8 @@ fn starts_through<'a>(
     factors: &'a [FactorValues],
     runs: &[Vec<usize>],
 ) -> Result<Vec<Start<'a>>, AllocError>
-    ensures { IfOk result (λ v. map start_of v.items ≡ starts_through factors.now (runs_of runs.now)) }
+    ensures { IfOk result (λ v. map start_of v.items
+        ≡ starts_through factors.now (runs_of runs.now)) }
 {
     let mut starts = Vec::new(alloc);
     for index in 0..factors.len() {
@@ -221,7 +225,8 @@ fn starts_back<'a>(
     told: Told<'_>,
     event: usize,
 ) -> Result<Option<Vec<Start<'a>>>, AllocError>
-    ensures { IfOk result (λ found. IfSome found (λ v. LeadsBack check.now told.entry.candidate event (map start_of v.items))) }
+    ensures { IfOk result (λ found. IfSome found (λ v.
+        LeadsBack check.now told.entry.candidate event (map start_of v.items))) }
 {
     if told.events.len() > MAX_EVENTS {
         return Ok(None);
@@ -244,7 +249,8 @@ fn round<'a>(
     told: Told<'_>,
     event: usize,
 ) -> Result<Vec<Start<'a>>, AllocError>
-    ensures { IfOk result (λ v. LeadsBack check.now told.entry.candidate event (map start_of v.items)) }
+    ensures { IfOk result (λ v.
+        LeadsBack check.now told.entry.candidate event (map start_of v.items)) }
 {
     match starts_back(alloc, check, told, event)? {
         Some(starts) => Ok(starts),
@@ -259,7 +265,8 @@ fn starts_of<'a>(
     told: Told<'_>,
     witness: &Witness,
 ) -> Result<Vec<Start<'a>>, AllocError>
-    ensures { IfOk result (λ v. AreStarts check.now told.entry.candidate witness.now (map start_of v.items)) }
+    ensures { IfOk result (λ v.
+        AreStarts check.now told.entry.candidate witness.now (map start_of v.items)) }
 {
     match witness {
         Witness::Cycle(events) => starts_at(alloc, &check.check.code, events),
@@ -297,7 +304,8 @@ fn add_event(numbers: &mut Vec<usize>, event: usize) -> Result<(), AllocError>
 }
 
 fn add_events(numbers: &mut Vec<usize>, starts: &[Start<'_>]) -> Result<(), AllocError>
-    ensures { OnOk result (numbers.new.items ≡ with_events numbers.old.items (map start_of starts.now)) }
+    ensures { OnOk result (numbers.new.items
+        ≡ with_events numbers.old.items (map start_of starts.now)) }
 {
     for start in starts {
         add_event(numbers, start.event)?;
@@ -328,7 +336,8 @@ fn check_text(
     judged: Judged<'_>,
     check: &CheckValues<'_>,
 ) -> Result<Vec<u8>, AllocError>
-    ensures { IfOk result (λ v. v.items ≡ written (slice_get judged.entry.text.now check.now.item)) }
+    ensures { IfOk result (λ v. v.items
+        ≡ written (slice_get judged.entry.text.now check.now.item)) }
 {
     match judged.text.get(check.item) {
         Some(item) => print_item(alloc, item),
@@ -345,7 +354,8 @@ fn steps_of(
     ends: Option<(usize, usize)>,
     starts: &[Start<'_>],
 ) -> Result<Vec<ToldStep>, AllocError>
-    ensures { IfOk result (λ v. AreSteps (judgement_of judged.entry is_deep) item candidate ends (map start_of starts.now) v.items) }
+    ensures { IfOk result (λ v. AreSteps (judgement_of judged.entry is_deep) item candidate ends
+        (map start_of starts.now) v.items) }
 {
     match ends {
         Some((_, last)) => steps_to(alloc, judged, is_deep, item, candidate, starts, last),
@@ -362,8 +372,8 @@ fn first_of(ends: Option<(usize, usize)>) -> Option<usize>
     }
 }
 
-/// Why the check refuses the candidate, each step with what carries it, one level deeper if it is to be.
-/// Errors: want of memory.
+/// Why the check refuses the candidate, each step with what carries it, one level deeper if it is
+/// to be. Errors: want of memory.
 pub fn reason_told(
     alloc: Global,
     judged: Judged<'_>,
@@ -372,7 +382,8 @@ pub fn reason_told(
     check: &CheckValues<'_>,
     witness: &Witness,
 ) -> Result<Reason, AllocError>
-    ensures { IfOk result (IsReason (judgement_of judged.entry is_deep) (scene_of told.entry) check.now witness.now) }
+    ensures { IfOk result (IsReason (judgement_of judged.entry is_deep) (scene_of told.entry)
+        check.now witness.now) }
 {
     let starts = starts_of(alloc, check, told, witness)?;
     let ends = ends_of(witness);

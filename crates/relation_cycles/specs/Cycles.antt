@@ -3,7 +3,8 @@ use Rattle.std.specs.Prelude.{ℕ, ◌≡◌, ◌<◌, ◌≤◌, ◌⊎◌, Lis
 pub use Rattle.bit_relations.specs.Pairs.{Path, Plus, IsAcyclic}
 use Rattle.bit_relations.specs.Relation.{Relation, IsRelation, no_slot}
 
--- each event of the list is related to the next, and the last to the first: a list of n events is a cycle of n steps
+-- each event of the list is related to the next, and the last to the first: a list of n events is a
+-- cycle of n steps
 abbrev pub IsCycle : (ℕ → ℕ → Type 0) → List ℕ → Type 0
 IsCycle R [] = ⊥
 IsCycle R (x ∷ xs) = Path R x xs x
@@ -13,35 +14,42 @@ abbrev pub IsPathFrom : (ℕ → ℕ → Type 0) → ℕ → ℕ → List ℕ �
 IsPathFrom R a b [] = ⊥
 IsPathFrom R a b (x ∷ xs) = (x ≡ a) × Path R x xs b
 
--- the lists are the same, or where they first differ this one has the smaller event; a list that goes on comes later
+-- the lists are the same, or where they first differ this one has the smaller event; a list that
+-- goes on comes later
 abbrev pub IsNoLater : List ℕ → List ℕ → Type 0
 IsNoLater [] others = Unit {0}
 IsNoLater (x ∷ xs) [] = ⊥
 IsNoLater (x ∷ xs) (y ∷ ys) = (x < y) ⊎ ((x ≡ y) × IsNoLater xs ys)
 
--- a path such that none from that event to the other has fewer steps; and of those of as many steps the first, event by event
+-- a path such that none from that event to the other has fewer steps; and of those of as many steps
+-- the first, event by event
 pub record IsShortestPath (R : ℕ → ℕ → Type 0) (a b : ℕ) (events : List ℕ) : Type 0 where
   pub path : IsPathFrom R a b events
   pub least : (others : List ℕ) → IsPathFrom R a b others → length events ≤ length others
-  pub first : (others : List ℕ) → IsPathFrom R a b others → length others ≡ length events → IsNoLater events others
+  pub first : (others : List ℕ) → IsPathFrom R a b others → length others ≡ length events
+      → IsNoLater events others
 
 -- a cycle that begins at an event
 abbrev pub IsCycleFrom : (ℕ → ℕ → Type 0) → ℕ → List ℕ → Type 0
 IsCycleFrom R a events = IsPathFrom R a a events
 
--- a cycle such that none has fewer steps; and of those of as many steps the first, event by event: it begins at the least
--- event of them all, and leads each time to the least event by which one of them goes on
+-- a cycle such that none has fewer steps; and of those of as many steps the first, event by event:
+-- it begins at the least event of them all, and leads each time to the least event by which one of
+-- them goes on
 pub record IsShortestCycle (R : ℕ → ℕ → Type 0) (events : List ℕ) : Type 0 where
   pub cycle : IsCycle R events
   pub least : (others : List ℕ) → IsCycle R others → length events ≤ length others
-  pub first : (others : List ℕ) → IsCycle R others → length others ≡ length events → IsNoLater events others
+  pub first : (others : List ℕ) → IsCycle R others → length others ≡ length events
+      → IsNoLater events others
 
--- a cycle that begins at an event, such that none through that event has fewer steps; and of those of as many steps that
--- begin there the first, event by event
+-- a cycle that begins at an event, such that none through that event has fewer steps; and of those
+-- of as many steps that begin there the first, event by event
 pub record IsShortestThrough (R : ℕ → ℕ → Type 0) (a : ℕ) (events : List ℕ) : Type 0 where
   pub cycle : IsCycleFrom R a events
-  pub least : (others : List ℕ) → IsCycle R others → Contains others a → length events ≤ length others
-  pub first : (others : List ℕ) → IsCycleFrom R a others → length others ≡ length events → IsNoLater events others
+  pub least : (others : List ℕ) → IsCycle R others → Contains others a
+      → length events ≤ length others
+  pub first : (others : List ℕ) → IsCycleFrom R a others → length others ≡ length events
+      → IsNoLater events others
 
 -- there is a path of at most k steps
 pub record IsReachableIn (R : ℕ → ℕ → Type 0) (k a b : ℕ) : Type 0 where
@@ -51,7 +59,8 @@ pub record IsReachableIn (R : ℕ → ℕ → Type 0) (k a b : ℕ) : Type 0 whe
 
 -- the relation at k has the pairs with a path of at most k steps
 pub record AreLevels (R : ℕ → ℕ → Type 0) (n : ℕ) (levels : List Relation) : Type 0 where
-  pub each : (k : ℕ) → k < length levels → IsRelation (slice_index_or levels k no_slot) n (IsReachableIn R k)
+  pub each : (k : ℕ) → k < length levels
+      → IsRelation (slice_index_or levels k no_slot) n (IsReachableIn R k)
 
 -- each path is matched by one of at most k steps
 abbrev pub IsWhole : (ℕ → ℕ → Type 0) → ℕ → Type 0
@@ -72,7 +81,8 @@ pub record IsLeastPair (R : ℕ → ℕ → Type 0) (a b : ℕ) : Type 0 where
 
 -- each path of at most so many steps comes no earlier
 abbrev pub IsFirstWithin : (ℕ → ℕ → Type 0) → ℕ → ℕ → ℕ → List ℕ → Type 0
-IsFirstWithin R a b steps events = (others : List ℕ) → IsPathFrom R a b others → length others ≤ steps → IsNoLater events others
+IsFirstWithin R a b steps events =
+    (others : List ℕ) → IsPathFrom R a b others → length others ≤ steps → IsNoLater events others
 
 -- a relation has one shortest cycle that comes first, or none
 abbrev pub HasOneShortestCycle : (ℕ → ℕ → Type 0) → Type 0

@@ -1,6 +1,7 @@
 //! Why a relation fails a check: a shortest cycle or path, an event related to itself, a pair.
 //!
-//! Paths are searched breadth first over rows of bits, from all events at once. Definitions: specs/Cycles. Law: `laws`.
+//! Paths are searched breadth first over rows of bits, from all events at once. Definitions:
+//! specs/Cycles. Law: `laws`.
 #![tactic(auto)]
 
 ghost use Rattle.std.specs.Prelude.{◌≡◌, ℕ, ◌<◌, ◌≤◌, ◌+◌, length, IfOk, MatchOption};
@@ -15,7 +16,8 @@ use std::alloc::{AllocError, Global};
 
 /// The least event that is related to itself: what `irreflexive` finds fault with.
 pub fn first_reflexive(relation: &Rel) -> Option<usize>
-    ensures { MatchOption result (IsIrreflexive (Has relation.now)) (λ a. IsFirstReflexive (Has relation.now) a) }
+    ensures { MatchOption result (IsIrreflexive (Has relation.now))
+        (λ a. IsFirstReflexive (Has relation.now) a) }
 {
     for event in 0..relation.count() {
         if relation.contains(event, event) {
@@ -27,7 +29,8 @@ pub fn first_reflexive(relation: &Rel) -> Option<usize>
 
 /// The least pair, by its first event and then by its second: what `empty` finds fault with.
 pub fn least_pair(relation: &Rel) -> Option<(usize, usize)>
-    ensures { MatchOption result (IsEmpty (Has relation.now)) (λ pair. IsLeastPair (Has relation.now) pair.0 pair.1) }
+    ensures { MatchOption result (IsEmpty (Has relation.now))
+        (λ pair. IsLeastPair (Has relation.now) pair.0 pair.1) }
 {
     let count = relation.count();
     for from in 0..count {
@@ -43,18 +46,21 @@ pub fn least_pair(relation: &Rel) -> Option<(usize, usize)>
 /// The pairs with a path of at most one step more.
 fn next_level(relation: &Rel, level: &Rel) -> Rel
     requires { level.now.count ≡ relation.now.count }
-    ensures { (k : ℕ) → IsRelation level.now relation.now.count (IsReachableIn (Has relation.now) k) → IsRelation result relation.now.count (IsReachableIn (Has relation.now) (k + 1)) }
+    ensures { (k : ℕ) → IsRelation level.now relation.now.count (IsReachableIn (Has relation.now) k)
+        → IsRelation result relation.now.count (IsReachableIn (Has relation.now) (k + 1)) }
 {
     let mut next = relation.compose(level);
     next.union_with(relation);
     next
 }
 
-/// For each number of steps, from 0 on, the pairs with a path of at most so many, until there are no more.
+/// For each number of steps, from 0 on, the pairs with a path of at most so many, until there are
+/// no more.
 fn levels_of(alloc: Global, relation: &Rel) -> Result<Vec<Rel>, AllocError>
     ensures levels { IfOk result (λ v. AreLevels (Has relation.now) relation.now.count v.items) }
     ensures some { IfOk result (λ v. 0 < length v.items) }
-    ensures whole { IfOk result (λ v. (k : ℕ) → k + 1 ≡ length v.items → IsWhole (Has relation.now) k) }
+    ensures whole { IfOk result (λ v. (k : ℕ) → k + 1 ≡ length v.items
+        → IsWhole (Has relation.now) k) }
 {
     let mut level = Rel::empty(relation.count());
     let mut levels = Vec::new(alloc);
@@ -69,7 +75,8 @@ fn levels_of(alloc: Global, relation: &Rel) -> Result<Vec<Rel>, AllocError>
     }
 }
 
-/// The least event that one relation leads to from an event, and from which another leads to a second event.
+/// The least event that one relation leads to from an event, and from which another leads to a
+/// second event.
 fn middle(left: &Rel, right: &Rel, from: usize, to: usize) -> usize
     requires from { from < left.now.count }
     requires to { to < left.now.count }
@@ -78,7 +85,8 @@ fn middle(left: &Rel, right: &Rel, from: usize, to: usize) -> usize
     requires some { Composed (Has left.now) (Has right.now) from to }
     ensures left { Has left.now from result }
     ensures right { Has right.now result to }
-    ensures least { (event : ℕ) → event < result → Has left.now from event → Has right.now event to → ⊥ }
+    ensures least { (event : ℕ) → event < result → Has left.now from event → Has right.now event to
+        → ⊥ }
 {
     let mut event = 0;
     while !(left.contains(from, event) && right.contains(event, to)) {
@@ -87,7 +95,8 @@ fn middle(left: &Rel, right: &Rel, from: usize, to: usize) -> usize
     event
 }
 
-/// The events where the steps of a path begin, of at most so many steps: the first such path, event by event.
+/// The events where the steps of a path begin, of at most so many steps: the first such path, event
+/// by event.
 fn path_within(
     alloc: Global,
     relation: &Rel,
@@ -117,7 +126,8 @@ fn path_within(
     Ok(path)
 }
 
-/// A shortest path from one event to another, as the events where its steps begin: the first of them, event by event.
+/// A shortest path from one event to another, as the events where its steps begin: the first of
+/// them, event by event.
 pub fn shortest_path(
     alloc: Global,
     relation: &Rel,
@@ -126,7 +136,8 @@ pub fn shortest_path(
 ) -> Result<Option<Vec<usize>>, AllocError>
     requires from { from < relation.now.count }
     requires to { to < relation.now.count }
-    ensures { IfOk result (λ found. MatchOption found (Plus (Has relation.now) from to → ⊥) (λ v. IsShortestPath (Has relation.now) from to v.items)) }
+    ensures { IfOk result (λ found. MatchOption found (Plus (Has relation.now) from to → ⊥)
+        (λ v. IsShortestPath (Has relation.now) from to v.items)) }
 {
     let _regular = relation.count();
     let levels = levels_of(alloc, relation)?;
@@ -139,14 +150,16 @@ pub fn shortest_path(
     Ok(None)
 }
 
-/// A shortest cycle of those through an event, which it begins with: the first of them, event by event.
+/// A shortest cycle of those through an event, which it begins with: the first of them, event by
+/// event.
 pub fn cycle_through(
     alloc: Global,
     relation: &Rel,
     event: usize,
 ) -> Result<Option<Vec<usize>>, AllocError>
     requires { event < relation.now.count }
-    ensures { IfOk result (λ found. MatchOption found (Plus (Has relation.now) event event → ⊥) (λ v. IsShortestThrough (Has relation.now) event v.items)) }
+    ensures { IfOk result (λ found. MatchOption found (Plus (Has relation.now) event event → ⊥)
+        (λ v. IsShortestThrough (Has relation.now) event v.items)) }
 {
     let _regular = relation.count();
     let levels = levels_of(alloc, relation)?;
@@ -161,7 +174,8 @@ pub fn cycle_through(
 
 /// A shortest cycle, the first of them, event by event: what `acyclic` finds fault with.
 pub fn shortest_cycle(alloc: Global, relation: &Rel) -> Result<Option<Vec<usize>>, AllocError>
-    ensures { IfOk result (λ found. MatchOption found (IsAcyclic (Has relation.now)) (λ v. IsShortestCycle (Has relation.now) v.items)) }
+    ensures { IfOk result (λ found. MatchOption found (IsAcyclic (Has relation.now))
+        (λ v. IsShortestCycle (Has relation.now) v.items)) }
 {
     let _regular = relation.count();
     let levels = levels_of(alloc, relation)?;

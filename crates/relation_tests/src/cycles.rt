@@ -28,7 +28,8 @@ fn show_cycle<R: Print>(rt: &R, name: &str, cycle: Option<Vec<usize>>) -> io::Re
     }
 }
 
-/// Prints the least pair, the least event related to itself, and shortest cycles: any, and through an event.
+/// Prints the least pair, the least event related to itself, and shortest cycles: any, and through
+/// an event.
 fn show_faults<R: Print + AllocGlobal>(rt: &R, relation: &Rel, through: usize) -> io::Result<()> {
     println!(rt; "least pair {:?}", least_pair(relation))?;
     println!(rt; "first reflexive {:?}", first_reflexive(relation))?;

@@ -1,6 +1,6 @@
-//! Applies the operations of `bit_relations` to known relations and sets, and prints how many pairs or
-//! events each result has, and a number that depends on each of them. `tests/plain-relations`, a plain
-//! program over sets of pairs, prints what is wanted.
+//! Applies the operations of `bit_relations` to known relations and sets, and prints how many pairs
+//! or events each result has, and a number that depends on each of them. `tests/plain-relations`, a
+//! plain program over sets of pairs, prints what is wanted.
 #![tactic(auto)]
 
 mod chains;

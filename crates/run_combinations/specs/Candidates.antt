@@ -7,8 +7,13 @@ use Rattle.run_combinations.specs.Combinations.{CombinationLists, ordered}
 -- each combination of runs that has a way to read, with its ways and its orders of the stores
 pub data AreCombinations (n : ℕ) : List PrefixLists → List CombinationLists → Type 0 where
   nothing_left : AreCombinations n [] []
-  with_ways : {b : PrefixLists} {bs : List PrefixLists} {cs : List CombinationLists} {way : List ℕ} {ways : List (List ℕ)} → AreWays b.combination.events b.needs (way ∷ ways) → AreCombinations n bs cs → AreCombinations n (b ∷ bs) (ordered n (record b.combination { sources = way ∷ ways }) ∷ cs)
-  without : {b : PrefixLists} {bs : List PrefixLists} {cs : List CombinationLists} → AreWays b.combination.events b.needs [] → AreCombinations n bs cs → AreCombinations n (b ∷ bs) cs
+  with_ways : {b : PrefixLists} {bs : List PrefixLists} {cs : List CombinationLists} {way : List ℕ}
+      {ways : List (List ℕ)} → AreWays b.combination.events b.needs (way ∷ ways)
+      → AreCombinations n bs cs
+      → AreCombinations n (b ∷ bs) (ordered n (record b.combination { sources = way ∷ ways }) ∷ cs)
+  without : {b : PrefixLists} {bs : List PrefixLists} {cs : List CombinationLists}
+      → AreWays b.combination.events b.needs [] → AreCombinations n bs cs
+      → AreCombinations n (b ∷ bs) cs
 
 -- how many candidates they have: each way with each order is one
 abbrev pub candidate_total : List CombinationLists → ℕ
@@ -18,7 +23,9 @@ candidate_total (c ∷ cs) = length c.sources * length c.orders + candidate_tota
 -- some candidate holds a run that stopped at a fault
 abbrev pub HasFault : List PrefixLists → Type 0
 HasFault [] = ⊥
-HasFault (b ∷ bs) = ((b.faulted ≡ true) × (way : List ℕ) × (ways : List (List ℕ)) × AreWays b.combination.events b.needs (way ∷ ways)) ⊎ HasFault bs
+HasFault (b ∷ bs) =
+    ((b.faulted ≡ true) × (way : List ℕ) × (ways : List (List ℕ))
+    × AreWays b.combination.events b.needs (way ∷ ways)) ⊎ HasFault bs
 
 -- all candidates: at most 16,384, of which none holds a fault
 pub record AreCandidates (n : ℕ) (bs : List PrefixLists) (cs : List CombinationLists) : Type 0 where
@@ -28,7 +35,8 @@ pub record AreCandidates (n : ℕ) (bs : List PrefixLists) (cs : List Combinatio
 
 -- there are more
 abbrev pub AreTooMany : ℕ → List PrefixLists → Type 0
-AreTooMany n bs = (cs : List CombinationLists) → AreCombinations n bs cs → 16384 < candidate_total cs
+AreTooMany n bs =
+    (cs : List CombinationLists) → AreCombinations n bs cs → 16384 < candidate_total cs
 
 -- there are no more, and one of them holds a fault
 pub record AreFaulted (n : ℕ) (bs : List PrefixLists) : Type 0 where

@@ -1,5 +1,6 @@
--- The events of a run of each thread, and facts of lists of events. The number of an event is its index in such a list.
--- Read it before `Executions`; it names no type but those that the crate shows.
+-- The events of a run of each thread, and facts of lists of events. The number of an event is its
+-- index in such a list. Read it before `Executions`; it names no type but those that the crate
+-- shows.
 use Rattle.std.specs.Prelude.{ℕ, ◌≡◌, ◌<◌, ◌+◌, ◌⊎◌, Bool, true, false, cond, nat_eq, List, [], ◌∷◌, length, slice_index, Option, Some, None}
 use Rattle.std.specs.List.{flat_map, list_any}
 use Rattle.thread_runs.specs.declared.value.Value.{Value}
@@ -32,7 +33,8 @@ thread_events thread es = flat_map (λ e. with_action thread (action_in e)) es
 -- the initial stores: each location, from this one on, with the value that it holds
 abbrev pub initial_stores : ℕ → List Value → List Event
 initial_stores location [] = []
-initial_stores location (v ∷ vs) = record { thread = None; action = Write location v } ∷ initial_stores (location + 1) vs
+initial_stores location (v ∷ vs) =
+    record { thread = None; action = Write location v } ∷ initial_stores (location + 1) vs
 
 -- loads, stores, and stores to a location
 abbrev pub reads : Action → Bool
@@ -69,9 +71,12 @@ abbrev pub AreDistinct : List ℕ → Type 0
 AreDistinct [] = Unit {0}
 AreDistinct (x ∷ xs) = (has_store xs x ≡ false) × AreDistinct xs
 
--- the pairs of a store and a load that reads it, where `way` has the store that each of the loads reads
+-- the pairs of a store and a load that reads it, where `way` has the store that each of the loads
+-- reads
 abbrev pub ReadsFrom : List ℕ → List ℕ → ℕ → ℕ → Type 0
-ReadsFrom loads way a b = (i : ℕ) × (i < length way) × (i < length loads) × (a ≡ slice_index way i) × (b ≡ slice_index loads i)
+ReadsFrom loads way a b =
+    (i : ℕ) × (i < length way) × (i < length loads) × (a ≡ slice_index way i)
+    × (b ≡ slice_index loads i)
 
 -- there is a load, or a store, of the location and value
 abbrev pub HasLoad : ℕ → Value → List Event → Type 0
@@ -84,7 +89,8 @@ HasStore location value (e ∷ es) = (e.action ≡ Write location value) ⊎ Has
 
 -- some load has a location and a value that no store has
 abbrev pub CannotRead : List Event → Type 0
-CannotRead es = (location : ℕ) × (value : Value) × HasLoad location value es × (HasStore location value es → ⊥)
+CannotRead es =
+    (location : ℕ) × (value : Value) × HasLoad location value es × (HasStore location value es → ⊥)
 
 -- the kind of event that an instruction makes
 abbrev pub stores_to : Instruction → Bool

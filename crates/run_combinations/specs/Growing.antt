@@ -1,4 +1,5 @@
--- The orders that begin with a front, as they are found: the front is pushed onto, and cut back. Read `Orders` first.
+-- The orders that begin with a front, as they are found: the front is pushed onto, and cut back.
+-- Read `Orders` first.
 use Rattle.std.specs.Prelude.{ℕ, zero, suc, ◌+◌, List, [], ◌∷◌, ◌++◌, map, filter, drop, length, not}
 use Rattle.std.specs.List.{flat_map}
 use Rattle.run_combinations.specs.Events.{has_store}
@@ -8,12 +9,16 @@ use Rattle.run_combinations.specs.declared.orders.LocationStores.{LocationStores
 
 -- the front with each of the stores that it lacks from an index on
 abbrev pub with_new_from : ℕ → List ℕ → List ℕ → List (List ℕ)
-with_new_from begin stores front = map (λ store. front ++ store ∷ []) (filter (λ store. not (has_store (drop begin front) store)) stores)
+with_new_from begin stores front =
+    map (λ store. front ++ store ∷ []) (filter (λ store. not (has_store (drop begin front) store))
+    stores)
 
--- the front with so many more of the stores, none of which it has twice from an index on, in lexicographic order
+-- the front with so many more of the stores, none of which it has twice from an index on, in
+-- lexicographic order
 abbrev pub rows_from : List ℕ → ℕ → ℕ → List ℕ → List (List ℕ)
 rows_from stores begin zero front = front ∷ []
-rows_from stores begin (suc left) front = flat_map (rows_from stores begin left) (with_new_from begin stores front)
+rows_from stores begin (suc left) front =
+    flat_map (rows_from stores begin left) (with_new_from begin stores front)
 
 -- the initial store of each location, with its stores by threads
 abbrev pub store_lists : List LocationStores → List (ℕ × List ℕ)
@@ -32,4 +37,5 @@ width_of (s ∷ later) = 1 + length s.1 + width_of later
 -- the orders that begin with the front and go on with the stores of these locations
 abbrev pub orders_from : List (ℕ × List ℕ) → List ℕ → List (List ℕ)
 orders_from [] front = front ∷ []
-orders_from (s ∷ later) front = flat_map (orders_from later) (rows_from s.1 (length front) (length s.1) (front ++ s.0 ∷ []))
+orders_from (s ∷ later) front =
+    flat_map (orders_from later) (rows_from s.1 (length front) (length s.1) (front ++ s.0 ∷ []))

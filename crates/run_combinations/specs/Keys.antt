@@ -20,10 +20,11 @@ HasKey s word bit = RowsHave s.words word bit
 abbrev pub InFirst : ℕ → List ℕ → ℕ → ℕ → Type 0
 InFirst end rows word bit = (word < end) × RowsHave rows word bit
 
--- the number of the pair of a location and a value, by the index of the value among these; none past 128 locations and
--- 16 values
+-- the number of the pair of a location and a value, by the index of the value among these; none
+-- past 128 locations and 16 values
 abbrev pub number_at : ℕ → ℕ → Option ℕ
-number_at location index = if nat_lt location 128 && nat_lt index 16 then Some (location * 16 + index) else None
+number_at location index =
+    if nat_lt location 128 && nat_lt index 16 then Some (location * 16 + index) else None
 
 abbrev pub key_in : List Value → ℕ → Value → Option ℕ
 key_in values location value = number_at location (position_or_len (λ v. same_value v value) values)
@@ -54,16 +55,21 @@ abbrev pub HasWrites : KeySet → List ThreadParts → Type 0
 HasWrites s [] = Unit {0}
 HasWrites s (t ∷ ts) = IsWithin t.writes s × HasWrites s ts
 
--- each pair of the first set is one that a load reads, and the second has each that a store stores, where `key` says
--- which bit a location and a value have, if any
-pub record AreKeys (key : ℕ → Value → Option (ℕ × ℕ)) (es : List Event) (reads writes : KeySet) : Type 0 where
-  pub loads : (a b : ℕ) → HasKey reads a b → (location : ℕ) × (value : Value) × (key location value ≡ Some (a, b)) × HasLoad location value es
-  pub stores : (location : ℕ) (value : Value) (a b : ℕ) → HasStore location value es → key location value ≡ Some (a, b) → HasKey writes a b
+-- each pair of the first set is one that a load reads, and the second has each that a store stores,
+-- where `key` says which bit a location and a value have, if any
+pub record AreKeys (key : ℕ → Value → Option (ℕ × ℕ)) (es : List Event) (reads writes : KeySet)
+    : Type 0 where
+  pub loads : (a b : ℕ) → HasKey reads a b
+      → (location : ℕ) × (value : Value) × (key location value ≡ Some (a, b))
+      × HasLoad location value es
+  pub stores : (location : ℕ) (value : Value) (a b : ℕ) → HasStore location value es
+      → key location value ≡ Some (a, b) → HasKey writes a b
 
 -- so are the sets of each run of a thread, of which this one has all that they store
 abbrev pub PartsAreKeyed : (ℕ → Value → Option (ℕ × ℕ)) → KeySet → List Part → Type 0
 PartsAreKeyed key all [] = Unit {0}
-PartsAreKeyed key all (p ∷ ps) = AreKeys key p.events.items p.reads p.writes × IsWithin p.writes all × PartsAreKeyed key all ps
+PartsAreKeyed key all (p ∷ ps) =
+    AreKeys key p.events.items p.reads p.writes × IsWithin p.writes all × PartsAreKeyed key all ps
 
 abbrev pub ThreadsAreKeyed : (ℕ → Value → Option (ℕ × ℕ)) → List ThreadParts → Type 0
 ThreadsAreKeyed key [] = Unit {0}
@@ -71,7 +77,8 @@ ThreadsAreKeyed key (t ∷ ts) = PartsAreKeyed key t.writes t.parts.items × Thr
 
 -- the sets of a layout
 pub record IsKeyed (key : ℕ → Value → Option (ℕ × ℕ)) (l : Layout) : Type 0 where
-  pub initial : (location : ℕ) (value : Value) (a b : ℕ) → HasStore location value l.initial.items → key location value ≡ Some (a, b) → HasKey l.initial_writes a b
+  pub initial : (location : ℕ) (value : Value) (a b : ℕ) → HasStore location value l.initial.items
+      → key location value ≡ Some (a, b) → HasKey l.initial_writes a b
   pub threads : ThreadsAreKeyed key l.threads.items
 
 -- a load of the prefix or of the run reads it

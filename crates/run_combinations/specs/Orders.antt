@@ -7,7 +7,8 @@ use Rattle.run_combinations.specs.declared.combination.Event.{Event}
 
 -- the list with each of the stores that it lacks behind it
 abbrev pub with_new : List ℕ → List ℕ → List (List ℕ)
-with_new stores front = map (λ store. front ++ store ∷ []) (filter (λ store. not (has_store front store)) stores)
+with_new stores front =
+    map (λ store. front ++ store ∷ []) (filter (λ store. not (has_store front store)) stores)
 
 -- the orders of the first store and the others that begin with it and have no store twice, in
 -- lexicographic order
@@ -21,7 +22,8 @@ are_distinct [] = true
 are_distinct (x ∷ xs) = not (has_store xs x) && are_distinct xs
 
 abbrev pub orders_of : ℕ → List ℕ → List (List ℕ)
-orders_of first others = filter are_distinct (tuples [] ((first ∷ []) ∷ replicate (length others) others))
+orders_of first others =
+    filter are_distinct (tuples [] ((first ∷ []) ∷ replicate (length others) others))
 
 abbrev pub is_thread_store : ℕ → Event → Bool
 is_thread_store location e = is_some e.thread && writes_to location e.action
@@ -30,17 +32,21 @@ is_thread_store location e = is_some e.thread && writes_to location e.action
 unfoldable pub stores_of : List Event → ℕ → List ℕ
 stores_of events location = numbers (is_thread_store location) 0 (take 128 events)
 
--- the orders of the stores of the first locations: each of the initial store of a location, which has the number of
--- the location, and the threads' stores of it, and these after one another, in lexicographic order
+-- the orders of the stores of the first locations: each of the initial store of a location, which
+-- has the number of the location, and the threads' stores of it, and these after one another, in
+-- lexicographic order
 abbrev pub all_orders : List Event → ℕ → List (List ℕ)
 all_orders events zero = [] ∷ []
-all_orders events (suc n) = flat_map (joined_with (orders_of n (stores_of events n))) (all_orders events n)
+all_orders events (suc n) =
+    flat_map (joined_with (orders_of n (stores_of events n))) (all_orders events n)
 
 -- in how many ways so many of a number of things can stand in a row
 abbrev pub rows_of : ℕ → ℕ → ℕ
 rows_of count zero = 1
 rows_of count (suc positions) = rows_of count positions * (count - positions)
 
--- the initial store of each of the first locations, which has the number of the location, is no store of a thread to it
+-- the initial store of each of the first locations, which has the number of the location, is no
+-- store of a thread to it
 abbrev pub AreApart : List Event → ℕ → Type 0
-AreApart events n = (location : ℕ) → location < n → has_store (stores_of events location) location ≡ false
+AreApart events n =
+    (location : ℕ) → location < n → has_store (stores_of events location) location ≡ false

@@ -16,7 +16,10 @@ use Rattle.run_combinations.specs.declared.part.Sketch.{Sketch}
 
 -- the sets are those of the run that the sketch names
 abbrev pub IsSketch : List Value → List Run → Sketch → Type 0
-IsSketch values runs s = (r : Run) × (slice_get runs s.run ≡ Some r) × ((thread : ℕ) → AreKeys (bit_of values) (thread_events thread r.events.items) s.reads s.writes)
+IsSketch values runs s =
+    (r : Run) × (slice_get runs s.run ≡ Some r)
+    × ((thread : ℕ)
+    → AreKeys (bit_of values) (thread_events thread r.events.items) s.reads s.writes)
 
 -- a sketch of each run, in order
 pub record AreSketches (values : List Value) (runs : List Run) (ss : List Sketch) : Type 0 where
@@ -35,8 +38,10 @@ HasWritesOfAll set (v ∷ vs) = HasWritesOf set v.items × HasWritesOfAll set vs
 -- the second list has those of the first that stay: each other one reads what is not stored
 pub data AreKept (stored : KeySet) : List Sketch → List Sketch → Type 0 where
   none : AreKept stored [] []
-  kept : {s : Sketch} {ss ts : List Sketch} → AreKept stored ss ts → AreKept stored (s ∷ ss) (s ∷ ts)
-  left : {s : Sketch} {ss ts : List Sketch} (a b : ℕ) → HasKey s.reads a b → (HasKey stored a b → ⊥) → AreKept stored ss ts → AreKept stored (s ∷ ss) ts
+  kept : {s : Sketch} {ss ts : List Sketch} → AreKept stored ss ts
+      → AreKept stored (s ∷ ss) (s ∷ ts)
+  left : {s : Sketch} {ss ts : List Sketch} (a b : ℕ) → HasKey s.reads a b → (HasKey stored a b → ⊥)
+      → AreKept stored ss ts → AreKept stored (s ∷ ss) ts
 
 -- the second list has some of the first, in order
 pub data AreSome {X : Type 0} : List X → List X → Type 0 where
@@ -68,7 +73,8 @@ HasWrite (s ∷ ss) a b = HasKey s.writes a b ⊎ HasWrite ss a b
 abbrev pub IsUnread : KeySet → List Sketch → Type 0
 IsUnread initial cs = (a b : ℕ) × HasRead cs a b × (HasKey initial a b → ⊥) × (HasWrite cs a b → ⊥)
 
--- the runs of each thread that stay: a combination with one that does not has a load that reads what is not stored
+-- the runs of each thread that stay: a combination with one that does not has a load that reads
+-- what is not stored
 pub record IsSifted (initial : KeySet) (old new : List (Vec Sketch Global)) : Type 0 where
   pub some : AllZip (λ v w. AreSome v.items w.items) old new
   pub choices : (cs : List Sketch) → IsChoice old cs → IsChoice new cs ⊎ IsUnread initial cs
@@ -76,13 +82,16 @@ pub record IsSifted (initial : KeySet) (old new : List (Vec Sketch Global)) : Ty
 -- the part is made of the run
 pub record IsPartOf (thread : ℕ) (r : Run) (p : Part) : Type 0 where
   pub events : p.events.items ≡ thread_events thread r.events.items
-  pub links : event_place (executed r.steps.items) (length r.steps.items) ≤ 128 → AreLinks (executed r.steps.items) p.links
+  pub links : event_place (executed r.steps.items) (length r.steps.items) ≤ 128
+      → AreLinks (executed r.steps.items) p.links
   pub registers : p.registers ≡ r.registers
   pub faulted : p.is_faulted ≡ r.faulted
 
 -- the part is made of the run that the sketch names
 abbrev pub IsMade : ℕ → List Run → Sketch → Part → Type 0
-IsMade thread runs s p = (p.run ≡ s.run) × (p.reads ≡ s.reads) × (p.writes ≡ s.writes) × (r : Run) × (slice_get runs s.run ≡ Some r) × IsPartOf thread r p
+IsMade thread runs s p =
+    (p.run ≡ s.run) × (p.reads ≡ s.reads) × (p.writes ≡ s.writes) × (r : Run)
+    × (slice_get runs s.run ≡ Some r) × IsPartOf thread r p
 
 -- the sketches name runs of the thread
 abbrev pub AreBelow : ℕ → List Sketch → Type 0
@@ -93,13 +102,17 @@ abbrev pub NamesRuns : Vec Run Global → Vec Sketch Global → Type 0
 NamesRuns runs sketches = AreBelow (length runs.items) sketches.items
 
 -- the parts of each thread, from this one on
-abbrev pub AreThreads : ℕ → List (Vec Run Global) → List (Vec Sketch Global) → List ThreadParts → Type 0
+abbrev pub AreThreads : ℕ → List (Vec Run Global) → List (Vec Sketch Global) → List ThreadParts
+    → Type 0
 AreThreads thread [] [] [] = Unit {0}
-AreThreads thread (r ∷ rs) (s ∷ ss) (t ∷ ts) = HasWritesOf t.writes s.items × AllZip (IsMade thread r.items) s.items t.parts.items × AreThreads (thread + 1) rs ss ts
+AreThreads thread (r ∷ rs) (s ∷ ss) (t ∷ ts) =
+    HasWritesOf t.writes s.items × AllZip (IsMade thread r.items) s.items t.parts.items
+    × AreThreads (thread + 1) rs ss ts
 AreThreads thread _ _ _ = ⊥
 
 -- the parts of each thread, of those of its runs that stay
-pub record AreSiftedParts (values : List Value) (initial : KeySet) (runs : List (Vec Run Global)) (threads : List ThreadParts) : Type 0 where
+pub record AreSiftedParts (values : List Value) (initial : KeySet) (runs : List (Vec Run Global))
+    (threads : List ThreadParts) : Type 0 where
   pub all : List (Vec Sketch Global)
   pub left : List (Vec Sketch Global)
   pub sketched : AllZip (λ r s. AreSketches values r.items s.items) runs all

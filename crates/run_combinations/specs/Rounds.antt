@@ -13,21 +13,28 @@ use Rattle.run_combinations.specs.declared.reading.Store.{Store}
 -- the loads among the first events, each with the stores that it may read
 pub record AreLoads (es : List Event) (n : ℕ) (loads : List Load) : Type 0 where
   pub events : map (λ l. l.event) loads ≡ numbers is_load 0 (take n es)
-  pub sources : (k : ℕ) (l : Load) (e : Event) → slice_get loads k ≡ Some l → slice_get (filter is_load (take n es)) k ≡ Some e → IsEvents l.sources (length es) (Contains (sources_of es e))
+  pub sources : (k : ℕ) (l : Load) (e : Event) → slice_get loads k ≡ Some l
+      → slice_get (filter is_load (take n es)) k ≡ Some e
+      → IsEvents l.sources (length es) (Contains (sources_of es e))
 
 -- the stores among the first events, each with the loads that it needs
-pub record AreStores (es : List Event) (pairs : List (ℕ × ℕ)) (n : ℕ) (stores : List Store) : Type 0 where
+pub record AreStores (es : List Event) (pairs : List (ℕ × ℕ)) (n : ℕ) (stores : List Store)
+    : Type 0 where
   pub events : map (λ s. s.event) stores ≡ numbers is_store 0 (take n es)
-  pub needs : (k : ℕ) (s : Store) → slice_get stores k ≡ Some s → IsEvents s.needs (length es) (λ a. Contains pairs (a, s.event) × Contains (numbers is_load 0 es) a)
+  pub needs : (k : ℕ) (s : Store) → slice_get stores k ≡ Some s
+      → IsEvents s.needs (length es) (λ a. Contains pairs (a, s.event)
+      × Contains (numbers is_load 0 es) a)
 
 -- the loads and stores are those of the events, with their sources and needs
 pub record Shows (es : List Event) (pairs : List (ℕ × ℕ)) (r : Reading) : Type 0 where
   pub count : r.count ≡ length es
   pub few : r.count ≤ 128
   pub loads : map (λ l. l.event) r.loads.items ≡ numbers is_load 0 es
-  pub sources : (i : ℕ) (l : Load) → slice_get r.loads.items i ≡ Some l → IsEvents l.sources r.count (Source (accesses_in es pairs) i)
+  pub sources : (i : ℕ) (l : Load) → slice_get r.loads.items i ≡ Some l
+      → IsEvents l.sources r.count (Source (accesses_in es pairs) i)
   pub stores : map (λ s. s.event) r.stores.items ≡ numbers is_store 0 es
-  pub needs : (k : ℕ) (s : Store) → slice_get r.stores.items k ≡ Some s → IsEvents s.needs r.count (λ a. (accesses_in es pairs).Need a s.event)
+  pub needs : (k : ℕ) (s : Store) → slice_get r.stores.items k ≡ Some s
+      → IsEvents s.needs r.count (λ a. (accesses_in es pairs).Need a s.event)
 
 -- the fact holds of one of the first items and its index
 pub record AnyBelow {X : Type 0} (Q : ℕ → X → Type 0) (n : ℕ) (xs : List X) : Type 0 where
@@ -51,7 +58,9 @@ IsMeeting s t = (s.count ≡ t.count) × ((a : ℕ) × IsMember s a × IsMember 
 
 -- the load at an index reads one of these
 abbrev pub CanRead : List ℕ → Events → ℕ → Load → Type 0
-CanRead way derived i l = ((i < length way) × IsMember derived (slice_index way i)) ⊎ ((length way ≤ i) × IsMeeting l.sources derived)
+CanRead way derived i l =
+    ((i < length way) × IsMember derived (slice_index way i))
+    ⊎ ((length way ≤ i) × IsMeeting l.sources derived)
 
 abbrev pub CanArise : List ℕ → Option ℕ → Events → ℕ → Load → Type 0
 CanArise way without derived i l = (without ≡ Some i → ⊥) × CanRead way derived i l
@@ -64,56 +73,82 @@ load_event l = l.event
 
 -- the events, and the stores whose needs are among them
 abbrev pub WithStores : Reading → Events → Events → Type 0
-WithStores r old new = IsEvents new old.count (λ x. IsMember old x ⊎ Stepped store_event (λ k s. IsInside s.needs old) old.count (length r.stores.items) r.stores.items x)
+WithStores r old new =
+    IsEvents new old.count (λ x. IsMember old x
+    ⊎ Stepped store_event (λ k s. IsInside s.needs old) old.count (length r.stores.items)
+    r.stores.items x)
 
 -- the events, and the loads that read one of them
 abbrev pub WithLoads : Reading → List ℕ → Option ℕ → Events → Events → Type 0
-WithLoads r way without old new = IsEvents new old.count (λ x. IsMember old x ⊎ Stepped load_event (CanArise way without old) old.count (length r.loads.items) r.loads.items x)
+WithLoads r way without old new =
+    IsEvents new old.count (λ x. IsMember old x
+    ⊎ Stepped load_event (CanArise way without old) old.count (length r.loads.items)
+    r.loads.items x)
 
-pub record IsRound (r : Reading) (way : List ℕ) (without : Option ℕ) (old new : Events) : Type 0 where
+pub record IsRound (r : Reading) (way : List ℕ) (without : Option ℕ) (old new : Events)
+    : Type 0 where
   pub between : Events
   pub stores : WithStores r old between
   pub loads : WithLoads r way without between new
 
 -- all values of the set can arise
 abbrev pub AllArise : Reading → List ℕ → Option ℕ → Events → Type 0
-AllArise r way without derived = (es : List Event) (pairs : List (ℕ × ℕ)) → Shows es pairs r → (x : ℕ) → IsMember derived x → Derived (accesses_in es pairs) way without x
+AllArise r way without derived =
+    (es : List Event) (pairs : List (ℕ × ℕ)) → Shows es pairs r → (x : ℕ) → IsMember derived x
+    → Derived (accesses_in es pairs) way without x
 
 -- the set has just the values that can arise
 abbrev pub HasDerived : Reading → List ℕ → Option ℕ → Events → Type 0
-HasDerived r way without derived = (es : List Event) (pairs : List (ℕ × ℕ)) → Shows es pairs r → (x : ℕ) → (IsMember derived x → Derived (accesses_in es pairs) way without x) × (Derived (accesses_in es pairs) way without x → IsMember derived x)
+HasDerived r way without derived =
+    (es : List Event) (pairs : List (ℕ × ℕ)) → Shows es pairs r → (x : ℕ)
+    → (IsMember derived x → Derived (accesses_in es pairs) way without x)
+    × (Derived (accesses_in es pairs) way without x → IsMember derived x)
 
 -- whether all loads can read
 abbrev pub TellsPossible : Reading → Bool → Type 0
-TellsPossible r b = (es : List Event) (pairs : List (ℕ × ℕ)) → Shows es pairs r → IsTrue b ↔ IsPossible (accesses_in es pairs) []
+TellsPossible r b =
+    (es : List Event) (pairs : List (ℕ × ℕ)) → Shows es pairs r
+    → IsTrue b ↔ IsPossible (accesses_in es pairs) []
 
 -- the possible ways of the first loads
 abbrev pub ArePossible : Reading → ℕ → List (List ℕ) → Type 0
-ArePossible r i ways = (es : List Event) (pairs : List (ℕ × ℕ)) → Shows es pairs r → IsFiltered (IsPossible (accesses_in es pairs)) (tuples [] (take i (accesses_in es pairs).sources)) ways
+ArePossible r i ways =
+    (es : List Event) (pairs : List (ℕ × ℕ)) → Shows es pairs r
+    → IsFiltered (IsPossible (accesses_in es pairs))
+    (tuples [] (take i (accesses_in es pairs).sources)) ways
 
 -- the possible ways with one load more, of the first ways of a list
 abbrev pub AreNext : Reading → Load → ℕ → ℕ → List (List ℕ) → List (List ℕ) → Type 0
 AreNext r load index k ways next =
-    (es : List Event) (pairs : List (ℕ × ℕ)) → Shows es pairs r → slice_get r.loads.items index ≡ Some load
+    (es : List Event) (pairs : List (ℕ × ℕ)) → Shows es pairs r
+    → slice_get r.loads.items index ≡ Some load
     → All (λ f. (length f ≡ index) × IsPossible (accesses_in es pairs) f) ways
-    → IsFiltered (IsPossible (accesses_in es pairs)) (flat_map (nexts (slice_index_or (accesses_in es pairs).sources index [])) (take k ways)) next
+    → IsFiltered (IsPossible (accesses_in es pairs))
+    (flat_map (nexts (slice_index_or (accesses_in es pairs).sources index [])) (take k ways))
+    next
 
 -- the list has gained those of one way
-pub record GainsNext (r : Reading) (load : Load) (index : ℕ) (way : List ℕ) (old new : List (List ℕ)) : Type 0 where
+pub record GainsNext (r : Reading) (load : Load) (index : ℕ) (way : List ℕ)
+    (old new : List (List ℕ)) : Type 0 where
   pub more : List (List ℕ)
   pub added : new ≡ old ++ more
   pub next :
-      (es : List Event) (pairs : List (ℕ × ℕ)) → Shows es pairs r → slice_get r.loads.items index ≡ Some load
+      (es : List Event) (pairs : List (ℕ × ℕ)) → Shows es pairs r
+      → slice_get r.loads.items index ≡ Some load
       → length way ≡ index → IsPossible (accesses_in es pairs) way
-      → IsFiltered (IsPossible (accesses_in es pairs)) (nexts (slice_index_or (accesses_in es pairs).sources index []) way) more
+      → IsFiltered (IsPossible (accesses_in es pairs))
+      (nexts (slice_index_or (accesses_in es pairs).sources index []) way) more
 
 -- some of the first ones are over a limit
 abbrev pub AreOver : Reading → Load → ℕ → List (List ℕ) → ℕ → Type 0
-AreOver r load index ways limit = (k : ℕ) × (next : List (List ℕ)) × (limit < length next) × AreNext r load index k ways next
+AreOver r load index ways limit =
+    (k : ℕ) × (next : List (List ℕ)) × (limit < length next) × AreNext r load index k ways next
 
 -- there are over so many ways
 abbrev pub HasOver : Reading → ℕ → Type 0
-HasOver r limit = (es : List Event) (pairs : List (ℕ × ℕ)) (all : List (List ℕ)) → Shows es pairs r → AreWays es pairs all → limit < length all
+HasOver r limit =
+    (es : List Event) (pairs : List (ℕ × ℕ)) (all : List (List ℕ)) → Shows es pairs r
+    → AreWays es pairs all → limit < length all
 
 -- these are the ways
 abbrev pub HasWays : Reading → List (List ℕ) → Type 0

@@ -14,8 +14,8 @@ use Rattle.run_combinations.specs.declared.search.Prefix.{Prefix}
 use Rattle.run_combinations.specs.declared.search.PrefixRuns.{PrefixRuns}
 use Rattle.run_combinations.specs.declared.search.Found.{Found}
 
--- one run of each of the first threads: their events and dependencies, which loads the stores need, and whether one of
--- them stopped at a fault
+-- one run of each of the first threads: their events and dependencies, which loads the stores need,
+-- and whether one of them stopped at a fault
 pub record PrefixLists : Type 0 where
   pub combination : CombinationLists
   pub needs : List (ℕ × ℕ)
@@ -35,7 +35,8 @@ runs_lists p = record {
 abbrev pub combination_with_run : ℕ → Part → CombinationLists → CombinationLists
 combination_with_run run p s = record s {
   events = s.events ++ p.events.items;
-  dependencies = with_dependencies (length s.events) (dependency_lists p.links.dependencies) s.dependencies;
+  dependencies =
+      with_dependencies (length s.events) (dependency_lists p.links.dependencies) s.dependencies;
   runs = s.runs ++ run ∷ [];
 }
 
@@ -48,28 +49,38 @@ with_run run p b = record {
 
 -- the prefix as plain data
 abbrev pub prefix_lists : Prefix → PrefixLists
-prefix_lists f = record { combination = runs_lists f.runs; needs = f.needs.items; faulted = f.is_faulted }
+prefix_lists f =
+    record { combination = runs_lists f.runs; needs = f.needs.items; faulted = f.is_faulted }
 
 -- the sets of the one prefix are those of the other with a run more
 abbrev pub HasJoined : Prefix → Part → Prefix → Type 0
-HasJoined f p g = ((a b : ℕ) → HasKey g.reads a b ↔ (HasKey f.reads a b ⊎ HasKey p.reads a b)) × ((a b : ℕ) → HasKey g.writes a b ↔ (HasKey f.writes a b ⊎ HasKey p.writes a b))
+HasJoined f p g =
+    ((a b : ℕ) → HasKey g.reads a b ↔ (HasKey f.reads a b ⊎ HasKey p.reads a b))
+    × ((a b : ℕ) → HasKey g.writes a b ↔ (HasKey f.writes a b ⊎ HasKey p.writes a b))
 
--- what has been found: the combinations, with their ways to read and without their orders, how many candidates they
--- have, and whether some candidate holds a run that stopped at a fault
+-- what has been found: the combinations, with their ways to read and without their orders, how many
+-- candidates they have, and whether some candidate holds a run that stopped at a fault
 pub record Tally : Type 0 where
   pub kept : List CombinationLists
   pub count : ℕ
   pub faulted : Bool
 
 abbrev pub tally : Found → Tally
-tally f = record { kept = map combination_lists f.combinations.items; count = f.count; faulted = f.is_faulted }
+tally f =
+    record {
+      kept = map combination_lists f.combinations.items;
+      count = f.count;
+      faulted = f.is_faulted;
+    }
 
--- what has been found with one combination more, where these are its ways to read and it has so many orders; none is
--- kept any more once there is a fault
+-- what has been found with one combination more, where these are its ways to read and it has so
+-- many orders; none is kept any more once there is a fault
 abbrev pub capped_tally_with : PrefixLists → List (List ℕ) → ℕ → Tally → Tally
 capped_tally_with b [] orders t = t
 capped_tally_with b (way ∷ ways) orders t = record {
-  kept = if t.faulted || b.faulted then t.kept else t.kept ++ record b.combination { sources = way ∷ ways } ∷ [];
+  kept =
+      if t.faulted || b.faulted then t.kept
+      else t.kept ++ record b.combination { sources = way ∷ ways } ∷ [];
   count = min (t.count + min (length (way ∷ ways) * orders) (2 ^ 64 - 1)) (2 ^ 64 - 1);
   faulted = t.faulted || b.faulted;
 }
@@ -77,7 +88,9 @@ capped_tally_with b (way ∷ ways) orders t = record {
 abbrev pub tally_with : ℕ → PrefixLists → List (List ℕ) → Tally → Tally
 tally_with n b [] t = t
 tally_with n b (way ∷ ways) t = record {
-  kept = if t.faulted || b.faulted then t.kept else t.kept ++ record b.combination { sources = way ∷ ways } ∷ [];
+  kept =
+      if t.faulted || b.faulted then t.kept
+      else t.kept ++ record b.combination { sources = way ∷ ways } ∷ [];
   count = t.count + length (way ∷ ways) * length (all_orders b.combination.events n);
   faulted = t.faulted || b.faulted;
 }
@@ -89,11 +102,15 @@ pub record Fits (n : ℕ) (b : PrefixLists) : Type 0 where
 
 -- one combination more
 abbrev pub Judged : ℕ → PrefixLists → Tally → Tally → Type 0
-Judged n b old new = (ways : List (List ℕ)) × AreWays b.combination.events b.needs ways × (new ≡ tally_with n b ways old)
+Judged n b old new =
+    (ways : List (List ℕ)) × AreWays b.combination.events b.needs ways
+    × (new ≡ tally_with n b ways old)
 
 -- with its candidates there are too many
 abbrev pub IsTooMuch : ℕ → PrefixLists → Tally → Type 0
-IsTooMuch n b old = (ways : List (List ℕ)) → AreWays b.combination.events b.needs ways → 16384 < old.count + length ways * length (all_orders b.combination.events n)
+IsTooMuch n b old =
+    (ways : List (List ℕ)) → AreWays b.combination.events b.needs ways
+    → 16384 < old.count + length ways * length (all_orders b.combination.events n)
 
 -- the first fact where the answer is yes, else the second
 abbrev pub Tells : Bool → Type 0 → Type 0 → Type 0
@@ -108,7 +125,8 @@ with_indices at (p ∷ ps) = (at, p) ∷ with_indices (at + 1) ps
 -- the combinations that go on with a run of each of the threads, in lexicographic order
 abbrev pub combinations : PrefixLists → List ThreadParts → List PrefixLists
 combinations b [] = b ∷ []
-combinations b (t ∷ ts) = flat_map (λ r. combinations (with_run r.0 r.1 b) ts) (with_indices 0 t.parts.items)
+combinations b (t ∷ ts) =
+    flat_map (λ r. combinations (with_run r.0 r.1 b) ts) (with_indices 0 t.parts.items)
 
 abbrev pub AllFit : ℕ → List PrefixLists → Type 0
 AllFit n [] = Unit {0}
@@ -117,17 +135,27 @@ AllFit n (b ∷ bs) = Fits n b × AllFit n bs
 -- the combinations, one after another
 pub data Searched (n : ℕ) : List PrefixLists → Tally → Tally → Type 0 where
   none : {t : Tally} → Searched n [] t t
-  more : {b : PrefixLists} {bs : List PrefixLists} {t u v : Tally} → Judged n b t u → Searched n bs u v → Searched n (b ∷ bs) t v
+  more : {b : PrefixLists} {bs : List PrefixLists} {t u v : Tally} → Judged n b t u
+      → Searched n bs u v → Searched n (b ∷ bs) t v
 
 -- with one of them there are too many candidates
 pub data AreTooMuch (n : ℕ) : List PrefixLists → Tally → Type 0 where
-  now : {b : PrefixLists} {bs : List PrefixLists} {t : Tally} → IsTooMuch n b t → AreTooMuch n (b ∷ bs) t
-  later : {b : PrefixLists} {bs : List PrefixLists} {t u : Tally} → Judged n b t u → AreTooMuch n bs u → AreTooMuch n (b ∷ bs) t
+  now : {b : PrefixLists} {bs : List PrefixLists} {t : Tally} → IsTooMuch n b t
+      → AreTooMuch n (b ∷ bs) t
+  later : {b : PrefixLists} {bs : List PrefixLists} {t u : Tally} → Judged n b t u
+      → AreTooMuch n bs u → AreTooMuch n (b ∷ bs) t
 
 -- the initial stores alone, and nothing found
 abbrev pub start : List Event → PrefixLists
 start initial = record {
-  combination = record { events = initial; dependencies = no_dependencies; runs = []; sources = []; orders = [] };
+  combination =
+      record {
+        events = initial;
+        dependencies = no_dependencies;
+        runs = [];
+        sources = [];
+        orders = [];
+      };
   needs = [];
   faulted = false;
 }

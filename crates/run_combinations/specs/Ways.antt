@@ -8,8 +8,8 @@ use Rattle.run_combinations.specs.declared.combination.Action.{Action}
 use Rattle.run_combinations.specs.declared.combination.Action.TheVariants.{Read, Write}
 use Rattle.run_combinations.specs.declared.combination.Event.{Event}
 
--- the loads, by their numbers in event order, the stores that each may read, and which stores there are, and which
--- loads the value of a store needs
+-- the loads, by their numbers in event order, the stores that each may read, and which stores there
+-- are, and which loads the value of a store needs
 pub record Accesses : Type 1 where
   pub loads : List ℕ
   pub sources : List (List ℕ)
@@ -24,13 +24,17 @@ Source g i s = Contains (slice_index_or g.sources i []) s
 abbrev pub IsWay : Accesses → List ℕ → Type 0
 IsWay g way = IsAcyclic (Union g.Need (ReadsFrom g.loads way))
 
--- the value of the event can arise, where the first loads read what the way says and the others some store that they
--- may read, and where one load is left out, if any: that of a store once those that it needs have arisen, that of a
--- load once that of the store that it reads has
+-- the value of the event can arise, where the first loads read what the way says and the others
+-- some store that they may read, and where one load is left out, if any: that of a store once those
+-- that it needs have arisen, that of a load once that of the store that it reads has
 pub data Derived (g : Accesses) (way : List ℕ) (without : Option ℕ) : ℕ → Type 0 where
-  stored : {x : ℕ} → g.Store x → ((a : ℕ) → g.Need a x → Derived g way without a) → Derived g way without x
-  read : {x : ℕ} (i : ℕ) → i < length g.loads → (without ≡ Some i → ⊥) → x ≡ slice_index g.loads i → i < length way → Derived g way without (slice_index way i) → Derived g way without x
-  chosen : {x : ℕ} (i s : ℕ) → i < length g.loads → (without ≡ Some i → ⊥) → x ≡ slice_index g.loads i → length way ≤ i → Source g i s → Derived g way without s → Derived g way without x
+  stored : {x : ℕ} → g.Store x → ((a : ℕ) → g.Need a x → Derived g way without a)
+      → Derived g way without x
+  read : {x : ℕ} (i : ℕ) → i < length g.loads → (without ≡ Some i → ⊥) → x ≡ slice_index g.loads i
+      → i < length way → Derived g way without (slice_index way i) → Derived g way without x
+  chosen : {x : ℕ} (i s : ℕ) → i < length g.loads → (without ≡ Some i → ⊥)
+      → x ≡ slice_index g.loads i → length way ≤ i → Source g i s → Derived g way without s
+      → Derived g way without x
 
 -- the first loads read stores that they may, and all loads can
 pub record IsPossible (g : Accesses) (way : List ℕ) : Type 0 where
@@ -38,11 +42,13 @@ pub record IsPossible (g : Accesses) (way : List ℕ) : Type 0 where
   pub allowed : (i : ℕ) → i < length way → Source g i (slice_index way i)
   pub arises : (i : ℕ) → i < length g.loads → Derived g way None (slice_index g.loads i)
 
--- each access is an event, and is either one load or a store; a load reads stores, and a store needs loads
+-- each access is an event, and is either one load or a store; a load reads stores, and a store
+-- needs loads
 pub record IsProper (n : ℕ) (g : Accesses) : Type 0 where
   pub paired : length g.sources ≡ length g.loads
   pub loads_within : (i : ℕ) → i < length g.loads → slice_index g.loads i < n
-  pub apart : (i j : ℕ) → i < length g.loads → j < length g.loads → slice_index g.loads i ≡ slice_index g.loads j → i ≡ j
+  pub apart : (i j : ℕ) → i < length g.loads → j < length g.loads
+      → slice_index g.loads i ≡ slice_index g.loads j → i ≡ j
   pub stores_within : (x : ℕ) → g.Store x → x < n
   pub never_both : (i : ℕ) → i < length g.loads → g.Store (slice_index g.loads i) → ⊥
   pub sources : (i s : ℕ) → i < length g.loads → Source g i s → g.Store s
@@ -55,7 +61,8 @@ nexts choices front = map (λ x. front ++ x ∷ []) choices
 
 -- a load may read the stores of its location and value
 abbrev pub may_read : Action → Action → Bool
-may_read (Read location value) (Write written_to written) = nat_eq written_to location && same_value written value
+may_read (Read location value) (Write written_to written) =
+    nat_eq written_to location && same_value written value
 may_read _ _ = false
 
 abbrev pub sources_of : List Event → Event → List ℕ
@@ -67,9 +74,13 @@ accesses_in es pairs = record {
   loads = numbers is_load 0 es;
   sources = map (sources_of es) (filter is_load es);
   Store = Contains (numbers is_store 0 es);
-  Need = λ a x. Contains pairs (a, x) × Contains (numbers is_load 0 es) a × Contains (numbers is_store 0 es) x;
+  Need =
+      λ a x. Contains pairs (a, x) × Contains (numbers is_load 0 es) a
+      × Contains (numbers is_store 0 es) x;
 }
 
--- the ways to read: a store of its location and value for each load, in lexicographic order, without a cycle
+-- the ways to read: a store of its location and value for each load, in lexicographic order,
+-- without a cycle
 abbrev pub AreWays : List Event → List (ℕ × ℕ) → List (List ℕ) → Type 0
-AreWays es pairs ways = IsFiltered (IsWay (accesses_in es pairs)) (tuples [] (accesses_in es pairs).sources) ways
+AreWays es pairs ways =
+    IsFiltered (IsWay (accesses_in es pairs)) (tuples [] (accesses_in es pairs).sources) ways

@@ -50,7 +50,8 @@ pub fn set_bit(words: &mut [u64; WORDS], a: usize, k: usize)
 /// Adds the bits of the first of the other words.
 pub fn join_words(words: &mut [u64; WORDS], others: &[u64; WORDS], used: usize)
     requires { used ≤ 32 }
-    ensures { (a b : ℕ) → RowsHave words.new a b ↔ Union (RowsHave words.old) (InFirst used others.now) a b }
+    ensures { (a b : ℕ)
+        → RowsHave words.new a b ↔ Union (RowsHave words.old) (InFirst used others.now) a b }
 {
     for a in 0..used {
         words[a] = either(words[a], others[a]);

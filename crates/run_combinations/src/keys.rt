@@ -34,7 +34,8 @@ impl KeySet {
     /// Adds a pair by its number.
     fn insert(&mut self, key: usize)
         requires { key < 2048 }
-        ensures { (a b : ℕ) → HasKey self.new a b ↔ (HasKey self.old a b ⊎ ((key / 64 ≡ a) × (key % 64 ≡ b))) }
+        ensures { (a b : ℕ)
+            → HasKey self.new a b ↔ (HasKey self.old a b ⊎ ((key / 64 ≡ a) × (key % 64 ≡ b))) }
     {
         set_bit(&mut self.words, key / 64, key % 64);
         self.used = self.used.max(key / 64 + 1);
@@ -42,7 +43,9 @@ impl KeySet {
 
     /// Adds a pair, if it has a number.
     pub fn insert_pair(&mut self, values: &[Value], location: usize, value: Value)
-        ensures { (a b : ℕ) → HasKey self.new a b ↔ (HasKey self.old a b ⊎ (bit_of values.now location value ≡ Some (a, b))) }
+        ensures { (a b : ℕ)
+            → HasKey self.new a b
+            ↔ (HasKey self.old a b ⊎ (bit_of values.now location value ≡ Some (a, b))) }
     {
         match key_of(values, location, value) {
             Some(key) => self.insert(key),

@@ -61,7 +61,8 @@ fn initial_events(alloc: Global, initial: &[Value]) -> Result<Vec<Event>, AllocE
 
 /// What the initial stores store.
 fn initial_keys(values: &[Value], initial: &[Event]) -> KeySet
-    ensures { (location : ℕ) (value : Value) (a b : ℕ) → HasStore location value initial.now → bit_of values.now location value ≡ Some (a, b) → HasKey result a b }
+    ensures { (location : ℕ) (value : Value) (a b : ℕ) → HasStore location value initial.now
+        → bit_of values.now location value ≡ Some (a, b) → HasKey result a b }
 {
     let mut reads = KeySet::empty();
     let mut writes = KeySet::empty();
@@ -71,8 +72,8 @@ fn initial_keys(values: &[Value], initial: &[Event]) -> KeySet
     writes
 }
 
-/// The runs of each thread, where `held` says what locations may hold: but for some with a load of what
-/// its location never holds.
+/// The runs of each thread, where `held` says what locations may hold: but for some with a load of
+/// what its location never holds.
 fn served_runs(
     alloc: Global,
     program: &Program,
@@ -105,7 +106,8 @@ fn all_sketches(
     domain: &Domain,
     runs: &[Vec<Run>],
 ) -> Result<Vec<Vec<Sketch>>, AllocError>
-    ensures { IfOk result (λ v. AllZip (λ r s. AreSketches domain.now.values.items r.items s.items) runs.now v.items) }
+    ensures { IfOk result (λ v.
+        AllZip (λ r s. AreSketches domain.now.values.items r.items s.items) runs.now v.items) }
 {
     let mut threads = Vec::with_capacity(alloc, runs.len())?;
     for thread in runs {
@@ -165,7 +167,9 @@ fn sifted_parts(
     initial: &KeySet,
 ) -> Result<Vec<ThreadParts>, AllocError>
     requires { IsSet domain.now.values.items }
-    ensures { IfOk result (λ v. (runs : List (Vec Run Global)) × AreServedRuns program.now domain.now.values.items runs × AreSiftedParts domain.now.values.items initial.now runs v.items) }
+    ensures { IfOk result (λ v. (runs : List (Vec Run Global))
+        × AreServedRuns program.now domain.now.values.items runs
+        × AreSiftedParts domain.now.values.items initial.now runs v.items) }
 {
     let runs = all_runs(alloc, program, domain)?;
     let mut sketches = all_sketches(alloc, domain, &runs)?;
@@ -178,7 +182,9 @@ impl Layout {
     /// What the candidates of a program over a domain are made of.
     pub fn new(alloc: Global, program: Program, domain: &Domain) -> Result<Layout, AllocError>
         requires { IsSet domain.now.values.items }
-        ensures { IfOk result (λ l. (runs : List (Vec Run Global)) × AreServedRuns program domain.now.values.items runs × IsLaidOut program runs l × IsKeyed (bit_of domain.now.values.items) l) }
+        ensures { IfOk result (λ l. (runs : List (Vec Run Global))
+            × AreServedRuns program domain.now.values.items runs × IsLaidOut program runs l
+            × IsKeyed (bit_of domain.now.values.items) l) }
     {
         let initial = initial_events(alloc, &program.initial)?;
         let initial_writes = initial_keys(&domain.values, &initial);
@@ -208,7 +214,8 @@ pub fn registers(
     alloc: Global,
     threads: &[ThreadParts],
 ) -> Result<Vec<Vec<[Value; 32]>>, AllocError>
-    ensures { IfOk result (λ v. map (λ w. w.items) v.items ≡ map (λ t. map (λ p. p.registers) t.parts.items) threads.now) }
+    ensures { IfOk result (λ v. map (λ w. w.items) v.items
+        ≡ map (λ t. map (λ p. p.registers) t.parts.items) threads.now) }
 {
     let mut all = Vec::with_capacity(alloc, threads.len())?;
     for thread in threads {

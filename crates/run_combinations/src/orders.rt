@@ -51,7 +51,8 @@ fn find_stores(events: &[Event], location: usize, stores: &mut Vec<u8>) -> Resul
 /// Makes them the stores of a location.
 fn fill(stores: &mut LocationStores, events: &[Event], location: usize) -> Result<(), AllocError>
     requires { location < 128 }
-    ensures { OnOk result ((stores.new.initial ≡ location) × (stores.new.others.items ≡ stores_of events.now location)) }
+    ensures { OnOk result ((stores.new.initial ≡ location)
+        × (stores.new.others.items ≡ stores_of events.now location)) }
 {
     stores.initial = location as u8;
     find_stores(events, location, &mut stores.others)?;
@@ -61,7 +62,8 @@ fn fill(stores: &mut LocationStores, events: &[Event], location: usize) -> Resul
 /// Makes them the stores of each location, in the order of the locations.
 fn fill_all(events: &[Event], locations: &mut Vec<LocationStores>) -> Result<(), AllocError>
     requires { length locations.old.items ≤ 128 }
-    ensures stores { OnOk result (store_lists locations.new.items ≡ growing.all_stores events.now (length locations.old.items)) }
+    ensures stores { OnOk result (store_lists locations.new.items
+        ≡ growing.all_stores events.now (length locations.old.items)) }
     ensures many { OnOk result (length locations.new.items ≡ length locations.old.items) }
 {
     for location in 0..locations.len() {
@@ -84,8 +86,8 @@ fn bare_locations(alloc: Global, locations: usize) -> Result<Vec<LocationStores>
     Ok(bare)
 }
 
-/// Whether the front has the store at an index from `begin` on. It looks at all of them, since a branch that is guessed
-/// wrong costs more than to compare some stores.
+/// Whether the front has the store at an index from `begin` on. It looks at all of them, since a
+/// branch that is guessed wrong costs more than to compare some stores.
 fn has_store(front: &[u8], begin: usize, store: u8) -> bool
     requires { begin ≤ length front.now }
     ensures { result ≡ event_lists.has_store (drop begin front.now) store }
@@ -105,7 +107,8 @@ fn add_orders(
     found: &mut Vec<u8>,
 ) -> Result<(), AllocError>
     ensures front { OnOk result (front.new.items ≡ front.old.items) }
-    ensures found { OnOk result (found.new.items ≡ found.old.items ++ concat (orders_from (store_lists locations.now) front.old.items)) }
+    ensures found { OnOk result (found.new.items
+        ≡ found.old.items ++ concat (orders_from (store_lists locations.now) front.old.items)) }
 {
     match locations.split_first() {
         None => {
@@ -123,8 +126,8 @@ fn add_orders(
     }
 }
 
-/// Adds the orders that begin with the front, in which the stores of a location begin at an index and
-/// so many of its stores by threads are left out, and go on with these and the later locations.
+/// Adds the orders that begin with the front, in which the stores of a location begin at an index
+/// and so many of its stores by threads are left out, and go on with these and the later locations.
 #[cycle(growing)]
 fn add_rows(
     others: &[u8],
@@ -136,7 +139,10 @@ fn add_rows(
 ) -> Result<(), AllocError>
     requires { begin ≤ length front.old.items }
     ensures front { OnOk result (front.new.items ≡ front.old.items) }
-    ensures found { OnOk result (found.new.items ≡ found.old.items ++ concat (flat_map (orders_from (store_lists later.now)) (rows_from others.now begin left front.old.items))) }
+    ensures found { OnOk result (found.new.items
+        ≡ found.old.items
+        ++ concat (flat_map (orders_from (store_lists later.now))
+        (rows_from others.now begin left front.old.items))) }
 {
     if left == 0 {
         add_orders(later, front, found)?;
@@ -217,7 +223,8 @@ fn store_count(events: &[Event], location: usize) -> usize
 
 /// How many orders the stores have, or the greatest number where that is less.
 pub fn order_count(events: &[Event], locations: usize) -> usize
-    ensures { AreApart events.now (min locations 128) → result ≡ min (length (all_orders events.now (min locations 128))) (2 ^ 64 - 1) }
+    ensures { AreApart events.now (min locations 128)
+        → result ≡ min (length (all_orders events.now (min locations 128))) (2 ^ 64 - 1) }
 {
     let mut count = 1usize;
     for location in 0..locations.min(MAX_EVENTS) {
@@ -235,7 +242,9 @@ fn add_ordered(
     made: &mut Vec<Combination>,
 ) -> Result<(), AllocError>
     requires { length stores.old.items ≤ 128 }
-    ensures made { OnOk result (map combination_lists made.new.items ≡ map combination_lists made.old.items ++ ordered (length stores.old.items) (combination_lists combination) ∷ []) }
+    ensures made { OnOk result (map combination_lists made.new.items
+        ≡ map combination_lists made.old.items
+        ++ ordered (length stores.old.items) (combination_lists combination) ∷ []) }
     ensures many { OnOk result (length stores.new.items ≡ length stores.old.items) }
 {
     combination.orders = orders(alloc, &combination.events, stores, front)?;
@@ -251,7 +260,9 @@ fn all_ordered(
     front: &mut Vec<u8>,
 ) -> Result<Vec<Combination>, AllocError>
     requires { length stores.old.items ≤ 128 }
-    ensures { IfOk result (λ v. map combination_lists v.items ≡ map (λ c. ordered (length stores.old.items) (combination_lists c)) combinations.items) }
+    ensures { IfOk result (λ v. map combination_lists v.items
+        ≡ map (λ c. ordered (length stores.old.items) (combination_lists c))
+        combinations.items) }
 {
     let mut made = Vec::with_capacity(alloc, combinations.len())?;
     for combination in combinations {
@@ -266,7 +277,8 @@ pub fn with_orders(
     combinations: Vec<Combination>,
     locations: usize,
 ) -> Result<Vec<Combination>, AllocError>
-    ensures { IfOk result (λ v. map combination_lists v.items ≡ map (λ c. ordered (min locations 128) (combination_lists c)) combinations.items) }
+    ensures { IfOk result (λ v. map combination_lists v.items
+        ≡ map (λ c. ordered (min locations 128) (combination_lists c)) combinations.items) }
 {
     let mut stores = bare_locations(alloc, locations)?;
     let mut front = Vec::with_capacity(alloc, MAX_EVENTS)?;

@@ -61,7 +61,10 @@ fn action_of(event: thread_runs::Event) -> Option<Action>
 
 /// Adds what an action reads or stores.
 pub fn add_keys(values: &[Value], action: Action, reads: &mut KeySet, writes: &mut KeySet)
-    ensures { (es : List Event) (thread : Option ℕ) → AreKeys (bit_of values.now) es reads.old writes.old → AreKeys (bit_of values.now) (es ++ record { thread = thread; action = action } ∷ []) reads.new writes.new }
+    ensures { (es : List Event) (thread : Option ℕ)
+        → AreKeys (bit_of values.now) es reads.old writes.old
+        → AreKeys (bit_of values.now) (es ++ record { thread = thread; action = action } ∷ [])
+        reads.new writes.new }
 {
     match action {
         Action::Read { location, value } => reads.insert_pair(values, location, value),
@@ -80,7 +83,9 @@ fn events_in(run: &Run) -> &[thread_runs::Event]
 /// What the events of the run at this index read and store.
 fn sketch_of(values: &[Value], index: usize, run: &Run) -> Sketch
     ensures index { result.run ≡ index }
-    ensures keys { (thread : ℕ) → AreKeys (bit_of values.now) (thread_events thread run.now.events.items) result.reads result.writes }
+    ensures keys { (thread : ℕ)
+        → AreKeys (bit_of values.now) (thread_events thread run.now.events.items) result.reads
+        result.writes }
 {
     let mut reads = KeySet::empty();
     let mut writes = KeySet::empty();
@@ -198,7 +203,8 @@ fn part_of(
     sketch: &Sketch,
 ) -> Result<Part, AllocError>
     ensures part { IfOk result (λ p. IsPartOf thread run.now p) }
-    ensures sketch { IfOk result (λ p. (p.run ≡ sketch.now.run) × (p.reads ≡ sketch.now.reads) × (p.writes ≡ sketch.now.writes)) }
+    ensures sketch { IfOk result (λ p. (p.run ≡ sketch.now.run) × (p.reads ≡ sketch.now.reads)
+        × (p.writes ≡ sketch.now.writes)) }
 {
     Ok(Part {
         run: sketch.run,

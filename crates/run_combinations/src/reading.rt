@@ -39,7 +39,8 @@ pub struct Reading {
 
 /// Adds the event, if it is wanted and the set can have it.
 fn add_if(set: &mut EventSet, is_wanted: bool, event: usize)
-    ensures { IsEvents set.new set.old.count (λ x. IsMember set.old x ⊎ ((x < set.old.count) × (x ≡ event) × IsTrue is_wanted)) }
+    ensures { IsEvents set.new set.old.count (λ x. IsMember set.old x
+        ⊎ ((x < set.old.count) × (x ≡ event) × IsTrue is_wanted)) }
 {
     let count = set.count();
     if is_wanted && event < count {
@@ -169,7 +170,8 @@ fn is_need(events: &[Event], pair: (usize, usize), store: usize) -> bool
 /// The loads that the store needs.
 fn needs_of(events: &[Event], need_pairs: &[(usize, usize)], store: usize) -> EventSet
     requires { length events.now ≤ MAX_EVENTS }
-    ensures { IsEvents result (length events.now) (λ a. Contains need_pairs.now (a, store) × Contains (numbers is_load 0 events.now) a) }
+    ensures { IsEvents result (length events.now) (λ a. Contains need_pairs.now (a, store)
+        × Contains (numbers is_load 0 events.now) a) }
 {
     let mut found = EventSet::empty(events.len());
     for number in 0..need_pairs.len() {
@@ -203,7 +205,8 @@ fn find_stores(
     stores: &mut Vec<Store>,
 ) -> Result<(), AllocError>
     requires { length events.now ≤ MAX_EVENTS }
-    ensures { OnOk result (AreStores events.now need_pairs.now (length events.now) stores.new.items) }
+    ensures { OnOk result (AreStores events.now need_pairs.now (length events.now)
+        stores.new.items) }
 {
     stores.clear();
     for number in 0..events.len() {
@@ -234,7 +237,8 @@ fn push_copy(
     store: Option<u8>,
     longer: &mut Vec<Vec<u8>>,
 ) -> Result<(), AllocError>
-    ensures { OnOk result (lists_of longer.new.items ≡ lists_of longer.old.items ++ ways.nexts (option_to_list store) way.now.items) }
+    ensures { OnOk result (lists_of longer.new.items
+        ≡ lists_of longer.old.items ++ ways.nexts (option_to_list store) way.now.items) }
 {
     if let Some(store) = store {
         longer.push(with_store(alloc, way, store)?)?;
@@ -248,7 +252,8 @@ fn push_way(
     store: Option<u8>,
     longer: &mut Vec<Vec<u8>>,
 ) -> Result<(), AllocError>
-    ensures { OnOk result (lists_of longer.new.items ≡ lists_of longer.old.items ++ ways.nexts (option_to_list store) way.items) }
+    ensures { OnOk result (lists_of longer.new.items
+        ≡ lists_of longer.old.items ++ ways.nexts (option_to_list store) way.items) }
 {
     if let Some(store) = store {
         way.push(store)?;
@@ -268,13 +273,15 @@ impl Reading {
     }
 
     /// Makes it the loads and stores among the events, of which there are at most 128. A pair of
-    /// `need_pairs` is a load and a store whose value needs that of the load. Errors: out of memory.
+    /// `need_pairs` is a load and a store whose value needs that of the load. Errors: out of
+    /// memory.
     pub fn show(
         &mut self,
         events: &[Event],
         need_pairs: &[(usize, usize)],
     ) -> Result<(), AllocError>
-        ensures { OnOk result (length events.now ≤ MAX_EVENTS → Shows events.now need_pairs.now self.new) }
+        ensures { OnOk result (length events.now ≤ MAX_EVENTS
+            → Shows events.now need_pairs.now self.new) }
     {
         let events = &events[..events.len().min(MAX_EVENTS)];
         self.count = events.len();
@@ -352,7 +359,8 @@ impl Reading {
         index: usize,
         longer: &mut Vec<Vec<u8>>,
     ) -> Result<(), AllocError>
-        ensures { OnOk result (GainsNext self.now load.now index way.items (lists_of longer.old.items) (lists_of longer.new.items)) }
+        ensures { OnOk result (GainsNext self.now load.now index way.items
+            (lists_of longer.old.items) (lists_of longer.new.items)) }
     {
         let derived = self.derived(&way, Some(index));
         let mut last = None;
@@ -377,7 +385,10 @@ impl Reading {
         limit: usize,
         longer: &mut Vec<Vec<u8>>,
     ) -> Result<bool, AllocError>
-        ensures { IfOk result (λ b. Tells b (AreNext self.now load.now index (length fronts.old.items) (lists_of fronts.old.items) (lists_of longer.new.items)) (AreOver self.now load.now index (lists_of fronts.old.items) limit)) }
+        ensures { IfOk result (λ b. Tells b
+            (AreNext self.now load.now index (length fronts.old.items)
+            (lists_of fronts.old.items) (lists_of longer.new.items))
+            (AreOver self.now load.now index (lists_of fronts.old.items) limit)) }
     {
         longer.clear();
         for place in 0..fronts.len() {
@@ -408,7 +419,9 @@ impl Reading {
         ways: &mut Vec<Vec<u8>>,
         limit: usize,
     ) -> Result<bool, AllocError>
-        ensures { ArePossible self.now 0 (lists_of ways.old.items) → IfOk result (λ b. Tells b (HasWays self.now (lists_of ways.new.items)) (HasOver self.now limit)) }
+        ensures { ArePossible self.now 0 (lists_of ways.old.items)
+            → IfOk result (λ b.
+            Tells b (HasWays self.now (lists_of ways.new.items)) (HasOver self.now limit)) }
     {
         let mut longer = Vec::new(alloc);
         for (index, load) in self.loads.iter().enumerate() {
@@ -424,7 +437,8 @@ impl Reading {
     /// order: for each load in event order the number of its store. `None` where there are over
     /// `limit`.
     pub fn ways(&self, alloc: Global, limit: usize) -> Result<Option<Vec<Vec<u8>>>, AllocError>
-        ensures { IfOk result (λ o. MatchOption o (HasOver self.now limit) (λ v. HasWays self.now (lists_of v.items) × (length v.items ≤ limit))) }
+        ensures { IfOk result (λ o. MatchOption o (HasOver self.now limit)
+            (λ v. HasWays self.now (lists_of v.items) × (length v.items ≤ limit))) }
     {
         let mut ways = self.first_ways(alloc)?;
         if !self.extend_ways(alloc, &mut ways, limit)? {

@@ -60,7 +60,8 @@ struct Prefix {
 /// Whether the loads of the prefix and the part can all read what these, the initial stores or the
 /// later threads store.
 fn fits(prefix: &Prefix, part: &Part, later: &KeySet) -> bool
-    ensures { TellsWithin result (IsRead prefix.now part.now) (IsStored prefix.now part.now later.now) }
+    ensures { TellsWithin result (IsRead prefix.now part.now)
+        (IsStored prefix.now part.now later.now) }
 {
     let mut stored = *later;
     stored.join(&prefix.writes);
@@ -94,7 +95,8 @@ fn copied(alloc: Global, made: &PrefixRuns) -> Result<PrefixRuns, AllocError>
 
 /// Adds the run at this index among those of the next thread.
 fn add_run(made: &mut PrefixRuns, run: usize, part: &Part) -> Result<(), AllocError>
-    ensures { OnOk result (runs_lists made.new ≡ combination_with_run run part.now (runs_lists made.old)) }
+    ensures { OnOk result (runs_lists made.new
+        ≡ combination_with_run run part.now (runs_lists made.old)) }
 {
     let base = made.events.len();
     made.dependencies.add(&part.links.dependencies, base)?;
@@ -154,7 +156,8 @@ impl Prefix {
 
     /// Adds the run at this index among those of the next thread.
     fn push(&mut self, run: usize, part: &Part) -> Result<(), AllocError>
-        ensures lists { OnOk result (prefix_lists self.new ≡ with_run run part.now (prefix_lists self.old)) }
+        ensures lists { OnOk result (prefix_lists self.new
+            ≡ with_run run part.now (prefix_lists self.old)) }
         ensures keys { OnOk result (HasJoined self.old part.now self.new) }
     {
         let base = self.runs.events.len();
@@ -182,7 +185,8 @@ impl Prefix {
 /// The combination with these ways to read, without its orders.
 fn combination(alloc: Global, made: PrefixRuns, ways: Vec<Vec<u8>>) -> Combination
     requires { length made.events.items ≤ 128 }
-    ensures { combination_lists result ≡ record (runs_lists made) { sources = lists_of ways.items } }
+    ensures { combination_lists result
+        ≡ record (runs_lists made) { sources = lists_of ways.items } }
 {
     Combination {
         events: made.events,
@@ -194,10 +198,12 @@ fn combination(alloc: Global, made: PrefixRuns, ways: Vec<Vec<u8>>) -> Combinati
 }
 
 impl Found {
-    /// Counts the candidates of a combination with so many ways to read and orders, and notes whether it has a fault.
+    /// Counts the candidates of a combination with so many ways to read and orders, and notes
+    /// whether it has a fault.
     fn count_ways(&mut self, ways: usize, orders: usize, is_faulted: bool)
         ensures combinations { self.new.combinations ≡ self.old.combinations }
-        ensures count { self.new.count ≡ min (self.old.count + min (ways * orders) (2 ^ 64 - 1)) (2 ^ 64 - 1) }
+        ensures count { self.new.count
+            ≡ min (self.old.count + min (ways * orders) (2 ^ 64 - 1)) (2 ^ 64 - 1) }
         ensures faulted { self.new.is_faulted ≡ (self.old.is_faulted || is_faulted) }
     {
         self.count = self.count.saturating_add(ways.saturating_mul(orders));
@@ -214,7 +220,9 @@ impl Found {
         orders: usize,
     ) -> Result<(), AllocError>
         requires { length prefix.now.runs.events.items ≤ 128 }
-        ensures { OnOk result (tally self.new ≡ capped_tally_with (prefix_lists prefix.now) (lists_of ways.items) orders (tally self.old)) }
+        ensures { OnOk result (tally self.new
+            ≡ capped_tally_with (prefix_lists prefix.now) (lists_of ways.items) orders
+            (tally self.old)) }
     {
         if ways.is_empty() {
             return Ok(());
@@ -237,7 +245,11 @@ impl Found {
         prefix: &Prefix,
     ) -> Result<bool, AllocError>
         requires { length prefix.now.runs.events.items ≤ 128 }
-        ensures { Fits (min locations 128) (prefix_lists prefix.now) → self.old.count ≤ 16384 → IfOk result (λ b. Tells b (Judged (min locations 128) (prefix_lists prefix.now) (tally self.old) (tally self.new) × (self.new.count ≤ 16384)) (IsTooMuch (min locations 128) (prefix_lists prefix.now) (tally self.old))) }
+        ensures { Fits (min locations 128) (prefix_lists prefix.now) → self.old.count ≤ 16384
+            → IfOk result (λ b. Tells b
+            (Judged (min locations 128) (prefix_lists prefix.now) (tally self.old)
+            (tally self.new) × (self.new.count ≤ 16384))
+            (IsTooMuch (min locations 128) (prefix_lists prefix.now) (tally self.old))) }
     {
         let orders = order_count(&prefix.runs.events, locations).max(1);
         let limit = MAX_CANDIDATES.saturating_sub(self.count) / orders;
@@ -252,8 +264,8 @@ impl Found {
     }
 }
 
-/// Adds the combinations that begin with the prefix and go on with a run of each of the threads, and
-/// leaves the prefix as it was; `false` where there are too many candidates.
+/// Adds the combinations that begin with the prefix and go on with a run of each of the threads,
+/// and leaves the prefix as it was; `false` where there are too many candidates.
 fn search_from(
     alloc: Global,
     locations: usize,
@@ -262,8 +274,18 @@ fn search_from(
     found: &mut Found,
 ) -> Result<bool, AllocError>
     requires { AreSmall (combinations (prefix_lists prefix.old) threads.now) }
-    ensures found { (key : ℕ → Value → Option (ℕ × ℕ)) → AreKeys key prefix.old.runs.events.items prefix.old.reads prefix.old.writes → ThreadsAreKeyed key threads.now → AllFit (min locations 128) (combinations (prefix_lists prefix.old) threads.now) → found.old.count ≤ 16384 → IfOk result (λ b. Tells b (Searched (min locations 128) (combinations (prefix_lists prefix.old) threads.now) (tally found.old) (tally found.new) × (found.new.count ≤ 16384)) (AreTooMuch (min locations 128) (combinations (prefix_lists prefix.old) threads.now) (tally found.old))) }
-    ensures prefix { IfOk result (λ b. IsTrue b → prefix_lists prefix.new ≡ prefix_lists prefix.old) }
+    ensures found { (key : ℕ → Value → Option (ℕ × ℕ))
+        → AreKeys key prefix.old.runs.events.items prefix.old.reads prefix.old.writes
+        → ThreadsAreKeyed key threads.now
+        → AllFit (min locations 128) (combinations (prefix_lists prefix.old) threads.now)
+        → found.old.count ≤ 16384
+        → IfOk result (λ b. Tells b
+        (Searched (min locations 128) (combinations (prefix_lists prefix.old) threads.now)
+        (tally found.old) (tally found.new) × (found.new.count ≤ 16384))
+        (AreTooMuch (min locations 128) (combinations (prefix_lists prefix.old) threads.now)
+        (tally found.old))) }
+    ensures prefix { IfOk result (λ b. IsTrue b
+        → prefix_lists prefix.new ≡ prefix_lists prefix.old) }
 {
     if threads.is_empty() {
         let is_few = found.judge(alloc, locations, prefix)?;
@@ -288,7 +310,8 @@ fn search_from(
 /// The initial stores alone.
 fn first_prefix(alloc: Global, layout: &Layout) -> Result<Prefix, AllocError>
     ensures made { IfOk result (λ f. prefix_lists f ≡ start layout.now.initial.items) }
-    ensures keys { IfOk result (λ f. ((a b : ℕ) → HasKey f.reads a b → ⊥) × (f.writes ≡ layout.now.initial_writes)) }
+    ensures keys { IfOk result (λ f. ((a b : ℕ) → HasKey f.reads a b → ⊥)
+        × (f.writes ≡ layout.now.initial_writes)) }
 {
     Ok(Prefix {
         runs: PrefixRuns {
@@ -306,7 +329,13 @@ fn first_prefix(alloc: Global, layout: &Layout) -> Result<Prefix, AllocError>
 /// Adds the combinations of a layout to nothing; `false` where there are too many candidates.
 fn search_all(alloc: Global, layout: &Layout, found: &mut Found) -> Result<bool, AllocError>
     requires { AreSmall (all_combinations layout.now) }
-    ensures { (key : ℕ → Value → Option (ℕ × ℕ)) → IsKeyed key layout.now → AllFit (location_count layout.now) (all_combinations layout.now) → tally found.old ≡ nothing → IfOk result (λ b. Tells b (Searched (location_count layout.now) (all_combinations layout.now) nothing (tally found.new) × (found.new.count ≤ 16384)) (AreTooMuch (location_count layout.now) (all_combinations layout.now) nothing)) }
+    ensures { (key : ℕ → Value → Option (ℕ × ℕ)) → IsKeyed key layout.now
+        → AllFit (location_count layout.now) (all_combinations layout.now)
+        → tally found.old ≡ nothing
+        → IfOk result (λ b. Tells b
+        (Searched (location_count layout.now) (all_combinations layout.now) nothing
+        (tally found.new) × (found.new.count ≤ 16384))
+        (AreTooMuch (location_count layout.now) (all_combinations layout.now) nothing)) }
 {
     let mut prefix = first_prefix(alloc, layout)?;
     let locations = layout.initial.len();
@@ -318,7 +347,12 @@ fn search_all(alloc: Global, layout: &Layout, found: &mut Found) -> Result<bool,
 /// where there are too many candidates.
 pub fn find_combinations(alloc: Global, layout: &Layout) -> Result<Option<Found>, AllocError>
     requires { AreSmall (all_combinations layout.now) }
-    ensures { (key : ℕ → Value → Option (ℕ × ℕ)) → IsKeyed key layout.now → AllFit (location_count layout.now) (all_combinations layout.now) → IfOk result (λ o. MatchOption o (AreTooMuch (location_count layout.now) (all_combinations layout.now) nothing) (λ f. Searched (location_count layout.now) (all_combinations layout.now) nothing (tally f) × (f.count ≤ 16384))) }
+    ensures { (key : ℕ → Value → Option (ℕ × ℕ)) → IsKeyed key layout.now
+        → AllFit (location_count layout.now) (all_combinations layout.now)
+        → IfOk result (λ o. MatchOption o
+        (AreTooMuch (location_count layout.now) (all_combinations layout.now) nothing)
+        (λ f. Searched (location_count layout.now) (all_combinations layout.now) nothing
+        (tally f) × (f.count ≤ 16384))) }
 {
     let mut found = Found {
         combinations: Vec::new(alloc),

@@ -1,4 +1,5 @@
--- Read this first: the cells of a board, as the desk counts them: test by test, in the order of the models.
+-- Read this first: the cells of a board, as the desk counts them: test by test, in the order of the
+-- models.
 use Rattle.std.specs.Prelude.{◌≡◌, ℕ, ◌*◌, ◌+◌, ◌<◌, ◌≤◌, ◌^◌, List, [], ◌∷◌, ◌++◌, Option, Some, None, length}
 use Rattle.std.specs.Prelude.{nat_lt, if◌then◌else◌, slice_get}
 use Rattle.verdict.specs.declared.answer.Outcome.{Outcome}
@@ -12,7 +13,8 @@ abbrev pub cell_with : List ℕ → List ℕ → Option Outcome → BoardCell Ou
 cell_with test model outcome = record { test = test; model = model; outcome = outcome }
 
 -- the cells of a test, one for each model: open where the row of the test is too short
-abbrev pub row_cells : List ℕ → List ColumnContent → List (Option Outcome) → List (BoardCell Outcome)
+abbrev pub row_cells : List ℕ → List ColumnContent → List (Option Outcome)
+    → List (BoardCell Outcome)
 row_cells test [] outcomes = []
 row_cells test (c ∷ cs) [] = cell_with test c.name None ∷ row_cells test cs []
 row_cells test (c ∷ cs) (o ∷ os) = cell_with test c.name o ∷ row_cells test cs os
@@ -27,7 +29,8 @@ IsCountable b = length b.rows * length b.columns < 2 ^ 64
 
 -- all cells, and none of a board that is not countable
 abbrev pub board_cells : BoardContent → List (BoardCell Outcome)
-board_cells b = if nat_lt (length b.rows * length b.columns) (2 ^ 64) then all_cells b.columns b.rows else []
+board_cells b =
+    if nat_lt (length b.rows * length b.columns) (2 ^ 64) then all_cells b.columns b.rows else []
 
 -- ---- their indexes
 
@@ -37,7 +40,8 @@ HasCell b at = (x : Option Outcome) × (cell_at b.rows at.test at.model ≡ Some
 
 -- they are those of the cell that the desk counts so
 abbrev pub IsIndexOf : BoardContent → ℕ → CellIndex → Type 0
-IsIndexOf b index at = (index ≡ at.test * length b.columns + at.model) × (at.model < length b.columns)
+IsIndexOf b index at =
+    (index ≡ at.test * length b.columns + at.model) × (at.model < length b.columns)
 
 -- they are those of the cell that the desk counts so, and it is there
 pub record IsCellAt (b : BoardContent) (index : ℕ) (at : CellIndex) : Type 0 where
@@ -48,7 +52,8 @@ pub record IsCellAt (b : BoardContent) (index : ℕ) (at : CellIndex) : Type 0 w
 -- the indexes are no more than these cells, and those of the row's cells are among them
 pub record IsRowRange (count models row first end : ℕ) : Type 0 where
   pub within : end ≤ count
-  pub all : (j : ℕ) → j < models → row * models + j < count → (first ≤ row * models + j) × (row * models + j < end)
+  pub all : (j : ℕ) → j < models → row * models + j < count
+      → (first ≤ row * models + j) × (row * models + j < end)
 
 -- ---- their names
 
@@ -64,4 +69,5 @@ pub record IsNamedAt (b : BoardContent) (at : CellIndex) (test model : List ℕ)
 -- there is no test or no model at these indexes
 abbrev pub HasNoNames : BoardContent → CellIndex → Type 0
 HasNoNames b at =
-    (row : RowContent) (column : ColumnContent) → slice_get b.rows at.test ≡ Some row → slice_get b.columns at.model ≡ Some column → ⊥
+    (row : RowContent) (column : ColumnContent) → slice_get b.rows at.test ≡ Some row
+    → slice_get b.columns at.model ≡ Some column → ⊥

@@ -1,4 +1,5 @@
--- The texts after some operations as they are read, and with the numbers of their items. Read it after Cells and Texts.
+-- The texts after some operations as they are read, and with the numbers of their items. Read it
+-- after Cells and Texts.
 use Rattle.std.specs.Prelude.{◌≡◌, ◌≤◌, ℕ, false, List, [], ◌∷◌, ◌++◌, length}
 use Rattle.verdict.specs.declared.answer.Outcome.{Outcome}
 use Rattle.bench_texts.specs.Edits as edits
@@ -20,9 +21,10 @@ pub record IsWithinLimits (h : Held) : Type 0 where
   pub tests : length h.tests ≤ 512
   pub models : length h.models ≤ 16
 
--- The texts are the same, wherever they lie in memory: their tests and models, the numbers of their items, and what evaluating
--- each test under each model from nothing gives.
+-- The texts are the same, wherever they lie in memory: their tests and models, the numbers of their
+-- items, and what evaluating each test under each model from nothing gives.
 pub record SayTheSame (t u : StampedTexts) : Type 0 where
   pub held : held_of u.texts ≡ held_of t.texts
   pub contents : texts_of u.texts ≡ texts_of t.texts
-  pub results : (test model : List ℕ) (o : Outcome) → from_scratch t test model o → from_scratch u test model o
+  pub results : (test model : List ℕ) (o : Outcome) → from_scratch t test model o
+      → from_scratch u test model o

@@ -66,19 +66,26 @@ held_models h = map (λ m. m.name) h.models
 one_more_is_made : (all : List BoardOp) (op : BoardOp) (t : BenchTexts)
     → AreMadeFrom t all → IsMadeOn (fold contents_with t all) op → AreMadeFrom t (all ++ op ∷ [])
 one_more_is_made [] op t made may = (may, tt)
-one_more_is_made (o ∷ all) op t made may = (made.0, one_more_is_made all op (contents_with t o) made.1 may)
+one_more_is_made (o ∷ all) op t made may =
+    (made.0, one_more_is_made all op (contents_with t o) made.1 may)
 
-pub goes_on : (all : List BoardOp) (op : BoardOp) → IsHistory all → MayComeNext all op → IsHistory (all ++ op ∷ [])
-goes_on all op history may =
-    (one_more_is_legal all op nothing_held 0 history.0 may.0, one_more_is_made all op no_contents history.1 may.1)
+pub goes_on : (all : List BoardOp) (op : BoardOp) → IsHistory all → MayComeNext all op
+    → IsHistory (all ++ op ∷ [])
+goes_on all op history may = (
+  one_more_is_legal all op nothing_held 0 history.0 may.0,
+  one_more_is_made all op no_contents history.1 may.1,
+)
 
-texts_push : (all : List BoardOp) (op : BoardOp) → texts_after (all ++ op ∷ []) ≡ held_after (texts_after all) op
+texts_push : (all : List BoardOp) (op : BoardOp)
+    → texts_after (all ++ op ∷ []) ≡ held_after (texts_after all) op
 texts_push all op = fold_push held_after nothing_held all op
 
-contents_push : (all : List BoardOp) (op : BoardOp) → contents_after (all ++ op ∷ []) ≡ contents_with (contents_after all) op
+contents_push : (all : List BoardOp) (op : BoardOp)
+    → contents_after (all ++ op ∷ []) ≡ contents_with (contents_after all) op
 contents_push all op = fold_push contents_with no_contents all op
 
-board_push : (all : List BoardOp) (op : BoardOp) → board_after (all ++ op ∷ []) ≡ after_operation (board_after all) op
+board_push : (all : List BoardOp) (op : BoardOp)
+    → board_after (all ++ op ∷ []) ≡ after_operation (board_after all) op
 board_push all op = fold_push after_operation no_board all op
 
 names_push : (all : List BoardOp) (op : BoardOp) (last : ℕ)
@@ -88,8 +95,12 @@ names_push all op last names may =
     let before : IsNamed b.rows b.columns (texts_after all) = record { tests = names.tests; models = names.models } in
     let more = names_from (op ∷ []) b (texts_after all) last (may, tt) before in
     record {
-      tests = ap board_tests (board_push all op) ∙ (more.tests ∙ ap held_tests (sym (texts_push all op)));
-      models = ap board_models (board_push all op) ∙ (more.models ∙ ap held_models (sym (texts_push all op)));
+      tests =
+          ap board_tests (board_push all op) ∙
+          (more.tests ∙ ap held_tests (sym (texts_push all op)));
+      models =
+          ap board_models (board_push all op) ∙
+          (more.models ∙ ap held_models (sym (texts_push all op)));
     }
 
 -- ---- texts that are the same
@@ -97,12 +108,15 @@ names_push all op last names may =
 abbrev held : List Test → List NamedModel → Held
 held ts ms = record { tests = ts; models = ms }
 
-held_same : (ts us : List Test) (ms ns : List NamedModel) → us ≡ ts → ns ≡ ms → held us ns ≡ held ts ms
+held_same : (ts us : List Test) (ms ns : List NamedModel) → us ≡ ts → ns ≡ ms
+    → held us ns ≡ held ts ms
 held_same ts us ms ns e f = ap (λ (cs : List Test). held cs ns) e ∙ ap (held ts) f
 
-held_alike : (t u : StampedTexts) → u.texts.tests.items ≡ t.texts.tests.items → u.texts.models.items ≡ t.texts.models.items
+held_alike : (t u : StampedTexts) → u.texts.tests.items ≡ t.texts.tests.items
+    → u.texts.models.items ≡ t.texts.models.items
     → held_of u.texts ≡ held_of t.texts
-held_alike t u e f = held_same t.texts.tests.items u.texts.tests.items t.texts.models.items u.texts.models.items e f
+held_alike t u e f =
+    held_same t.texts.tests.items u.texts.tests.items t.texts.models.items u.texts.models.items e f
 
 pub same_after : (t u : StampedTexts) (all : List BoardOp)
     → IsSound t → u.parts.last ≡ t.parts.last → IsSince t u → AreAfter t all → AreAfter u all
@@ -116,13 +130,15 @@ same_after t u all sound last since a =
       few_models = a.few_models;
     }
 
-prepared_held : (t u : StampedTexts) (e : Edit) (p : PreparedEdit) → IsPrepared t e p u → held_of u.texts ≡ held_of t.texts
+prepared_held : (t u : StampedTexts) (e : Edit) (p : PreparedEdit) → IsPrepared t e p u
+    → held_of u.texts ≡ held_of t.texts
 prepared_held t u e p h = held_alike t u ((h.same).state).tests (h.same).models
 
 -- ---- edits
 
 not_full : (full spent is : Bool)
-    → (if full then Some faults.Full else (if spent || is then Some faults.Spent else None)) ≡ None → full ≡ false
+    → (if full then Some faults.Full else (if spent || is then Some faults.Spent else None)) ≡ None
+    → full ≡ false
 not_full true spent is e = cc
 not_full false spent is e = refl
 
@@ -138,7 +154,8 @@ few_by t e =
     (ltb-false 512 (length t.tests) n.0, ltb-false 16 (length t.models) n.1)
 
 -- an edit makes no more tests and models than the bench takes
-pub made_few : (t new : BenchTexts) (e : PlainEdit) → Applies t false e new → (length new.tests ≤ 512) × (length new.models ≤ 16)
+pub made_few : (t new : BenchTexts) (e : PlainEdit) → Applies t false e new
+    → (length new.tests ≤ 512) × (length new.models ≤ 16)
 made_few t new e applies = few_by new (not_full (is_full new) false (is_spent t) applies.within)
 
 -- the texts with what a prepared edit puts
@@ -163,14 +180,16 @@ committed_few t u w e p number h c =
     (tests, models)
 
 committed_held : (t u w : StampedTexts) (e : Edit) (p : PreparedEdit) (number : ℕ)
-    → IsPrepared t e p u → IsCommitted u p number w → held_of w.texts ≡ held_with p.texts.replacement (held_of t.texts)
+    → IsPrepared t e p u → IsCommitted u p number w
+    → held_of w.texts ≡ held_with p.texts.replacement (held_of t.texts)
 committed_held t u w e p number h c =
     let put : held_of w.texts ≡ held_with p.texts.replacement (held_of u.texts) =
     held_same _ w.texts.tests.items _ w.texts.models.items c.tests c.models in
     put ∙ ap (held_with p.texts.replacement) (prepared_held t u e p h)
 
 after_by : (u : StampedTexts) (all : List BoardOp)
-    → held_of u.texts ≡ texts_after all → texts_of u.texts ≡ contents_after all → HasNamesOf all → AreFew u → AreAfter u all
+    → held_of u.texts ≡ texts_after all → texts_of u.texts ≡ contents_after all → HasNamesOf all
+    → AreFew u → AreAfter u all
 after_by u all e f names few = record {
   held = e;
   contents = f;
@@ -179,8 +198,10 @@ after_by u all e f names few = record {
   few_models = subst (λ (h : Held). length h.models ≤ 16) e few.1;
 }
 
-pub edits_after : (t u w : StampedTexts) (e : Edit) (p : PreparedEdit) (number : ℕ) (op : BoardOp) (all : List BoardOp)
-    → IsSound t → AreAfter t all → IsPrepared t e p u → Announced u p number op → IsCommitted u p number w
+pub edits_after : (t u w : StampedTexts) (e : Edit) (p : PreparedEdit) (number : ℕ) (op : BoardOp)
+    (all : List BoardOp)
+    → IsSound t → AreAfter t all → IsPrepared t e p u → Announced u p number op
+    → IsCommitted u p number w
     → AreAfter w (all ++ op ∷ [])
 edits_after t u w e p number (ops.Edit b) all sound a h n c =
     let same : held_of u.texts ≡ texts_after all = prepared_held t u e p h ∙ a.held in
@@ -189,10 +210,14 @@ edits_after t u w e p number (ops.Edit b) all sound a h n c =
     let put : p.texts.replacement ≡ b.prepared.value.replacement = ap (λ (q : Prepared). q.replacement) (sym n.1) in
     let held_is : held_of w.texts ≡ held_with b.prepared.value.replacement (texts_after all) =
     committed_held t u w e p number h c
-    ∙ (ap (held_with p.texts.replacement) a.held ∙ ap (λ (r : Replacement). held_with r (texts_after all)) put) in
+    ∙
+    (ap (held_with p.texts.replacement) a.held ∙ ap
+    (λ (r : Replacement). held_with r (texts_after all)) put) in
     let contents_are : texts_of w.texts ≡ texts_with b.prepared.value.replacement (contents_after all) =
     committed_texts t u w e p number h c
-    ∙ (ap (texts_with p.texts.replacement) a.contents ∙ ap (λ (r : Replacement). texts_with r (contents_after all)) put) in
+    ∙
+    (ap (texts_with p.texts.replacement) a.contents ∙ ap
+    (λ (r : Replacement). texts_with r (contents_after all)) put) in
     after_by w (all ++ ops.Edit b ∷ [])
     (held_is ∙ sym (texts_push all (ops.Edit b)))
     (contents_are ∙ sym (contents_push all (ops.Edit b)))
@@ -200,53 +225,76 @@ edits_after t u w e p number (ops.Edit b) all sound a h n c =
     (committed_few t u w e p number h c)
 edits_after t u w e p number (ops.Settle at outcome) all sound a h n c = absurd n
 
-pub edits_named : (t u : StampedTexts) (e : Edit) (p : PreparedEdit) (number : ℕ) (op : BoardOp) (all : List BoardOp)
-    → IsSound t → AreAfter t all → IsPrepared t e p u → Announced u p number op → IsEditAfter all op e number
+pub edits_named : (t u : StampedTexts) (e : Edit) (p : PreparedEdit) (number : ℕ) (op : BoardOp)
+    (all : List BoardOp)
+    → IsSound t → AreAfter t all → IsPrepared t e p u → Announced u p number op
+    → IsEditAfter all op e number
 edits_named t u e p number (ops.Edit b) all sound a h n =
     let now = contents_after all in
     let applies : Applies now false (edit_of e) (texts_with p.texts.replacement now) =
-    subst (λ (x : BenchTexts). Applies x false (edit_of e) (texts_with p.texts.replacement x)) a.contents h.applies in
+    subst (λ (x : BenchTexts). Applies x false (edit_of e) (texts_with p.texts.replacement x))
+    a.contents h.applies in
     let put : Applies now false (edit_of e) (texts_with b.prepared.value.replacement now) =
-    subst (λ (q : Prepared). Applies now false (edit_of e) (texts_with q.replacement now)) (sym n.1) applies in
+    subst (λ (q : Prepared). Applies now false (edit_of e) (texts_with q.replacement now)) (sym n.1)
+    applies in
     let target : IsPutBy now (edit_of e) b.prepared.value.replacement =
-    subst (λ (q : Prepared). IsPutBy now (edit_of e) q.replacement) (sym n.1) (subst (λ (x : BenchTexts). IsPutBy x (edit_of e) p.texts.replacement) a.contents h.target) in
-    (n.0, record { applies = put; target = target; whole = ap (λ (q : Prepared). q.whole) n.1 ∙ h.whole })
+    subst (λ (q : Prepared). IsPutBy now (edit_of e) q.replacement) (sym n.1)
+    (subst (λ (x : BenchTexts). IsPutBy x (edit_of e) p.texts.replacement) a.contents h.target)
+    in (
+      n.0,
+      record {
+        applies = put;
+        target = target;
+        whole = ap (λ (q : Prepared). q.whole) n.1 ∙ h.whole;
+      },
+    )
 edits_named t u e p number (ops.Settle at outcome) all sound a h n = absurd n
 
-pub edits_follow : (t u : StampedTexts) (e : Edit) (p : PreparedEdit) (number : ℕ) (op : BoardOp) (all : List BoardOp)
-    → IsSound t → AreAfter t all → last_number all < number → IsPrepared t e p u → Announced u p number op → MayComeNext all op
+pub edits_follow : (t u : StampedTexts) (e : Edit) (p : PreparedEdit) (number : ℕ) (op : BoardOp)
+    (all : List BoardOp)
+    → IsSound t → AreAfter t all → last_number all < number → IsPrepared t e p u
+    → Announced u p number op → MayComeNext all op
 edits_follow t u e p number (ops.Edit b) all sound a lt h n =
     let same : held_of u.texts ≡ texts_after all = prepared_held t u e p h ∙ a.held in
     let may = subst (λ (g : Held). MayFollow g (last_number all) (ops.Edit b)) same (n.2 (last_number all) lt) in
     (may, (edit_of e, (edits_named t u e p number (ops.Edit b) all sound a h n).1))
 edits_follow t u e p number (ops.Settle at outcome) all sound a lt h n = absurd n
 
-pub edits_numbered : (u : StampedTexts) (p : PreparedEdit) (number : ℕ) (op : BoardOp) (all : List BoardOp)
+pub edits_numbered : (u : StampedTexts) (p : PreparedEdit) (number : ℕ) (op : BoardOp)
+    (all : List BoardOp)
     → Announced u p number op → last_number (all ++ op ∷ []) ≡ number
 edits_numbered u p number (ops.Edit b) all n = fold_push number_after 0 all (ops.Edit b) ∙ n.0
 edits_numbered u p number (ops.Settle at outcome) all n = absurd n
 
 -- ---- cells that are settled
 
-pub settles_named : (b : BoardContent) (index : ℕ) (o : Outcome) (op : BoardOp) → Settles b index o op → IsSettle op
+pub settles_named : (b : BoardContent) (index : ℕ) (o : Outcome) (op : BoardOp)
+    → Settles b index o op → IsSettle op
 settles_named b index o (ops.Edit edit) s = absurd s
 settles_named b index o (ops.Settle at outcome) s = tt
 
-settle_names : (all : List BoardOp) (op : BoardOp) → IsSettle op → HasNamesOf all → HasNamesOf (all ++ op ∷ [])
+settle_names : (all : List BoardOp) (op : BoardOp) → IsSettle op → HasNamesOf all
+    → HasNamesOf (all ++ op ∷ [])
 settle_names all (ops.Edit edit) s names = absurd s
 settle_names all (ops.Settle at outcome) s names =
     let op = ops.Settle at outcome in
     let kept = map-kept (λ r. r.name) (with_cell at.model (Some (arc_value outcome))) (λ r. refl) (board_after all).rows at.test in
     record {
-      tests = ap board_tests (board_push all op) ∙ (kept ∙ (names.tests ∙ ap held_tests (sym (texts_push all op))));
-      models = ap board_models (board_push all op) ∙ (names.models ∙ ap held_models (sym (texts_push all op)));
+      tests =
+          ap board_tests (board_push all op) ∙ (kept ∙
+          (names.tests ∙ ap held_tests (sym (texts_push all op))));
+      models =
+          ap board_models (board_push all op) ∙
+          (names.models ∙ ap held_models (sym (texts_push all op)));
     }
 
-settle_texts : (all : List BoardOp) (op : BoardOp) → IsSettle op → texts_after (all ++ op ∷ []) ≡ texts_after all
+settle_texts : (all : List BoardOp) (op : BoardOp) → IsSettle op
+    → texts_after (all ++ op ∷ []) ≡ texts_after all
 settle_texts all (ops.Edit edit) s = absurd s
 settle_texts all (ops.Settle at outcome) s = texts_push all (ops.Settle at outcome)
 
-settle_contents : (all : List BoardOp) (op : BoardOp) → IsSettle op → contents_after (all ++ op ∷ []) ≡ contents_after all
+settle_contents : (all : List BoardOp) (op : BoardOp) → IsSettle op
+    → contents_after (all ++ op ∷ []) ≡ contents_after all
 settle_contents all (ops.Edit edit) s = absurd s
 settle_contents all (ops.Settle at outcome) s = contents_push all (ops.Settle at outcome)
 
@@ -262,12 +310,15 @@ settles_after t all op a s =
       few_models = subst (λ (h : Held). length h.models ≤ 16) (sym e) a.few_models;
     }
 
-pub settles_numbered : (all : List BoardOp) (op : BoardOp) → IsSettle op → last_number (all ++ op ∷ []) ≡ last_number all
+pub settles_numbered : (all : List BoardOp) (op : BoardOp) → IsSettle op
+    → last_number (all ++ op ∷ []) ≡ last_number all
 settles_numbered all (ops.Edit edit) s = absurd s
-settles_numbered all (ops.Settle at outcome) s = fold_push number_after 0 all (ops.Settle at outcome)
+settles_numbered all (ops.Settle at outcome) s =
+    fold_push number_after 0 all (ops.Settle at outcome)
 
 pub settles_show : (b : BoardContent) (index : ℕ) (o : Outcome) (op : BoardOp)
-    → Settles b index o op → board_cells (after_operation b op) ≡ with_outcome index o (board_cells b)
+    → Settles b index o op
+    → board_cells (after_operation b op) ≡ with_outcome index o (board_cells b)
 settles_show b index o (ops.Edit edit) s = absurd s
 settles_show b index o (ops.Settle at outcome) s =
     let new = arc_value outcome in
@@ -283,7 +334,8 @@ settles_show b index o (ops.Settle at outcome) s =
 
 -- ---- names at an index
 
-record IsCellHere (row : Option RowContent) (column : Option ColumnContent) (c : BoardCell Outcome) : Type 0 where
+record IsCellHere (row : Option RowContent) (column : Option ColumnContent) (c : BoardCell Outcome)
+    : Type 0 where
   pub of_test : RowContent
   pub of_model : ColumnContent
   pub row_is : row ≡ Some of_test
@@ -299,7 +351,8 @@ cell_here : (columns : List ColumnContent) (row : Option RowContent) (j : ℕ) (
 cell_here columns None j c h = absurd (none-some c h)
 cell_here columns (Some r) j c h = by_column (slice_get columns j) h
   where
-    by_column : (m : Option ColumnContent) → row_cell r.name m (outcome_at r.cells j) ≡ Some c → IsCellHere (Some r) m c
+    by_column : (m : Option ColumnContent) → row_cell r.name m (outcome_at r.cells j) ≡ Some c
+        → IsCellHere (Some r) m c
     by_column None e = absurd (none-some c e)
     by_column (Some m) e =
         let same : cell_with r.name m.name (outcome_at r.cells j) ≡ c = same_cell e in
@@ -324,9 +377,11 @@ named_there f g (a ∷ xs) (y ∷ ys) zero x e h =
     let first : f a ≡ g y = (cc) in
     let same : a ≡ x = (cc) in
     (y, refl, sym first ∙ ap f same)
-named_there f g (a ∷ xs) (y ∷ ys) (suc i) x e h = let rest : map f xs ≡ map g ys = (cc) in named_there f g xs ys i x rest h
+named_there f g (a ∷ xs) (y ∷ ys) (suc i) x e h =
+    let rest : map f xs ≡ map g ys = (cc) in named_there f g xs ys i x rest h
 
-right_by : (test : Test) (model : NamedModel) (a : Option Test) (b : Option NamedModel) (o : Outcome)
+right_by : (test : Test) (model : NamedModel) (a : Option Test) (b : Option NamedModel)
+    (o : Outcome)
     → a ≡ Some test → b ≡ Some model → scratch_by a b o → IsFromScratch test model.text o
 right_by test model a b o e f right =
     let of_test = subst (λ (c : Option Test). scratch_by c b o) e right in
@@ -334,20 +389,25 @@ right_by test model a b o e f right =
 
 -- the test of a name is the one at its index, and so is the model
 test_here : (t : StampedTexts) (i : ℕ) (test : Test) (name : List ℕ)
-    → IsSound t → slice_get t.texts.tests.items i ≡ Some test → test.name ≡ name → test_of t name ≡ Some test
+    → IsSound t → slice_get t.texts.tests.items i ≡ Some test → test.name ≡ name
+    → test_of t name ≡ Some test
 test_here t i test name sound there named =
     let at : test_index name (texts_of t.texts).tests ≡ i =
-    stands_there (λ (k : Content). k.name) content_of name t.texts.tests.items i test (tests_apart t sound) there named in
+    stands_there (λ (k : Content). k.name) content_of name t.texts.tests.items i test
+    (tests_apart t sound) there named in
     ap (slice_get t.texts.tests.items) at ∙ there
 
 model_here : (t : StampedTexts) (j : ℕ) (model : NamedModel) (name : List ℕ)
-    → IsSound t → slice_get t.texts.models.items j ≡ Some model → model.name ≡ name → model_of t name ≡ Some model
+    → IsSound t → slice_get t.texts.models.items j ≡ Some model → model.name ≡ name
+    → model_of t name ≡ Some model
 model_here t j model name sound there named =
     let at : model_index name (texts_of t.texts).models ≡ j =
-    stands_there (λ (k : PlainModel). k.name) plain.model_of name t.texts.models.items j model (models_apart t sound) there named in
+    stands_there (λ (k : PlainModel). k.name) plain.model_of name t.texts.models.items j model
+    (models_apart t sound) there named in
     ap (slice_get t.texts.models.items) at ∙ there
 
-pub settles_follow : (t : StampedTexts) (all : List BoardOp) (index : ℕ) (c : BoardCell Outcome) (o : Outcome) (op : BoardOp)
+pub settles_follow : (t : StampedTexts) (all : List BoardOp) (index : ℕ) (c : BoardCell Outcome)
+    (o : Outcome) (op : BoardOp)
     → IsSound t → AreAfter t all → slice_get (board_cells (board_after all)) index ≡ Some c
     → from_scratch t c.test c.model o → Settles (board_after all) index o op → MayComeNext all op
 settles_follow t all index c o (ops.Edit edit) sound a h right s = absurd s
@@ -357,7 +417,9 @@ settles_follow t all index c o (ops.Settle at outcome) sound a h right s =
     let is = (s.1).is_index in
     let listed : slice_get (all_cells b.columns b.rows) (at.test * length b.columns + at.model) ≡ Some c =
     ap (λ (k : ℕ). slice_get (all_cells b.columns b.rows) k) (sym is.0)
-    ∙ (ap (λ (cs : List (BoardCell Outcome)). slice_get cs index) (sym (are_all b (s.1).countable)) ∙ h) in
+    ∙
+    (ap (λ (cs : List (BoardCell Outcome)). slice_get cs index)
+    (sym (are_all b (s.1).countable)) ∙ h) in
     let cell = cell_here b.columns (slice_get b.rows at.test) at.model c
     (sym (all_get b.columns b.rows at.test at.model is.1) ∙ listed) in
     let test = named_there (λ r. r.name) (λ x. x.name) b.rows texts.tests at.test cell.of_test (a.names).tests cell.row_is in
@@ -372,7 +434,8 @@ settles_follow t all index c o (ops.Settle at outcome) sound a h right s =
       test_there = test.1;
       model_there = model.1;
       right = subst (IsFromScratch test.0 model.0.text) (sym s.0)
-          (right_by test.0 model.0 (test_of t c.test) (model_of t c.model) o test_is model_is right);
+          (right_by test.0 model.0 (test_of t c.test) (model_of t c.model) o test_is model_is
+          right);
     } in
     (there, tt)
 
@@ -386,7 +449,8 @@ is_below (y ∷ xs) (suc i) x h = let l = is_below xs i x h in omega (arith, l)
 product_few : (n m : ℕ) → n ≤ 512 → m ≤ 16 → n * m < 2 ^ 64
 product_few n m few_n few_m = let p = mul-le-mul_left n few_m in omega (arith, p, few_n)
 
-is_countable : (t : StampedTexts) (all : List BoardOp) → AreAfter t all → IsCountable (board_after all)
+is_countable : (t : StampedTexts) (all : List BoardOp) → AreAfter t all
+    → IsCountable (board_after all)
 is_countable t all a =
     let b = board_after all in
     let texts = texts_after all in
@@ -398,22 +462,28 @@ is_countable t all a =
 
 cell_there : (columns : List ColumnContent) (row : RowContent) (column : ColumnContent) (j : ℕ)
     → slice_get columns j ≡ Some column
-    → cell_of_row columns (Some row) j ≡ Some (cell_with row.name column.name (outcome_at row.cells j))
-cell_there columns row column j h = ap (λ (m : Option ColumnContent). row_cell row.name m (outcome_at row.cells j)) h
+    → cell_of_row columns (Some row) j
+    ≡ Some (cell_with row.name column.name (outcome_at row.cells j))
+cell_there columns row column j h =
+    ap (λ (m : Option ColumnContent). row_cell row.name m (outcome_at row.cells j)) h
 
 -- the cell of a row and a column that are there is listed
 cell_listed : (b : BoardContent) (i j : ℕ) (row : RowContent) (column : ColumnContent)
     → IsCountable b → slice_get b.rows i ≡ Some row → slice_get b.columns j ≡ Some column
-    → slice_get (board_cells b) (i * length b.columns + j) ≡ Some (cell_with row.name column.name (outcome_at row.cells j))
+    → slice_get (board_cells b) (i * length b.columns + j)
+    ≡ Some (cell_with row.name column.name (outcome_at row.cells j))
 cell_listed b i j row column countable row_is column_is =
-    ap (λ (cs : List (BoardCell Outcome)). slice_get cs (i * length b.columns + j)) (are_all b countable)
+    ap (λ (cs : List (BoardCell Outcome)). slice_get cs (i * length b.columns + j))
+    (are_all b countable)
     ∙ (all_get b.columns b.rows i j (is_below b.columns j column column_is)
-    ∙ (ap (λ (r : Option RowContent). cell_of_row b.columns r j) row_is ∙ cell_there b.columns row column j column_is))
+    ∙ (ap (λ (r : Option RowContent). cell_of_row b.columns r j) row_is ∙ cell_there b.columns row
+    column j column_is))
 
 -- a cell of these names is listed at that index
 abbrev pub IsListedAt : BoardContent → ℕ → List ℕ → List ℕ → Type 0
 IsListedAt b index test model =
-    (c : BoardCell Outcome) × (slice_get (board_cells b) index ≡ Some c) × (c.test ≡ test) × (c.model ≡ model)
+    (c : BoardCell Outcome) × (slice_get (board_cells b) index ≡ Some c) × (c.test ≡ test)
+    × (c.model ≡ model)
 
 -- in the row of that test
 abbrev pub IsListedInRow : BoardContent → ℕ → List ℕ → List ℕ → Type 0
@@ -421,7 +491,8 @@ IsListedInRow b row test model =
     (j : ℕ) × (j < length b.columns) × IsListedAt b (row * length b.columns + j) test model
 
 pub cells_are_in_rows : (t : StampedTexts) (all : List BoardOp) (test model : List ℕ) (n : Node)
-    → IsSound t → AreAfter t all → verdict_of t test model ≡ Some n → IsListedInRow (board_after all) (test_index test (texts_of t.texts).tests) test model
+    → IsSound t → AreAfter t all → verdict_of t test model ≡ Some n
+    → IsListedInRow (board_after all) (test_index test (texts_of t.texts).tests) test model
 cells_are_in_rows t all test model n sound a h =
     let b = board_after all in
     let texts = texts_after all in
@@ -437,18 +508,27 @@ cells_are_in_rows t all test model n sound a h =
       (
         cell_with row.0.name column.0.name (outcome_at row.0.cells j),
         cell_listed b i j row.0 column.0 (is_countable t all a) row.1 column.1,
-        row.2 ∙ is_named (λ (k : Content). k.name) content_of test t.texts.tests.items cell.of_test cell.test_is,
-        column.2 ∙ is_named (λ (k : PlainModel). k.name) plain.model_of model t.texts.models.items cell.of_model cell.model_is,
+        row.2 ∙ is_named (λ (k : Content). k.name) content_of test t.texts.tests.items cell.of_test
+            cell.test_is,
+        column.2 ∙ is_named (λ (k : PlainModel). k.name) plain.model_of model t.texts.models.items
+            cell.of_model cell.model_is,
       ),
     )
 
 -- a cell of these names is listed
 abbrev pub IsListed : BoardContent → List ℕ → List ℕ → Type 0
 IsListed b test model =
-    (index : ℕ) × (c : BoardCell Outcome) × (slice_get (board_cells b) index ≡ Some c) × (c.test ≡ test) × (c.model ≡ model)
+    (index : ℕ) × (c : BoardCell Outcome) × (slice_get (board_cells b) index ≡ Some c)
+    × (c.test ≡ test) × (c.model ≡ model)
 
 pub cells_are_known : (t : StampedTexts) (all : List BoardOp) (test model : List ℕ) (n : Node)
-    → IsSound t → AreAfter t all → verdict_of t test model ≡ Some n → IsListed (board_after all) test model
+    → IsSound t → AreAfter t all → verdict_of t test model ≡ Some n
+    → IsListed (board_after all) test model
 cells_are_known t all test model n sound a h =
-    let k = cells_are_in_rows t all test model n sound a h in
-    (test_index test (texts_of t.texts).tests * length (board_after all).columns + k.0, k.2.0, k.2.1, k.2.2, k.2.3)
+    let k = cells_are_in_rows t all test model n sound a h in (
+      test_index test (texts_of t.texts).tests * length (board_after all).columns + k.0,
+      k.2.0,
+      k.2.1,
+      k.2.2,
+      k.2.3,
+    )

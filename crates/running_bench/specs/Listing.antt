@@ -45,7 +45,8 @@ all_length columns (r ∷ rs) =
     length-append (row_cells r.name columns r.cells) (all_cells columns rs)
     ∙ (ap (λ (n : ℕ). n + length (all_cells columns rs)) (row_length r.name columns r.cells)
     ∙ (ap (λ (n : ℕ). length columns + n) (all_length columns rs)
-    ∙ (exchange (length columns) (length rs * length columns) ∙ sym (suc-mul (length rs) (length columns)))))
+    ∙ (exchange (length columns) (length rs * length columns) ∙ sym
+    (suc-mul (length rs) (length columns)))))
 
 -- ---- indexes
 
@@ -59,11 +60,14 @@ one_row_more : (n i j : ℕ) → suc i * n + j ≡ n + (i * n + j)
 one_row_more n i j = ap (λ (k : ℕ). k + j) (suc-mul i n) ∙ shift (i * n) n j
 
 past_row : (columns : List ColumnContent) (r : RowContent) (i j : ℕ)
-    → suc i * length columns + j ≡ length (row_cells r.name columns r.cells) + (i * length columns + j)
+    → suc i * length columns + j
+    ≡ length (row_cells r.name columns r.cells) + (i * length columns + j)
 past_row columns r i j =
-    one_row_more (length columns) i j ∙ ap (λ (n : ℕ). n + (i * length columns + j)) (sym (row_length r.name columns r.cells))
+    one_row_more (length columns) i j ∙ ap (λ (n : ℕ). n + (i * length columns + j))
+    (sym (row_length r.name columns r.cells))
 
-in_row : (columns : List ColumnContent) (r : RowContent) (j : ℕ) → j < length columns → j < length (row_cells r.name columns r.cells)
+in_row : (columns : List ColumnContent) (r : RowContent) (j : ℕ) → j < length columns
+    → j < length (row_cells r.name columns r.cells)
 in_row columns r j lt = subst (λ (n : ℕ). j < n) (sym (row_length r.name columns r.cells)) lt
 
 -- ---- the cell at an index
@@ -83,7 +87,8 @@ cell_of_row columns None j = None
 cell_of_row columns (Some r) j = row_cell r.name (slice_get columns j) (outcome_at r.cells j)
 
 row_get : (test : List ℕ) (columns : List ColumnContent) (os : List (Option Outcome)) (j : ℕ)
-    → slice_get (row_cells test columns os) j ≡ row_cell test (slice_get columns j) (outcome_at os j)
+    → slice_get (row_cells test columns os) j
+    ≡ row_cell test (slice_get columns j) (outcome_at os j)
 row_get test [] os j = refl
 row_get test (c ∷ cs) [] zero = refl
 row_get test (c ∷ cs) [] (suc j) = row_get test cs [] j
@@ -91,7 +96,8 @@ row_get test (c ∷ cs) (o ∷ os) zero = refl
 row_get test (c ∷ cs) (o ∷ os) (suc j) = row_get test cs os j
 
 pub all_get : (columns : List ColumnContent) (rows : List RowContent) (i j : ℕ) → j < length columns
-    → slice_get (all_cells columns rows) (i * length columns + j) ≡ cell_of_row columns (slice_get rows i) j
+    → slice_get (all_cells columns rows) (i * length columns + j)
+    ≡ cell_of_row columns (slice_get rows i) j
 all_get columns [] i j lt = refl
 all_get columns (r ∷ rs) zero j lt =
     let row = row_cells r.name columns r.cells in
@@ -110,7 +116,8 @@ with_left : (o : Outcome) (xs ys : List (BoardCell Outcome)) (k : ℕ)
     → k < length xs → with_outcome k o (xs ++ ys) ≡ with_outcome k o xs ++ ys
 with_left o [] ys k lt = absurd (omega (arith, lt))
 with_left o (x ∷ xs) ys zero lt = refl
-with_left o (x ∷ xs) ys (suc k) lt = ap (λ (cs : List (BoardCell Outcome)). x ∷ cs) (with_left o xs ys k (omega (arith, lt)))
+with_left o (x ∷ xs) ys (suc k) lt =
+    ap (λ (cs : List (BoardCell Outcome)). x ∷ cs) (with_left o xs ys k (omega (arith, lt)))
 
 with_right : (o : Outcome) (xs ys : List (BoardCell Outcome)) (k m : ℕ)
     → m ≡ length xs + k → with_outcome m o (xs ++ ys) ≡ xs ++ with_outcome k o ys
@@ -119,17 +126,23 @@ with_right o (x ∷ xs) ys k zero e = absurd (omega (arith, e))
 with_right o (x ∷ xs) ys k (suc m) e =
     ap (λ (cs : List (BoardCell Outcome)). x ∷ cs) (with_right o xs ys k m (omega (arith, e)))
 
-row_put : (test : List ℕ) (columns : List ColumnContent) (os : List (Option Outcome)) (j : ℕ) (o : Outcome) (x : Option Outcome)
-    → slice_get os j ≡ Some x → row_cells test columns (changed_at j (λ _. Some o) os) ≡ with_outcome j o (row_cells test columns os)
+row_put : (test : List ℕ) (columns : List ColumnContent) (os : List (Option Outcome)) (j : ℕ)
+    (o : Outcome) (x : Option Outcome)
+    → slice_get os j ≡ Some x
+    → row_cells test columns (changed_at j (λ _. Some o) os)
+    ≡ with_outcome j o (row_cells test columns os)
 row_put test [] os j o x h = refl
 row_put test (c ∷ cs) [] j o x h = absurd (none-some x h)
 row_put test (c ∷ cs) (p ∷ os) zero o x h = refl
 row_put test (c ∷ cs) (p ∷ os) (suc j) o x h =
-    ap (λ (ks : List (BoardCell Outcome)). cell_with test c.name p ∷ ks) (row_put test cs os j o x h)
+    ap (λ (ks : List (BoardCell Outcome)). cell_with test c.name p ∷ ks)
+    (row_put test cs os j o x h)
 
-pub all_put : (columns : List ColumnContent) (rows : List RowContent) (i j : ℕ) (o : Outcome) (x : Option Outcome)
+pub all_put : (columns : List ColumnContent) (rows : List RowContent) (i j : ℕ) (o : Outcome)
+    (x : Option Outcome)
     → j < length columns → cell_at rows i j ≡ Some x
-    → all_cells columns (put_cell i j (Some o) rows) ≡ with_outcome (i * length columns + j) o (all_cells columns rows)
+    → all_cells columns (put_cell i j (Some o) rows)
+    ≡ with_outcome (i * length columns + j) o (all_cells columns rows)
 all_put columns [] i j o x lt h = refl
 all_put columns (r ∷ rs) zero j o x lt h =
     let row = row_cells r.name columns r.cells in
@@ -140,4 +153,5 @@ all_put columns (r ∷ rs) zero j o x lt h =
 all_put columns (r ∷ rs) (suc i) j o x lt h =
     let row = row_cells r.name columns r.cells in
     ap (λ (cs : List (BoardCell Outcome)). row ++ cs) (all_put columns rs i j o x lt h)
-    ∙ sym (with_right o row (all_cells columns rs) (i * length columns + j) (suc i * length columns + j) (past_row columns r i j))
+    ∙ sym (with_right o row (all_cells columns rs) (i * length columns + j)
+    (suc i * length columns + j) (past_row columns r i j))

@@ -16,14 +16,18 @@ use Rattle.board.specs.Results.{HasBoth, IsResultIn}
 abbrev pub ShowsEachResult : List BoardOp → Type 0
 ShowsEachResult ops =
     (test model : List ℕ) → HasBoth (texts_after ops) test model
-    → (o : Outcome) × (shown (board_after ops) test model ≡ Settled o) × IsResultIn (texts_after ops) test model o
+    → (o : Outcome) × (shown (board_after ops) test model ≡ Settled o)
+    × IsResultIn (texts_after ops) test model o
 
--- where every cell that the desk lists is settled, each result is shown: a desk lists the cells that a number of 64 bits counts
+-- where every cell that the desk lists is settled, each result is shown: a desk lists the cells
+-- that a number of 64 bits counts
 abbrev pub SettledIsShown : List BoardOp → Type 0
-SettledIsShown ops = IsCountable (board_after ops) → AreSettled (board_cells (board_after ops)) → ShowsEachResult ops
+SettledIsShown ops =
+    IsCountable (board_after ops) → AreSettled (board_cells (board_after ops)) → ShowsEachResult ops
 
 -- a cell that the desk lists as settled is shown with what the texts of the bench give from nothing
 abbrev pub PostedIsShown : StampedTexts → List BoardOp → Type 0
 PostedIsShown t ops =
-    (test model : List ℕ) (o : Outcome) → from_scratch t test model o → IsSettledOn (board_cells (board_after ops)) test model
+    (test model : List ℕ) (o : Outcome) → from_scratch t test model o
+    → IsSettledOn (board_cells (board_after ops)) test model
     → shown (board_after ops) test model ≡ Settled o

@@ -1,5 +1,5 @@
--- Cells of texts with stamps: what evaluating the present test under the present model from nothing gives, and which edits reach
--- a cell. Read it after StampedTexts.
+-- Cells of texts with stamps: what evaluating the present test under the present model from nothing
+-- gives, and which edits reach a cell. Read it after StampedTexts.
 use Rattle.std.specs.Prelude.{◌≡◌, ℕ, List, Option, Some, None, slice_get}
 use Rattle.text_values.specs.declared.test.Test.{Test}
 use Rattle.verdict.specs.declared.answer.Outcome.{Outcome}

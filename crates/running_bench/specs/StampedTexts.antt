@@ -1,4 +1,5 @@
--- Read this first: what the texts of the bench say with their stamps, and what holds of them at all times (`IsSound`).
+-- Read this first: what the texts of the bench say with their stamps, and what holds of them at all
+-- times (`IsSound`).
 use Rattle.std.specs.Prelude.{◌≡◌, ℕ, List, Option, Some, None, slice_get}
 use Rattle.memo_core.specs.declared.keys.Kind.TheVariants as kinds
 use Rattle.memo_core.specs.declared.keys.Node.{Node}
@@ -26,7 +27,8 @@ state_of t = contents.state_of t.parts t.texts.tests.items
 abbrev pub written_of : StampedTexts → WrittenState
 written_of t = written_state t.parts t.texts.tests.items t.texts.models.items t.texts.next
 
--- the models are as they are read, the parts are those of the tests and models, and all have names and numbers of their own
+-- the models are as they are read, the parts are those of the tests and models, and all have names
+-- and numbers of their own
 pub record IsSound (t : StampedTexts) : Type 0 where
   pub read : AreRead t.texts
   pub parts_are : ArePartsOf t.parts t.texts.tests.items t.texts.models.items
@@ -62,4 +64,5 @@ verdict_by (Some t) (Some m) = Some (record { kind = kinds.Verdict; test = t.id;
 -- the verdict of the test and the model of these names
 abbrev pub verdict_of : StampedTexts → List ℕ → List ℕ → Option Node
 verdict_of t test model =
-    verdict_by (slice_get t.parts.table.tests.items (test_index test (texts_of t.texts).tests)) (slice_get t.parts.table.models.items (model_index model (texts_of t.texts).models))
+    verdict_by (slice_get t.parts.table.tests.items (test_index test (texts_of t.texts).tests))
+    (slice_get t.parts.table.models.items (model_index model (texts_of t.texts).models))

@@ -1,4 +1,5 @@
--- What texts of tests and models say of operations on boards. Read it after Cells, and the histories of `board`.
+-- What texts of tests and models say of operations on boards. Read it after Cells, and the
+-- histories of `board`.
 use Rattle.std.specs.Prelude.{◌≡◌, ℕ, ◌<◌, ◌≤◌, List, length}
 use Rattle.std.specs.Arc.{arc_value}
 use Rattle.verdict.specs.declared.answer.Outcome.{Outcome}
@@ -17,7 +18,8 @@ use Rattle.running_bench.specs.declared.stamped_texts.StampedTexts.{StampedTexts
 use Rattle.running_bench.specs.declared.stamped_texts.PreparedEdit.{PreparedEdit}
 use Rattle.running_bench.specs.Cells.{IsCellAt}
 
--- the texts are those after the edits among these operations, whose board has their names, and no more than the bench takes
+-- the texts are those after the edits among these operations, whose board has their names, and no
+-- more than the bench takes
 pub record AreAfter (t : StampedTexts) (all : List BoardOp) : Type 0 where
   pub held : held_of t.texts ≡ texts_after all
   pub contents : texts_of t.texts ≡ contents_after all
@@ -29,10 +31,12 @@ pub record AreAfter (t : StampedTexts) (all : List BoardOp) : Type 0 where
 abbrev pub MayFollowBelow : Held → ℕ → BoardOp → Type 0
 MayFollowBelow h number op = (last : ℕ) → last < number → MayFollow h last op
 
--- the operation of an edit that was prepared on these texts, under its number: it may follow any operations after which they are
+-- the operation of an edit that was prepared on these texts, under its number: it may follow any
+-- operations after which they are
 abbrev pub Announced : StampedTexts → PreparedEdit → ℕ → BoardOp → Type 0
 Announced t p number (ops.Edit edit) =
-    (edit.number ≡ number) × (edit.prepared.value ≡ p.texts) × MayFollowBelow (held_of t.texts) number (ops.Edit edit)
+    (edit.number ≡ number) × (edit.prepared.value ≡ p.texts)
+    × MayFollowBelow (held_of t.texts) number (ops.Edit edit)
 Announced t p number (ops.Settle at outcome) = ⊥
 
 -- the edit was refused for want of memory

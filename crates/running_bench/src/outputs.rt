@@ -53,12 +53,14 @@ impl StampedTexts {
         }
     }
 
-    /// The name of the output of a node that goes by that number, as a return tells it: of a group the name that its item got
-    /// as the one of that number, counted from 0, also where the item has it no more; of any other node, whose only output goes
-    /// by 0, `space`, `check` or `verdict`, also where there is no such node. None for a number that is none of the item's names,
-    /// or not 0 for any other node.
+    /// The name of the output of a node that goes by that number, as a return tells it: of a group
+    /// the name that its item got as the one of that number, counted from 0, also where the item
+    /// has it no more; of any other node, whose only output goes by 0, `space`, `check` or
+    /// `verdict`, also where there is no such node. None for a number that is none of the item's
+    /// names, or not 0 for any other node.
     pub fn output_name(&self, node: Node, number: u64) -> Option<&[u8]>
-        ensures { option_map (λ b. b.now) result ≡ output_name (histories (state_of self.now)) node number }
+        ensures { option_map (λ b. b.now) result
+            ≡ output_name (histories (state_of self.now)) node number }
     {
         name_by(node.kind, self.history(node.of), number)
     }

@@ -18,7 +18,8 @@ use value_store::{MAX_VALUES, Opened as OpenedStore, Store, StoreName};
 /// A desk of litmus tests and models.
 pub type RunningDesk<J, R> = Desk<J, RunningTexts, R>;
 
-/// An empty history and an empty store, which have no name yet. The caller picks a name that stands for both.
+/// An empty history and an empty store, which have no name yet. The caller picks a name that stands
+/// for both.
 pub struct DeskSeed {
     /// The history.
     pub book: Opened<BoardOp>,
@@ -38,7 +39,8 @@ impl DeskSeed {
         })
     }
 
-    /// A new history and a new store of at most `limit` values, and never more than `MAX_VALUES`. Errors: want of memory.
+    /// A new history and a new store of at most `limit` values, and never more than `MAX_VALUES`.
+    /// Errors: want of memory.
     pub fn with_limit(alloc: Global, limit: usize) -> Result<DeskSeed, AllocError>
         ensures limit { IfOk result (λ seed. seed.values.limit ≡ min limit MAX_VALUES) }
     {

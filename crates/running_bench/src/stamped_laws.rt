@@ -8,5 +8,6 @@ ghost use Rattle.running_bench.specs.Edited.{IsPrepared, IsCommitted, IsEdited};
 
 /// To prepare an edit and to put it in place is to make it.
 pub fn prepared_edits_are_made()
-    ensures { (t u w : StampedTexts) (e : EditRecord) (p : PreparedEdit) (number : ℕ) → IsPrepared t e p u → IsCommitted u p number w → IsEdited t e number w }
+    ensures { (t u w : StampedTexts) (e : EditRecord) (p : PreparedEdit) (number : ℕ)
+        → IsPrepared t e p u → IsCommitted u p number w → IsEdited t e number w }
 {}

@@ -27,7 +27,8 @@ impl Drop for StampedTexts {
     }
 }
 
-/// An edit that was prepared: the text that it puts, and the parts. No more than `used` nodes are used after it.
+/// An edit that was prepared: the text that it puts, and the parts. No more than `used` nodes are
+/// used after it.
 pub struct PreparedEdit {
     texts: Prepared,
     parts: EditedParts,
@@ -101,8 +102,8 @@ impl StampedTexts {
         self.parts.test_index(id)
     }
 
-    // What an edit needs, made beside the texts and their parts, which stay the same. Errors: the first reason to refuse the
-    // edit, or want of memory.
+    // What an edit needs, made beside the texts and their parts, which stay the same. Errors: the
+    // first reason to refuse the edit, or want of memory.
     #[tactic(auto, using(crate::proofs::Preparing::same_state, crate::proofs::Preparing::is_unspent, crate::proofs::Preparing::applies_unspent))]
     fn prepare_edit(
         &mut self,
@@ -113,7 +114,8 @@ impl StampedTexts {
         ensures prepares { IfOk result (λ p. IsPrepared self.old edit.now p self.new) }
         ensures ready { IfOk result (λ p. IsReady self.new p) }
         ensures unspent { OnOk result (spent ≡ false) }
-        ensures refuses { IfErr result (λ fault. Refuses (texts_of self.old.texts) spent (edit_of edit.now) fault) }
+        ensures refuses { IfErr result (λ fault.
+            Refuses (texts_of self.old.texts) spent (edit_of edit.now) fault) }
         ensures same { IsSame self.old self.new }
     {
         let texts = self.texts.prepare(alloc, edit, spent)?;

@@ -19,7 +19,8 @@ use std::marker::Model;
 use std::sync::Arc;
 use verdict::Outcome;
 
-/// Tests and models with their stamps, whose edits and outcomes are operations on boards. Contracts see them as those texts.
+/// Tests and models with their stamps, whose edits and outcomes are operations on boards. Contracts
+/// see them as those texts.
 pub struct RunningTexts {
     texts: StampedTexts,
 }

@@ -16,10 +16,11 @@ use board::view_laws::{cells_are_right, edits_are_counted, items_are_right};
 use compare_report::Shown;
 use desk_rule::{Naming, View, Viewer};
 
-/// The board that was published last: its operations begin with all that the viewer saw or was told, each cell of it is right
-/// for the texts after them, it has the items of their models with their numbers, each edit among them is one that the texts at
-/// its place make, and it counts their edits, which are no more than the number of the last. It takes no memory and waits for
-/// nobody. The viewer comes back where there is no view.
+/// The board that was published last: its operations begin with all that the viewer saw or was
+/// told, each cell of it is right for the texts after them, it has the items of their models with
+/// their numbers, each edit among them is one that the texts at its place make, and it counts their
+/// edits, which are no more than the number of the last. It takes no memory and waits for nobody.
+/// The viewer comes back where there is no view.
 pub fn newest_view<J: Naming>(
     viewer: Viewer<J, RunningTexts>,
 ) -> Result<View<J, RunningTexts>, Viewer<J, RunningTexts>>
@@ -38,9 +39,9 @@ pub fn newest_view<J: Naming>(
     viewer.read()
 }
 
-/// What a view shows of a test under a model, by their names. An outcome is what evaluating the one under the other from
-/// nothing gives, for the texts after the operations of the view. It takes no memory. The operations of each view are legal:
-/// `Viewer::read` and `newest_view` say so.
+/// What a view shows of a test under a model, by their names. An outcome is what evaluating the one
+/// under the other from nothing gives, for the texts after the operations of the view. It takes no
+/// memory. The operations of each view are legal: `Viewer::read` and `newest_view` say so.
 pub fn result_in<'v, J: Naming>(
     view: &'v View<J, RunningTexts>,
     test: &[u8],

@@ -19,25 +19,31 @@ pub fn edits_are_applied()
     ensures contents { (ops : List BoardOp) → HasContents ops }
 {}
 
-/// Two texts of a running bench after the same operations are the same, with the numbers of their items: so an edit that is
-/// refused leaves them what they were.
+/// Two texts of a running bench after the same operations are the same, with the numbers of their
+/// items: so an edit that is refused leaves them what they were.
 pub fn texts_are_one()
-    ensures { (t u : StampedTexts) (ops : List BoardOp) → AreAfter t ops → AreAfter u ops → SayTheSame t u }
+    ensures { (t u : StampedTexts) (ops : List BoardOp) → AreAfter t ops → AreAfter u ops
+        → SayTheSame t u }
 {}
 
-/// The texts after each history of a running bench have no more tests and models than a bench takes.
+/// The texts after each history of a running bench have no more tests and models than a bench
+/// takes.
 pub fn histories_are_within_limits()
     ensures { (ops : List BoardOp) → IsHistory ops → IsWithinLimits (texts_after ops) }
 {}
 
-/// Where every cell that a desk lists is settled, each test is shown with its result under each model: after each history of
-/// a running bench, and after any legal operations whose board has cells that a number of 64 bits counts.
+/// Where every cell that a desk lists is settled, each test is shown with its result under each
+/// model: after each history of a running bench, and after any legal operations whose board has
+/// cells that a number of 64 bits counts.
 pub fn settled_lists_are_shown()
-    ensures histories { (ops : List BoardOp) → IsHistory ops → AreSettled (board_cells (board_after ops)) → ShowsEachResult ops }
+    ensures histories { (ops : List BoardOp) → IsHistory ops
+        → AreSettled (board_cells (board_after ops)) → ShowsEachResult ops }
     ensures lists { (ops : List BoardOp) → IsLegal ops → SettledIsShown ops }
 {}
 
-/// A cell that is settled on the bench, and listed by the desk as settled, is shown with the outcome of the bench.
+/// A cell that is settled on the bench, and listed by the desk as settled, is shown with the
+/// outcome of the bench.
 pub fn posted_cells_are_shown()
-    ensures { (t : StampedTexts) (ops : List BoardOp) → IsSound t → AreAfter t ops → IsLegal ops → PostedIsShown t ops }
+    ensures { (t : StampedTexts) (ops : List BoardOp) → IsSound t → AreAfter t ops → IsLegal ops
+        → PostedIsShown t ops }
 {}

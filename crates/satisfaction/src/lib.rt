@@ -1,5 +1,5 @@
-//! Whether the state in which one execution ends satisfies a proposition. Read `Final` and `Meaning` of verdict/specs:
-//! the call gives their `is_satisfied` (verdict/specs/Evaluated).
+//! Whether the state in which one execution ends satisfies a proposition. Read `Final` and
+//! `Meaning` of verdict/specs: the call gives their `is_satisfied` (verdict/specs/Evaluated).
 #![tactic(auto)]
 
 ghost use Rattle.std.specs.Prelude.{◌≡◌, option_map};
@@ -55,7 +55,9 @@ fn final_word(execution: &Execution, location: usize) -> RunValue
 
 // What an observable holds at the end, where it is one of the test.
 fn final_value(locations: &[Name], place: &Place, execution: &Execution) -> Option<FinalValue>
-    ensures { result ≡ option_map (ends.final_value (shown_by execution.now)) (known_place locations.now place.now) }
+    ensures { result
+        ≡ option_map (ends.final_value (shown_by execution.now))
+        (known_place locations.now place.now) }
 {
     match place {
         Place::Register(thread, register) => {
@@ -70,7 +72,9 @@ fn final_value(locations: &[Name], place: &Place, execution: &Execution) -> Opti
 }
 
 fn is_held(locations: &[Name], place: &Place, value: &Value, execution: &Execution) -> bool
-    ensures { result ≡ is_held (ends.final_value (shown_by execution.now)) (known_place locations.now place.now) (known_value locations.now value.now) }
+    ensures { result
+        ≡ is_held (ends.final_value (shown_by execution.now)) (known_place locations.now place.now)
+        (known_value locations.now value.now) }
 {
     let Some(held) = final_value(locations, place, execution) else {
         return false;
@@ -91,10 +95,11 @@ fn joined_by(connective: Connective, left: bool, right: bool) -> bool
     }
 }
 
-/// Whether the state in which the execution ends satisfies the proposition. `locations` are the names of
-/// the test's locations, in their order.
+/// Whether the state in which the execution ends satisfies the proposition. `locations` are the
+/// names of the test's locations, in their order.
 pub fn is_satisfied(locations: &[Name], proposition: &Proposition, execution: &Execution) -> bool
-    ensures { result ≡ is_satisfied locations.now (formula_of proposition.now) (shown_by execution.now) }
+    ensures { result
+        ≡ is_satisfied locations.now (formula_of proposition.now) (shown_by execution.now) }
 {
     match proposition {
         Proposition::Constant(value) => *value,

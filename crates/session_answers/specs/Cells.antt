@@ -1,4 +1,5 @@
--- What the texts of a session say: a test under a model. Read this file first, then Rows, Questions and Sessions.
+-- What the texts of a session say: a test under a model. Read this file first, then Rows, Questions
+-- and Sessions.
 use Rattle.std.specs.Prelude.{◌≡◌, ℕ, List, [], ◌∷◌, map, Option, Some, None, slice_get}
 use Rattle.std.specs.List.{AllZip}
 use Rattle.text_values.specs.declared.test.Test.{Test}

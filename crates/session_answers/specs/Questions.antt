@@ -1,4 +1,5 @@
--- What a session says to a question. A name that is not there is X1 of a test, X2 of a model; the first word is judged first.
+-- What a session says to a question. A name that is not there is X1 of a test, X2 of a model; the
+-- first word is judged first.
 use Rattle.std.specs.Prelude.{◌≡◌, ℕ, List, [], ◌∷◌, map, Option, Some, None}
 use Rattle.std.specs.List.{AllZip}
 use Rattle.text_values.specs.TestValue.{Content}
@@ -27,12 +28,14 @@ IsItems (Some model) said = said ≡ told (printed_items model.items)
 abbrev pub IsLog : Option Content → Option PlainModel → Said → Type 0
 IsLog None model said = said ≡ denied (fault_line NoTest)
 IsLog (Some test) None said = said ≡ denied (fault_line NoModel)
-IsLog (Some test) (Some model) said = (o : Outcome) × IsOutcome test model o × (said ≡ told (cell_log test.name (Settled o)))
+IsLog (Some test) (Some model) said =
+    (o : Outcome) × IsOutcome test model o × (said ≡ told (cell_log test.name (Settled o)))
 
 abbrev pub IsCounts : Option Content → Option PlainModel → Said → Type 0
 IsCounts None model said = said ≡ denied (fault_line NoTest)
 IsCounts (Some test) None said = said ≡ denied (fault_line NoModel)
-IsCounts (Some test) (Some model) said = (o : Outcome) × IsOutcome test model o × (said ≡ told (cell_counts (Settled o)))
+IsCounts (Some test) (Some model) said =
+    (o : Outcome) × IsOutcome test model o × (said ≡ told (cell_counts (Settled o)))
 
 -- ---- all tests under some models: the table, or where two models differ
 
@@ -41,17 +44,21 @@ AreRows t models rows = AllZip (IsRow models) t.tests rows
 
 abbrev pub IsTable : BenchTexts → List (List ℕ) → Option (List PlainModel) → Said → Type 0
 IsTable t names None said = said ≡ denied (fault_line NoModel)
-IsTable t names (Some models) said = (rows : List Row) × AreRows t models rows × (said ≡ told (table_of names rows))
+IsTable t names (Some models) said =
+    (rows : List Row) × AreRows t models rows × (said ≡ told (table_of names rows))
 
 abbrev pub IsDifference : BenchTexts → Option (List PlainModel) → Said → Type 0
 IsDifference t None said = said ≡ denied (fault_line NoModel)
-IsDifference t (Some models) said = (rows : List Row) × AreRows t models rows × (said ≡ told (difference_of (map pair_in rows)))
+IsDifference t (Some models) said =
+    (rows : List Row) × AreRows t models rows × (said ≡ told (difference_of (map pair_in rows)))
 
 -- ---- any question
 
 abbrev pub IsReply : BenchTexts → Question → Said → Type 0
 IsReply t (questions.Items model) said = IsItems (model_named t model) said
 IsReply t (questions.Show test model) said = IsLog (test_named t test) (model_named t model) said
-IsReply t (questions.Counts test model) said = IsCounts (test_named t test) (model_named t model) said
+IsReply t (questions.Counts test model) said =
+    IsCounts (test_named t test) (model_named t model) said
 IsReply t (questions.Table names) said = IsTable t names (models_named t names) said
-IsReply t (questions.Difference first second) said = IsDifference t (models_named t (first ∷ second ∷ [])) said
+IsReply t (questions.Difference first second) said =
+    IsDifference t (models_named t (first ∷ second ∷ [])) said

@@ -14,9 +14,15 @@ row_said r = record { name = r.name; cells = map Settled r.outcomes.items }
 
 -- the first two cells of a row
 abbrev pub pair_in : Row → Pair
-pair_in row = record { name = row.name; first = slice_index_or row.cells 0 NoCell; second = slice_index_or row.cells 1 NoCell }
+pair_in row =
+    record {
+      name = row.name;
+      first = slice_index_or row.cells 0 NoCell;
+      second = slice_index_or row.cells 1 NoCell;
+    }
 
 -- the outcomes of the test under these models
-pub record HasOutcomes (models : List (Bor ModelText)) (test : Test) (row : TestOutcomes) : Type 0 where
+pub record HasOutcomes (models : List (Bor ModelText)) (test : Test) (row : TestOutcomes)
+    : Type 0 where
   pub name : row.name ≡ test.name
   pub outcomes : AreOutcomes models test row.outcomes.items

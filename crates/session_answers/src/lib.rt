@@ -1,6 +1,6 @@
-//! What a session says to each command of a script, as definitions: read specs/Cells first, then Rows, Questions and Sessions:
-//! `IsAnswered` is the answer to a command over the texts, `IsOutput` the output of a script. And the outcomes of tests under
-//! models, with how far they are.
+//! What a session says to each command of a script, as definitions: read specs/Cells first, then
+//! Rows, Questions and Sessions: `IsAnswered` is the answer to a command over the texts, `IsOutput`
+//! the output of a script. And the outcomes of tests under models, with how far they are.
 #![tactic(auto)]
 
 mod outcomes;

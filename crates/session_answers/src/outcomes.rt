@@ -18,7 +18,8 @@ fn outcomes_of(
     test: &Test,
     models: &[Result<Resolved, ModelFault>],
 ) -> Result<TestOutcomes, AllocError>
-    ensures { (texts : List (Bor ModelText)) → AreResolvedAs texts models.now → IfOk result (HasOutcomes texts test.now) }
+    ensures { (texts : List (Bor ModelText)) → AreResolvedAs texts models.now
+        → IfOk result (HasOutcomes texts test.now) }
 {
     Ok(TestOutcomes {
         name: test.name.copied(alloc)?,
@@ -43,7 +44,8 @@ fn each_test<L: ProgressListener>(
     models: &[Result<Resolved, ModelFault>],
     listener: &mut L,
 ) -> Result<Vec<TestOutcomes>, AllocError>
-    ensures { (texts : List (Bor ModelText)) → AreResolvedAs texts models.now → IfOk result (λ v. AllZip (HasOutcomes texts) tests.now v.items) }
+    ensures { (texts : List (Bor ModelText)) → AreResolvedAs texts models.now
+        → IfOk result (λ v. AllZip (HasOutcomes texts) tests.now v.items) }
 {
     let mut rows = Vec::with_capacity(alloc, tests.len())?;
     tell_rows(listener, 0, tests.len(), models.len());
@@ -54,8 +56,9 @@ fn each_test<L: ProgressListener>(
     Ok(rows)
 }
 
-/// The outcomes of each test under the models, each of which is resolved once; the candidates of a test are made once.
-/// A listener hears how far it is, a job being a test under all models. Errors: out of memory.
+/// The outcomes of each test under the models, each of which is resolved once; the candidates of a
+/// test are made once. A listener hears how far it is, a job being a test under all models. Errors:
+/// out of memory.
 pub fn test_outcomes<L: ProgressListener>(
     alloc: Global,
     tests: &[Test],

@@ -13,7 +13,8 @@ pub struct Progress {
 
 /// Who hears how far a table is.
 pub trait ProgressListener {
-    /// Whether it is to hear now how far the table is. It is asked when the table is begun, and then after each job.
+    /// Whether it is to hear now how far the table is. It is asked when the table is begun, and
+    /// then after each job.
     fn is_due(&mut self) -> bool;
 
     /// Hears how far the table is.

@@ -16,7 +16,8 @@ refusal_line letter number = codes "refused " ++ letter ∷ decimal number ++ li
 
 -- and where a text is refused, the offset too
 unfoldable pub refused_line : ℕ → ℕ → ℕ → List ℕ
-refused_line letter number offset = codes "refused " ++ letter ∷ decimal number ++ codes " " ++ decimal offset ++ line_end
+refused_line letter number offset =
+    codes "refused " ++ letter ∷ decimal number ++ codes " " ++ decimal offset ++ line_end
 
 -- an answer that is no refusal, and one that is
 abbrev pub told : List ℕ → Said

@@ -6,7 +6,11 @@ use Rattle.bench_texts.specs.declared.fault.EditFault.{EditFault}
 use Rattle.session_edits.specs.Answer.{Said, told, denied}
 use Rattle.session_edits.specs.Faults.{fault_line, IsAnswer}
 
--- `ok` and the texts that the edit makes, or the line of its refusal and the same texts: the numbers of edits are never spent
-pub data IsEdited (texts : BenchTexts) (edit : Edit) (said : Said) (after : BenchTexts) : Type 0 where
-  IsAccepted : Applies texts false edit after → said ≡ told (codes "ok\n") → IsEdited texts edit said after
-  IsRefused : (fault : EditFault) → IsAnswer fault → Refuses texts false edit fault → said ≡ denied (fault_line fault) → after ≡ texts → IsEdited texts edit said after
+-- `ok` and the texts that the edit makes, or the line of its refusal and the same texts: the
+-- numbers of edits are never spent
+pub data IsEdited (texts : BenchTexts) (edit : Edit) (said : Said) (after : BenchTexts)
+    : Type 0 where
+  IsAccepted : Applies texts false edit after → said ≡ told (codes "ok\n")
+      → IsEdited texts edit said after
+  IsRefused : (fault : EditFault) → IsAnswer fault → Refuses texts false edit fault
+      → said ≡ denied (fault_line fault) → after ≡ texts → IsEdited texts edit said after

@@ -69,7 +69,8 @@ impl Answer {
     /// Writes its bytes. After an `Err` the sink holds a front of them.
     pub fn write_to<S: ByteSink>(&self, sink: &mut S) -> Result<(), CallFailed>
         requires { S.failed_calls sink.old < 2 ^ 64 - 1 }
-        ensures ok { OnOk result (Appends (S.contents sink.old) (S.contents sink.new) self.now.text) }
+        ensures ok { OnOk result (Appends (S.contents sink.old) (S.contents sink.new)
+            self.now.text) }
         ensures front { WritesFront (S.contents sink.old) (S.contents sink.new) self.now.text }
         ensures err { OnErr result (S.failed_calls sink.new ≡ S.failed_calls sink.old + 1) }
         ensures same { OnOk result (S.failed_calls sink.new ≡ S.failed_calls sink.old) }

@@ -10,10 +10,11 @@ use crate::refusal::refused_edit;
 use bench_texts::{Edit, Texts};
 use std::alloc::{AllocError, Global};
 
-/// Makes an edit of the texts and says so, or says why it is refused. Errors: out of memory, and then the texts are as
-/// before.
+/// Makes an edit of the texts and says so, or says why it is refused. Errors: out of memory, and
+/// then the texts are as before.
 pub fn answer_edit(alloc: Global, texts: &mut Texts, edit: &Edit) -> Result<Answer, AllocError>
-    ensures edited { IfOk result (λ said. IsEdited (texts_of texts.old) (edit_of edit.now) said (texts_of texts.new)) }
+    ensures edited { IfOk result (λ said.
+        IsEdited (texts_of texts.old) (edit_of edit.now) said (texts_of texts.new)) }
     ensures kept { OnErr result (texts_of texts.new ≡ texts_of texts.old) }
 {
     match texts.prepare(alloc, edit, false) {

@@ -1,5 +1,6 @@
-//! The edits of a session: which edit a request asks for, and the answer to it. Read specs/Answer first, then Requests,
-//! Faults and Edits: `IsEdited` says what is answered and which texts are held then.
+//! The edits of a session: which edit a request asks for, and the answer to it. Read specs/Answer
+//! first, then Requests, Faults and Edits: `IsEdited` says what is answered and which texts are
+//! held then.
 #![tactic(auto)]
 
 mod answer;

@@ -13,14 +13,16 @@ use text_values::{put_bytes, put_decimal};
 
 // The word, and the letter and the number of the rule.
 fn put_head(text: &mut Vec<u8>, letter: u8, number: u8) -> Result<(), AllocError>
-    ensures { OnOk result (text.new.items ≡ text.old.items ++ (codes "refused " ++ letter ∷ decimal number)) }
+    ensures { OnOk result (text.new.items
+        ≡ text.old.items ++ (codes "refused " ++ letter ∷ decimal number)) }
 {
     put_bytes(text, b"refused ")?;
     text.push(letter)?;
     put_decimal(text, u64::from(number))
 }
 
-/// Appends the line of a refusal: the letter of its rules and the rule's number. Errors: out of memory.
+/// Appends the line of a refusal: the letter of its rules and the rule's number. Errors: out of
+/// memory.
 #[tactic(auto, unfolding(crate::specs::Answer::refusal_line))]
 pub fn put_rule(text: &mut Vec<u8>, letter: u8, number: u8) -> Result<(), AllocError>
     ensures { OnOk result (text.new.items ≡ text.old.items ++ refusal_line letter number) }
@@ -29,8 +31,8 @@ pub fn put_rule(text: &mut Vec<u8>, letter: u8, number: u8) -> Result<(), AllocE
     put_bytes(text, b"\n")
 }
 
-/// Appends the line of a refused text: the letter of its rules, the rule's number and the offset. Errors: out of
-/// memory.
+/// Appends the line of a refused text: the letter of its rules, the rule's number and the offset.
+/// Errors: out of memory.
 #[tactic(auto, unfolding(crate::specs::Answer::refused_line))]
 pub fn put_refusal(
     text: &mut Vec<u8>,
@@ -83,7 +85,8 @@ fn refused_model(alloc: Global, fault: CatFault) -> Result<Answer, AllocError>
     }
 }
 
-/// The answer to an edit that is refused. Errors: out of memory, also where the edit was refused for want of it.
+/// The answer to an edit that is refused. Errors: out of memory, also where the edit was refused
+/// for want of it.
 pub fn refused_edit(alloc: Global, fault: EditFault) -> Result<Answer, AllocError>
     ensures line { IfOk result (λ a. a ≡ denied (fault_line fault)) }
     ensures answer { IfOk result (λ a. IsAnswer fault) }

@@ -1,4 +1,5 @@
--- Laws of what a session says, each the contract of a call of this crate. Read `Cells` and `Questions` of session_answers first.
+-- Laws of what a session says, each the contract of a call of this crate. Read `Cells` and
+-- `Questions` of session_answers first.
 use Rattle.std.specs.Prelude.{◌≡◌, ℕ, List, ◌++◌, Bool}
 use Rattle.text_values.specs.TestValue.{Content}
 use Rattle.verdict.specs.declared.answer.Outcome.{Outcome}
@@ -16,16 +17,20 @@ HasOneOutcome test model = (o p : Outcome) → IsOutcome test model o → IsOutc
 
 -- over these texts the question has one answer
 abbrev pub HasOneReply : BenchTexts → Question → Type 0
-HasOneReply texts question = (said other : Said) → IsReply texts question said → IsReply texts question other → said ≡ other
+HasOneReply texts question =
+    (said other : Said) → IsReply texts question said → IsReply texts question other → said ≡ other
 
--- two outputs of these commands are one, and so are whether a command is refused and the texts after them
+-- two outputs of these commands are one, and so are whether a command is refused and the texts
+-- after them
 abbrev pub HasOneOutput : List Command → Type 0
 HasOneOutput commands =
-    (text other : List ℕ) (refused also : Bool) (t u : BenchTexts) → IsOutput commands text refused t → IsOutput commands other also u
+    (text other : List ℕ) (refused also : Bool) (t u : BenchTexts)
+    → IsOutput commands text refused t → IsOutput commands other also u
     → (text ≡ other) × (refused ≡ also) × (t ≡ u)
 
 -- each output of all of them begins with each of the first
 abbrev pub BeginsAlike : (first others : List Command) → Type 0
 BeginsAlike first others =
-    (text whole : List ℕ) (refused also : Bool) (t u : BenchTexts) → IsOutput first text refused t → IsOutput (first ++ others) whole also u
+    (text whole : List ℕ) (refused also : Bool) (t u : BenchTexts) → IsOutput first text refused t
+    → IsOutput (first ++ others) whole also u
     → (rest : List ℕ) × (whole ≡ text ++ rest)

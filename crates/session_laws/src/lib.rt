@@ -1,5 +1,6 @@
-//! Laws of what a session says: over the same texts a question has one answer, and commands have one output, also where some
-//! are refused. Read specs/Laws first, after `Sessions` of `session_answers/specs`.
+//! Laws of what a session says: over the same texts a question has one answer, and commands have
+//! one output, also where some are refused. Read specs/Laws first, after `Sessions` of
+//! `session_answers/specs`.
 #![tactic(auto)]
 
 ghost use Rattle.std.specs.Prelude.{List};

@@ -43,7 +43,8 @@ commands_from Between [] = []
 commands_from (Within r text) [] = Refused NoTextEnd ∷ []
 commands_from Between (line ∷ lines) =
     if is_skipped line then commands_from Between lines
-    else said_by (request_of (words_of line)) ++ commands_from (stage_behind (request_of (words_of line))) lines
+    else said_by (request_of (words_of line))
+    ++ commands_from (stage_behind (request_of (words_of line))) lines
 commands_from (Within r text) (line ∷ lines) =
     if is_dot line then Asked r (kept_text text) ∷ commands_from Between lines
     else commands_from (Within r (text ++ line ++ 10 ∷ [])) lines

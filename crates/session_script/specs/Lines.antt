@@ -7,7 +7,8 @@ abbrev pub onto_first : ℕ → List (List ℕ) → List (List ℕ)
 onto_first b [] = (b ∷ []) ∷ []
 onto_first b (l ∷ ls) = (b ∷ l) ∷ ls
 
--- the lines, without their line feeds: a carriage return right before a line feed is dropped, and the last line may lack its line feed
+-- the lines, without their line feeds: a carriage return right before a line feed is dropped, and
+-- the last line may lack its line feed
 abbrev pub lines_of : List ℕ → List (List ℕ)
 lines_of [] = []
 lines_of (b ∷ bs) =

@@ -38,8 +38,10 @@ work_of r = turns_of r * 4097 + length (waiting_in r)
 
 -- what waited went to the line, up to the line's end, if it has one there
 abbrev pub IsPart : Bool → List ℕ → List ℕ → List ℕ → List ℕ → Type 0
-IsPart true old new before line = (more : List ℕ) × IsUnbroken more × (line ≡ before ++ more) × (old ≡ more ++ 10 ∷ new)
-IsPart false old new before line = (more : List ℕ) × IsUnbroken more × (line ≡ before ++ more) × (old ≡ more) × (new ≡ [])
+IsPart true old new before line =
+    (more : List ℕ) × IsUnbroken more × (line ≡ before ++ more) × (old ≡ more ++ 10 ∷ new)
+IsPart false old new before line =
+    (more : List ℕ) × IsUnbroken more × (line ≡ before ++ more) × (old ≡ more) × (new ≡ [])
 
 -- the first line that was left is this one
 abbrev pub IsLine : Option (List ℕ) → Option (List ℕ) → Option (List ℕ) → Type 0
@@ -52,7 +54,8 @@ IsLine (Some old) (Some new) (Some line) = lines_of old ≡ line ∷ lines_of ne
 abbrev pub HasText : Option (List ℕ) → Option (List ℕ) → Request → Command → Type 0
 HasText None new r command = Unit {0}
 HasText (Some old) None r command = ⊥
-HasText (Some old) (Some new) r command = commands_from (Within r []) (lines_of old) ≡ command ∷ commands_of new
+HasText (Some old) (Some new) r command =
+    commands_from (Within r []) (lines_of old) ≡ command ∷ commands_of new
 
 -- a request and its text, or its lack of one
 abbrev pub answer_of : Request → Option (List ℕ) → Command
@@ -68,7 +71,8 @@ abbrev pub IsSaid : Option (List ℕ) → Option (List ℕ) → List (List ℕ) 
 IsSaid None new words command = Unit {0}
 IsSaid (Some old) None words command = ⊥
 IsSaid (Some old) (Some new) words command =
-    said_by (request_of words) ++ commands_from (stage_behind (request_of words)) (lines_of old) ≡ command ∷ commands_of new
+    said_by (request_of words) ++ commands_from (stage_behind (request_of words)) (lines_of old)
+    ≡ command ∷ commands_of new
 
 -- the first command that was left is this one
 abbrev pub IsNext : Option (List ℕ) → Option (List ℕ) → Option Command → Type 0

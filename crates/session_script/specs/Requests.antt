@@ -39,14 +39,16 @@ with_name command name =
 -- a word, a name and a number
 abbrev pub takes_number : List ℕ → Bool
 takes_number command =
-    is_word command (codes "thread") || is_word command (codes "item") || is_word command (codes "insert") || is_word command (codes "remove")
+    is_word command (codes "thread") || is_word command (codes "item")
+    || is_word command (codes "insert") || is_word command (codes "remove")
 
 abbrev pub with_number : List ℕ → List ℕ → Option ℕ → Option Request
 with_number command name None = None
 with_number command name (Some n) =
     if is_word command (codes "thread") then Some (SetThread name n) else (
     if is_word command (codes "item") then Some (SetItem name n) else (
-    if is_word command (codes "insert") then Some (InsertItem name n) else Some (RemoveItem name n)))
+    if is_word command (codes "insert") then Some (InsertItem name n)
+    else Some (RemoveItem name n)))
 
 -- `drop`, a kind and a name
 abbrev pub dropped : List ℕ → List ℕ → Option Request
@@ -67,10 +69,13 @@ abbrev pub by_count : List (List ℕ) → Option Request
 by_count words =
     if length words == 1 then alone (word_at words 0) else (
     if length words == 2 then with_name (word_at words 0) (word_at words 1) else (
-    if length words == 3 then with_two (word_at words 0) (word_at words 1) (word_at words 2) else None))
+    if length words == 3 then with_two (word_at words 0) (word_at words 1) (word_at words 2)
+    else None))
 
 -- what these words ask for, if they are a command
 abbrev pub request_of : List (List ℕ) → Option Request
 request_of words =
-    if is_word (word_at words 0) (codes "table") then (if nat_lt 1 (length words) then Some (Table (drop 1 words)) else None)
+    if is_word (word_at words 0) (codes "table") then (if nat_lt 1 (length words) then Some
+    (Table (drop 1 words))
+    else None)
     else by_count words

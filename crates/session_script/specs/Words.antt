@@ -20,7 +20,8 @@ words_of (b ∷ bs) =
 
 -- a number and one digit more, where that is a digit and the number stays below 2^64
 abbrev pub with_digit : ℕ → ℕ → Option ℕ
-with_digit n d = if is_digit d && nat_lt (n * 10 + (d - 48)) (2 ^ 64) then Some (n * 10 + (d - 48)) else None
+with_digit n d =
+    if is_digit d && nat_lt (n * 10 + (d - 48)) (2 ^ 64) then Some (n * 10 + (d - 48)) else None
 
 abbrev pub number_from : Option ℕ → List ℕ → Option ℕ
 number_from None ds = None

@@ -1,5 +1,5 @@
-//! The script of a session: where its bytes come from, and the commands that it holds. Read specs/Lines first, then
-//! Words, Requests and Commands.
+//! The script of a session: where its bytes come from, and the commands that it holds. Read
+//! specs/Lines first, then Words, Requests and Commands.
 #![tactic(auto)]
 
 mod command;

@@ -81,8 +81,10 @@ impl ScriptReader {
     // Moves what waits of a line to it. Whether the line ends there.
     fn take_part(&mut self, line: &mut Vec<u8>) -> Result<bool, AllocError>
         ensures ahead { OnOk result (ReadsFewAhead self.old self.new) }
-        ensures part { IfOk result (λ ended. IsPart ended (waiting_in self.old) (waiting_in self.new) line.old.items line.new.items) }
-        ensures whole { IfOk result (λ ended. work_of self.new + length line.new.items ≤ work_of self.old + length line.old.items) }
+        ensures part { IfOk result (λ ended. IsPart ended (waiting_in self.old)
+            (waiting_in self.new) line.old.items line.new.items) }
+        ensures whole { IfOk result (λ ended. work_of self.new + length line.new.items
+            ≤ work_of self.old + length line.old.items) }
         ensures turns { IfOk result (λ ended. turns_of self.new ≡ turns_of self.old) }
         ensures work { IfOk result (λ ended. work_of self.new ≤ work_of self.old) }
         ensures less { result ≡ Ok true → work_of self.new < work_of self.old }
@@ -121,18 +123,23 @@ impl ScriptReader {
         self.start = self.waiting.len();
     }
 
-    // Reads once, where nothing waits. Whether something waits then; a read that gives nothing takes no turn.
+    // Reads once, where nothing waits. Whether something waits then; a read that gives nothing
+    // takes no turn.
     fn fill<S: ByteSource>(&mut self, source: &mut S) -> Result<bool, ReadFault>
         requires { S.failed_calls source.old < 2 ^ 64 - 1 }
         ensures ahead { OnOk result (ReadsFewAhead self.old self.new) }
-        ensures given { IfOk result (λ some. Consumes (S.remaining source.old) (S.remaining source.new) (waiting_in self.new)) }
+        ensures given { IfOk result (λ some.
+            Consumes (S.remaining source.old) (S.remaining source.new) (waiting_in self.new)) }
         ensures end { result ≡ Ok false → IsAtEnd (left_to self.new (S.remaining source.new)) }
         ensures work { IfOk result (λ some. work_of self.new ≤ work_of self.old) }
         ensures less { result ≡ Ok true → work_of self.new < work_of self.old }
-        ensures paid { IfOk result (λ some. IsPaid (turns_of self.old) (turns_of self.new) (S.remaining source.old) (S.remaining source.new)) }
+        ensures paid { IfOk result (λ some. IsPaid (turns_of self.old) (turns_of self.new)
+            (S.remaining source.old) (S.remaining source.new)) }
         ensures endless { result ≡ Err ReadFault.Endless → turns_of self.old ≡ 0 }
-        ensures read { result ≡ Err ReadFault.Read → S.failed_calls source.new ≡ S.failed_calls source.old + 1 }
-        ensures same { result ≢ Err ReadFault.Read → S.failed_calls source.new ≡ S.failed_calls source.old }
+        ensures read { result ≡ Err ReadFault.Read
+            → S.failed_calls source.new ≡ S.failed_calls source.old + 1 }
+        ensures same { result ≢ Err ReadFault.Read
+            → S.failed_calls source.new ≡ S.failed_calls source.old }
     {
         if self.turns == 0 {
             return Err(ReadFault::Endless);
@@ -151,17 +158,24 @@ impl ScriptReader {
         }
     }
 
-    // The next line, or none at the end. What is read of a line that a failed read cuts off is lost.
+    // The next line, or none at the end. What is read of a line that a failed read cuts off is
+    // lost.
     fn read_line<S: ByteSource>(&mut self, source: &mut S) -> Result<Option<Vec<u8>>, ReadFault>
         requires { S.failed_calls source.old < 2 ^ 64 - 1 }
         ensures ahead { OnOk result (ReadsFewAhead self.old self.new) }
-        ensures line { IfOk result (λ line. IsLine (left_to self.old (S.remaining source.old)) (left_to self.new (S.remaining source.new)) (option_map (λ l. l.items) line)) }
+        ensures line { IfOk result (λ line. IsLine (left_to self.old (S.remaining source.old))
+            (left_to self.new (S.remaining source.new)) (option_map (λ l. l.items) line)) }
         ensures work { IfOk result (λ line. work_of self.new ≤ work_of self.old) }
-        ensures less { IfOk result (λ line. IfSome line (λ some. work_of self.new < work_of self.old)) }
-        ensures paid { IfOk result (λ line. IsPaid (turns_of self.old) (turns_of self.new) (S.remaining source.old) (S.remaining source.new)) }
-        ensures endless { result ≡ Err ReadFault.Endless → IfSome (S.remaining source.old) (λ all. turns_of self.old ≤ length all) }
-        ensures read { result ≡ Err ReadFault.Read → S.failed_calls source.new ≡ S.failed_calls source.old + 1 }
-        ensures same { result ≢ Err ReadFault.Read → S.failed_calls source.new ≡ S.failed_calls source.old }
+        ensures less { IfOk result (λ line.
+            IfSome line (λ some. work_of self.new < work_of self.old)) }
+        ensures paid { IfOk result (λ line. IsPaid (turns_of self.old) (turns_of self.new)
+            (S.remaining source.old) (S.remaining source.new)) }
+        ensures endless { result ≡ Err ReadFault.Endless
+            → IfSome (S.remaining source.old) (λ all. turns_of self.old ≤ length all) }
+        ensures read { result ≡ Err ReadFault.Read
+            → S.failed_calls source.new ≡ S.failed_calls source.old + 1 }
+        ensures same { result ≢ Err ReadFault.Read
+            → S.failed_calls source.new ≡ S.failed_calls source.old }
     {
         let mut line = Vec::new(self.alloc);
         'parts: loop {
@@ -184,13 +198,19 @@ impl ScriptReader {
     fn text<S: ByteSource>(&mut self, source: &mut S) -> Result<Option<ScriptText>, ReadFault>
         requires { S.failed_calls source.old < 2 ^ 64 - 1 }
         ensures ahead { OnOk result (ReadsFewAhead self.old self.new) }
-        ensures text { IfOk result (IsText (left_to self.old (S.remaining source.old)) (left_to self.new (S.remaining source.new))) }
+        ensures text { IfOk result (IsText (left_to self.old (S.remaining source.old))
+            (left_to self.new (S.remaining source.new))) }
         ensures work { IfOk result (λ text. work_of self.new ≤ work_of self.old) }
-        ensures less { IfOk result (λ text. IfSome text (λ some. work_of self.new < work_of self.old)) }
-        ensures paid { IfOk result (λ text. IsPaid (turns_of self.old) (turns_of self.new) (S.remaining source.old) (S.remaining source.new)) }
-        ensures endless { result ≡ Err ReadFault.Endless → IfSome (S.remaining source.old) (λ all. turns_of self.old ≤ length all) }
-        ensures read { result ≡ Err ReadFault.Read → S.failed_calls source.new ≡ S.failed_calls source.old + 1 }
-        ensures same { result ≢ Err ReadFault.Read → S.failed_calls source.new ≡ S.failed_calls source.old }
+        ensures less { IfOk result (λ text.
+            IfSome text (λ some. work_of self.new < work_of self.old)) }
+        ensures paid { IfOk result (λ text. IsPaid (turns_of self.old) (turns_of self.new)
+            (S.remaining source.old) (S.remaining source.new)) }
+        ensures endless { result ≡ Err ReadFault.Endless
+            → IfSome (S.remaining source.old) (λ all. turns_of self.old ≤ length all) }
+        ensures read { result ≡ Err ReadFault.Read
+            → S.failed_calls source.new ≡ S.failed_calls source.old + 1 }
+        ensures same { result ≢ Err ReadFault.Read
+            → S.failed_calls source.new ≡ S.failed_calls source.old }
     {
         let mut text = Vec::new(self.alloc);
         'lines: loop {
@@ -216,12 +236,17 @@ impl ScriptReader {
     ) -> Result<Command, ReadFault>
         requires { S.failed_calls source.old < 2 ^ 64 - 1 }
         ensures ahead { OnOk result (ReadsFewAhead self.old self.new) }
-        ensures text { IfOk result (HasText (left_to self.old (S.remaining source.old)) (left_to self.new (S.remaining source.new)) request) }
+        ensures text { IfOk result (HasText (left_to self.old (S.remaining source.old))
+            (left_to self.new (S.remaining source.new)) request) }
         ensures work { IfOk result (λ c. work_of self.new ≤ work_of self.old) }
-        ensures paid { IfOk result (λ c. IsPaid (turns_of self.old) (turns_of self.new) (S.remaining source.old) (S.remaining source.new)) }
-        ensures endless { result ≡ Err ReadFault.Endless → IfSome (S.remaining source.old) (λ all. turns_of self.old ≤ length all) }
-        ensures read { result ≡ Err ReadFault.Read → S.failed_calls source.new ≡ S.failed_calls source.old + 1 }
-        ensures same { result ≢ Err ReadFault.Read → S.failed_calls source.new ≡ S.failed_calls source.old }
+        ensures paid { IfOk result (λ c. IsPaid (turns_of self.old) (turns_of self.new)
+            (S.remaining source.old) (S.remaining source.new)) }
+        ensures endless { result ≡ Err ReadFault.Endless
+            → IfSome (S.remaining source.old) (λ all. turns_of self.old ≤ length all) }
+        ensures read { result ≡ Err ReadFault.Read
+            → S.failed_calls source.new ≡ S.failed_calls source.old + 1 }
+        ensures same { result ≢ Err ReadFault.Read
+            → S.failed_calls source.new ≡ S.failed_calls source.old }
     {
         let text = self.text(source)?;
         match text {
@@ -238,12 +263,17 @@ impl ScriptReader {
     ) -> Result<Command, ReadFault>
         requires { S.failed_calls source.old < 2 ^ 64 - 1 }
         ensures ahead { OnOk result (ReadsFewAhead self.old self.new) }
-        ensures said { IfOk result (λ c. IsSaid (left_to self.old (S.remaining source.old)) (left_to self.new (S.remaining source.new)) words.now c) }
+        ensures said { IfOk result (λ c. IsSaid (left_to self.old (S.remaining source.old))
+            (left_to self.new (S.remaining source.new)) words.now c) }
         ensures work { IfOk result (λ c. work_of self.new ≤ work_of self.old) }
-        ensures paid { IfOk result (λ c. IsPaid (turns_of self.old) (turns_of self.new) (S.remaining source.old) (S.remaining source.new)) }
-        ensures endless { result ≡ Err ReadFault.Endless → IfSome (S.remaining source.old) (λ all. turns_of self.old ≤ length all) }
-        ensures read { result ≡ Err ReadFault.Read → S.failed_calls source.new ≡ S.failed_calls source.old + 1 }
-        ensures same { result ≢ Err ReadFault.Read → S.failed_calls source.new ≡ S.failed_calls source.old }
+        ensures paid { IfOk result (λ c. IsPaid (turns_of self.old) (turns_of self.new)
+            (S.remaining source.old) (S.remaining source.new)) }
+        ensures endless { result ≡ Err ReadFault.Endless
+            → IfSome (S.remaining source.old) (λ all. turns_of self.old ≤ length all) }
+        ensures read { result ≡ Err ReadFault.Read
+            → S.failed_calls source.new ≡ S.failed_calls source.old + 1 }
+        ensures same { result ≢ Err ReadFault.Read
+            → S.failed_calls source.new ≡ S.failed_calls source.old }
     {
         match request_of(self.alloc, words)? {
             None => Ok(Command::Refused(ScriptRule::NoCommand)),
@@ -259,24 +289,31 @@ impl ScriptReader {
         }
     }
 
-    /// The next command, or none at the end of the script. No more is read than holds the last line feed of the
-    /// command. Behind a last line that lacks its line feed the source is read once more. A line that a failed read
-    /// cuts off is not taken. Errors: a call that failed, a source that has not ended after 16,777,216 calls over the
-    /// whole script that gave bytes, or want of memory; after them nothing is promised of further calls.
+    /// The next command, or none at the end of the script. No more is read than holds the last line
+    /// feed of the command. Behind a last line that lacks its line feed the source is read once
+    /// more. A line that a failed read cuts off is not taken. Errors: a call that failed, a source
+    /// that has not ended after 16,777,216 calls over the whole script that gave bytes, or want of
+    /// memory; after them nothing is promised of further calls.
     pub fn next<S: ByteSource>(&mut self, source: &mut S) -> Result<Option<Command>, ReadFault>
         requires { S.failed_calls source.old < 2 ^ 64 - 1 }
         // The command is the first of those that were left, and the others are left still.
-        ensures next { IfOk result (λ c. IsNext (left_to self.old (S.remaining source.old)) (left_to self.new (S.remaining source.new)) c) }
+        ensures next { IfOk result (λ c. IsNext (left_to self.old (S.remaining source.old))
+            (left_to self.new (S.remaining source.new)) c) }
         // At most 4,096 bytes are read and not yet used, as long as no more were.
         ensures ahead { OnOk result (ReadsFewAhead self.old self.new) }
-        // Each command takes some of the work that is left, so that asking until there is no command ends.
+        // Each command takes some of the work that is left, so that asking until there is no
+        // command ends.
         ensures work { IfOk result (λ c. IfSome c (λ some. work_of self.new < work_of self.old)) }
         // Each turn that is taken gave a byte at least, and `Endless` comes where no turn is left.
-        ensures paid { IfOk result (λ c. IsPaid (turns_of self.old) (turns_of self.new) (S.remaining source.old) (S.remaining source.new)) }
-        ensures endless { result ≡ Err ReadFault.Endless → IfSome (S.remaining source.old) (λ all. turns_of self.old ≤ length all) }
+        ensures paid { IfOk result (λ c. IsPaid (turns_of self.old) (turns_of self.new)
+            (S.remaining source.old) (S.remaining source.new)) }
+        ensures endless { result ≡ Err ReadFault.Endless
+            → IfSome (S.remaining source.old) (λ all. turns_of self.old ≤ length all) }
         // `Read` comes after one failed call, and all else after none.
-        ensures read { result ≡ Err ReadFault.Read → S.failed_calls source.new ≡ S.failed_calls source.old + 1 }
-        ensures same { result ≢ Err ReadFault.Read → S.failed_calls source.new ≡ S.failed_calls source.old }
+        ensures read { result ≡ Err ReadFault.Read
+            → S.failed_calls source.new ≡ S.failed_calls source.old + 1 }
+        ensures same { result ≢ Err ReadFault.Read
+            → S.failed_calls source.new ≡ S.failed_calls source.old }
     {
         'lines: loop {
             let read = self.read_line(source)?;

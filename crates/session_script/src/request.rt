@@ -87,8 +87,8 @@ impl Names {
     }
 }
 
-/// What a line asks for: an edit of the texts, or a question. Tests and models go by their names, threads and items by
-/// their numbers. The text of an edit stands in the lines after it.
+/// What a line asks for: an edit of the texts, or a question. Tests and models go by their names,
+/// threads and items by their numbers. The text of an edit stands in the lines after it.
 #[derive(Drop)]
 pub enum Request {
     /// `test`, with a text: the test is put.

@@ -150,13 +150,17 @@ pub fn read_front<S: ByteSource>(
     most: usize,
 ) -> Result<Vec<u8>, ReadFault>
     requires { S.failed_calls source.old < 2 ^ 64 - 1 }
-    ensures bytes { IfOk result (λ v. IfSome (S.remaining source.old) (λ all. v.items ≡ take most all)) }
+    ensures bytes { IfOk result (λ v.
+        IfSome (S.remaining source.old) (λ all. v.items ≡ take most all)) }
     ensures end { OnOk result (IsAtEnd (S.remaining source.new)) }
     // `Read` comes after one failed call, and all else after none.
-    ensures read { result ≡ Err ReadFault.Read → S.failed_calls source.new ≡ S.failed_calls source.old + 1 }
-    ensures same { result ≢ Err ReadFault.Read → S.failed_calls source.new ≡ S.failed_calls source.old }
+    ensures read { result ≡ Err ReadFault.Read
+        → S.failed_calls source.new ≡ S.failed_calls source.old + 1 }
+    ensures same { result ≢ Err ReadFault.Read
+        → S.failed_calls source.new ≡ S.failed_calls source.old }
     // `Endless` comes only where each of so many calls gave a byte at least.
-    ensures endless { result ≡ Err ReadFault.Endless → IfSome (S.remaining source.old) (λ all. 16777216 ≤ length all) }
+    ensures endless { result ≡ Err ReadFault.Endless
+        → IfSome (S.remaining source.old) (λ all. 16777216 ≤ length all) }
 {
     let mut bytes = Vec::new(alloc);
     let mut buffer = [0u8; 4096];

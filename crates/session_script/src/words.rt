@@ -68,7 +68,8 @@ fn with_digit(number: u64, byte: u8) -> Option<u64>
     }
 }
 
-/// The number below 2^64 that the digits of a word make, 0 where it has none; none where it has other bytes or makes more.
+/// The number below 2^64 that the digits of a word make, 0 where it has none; none where it has
+/// other bytes or makes more.
 pub fn number_of(word: &[u8]) -> Option<u64>
     ensures { result ≡ number_of word.now }
 {

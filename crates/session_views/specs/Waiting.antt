@@ -34,7 +34,10 @@ model_indexes t names = map (λ name. model_index name t.models) names
 -- a cell that the question asks for is shown open
 abbrev pub IsAwaiting : BenchTexts → BoardContent → Question → Type 0
 IsAwaiting t b (questions.Items model) = ⊥
-IsAwaiting t b (questions.Show test model) = IsOpenAt b (test_index test t.tests) (model_index model t.models)
-IsAwaiting t b (questions.Counts test model) = IsOpenAt b (test_index test t.tests) (model_index model t.models)
+IsAwaiting t b (questions.Show test model) =
+    IsOpenAt b (test_index test t.tests) (model_index model t.models)
+IsAwaiting t b (questions.Counts test model) =
+    IsOpenAt b (test_index test t.tests) (model_index model t.models)
 IsAwaiting t b (questions.Table names) = IsOpenAmong b (model_indexes t names)
-IsAwaiting t b (questions.Difference first second) = IsOpenAmong b (model_indexes t (first ∷ second ∷ []))
+IsAwaiting t b (questions.Difference first second) =
+    IsOpenAmong b (model_indexes t (first ∷ second ∷ []))

@@ -43,10 +43,13 @@ fn log_under(
     asked: &AskedModel<'_>,
 ) -> Result<Option<Answer>, AllocError>
     requires shows { ShowsTexts (texts_of view.texts.now) view.board.now }
-    requires test { slice_get (texts_of view.texts.now).tests view.index ≡ Some (content_of test.now) }
+    requires test { slice_get (texts_of view.texts.now).tests view.index
+        ≡ Some (content_of test.now) }
     requires model { IsThere view.texts.now asked.now }
-    ensures answer { IfOk result (λ r. IfSome r (IsLog (Some (content_of test.now)) (Some (asked_model asked.now)))) }
-    ensures waits { IfOk result (λ r. IfNone r (IsOpenAt view.entry.board.now view.entry.index asked.now.index)) }
+    ensures answer { IfOk result (λ r.
+        IfSome r (IsLog (Some (content_of test.now)) (Some (asked_model asked.now)))) }
+    ensures waits { IfOk result (λ r.
+        IfNone r (IsOpenAt view.entry.board.now view.entry.index asked.now.index)) }
 {
     match asked_outcome(view.texts, view.board, view.index, test, asked) {
         Some(outcome) => {
@@ -64,10 +67,14 @@ fn log(
     model: Option<AskedModel<'_>>,
 ) -> Result<Option<Answer>, AllocError>
     requires shows { ShowsTexts (texts_of view.texts.now) view.board.now }
-    requires test { IfSome test (λ t. slice_get (texts_of view.texts.now).tests view.index ≡ Some (content_of t.now)) }
+    requires test { IfSome test (λ t. slice_get (texts_of view.texts.now).tests view.index
+        ≡ Some (content_of t.now)) }
     requires model { IfSome model (IsThere view.texts.now) }
-    ensures answer { IfOk result (λ r. IfSome r (IsLog (option_map (λ t. content_of t.now) test.entry) (option_map asked_model model.entry))) }
-    ensures waits { IfOk result (λ r. IfNone r (IsOpenUnder view.entry.board.now view.entry.index (option_map asked_index model.entry))) }
+    ensures answer { IfOk result (λ r. IfSome r (IsLog
+        (option_map (λ t. content_of t.now) test.entry)
+        (option_map asked_model model.entry))) }
+    ensures waits { IfOk result (λ r. IfNone r (IsOpenUnder view.entry.board.now view.entry.index
+        (option_map asked_index model.entry))) }
 {
     match test {
         Some(test) => match model {
@@ -85,10 +92,13 @@ fn counts_under(
     asked: &AskedModel<'_>,
 ) -> Result<Option<Answer>, AllocError>
     requires shows { ShowsTexts (texts_of view.texts.now) view.board.now }
-    requires test { slice_get (texts_of view.texts.now).tests view.index ≡ Some (content_of test.now) }
+    requires test { slice_get (texts_of view.texts.now).tests view.index
+        ≡ Some (content_of test.now) }
     requires model { IsThere view.texts.now asked.now }
-    ensures answer { IfOk result (λ r. IfSome r (IsCounts (Some (content_of test.now)) (Some (asked_model asked.now)))) }
-    ensures waits { IfOk result (λ r. IfNone r (IsOpenAt view.entry.board.now view.entry.index asked.now.index)) }
+    ensures answer { IfOk result (λ r.
+        IfSome r (IsCounts (Some (content_of test.now)) (Some (asked_model asked.now)))) }
+    ensures waits { IfOk result (λ r.
+        IfNone r (IsOpenAt view.entry.board.now view.entry.index asked.now.index)) }
 {
     match asked_outcome(view.texts, view.board, view.index, test, asked) {
         Some(outcome) => {
@@ -106,10 +116,14 @@ fn counts(
     model: Option<AskedModel<'_>>,
 ) -> Result<Option<Answer>, AllocError>
     requires shows { ShowsTexts (texts_of view.texts.now) view.board.now }
-    requires test { IfSome test (λ t. slice_get (texts_of view.texts.now).tests view.index ≡ Some (content_of t.now)) }
+    requires test { IfSome test (λ t. slice_get (texts_of view.texts.now).tests view.index
+        ≡ Some (content_of t.now)) }
     requires model { IfSome model (IsThere view.texts.now) }
-    ensures answer { IfOk result (λ r. IfSome r (IsCounts (option_map (λ t. content_of t.now) test.entry) (option_map asked_model model.entry))) }
-    ensures waits { IfOk result (λ r. IfNone r (IsOpenUnder view.entry.board.now view.entry.index (option_map asked_index model.entry))) }
+    ensures answer { IfOk result (λ r. IfSome r (IsCounts
+        (option_map (λ t. content_of t.now) test.entry)
+        (option_map asked_model model.entry))) }
+    ensures waits { IfOk result (λ r. IfNone r (IsOpenUnder view.entry.board.now view.entry.index
+        (option_map asked_index model.entry))) }
 {
     match test {
         Some(test) => match model {
@@ -139,8 +153,10 @@ fn table_under(
 ) -> Result<Option<Answer>, AllocError>
     requires shows { ShowsTexts (texts_of texts.now) board.now }
     requires models { All (IsThere texts.now) models.now }
-    ensures answer { IfOk result (λ r. IfSome r (IsTable (texts_of texts.now) names.now (Some (map asked_model models.now)))) }
-    ensures waits { IfOk result (λ r. IfNone r (IsOpenAmong board.now (map asked_index models.now))) }
+    ensures answer { IfOk result (λ r.
+        IfSome r (IsTable (texts_of texts.now) names.now (Some (map asked_model models.now)))) }
+    ensures waits { IfOk result (λ r.
+        IfNone r (IsOpenAmong board.now (map asked_index models.now))) }
 {
     match asked_rows(alloc, texts, board, models)? {
         Some(rows) => {
@@ -158,8 +174,10 @@ fn table(
     names: &[ScriptText],
 ) -> Result<Option<Answer>, AllocError>
     requires { ShowsTexts (texts_of texts.now) board.now }
-    ensures answer { IfOk result (λ r. IfSome r (IsTable (texts_of texts.now) names.now (models_named (texts_of texts.now) names.now))) }
-    ensures waits { IfOk result (λ r. IfNone r (IsOpenAmong board.now (model_indexes (texts_of texts.now) names.now))) }
+    ensures answer { IfOk result (λ r. IfSome r (IsTable (texts_of texts.now) names.now
+        (models_named (texts_of texts.now) names.now))) }
+    ensures waits { IfOk result (λ r.
+        IfNone r (IsOpenAmong board.now (model_indexes (texts_of texts.now) names.now))) }
 {
     match named_models(alloc, texts, names)? {
         Some(models) => table_under(alloc, texts, board, names, &models),
@@ -175,8 +193,10 @@ fn difference_under(
 ) -> Result<Option<Answer>, AllocError>
     requires shows { ShowsTexts (texts_of texts.now) board.now }
     requires models { All (IsThere texts.now) models.now }
-    ensures answer { IfOk result (λ r. IfSome r (IsDifference (texts_of texts.now) (Some (map asked_model models.now)))) }
-    ensures waits { IfOk result (λ r. IfNone r (IsOpenAmong board.now (map asked_index models.now))) }
+    ensures answer { IfOk result (λ r.
+        IfSome r (IsDifference (texts_of texts.now) (Some (map asked_model models.now)))) }
+    ensures waits { IfOk result (λ r.
+        IfNone r (IsOpenAmong board.now (map asked_index models.now))) }
 {
     match asked_rows(alloc, texts, board, models)? {
         Some(rows) => {
@@ -194,8 +214,10 @@ fn difference(
     names: &[ScriptText],
 ) -> Result<Option<Answer>, AllocError>
     requires { ShowsTexts (texts_of texts.now) board.now }
-    ensures answer { IfOk result (λ r. IfSome r (IsDifference (texts_of texts.now) (models_named (texts_of texts.now) names.now))) }
-    ensures waits { IfOk result (λ r. IfNone r (IsOpenAmong board.now (model_indexes (texts_of texts.now) names.now))) }
+    ensures answer { IfOk result (λ r. IfSome r (IsDifference (texts_of texts.now)
+        (models_named (texts_of texts.now) names.now))) }
+    ensures waits { IfOk result (λ r.
+        IfNone r (IsOpenAmong board.now (model_indexes (texts_of texts.now) names.now))) }
 {
     match named_models(alloc, texts, names)? {
         Some(models) => difference_under(alloc, texts, board, &models),
@@ -203,8 +225,8 @@ fn difference(
     }
 }
 
-/// The answer to a question about the texts that a board shows, or none while a cell is open that it asks for. Errors: out of
-/// memory.
+/// The answer to a question about the texts that a board shows, or none while a cell is open that
+/// it asks for. Errors: out of memory.
 #[tactic(auto, using(crate::proofs::Opening::open_under))]
 pub fn answer_from_board(
     alloc: Global,
@@ -214,7 +236,8 @@ pub fn answer_from_board(
 ) -> Result<Option<Answer>, AllocError>
     requires { ShowsTexts (texts_of texts.now) board.now }
     ensures answer { IfOk result (λ r. IfSome r (IsReply (texts_of texts.now) question.now)) }
-    ensures waits { IfOk result (λ r. IfNone r (IsAwaiting (texts_of texts.now) board.now question.now)) }
+    ensures waits { IfOk result (λ r.
+        IfNone r (IsAwaiting (texts_of texts.now) board.now question.now)) }
 {
     match question {
         Question::Items { model } => {

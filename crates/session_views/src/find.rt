@@ -30,7 +30,8 @@ pub(crate) struct AskedModel<'t> {
 // The outcome of a cell, if it is settled.
 #[tactic(auto, using(crate::proofs::Cells::settled_cell, crate::proofs::Opening::open_cell, crate::proofs::Opening::no_cell))]
 fn settled_at<'b>(board: &'b Board, at: CellIndex) -> Option<&'b Outcome>
-    ensures settled { IfSome result (λ o. cell_at board.now.rows at.test at.model ≡ Some (Some o.now)) }
+    ensures settled { IfSome result (λ o. cell_at board.now.rows at.test at.model
+        ≡ Some (Some o.now)) }
     ensures unsettled { IfNone result (IsUnsettled (cell_at board.now.rows at.test at.model)) }
 {
     match board.show_at(at) {
@@ -40,7 +41,8 @@ fn settled_at<'b>(board: &'b Board, at: CellIndex) -> Option<&'b Outcome>
     }
 }
 
-/// The outcome of a test, by its index, under a model, if its cell is settled, and none where it is open.
+/// The outcome of a test, by its index, under a model, if its cell is settled, and none where it is
+/// open.
 #[tactic(auto, using(crate::proofs::Cells::right_cell))]
 pub(crate) fn asked_outcome<'b>(
     texts: &Texts,
@@ -52,7 +54,8 @@ pub(crate) fn asked_outcome<'b>(
     requires shows { ShowsTexts (texts_of texts.now) board.now }
     requires test { slice_get (texts_of texts.now).tests index ≡ Some (content_of test.now) }
     requires model { IsThere texts.now asked.now }
-    ensures settled { IfSome result (λ o. IsOutcome (content_of test.now) (asked_model asked.now) o.now) }
+    ensures settled { IfSome result (λ o.
+        IsOutcome (content_of test.now) (asked_model asked.now) o.now) }
     ensures waits { IfNone result (IsOpenAt board.now index asked.now.index) }
 {
     let _texts = texts;
@@ -75,7 +78,8 @@ pub(crate) fn named_test<'t>(texts: &'t Texts, name: &[u8]) -> Option<&'t Test>
 
 // The model at an index, if there is one.
 fn model_at<'t>(texts: &'t Texts, index: usize) -> Option<&'t NamedModel>
-    ensures { option_map (λ m. model_of m.now) result ≡ slice_get (texts_of texts.now).models index }
+    ensures { option_map (λ m. model_of m.now) result
+        ≡ slice_get (texts_of texts.now).models index }
 {
     texts.models().get(index)
 }
@@ -84,7 +88,8 @@ fn model_at<'t>(texts: &'t Texts, index: usize) -> Option<&'t NamedModel>
 pub(crate) fn named_model<'t>(texts: &'t Texts, name: &[u8]) -> Option<AskedModel<'t>>
     ensures named { option_map asked_model result ≡ model_named (texts_of texts.now) name.now }
     ensures there { IfSome result (IsThere texts.now) }
-    ensures index { IfSome result (λ a. a.index ≡ model_index name.now (texts_of texts.now).models) }
+    ensures index { IfSome result (λ a. a.index
+        ≡ model_index name.now (texts_of texts.now).models) }
 {
     let index = texts.model_index(name);
     match model_at(texts, index) {
@@ -99,9 +104,11 @@ pub(crate) fn named_models<'t>(
     texts: &'t Texts,
     names: &[ScriptText],
 ) -> Result<Option<Vec<AskedModel<'t>>>, AllocError>
-    ensures named { IfOk result (λ found. option_map (λ v. map asked_model v.items) found ≡ models_named (texts_of texts.now) names.now) }
+    ensures named { IfOk result (λ found. option_map (λ v. map asked_model v.items) found
+        ≡ models_named (texts_of texts.now) names.now) }
     ensures there { IfOk result (λ found. IfSome found (λ v. All (IsThere texts.now) v.items)) }
-    ensures indexes { IfOk result (λ found. IfSome found (λ v. map asked_index v.items ≡ model_indexes (texts_of texts.now) names.now)) }
+    ensures indexes { IfOk result (λ found. IfSome found (λ v. map asked_index v.items
+        ≡ model_indexes (texts_of texts.now) names.now)) }
 {
     let mut found = Vec::with_capacity(alloc, names.len())?;
     for name in names {

@@ -27,22 +27,30 @@ pub fn nothing_is_known()
 
 /// Who sees more knows what it knew.
 pub fn later_is_known()
-    ensures { (seen later : List BoardOp) (made : ℕ) (t : BenchTexts) → IsPrefix seen later → KnowsOwn seen made t → KnowsOwn later made t }
+    ensures { (seen later : List BoardOp) (made : ℕ) (t : BenchTexts) → IsPrefix seen later
+        → KnowsOwn seen made t → KnowsOwn later made t }
 {}
 
 /// Who knows its texts makes an edit of them, and is told of it: it knows the texts with the edit.
 pub fn own_edits_are_known(own: &Texts)
-    ensures { (e : CodeEdit) (number : ℕ) (seen later : List BoardOp) (made : ℕ) (new : BenchTexts) → KnowsOwn seen made (texts_of own.now) → HasOwnEdit e number seen later → Applies (texts_of own.now) false (edit_of e) new → KnowsOwn later (made + 1) new }
+    ensures { (e : CodeEdit) (number : ℕ) (seen later : List BoardOp) (made : ℕ) (new : BenchTexts)
+        → KnowsOwn seen made (texts_of own.now) → HasOwnEdit e number seen later
+        → Applies (texts_of own.now) false (edit_of e) new → KnowsOwn later (made + 1) new }
 {
     let _own = own;
 }
 
-/// A board of which all operations were seen by who knows its texts shows these texts, if it counts as many edits as were made.
+/// A board of which all operations were seen by who knows its texts shows these texts, if it counts
+/// as many edits as were made.
 pub fn own_texts_are_shown()
-    ensures { (ops : List BoardOp) (made : ℕ) (t : BenchTexts) → KnowsOwn ops made t → IsLegal ops → made < 2 ^ 64 - 1 → edit_count ops ≡ made → ShowsTexts t (board_after ops) }
+    ensures { (ops : List BoardOp) (made : ℕ) (t : BenchTexts) → KnowsOwn ops made t → IsLegal ops
+        → made < 2 ^ 64 - 1 → edit_count ops ≡ made → ShowsTexts t (board_after ops) }
 {}
 
-/// A settled cell of a board has the outcome of its test under its model in the texts that the board shows.
+/// A settled cell of a board has the outcome of its test under its model in the texts that the
+/// board shows.
 pub fn settled_cells_are_right()
-    ensures { (t : BenchTexts) (b : BoardContent) → ShowsTexts t b → (i j : ℕ) (o : Outcome) → cell_at b.rows i j ≡ Some (Some o) → (c : Content) (m : PlainModel) → slice_get t.tests i ≡ Some c → slice_get t.models j ≡ Some m → IsOutcome c m o }
+    ensures { (t : BenchTexts) (b : BoardContent) → ShowsTexts t b → (i j : ℕ) (o : Outcome)
+        → cell_at b.rows i j ≡ Some (Some o) → (c : Content) (m : PlainModel)
+        → slice_get t.tests i ≡ Some c → slice_get t.models j ≡ Some m → IsOutcome c m o }
 {}

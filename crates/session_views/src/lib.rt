@@ -1,5 +1,6 @@
-//! A session's answers from a board: who makes edits knows which texts a board shows that counts no more edits than its own, and
-//! answers questions about them from its settled cells. Read specs/Knowing first, then Shown and Asked; `laws` has the laws.
+//! A session's answers from a board: who makes edits knows which texts a board shows that counts no
+//! more edits than its own, and answers questions about them from its settled cells. Read
+//! specs/Knowing first, then Shown and Asked; `laws` has the laws.
 #![tactic(auto)]
 
 mod answer;

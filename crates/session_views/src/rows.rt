@@ -31,7 +31,8 @@ fn asked_cell<'t>(
     requires shows { ShowsTexts (texts_of texts.now) board.now }
     requires test { slice_get (texts_of texts.now).tests index ≡ Some (content_of test.now) }
     requires model { IsThere texts.now asked.now }
-    ensures settled { IfSome result (λ cell. IsCell (content_of test.now) (asked_model asked.now) (cell_of cell)) }
+    ensures settled { IfSome result (λ cell.
+        IsCell (content_of test.now) (asked_model asked.now) (cell_of cell)) }
     ensures waits { IfNone result (IsOpenAt board.now index asked.now.index) }
 {
     match asked_outcome(texts, board, index, test, asked) {
@@ -52,8 +53,10 @@ fn asked_row<'t>(
     requires shows { ShowsTexts (texts_of texts.now) board.now }
     requires test { slice_get (texts_of texts.now).tests index ≡ Some (content_of test.now) }
     requires models { All (IsThere texts.now) models.now }
-    ensures settled { IfOk result (λ r. IfSome r (λ row. IsRow (map asked_model models.now) (content_of test.now) (row_of row))) }
-    ensures waits { IfOk result (λ r. IfNone r (IsOpenAmong board.now (map asked_index models.now))) }
+    ensures settled { IfOk result (λ r. IfSome r (λ row.
+        IsRow (map asked_model models.now) (content_of test.now) (row_of row))) }
+    ensures waits { IfOk result (λ r.
+        IfNone r (IsOpenAmong board.now (map asked_index models.now))) }
 {
     let mut cells = Vec::with_capacity(alloc, models.len())?;
     for asked in models {
@@ -77,8 +80,10 @@ pub(crate) fn asked_rows<'t>(
 ) -> Result<Option<Vec<TestRow<'t>>>, AllocError>
     requires shows { ShowsTexts (texts_of texts.now) board.now }
     requires models { All (IsThere texts.now) models.now }
-    ensures settled { IfOk result (λ r. IfSome r (λ rows. AreRows (texts_of texts.now) (map asked_model models.now) (map row_of rows.items))) }
-    ensures waits { IfOk result (λ r. IfNone r (IsOpenAmong board.now (map asked_index models.now))) }
+    ensures settled { IfOk result (λ r. IfSome r (λ rows. AreRows (texts_of texts.now)
+        (map asked_model models.now) (map row_of rows.items))) }
+    ensures waits { IfOk result (λ r.
+        IfNone r (IsOpenAmong board.now (map asked_index models.now))) }
 {
     let tests = texts.tests();
     let mut rows = Vec::with_capacity(alloc, tests.len())?;

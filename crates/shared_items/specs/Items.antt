@@ -1,7 +1,17 @@
 -- What an item does, and the names that it has had, as plain data. Read it after Naming.
 use Rattle.std.specs.Prelude.{ℕ, List, [], Option, Some, None}
 use Rattle.std.specs.Arc.{arc_value}
-pub use Rattle.binding_graph.specs.Contents.{CodeContent, BodyContent, RoleContent, Group, Check, Silent, code_content, body_content, role_content}
+pub use Rattle.binding_graph.specs.Contents.{
+  CodeContent,
+  BodyContent,
+  RoleContent,
+  Group,
+  Check,
+  Silent,
+  code_content,
+  body_content,
+  role_content,
+}
 pub use Rattle.shared_items.specs.Naming.{SeenName, role_at, item_outputs}
 use Rattle.binding_graph.specs.declared.resolved.Resolved.{Resolved}
 use Rattle.shared_items.specs.declared.items.SharedItem.{SharedItem}

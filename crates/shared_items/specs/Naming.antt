@@ -1,6 +1,6 @@
--- The names of an item as other items see them, and the numbers by which they go: a name's number is its index in the history
--- of its item, which is the list of the names that the item has had, in the order in which they came. A name whose value
--- comes to be of the other kind is another name.
+-- The names of an item as other items see them, and the numbers by which they go: a name's number
+-- is its index in the history of its item, which is the list of the names that the item has had, in
+-- the order in which they came. A name whose value comes to be of the other kind is another name.
 use Rattle.std.specs.Prelude.{ℕ, ◌≡◌, ◌<◌, ◌==◌, ◌&&◌, Bool, not, zero, suc, List, [], ◌∷◌, ◌++◌, length, map, bytes_eq, if◌then◌else◌}
 use Rattle.std.specs.List.{position_or_len, AllByRecursion as Each}
 use Rattle.binding_kinds.specs.declared.kinds.Kind.{Kind}
@@ -73,13 +73,15 @@ IsNumberedAlike these those name = number_of these name ≡ number_of those name
 
 -- a name that is none of a history yet is added as the last
 abbrev pub with_name : List SeenName → SeenName → List SeenName
-with_name history name = if number_of history name == length history then history ++ name ∷ [] else history
+with_name history name =
+    if number_of history name == length history then history ++ name ∷ [] else history
 
 abbrev pub with_names : List SeenName → List SeenName → List SeenName
 with_names history [] = history
 with_names history (n ∷ ns) = with_names (with_name history n) ns
 
--- the history of an item after it does this: that before, and then the names of a group that it has not had yet
+-- the history of an item after it does this: that before, and then the names of a group that it has
+-- not had yet
 abbrev pub with_role_names : List SeenName → RoleContent → List SeenName
 with_role_names history role = with_names history (names_in role)
 

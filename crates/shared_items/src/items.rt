@@ -9,15 +9,17 @@ use binding_graph::{Resolved, ResolvedItem, Role};
 use std::alloc::{AllocError, Global};
 use std::sync::Arc;
 
-/// An item of a model without fault, with its history, both of which it shares with others. Contracts see what the item does
-/// and the names that it has had.
+/// An item of a model without fault, with its history, both of which it shares with others.
+/// Contracts see what the item does and the names that it has had.
 pub struct SharedItem {
     resolved: Arc<Resolved>,
     index: usize,
-    /// The names that the item has had, in the order in which they came, with those that it has now.
+    /// The names that the item has had, in the order in which they came, with those that it has
+    /// now.
     history: Arc<Vec<SeenName>>,
     ghost within: { index < vec_len (arc_value resolved).items },
-    ghost named: { with_role_names (arc_value history).items (role_at (arc_value resolved).items.items index) ≡ (arc_value history).items },
+    ghost named: { with_role_names (arc_value history).items
+        (role_at (arc_value resolved).items.items index) ≡ (arc_value history).items },
 }
 
 impl Drop for SharedItem {
@@ -42,7 +44,8 @@ impl SharedItem {
         role: &Role,
         before: Option<&SharedItem>,
     ) -> Result<Arc<Vec<SeenName>>, AllocError>
-        ensures { let held = held_history (option_map (λ b. b.now) before.entry) in IfOk result (λ h. (arc_value h).items ≡ with_role_names held (role_content role.now)) }
+        ensures { let held = held_history (option_map (λ b. b.now) before.entry) in
+            IfOk result (λ h. (arc_value h).items ≡ with_role_names held (role_content role.now)) }
     {
         match before {
             Some(held) => grown_history(alloc, &held.history, role),
@@ -50,8 +53,8 @@ impl SharedItem {
         }
     }
 
-    /// The item at an index, where it was known as the other before, if at all. Errors: out of memory, or too many shares of a
-    /// history.
+    /// The item at an index, where it was known as the other before, if at all. Errors: out of
+    /// memory, or too many shares of a history.
     pub fn new(
         alloc: Global,
         resolved: Arc<Resolved>,
@@ -61,8 +64,11 @@ impl SharedItem {
         requires { index < vec_len (arc_value resolved).items }
         ensures model { IfOk result (λ s. shared_model s ≡ arc_value resolved) }
         ensures index { IfOk result (λ s. shared_index s ≡ index) }
-        ensures role { IfOk result (λ s. shared_role s ≡ role_at (arc_value resolved).items.items index) }
-        ensures history { let held = held_history (option_map (λ b. b.now) before.entry) in IfOk result (λ s. shared_history s ≡ with_role_names held (role_at (arc_value resolved).items.items index)) }
+        ensures role { IfOk result (λ s. shared_role s
+            ≡ role_at (arc_value resolved).items.items index) }
+        ensures history { let held = held_history (option_map (λ b. b.now) before.entry) in
+            IfOk result (λ s. shared_history s
+            ≡ with_role_names held (role_at (arc_value resolved).items.items index)) }
     {
         let history = SharedItem::history_after(alloc, &resolved.items[index].role, before)?;
         Ok(SharedItem {
@@ -88,7 +94,8 @@ impl SharedItem {
 
     /// The item.
     pub fn item(&self) -> &ResolvedItem
-        ensures item { slice_get (shared_model self.now).items.items (shared_index self.now) ≡ Some result.now }
+        ensures item { slice_get (shared_model self.now).items.items (shared_index self.now)
+            ≡ Some result.now }
         ensures role { role_content result.now.role ≡ shared_role self.now }
     {
         &self.resolved.items[self.index]
@@ -103,7 +110,8 @@ impl SharedItem {
 
     /// The numbers by which its outputs go, in order. Errors: out of memory.
     pub fn output_names(&self, alloc: Global) -> Result<Vec<u64>, AllocError>
-        ensures { IfOk result (λ v. v.items ≡ item_outputs (shared_role self.now) (shared_history self.now)) }
+        ensures { IfOk result (λ v. v.items
+            ≡ item_outputs (shared_role self.now) (shared_history self.now)) }
     {
         item_outputs(alloc, &self.item().role, self.history())
     }

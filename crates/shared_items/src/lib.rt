@@ -1,5 +1,5 @@
-//! Items of models that jobs share with the texts, and the names that they have had. Read `specs/Naming` first, by which numbers
-//! the outputs of an item go, then `specs/Items`.
+//! Items of models that jobs share with the texts, and the names that they have had. Read
+//! `specs/Naming` first, by which numbers the outputs of an item go, then `specs/Items`.
 #![tactic(auto)]
 
 mod items;

@@ -74,7 +74,8 @@ impl SeenName {
     }
 }
 
-/// The number of a name of a kind: its index in a history, or how many names that has where it is none of them.
+/// The number of a name of a kind: its index in a history, or how many names that has where it is
+/// none of them.
 pub fn number_of(history: &[SeenName], name: &[u8], kind: Kind) -> usize
     ensures number { result ≡ number_of history.now (record { name = name.now; kind = kind }) }
     ensures within { result ≤ length history.now }
@@ -120,7 +121,8 @@ fn are_named(history: &[SeenName], bodies: &[Body]) -> bool
 
 // Adds the name of a body to a history, where it is none of its names yet.
 fn put_name(alloc: Global, history: &mut Vec<SeenName>, body: &Body) -> Result<(), AllocError>
-    ensures { IfOk result (λ _. history.new.items ≡ with_name history.old.items (seen_name (body_content body.now))) }
+    ensures { IfOk result (λ _. history.new.items
+        ≡ with_name history.old.items (seen_name (body_content body.now))) }
 {
     if body_number(history, body) == history.len() {
         history.push(SeenName::of_body(alloc, body)?)?;
@@ -129,7 +131,8 @@ fn put_name(alloc: Global, history: &mut Vec<SeenName>, body: &Body) -> Result<(
 }
 
 fn put_names(alloc: Global, history: &mut Vec<SeenName>, bodies: &[Body]) -> Result<(), AllocError>
-    ensures { IfOk result (λ _. history.new.items ≡ with_names history.old.items (body_names bodies.now)) }
+    ensures { IfOk result (λ _. history.new.items
+        ≡ with_names history.old.items (body_names bodies.now)) }
 {
     for body in bodies {
         put_name(alloc, history, body)?;
@@ -154,7 +157,8 @@ fn more_names(
     history: &[SeenName],
     bodies: &[Body],
 ) -> Result<Arc<Vec<SeenName>>, AllocError>
-    ensures { IfOk result (λ h. (arc_value h).items ≡ with_names history.now (body_names bodies.now)) }
+    ensures { IfOk result (λ h. (arc_value h).items
+        ≡ with_names history.now (body_names bodies.now)) }
 {
     let mut names = copied_names(alloc, history)?;
     put_names(alloc, &mut names, bodies)?;
@@ -168,15 +172,16 @@ pub(crate) fn first_history(alloc: Global, role: &Role) -> Result<Arc<Vec<SeenNa
     more_names(alloc, &[], bodies_in(role))
 }
 
-/// The history of an item after it does this. It is the same, and takes no memory, where it has the names. Errors: out of
-/// memory, or too many shares.
+/// The history of an item after it does this. It is the same, and takes no memory, where it has the
+/// names. Errors: out of memory, or too many shares.
 #[tactic(auto, using(crate::proofs::Naming::names_stay))]
 pub(crate) fn grown_history(
     alloc: Global,
     history: &Arc<Vec<SeenName>>,
     role: &Role,
 ) -> Result<Arc<Vec<SeenName>>, AllocError>
-    ensures { IfOk result (λ h. (arc_value h).items ≡ with_role_names (arc_value history.now).items (role_content role.now)) }
+    ensures { IfOk result (λ h. (arc_value h).items
+        ≡ with_role_names (arc_value history.now).items (role_content role.now)) }
 {
     let bodies = bodies_in(role);
     if are_named(history, bodies) {
@@ -236,7 +241,9 @@ fn are_numbered_alike(these: &[SeenName], those: &[SeenName], bodies: &[Body]) -
 /// Whether the outputs of an item that does this go by the same numbers with two histories.
 #[tactic(auto, using(crate::proofs::Naming::numbers_alike, crate::proofs::Naming::alike_numbers))]
 pub fn same_outputs(role: &Role, these: &[SeenName], those: &[SeenName]) -> bool
-    ensures { IsTrue result ↔ (item_outputs (role_content role.now) these.now ≡ item_outputs (role_content role.now) those.now) }
+    ensures { IsTrue result
+        ↔ (item_outputs (role_content role.now) these.now
+        ≡ item_outputs (role_content role.now) those.now) }
 {
     match role {
         Role::Group { bodies, .. } => are_numbered_alike(these, those, bodies),

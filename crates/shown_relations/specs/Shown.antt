@@ -1,4 +1,5 @@
--- Which relations a model shows, in order, and what each stands for: `shown_names` and `text_of` cite the last definitions.
+-- Which relations a model shows, in order, and what each stands for: `shown_names` and `text_of`
+-- cite the last definitions.
 use Rattle.std.specs.Prelude.{ℕ, ◌≡◌, ◌+◌, List, [], ◌∷◌, ◌++◌, Bool, true, false, not, Option, Some, None, option_and_then}
 use Rattle.std.specs.Prelude.{filter, nat_eq, slice_get, take}
 use Rattle.std.specs.Cmp.Lexicographic.{pointwise}
@@ -25,9 +26,11 @@ abbrev pub shown_if : Bool → ℕ → ℕ → List ℕ → List ShownName
 shown_if true item position name = []
 shown_if false item position name = record { name = name; item = item; position = position } ∷ []
 
--- a name that is shown comes last, and stands for its last meaning; one that is hidden is no longer shown
+-- a name that is shown comes last, and stands for its last meaning; one that is hidden is no longer
+-- shown
 abbrev pub after_name : Bool → ℕ → ℕ → List ℕ → List ShownName → List ShownName
-after_name hidden item position name xs = filter (is_other name) xs ++ shown_if hidden item position name
+after_name hidden item position name xs =
+    filter (is_other name) xs ++ shown_if hidden item position name
 
 -- an expression without a name changes nothing
 abbrev pub after_named : Bool → ℕ → ℕ → Option (List ℕ) → List ShownName → List ShownName
@@ -35,9 +38,11 @@ after_named hidden item position None xs = xs
 after_named hidden item position (Some name) xs = after_name hidden item position name xs
 
 -- after the expressions of an item from a position on
-abbrev pub after_show : Bool → ℕ → ℕ → List (Term × Option (List ℕ)) → List ShownName → List ShownName
+abbrev pub after_show : Bool → ℕ → ℕ → List (Term × Option (List ℕ)) → List ShownName
+    → List ShownName
 after_show hidden item position [] xs = xs
-after_show hidden item position (e ∷ es) xs = after_show hidden item (position + 1) es (after_named hidden item position (name_of e) xs)
+after_show hidden item position (e ∷ es) xs =
+    after_show hidden item (position + 1) es (after_named hidden item position (name_of e) xs)
 
 abbrev pub after_clause : ℕ → Clause → List ShownName → List ShownName
 after_clause item (Showing hidden es) xs = after_show hidden item 0 es xs
@@ -77,4 +82,6 @@ clauses_for clauses x body = filter is_binding (take x.item clauses) ++ check_on
 
 -- so much of a model is what a name stands for
 abbrev pub IsTextFor : List Clause → ShownName → List Item → Type 0
-IsTextFor clauses x items = (body : Term) × (body_of clauses x ≡ Some body) × (clauses_of items ≡ clauses_for clauses x body)
+IsTextFor clauses x items =
+    (body : Term) × (body_of clauses x ≡ Some body)
+    × (clauses_of items ≡ clauses_for clauses x body)

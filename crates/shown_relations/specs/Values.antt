@@ -1,4 +1,5 @@
--- The values of the relations that a model shows in the candidates of a space: `shown_values` cites `AreAllShown`.
+-- The values of the relations that a model shows in the candidates of a space: `shown_values` cites
+-- `AreAllShown`.
 use Rattle.std.specs.Prelude.{Vec, ℕ, ◌≡◌, ◌⊎◌, ◌+◌, ◌-◌, List, [], ◌∷◌, ◌++◌, None, Some, length, slice_get}
 use Rattle.std.specs.declared.alloc.Global.{Global}
 use denote.Ref.{Bor}
@@ -24,8 +25,10 @@ use Rattle.shown_relations.specs.declared.names.ShownName.{ShownName}
 use Rattle.shown_relations.specs.declared.values.ShownValues.{ShownValues}
 use Rattle.shown_relations.specs.Shown.{IsTextFor, body_of, names_shown}
 
--- the item is a check, and these are the values of its expression, where the names of other items have these columns
-pub record IsCheckValue (space : Space) (columns : List (Vec Column Global)) (item : ResolvedItem) (column : Column) : Type 0 where
+-- the item is a check, and these are the values of its expression, where the names of other items
+-- have these columns
+pub record IsCheckValue (space : Space) (columns : List (Vec Column Global)) (item : ResolvedItem)
+    (column : Column) : Type 0 where
   pub check : CheckCode
   pub role : item.role ≡ roles.Check check
   pub inputs : List (Bor Column)
@@ -47,26 +50,33 @@ pub record IsLastValue (space : Space) (text : ModelText) (column : Column) : Ty
   pub value : IsCheckValue space answers.columns.items item column
 
 -- the relation that the name stands for, in each candidate
-pub record IsShownValue (clauses : List Clause) (space : Space) (x : ShownName) (v : ShownValues) : Type 0 where
+pub record IsShownValue (clauses : List Clause) (space : Space) (x : ShownName) (v : ShownValues)
+    : Type 0 where
   pub text : ModelText
   pub is : IsTextFor clauses x text.items.items
   pub name : v.name ≡ x.name
   pub value : IsLastValue space text v.values
 
--- what the name stands for has a fault, as a name without a meaning, or a set in the place of a relation
+-- what the name stands for has a fault, as a name without a meaning, or a set in the place of a
+-- relation
 abbrev pub HasFault : List Clause → ShownName → Type 0
-HasFault clauses x = (text : ModelText) × IsTextFor clauses x text.items.items × (fault : ModelFault) × IsFaultOf text fault
+HasFault clauses x =
+    (text : ModelText) × IsTextFor clauses x text.items.items × (fault : ModelFault)
+    × IsFaultOf text fault
 
 -- or there is no such expression
 abbrev pub HasNoValue : List Clause → ShownName → Type 0
 HasNoValue clauses x = HasFault clauses x ⊎ (body_of clauses x ≡ None)
 
 -- of the names before a number those that stand for a relation, with their values
-pub data AreShown (space : Space) (clauses : List Clause) (xs : List ShownName) : ℕ → List ShownValues → Type 0 where
+pub data AreShown (space : Space) (clauses : List Clause) (xs : List ShownName)
+    : ℕ → List ShownValues → Type 0 where
   NoName : AreShown space clauses xs 0 []
-  OneShown : (n : ℕ) (vs : List ShownValues) (x : ShownName) (v : ShownValues) → AreShown space clauses xs n vs → slice_get xs n ≡ Some x
+  OneShown : (n : ℕ) (vs : List ShownValues) (x : ShownName) (v : ShownValues)
+      → AreShown space clauses xs n vs → slice_get xs n ≡ Some x
       → IsShownValue clauses space x v → AreShown space clauses xs (n + 1) (vs ++ v ∷ [])
-  OneLeft : (n : ℕ) (vs : List ShownValues) (x : ShownName) → AreShown space clauses xs n vs → slice_get xs n ≡ Some x
+  OneLeft : (n : ℕ) (vs : List ShownValues) (x : ShownName) → AreShown space clauses xs n vs
+      → slice_get xs n ≡ Some x
       → HasNoValue clauses x → AreShown space clauses xs (n + 1) vs
 
 -- all names that the model shows
@@ -80,10 +90,13 @@ AreAllShown space model vs =
 -- a relation of the column is one of the events of its candidate
 abbrev pub IsSizedAt : Column → ℕ → ℕ → Type 0
 IsSizedAt (columns.Sets values) k n = Unit {0}
-IsSizedAt (columns.Relations values) k n = (r : Relation) → slice_get values k ≡ Some r → r.count ≡ n
+IsSizedAt (columns.Relations values) k n =
+    (r : Relation) → slice_get values k ≡ Some r → r.count ≡ n
 
 abbrev pub IsSized : Space → Column → Type 0
-IsSized space values = (k : ℕ) (one : Candidate) → slice_get (candidates_in space.combinations.items) k ≡ Some one → IsSizedAt values k (events_of one)
+IsSized space values =
+    (k : ℕ) (one : Candidate) → slice_get (candidates_in space.combinations.items) k ≡ Some one
+    → IsSizedAt values k (events_of one)
 
 abbrev pub IsNoCheck : Role → Type 0
 IsNoCheck role = (check : CheckCode) → role ≡ roles.Check check → ⊥

@@ -1,5 +1,6 @@
-//! The relations that the `show` and `unshow` items of a model name, with their values in the candidates of a test. Read
-//! specs/Shown first (which they are, and what each stands for), then specs/Values.
+//! The relations that the `show` and `unshow` items of a model name, with their values in the
+//! candidates of a test. Read specs/Shown first (which they are, and what each stands for), then
+//! specs/Values.
 #![tactic(auto)]
 
 mod names;

@@ -99,7 +99,8 @@ fn after_expression(
     position: usize,
     expression: &ShownExpression,
 ) -> Result<Vec<ShownName>, AllocError>
-    ensures { IfOk result (λ v. v.items ≡ after_named hidden item position (name_of (shown_of expression.now)) shown.items) }
+    ensures { IfOk result (λ v. v.items
+        ≡ after_named hidden item position (name_of (shown_of expression.now)) shown.items) }
 {
     match name_of(expression) {
         Some(name) => after_name(alloc, &shown, hidden, item, position, name),
@@ -115,7 +116,8 @@ fn after_show(
     item: usize,
     expressions: &[ShownExpression],
 ) -> Result<Vec<ShownName>, AllocError>
-    ensures { IfOk result (λ v. v.items ≡ after_show hidden item 0 (map shown_of expressions.now) shown.items) }
+    ensures { IfOk result (λ v. v.items
+        ≡ after_show hidden item 0 (map shown_of expressions.now) shown.items) }
 {
     let mut shown = shown;
     for position in 0..expressions.len() {

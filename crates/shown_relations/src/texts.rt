@@ -37,7 +37,8 @@ fn bindings(alloc: Global, items: &[Item]) -> Result<Vec<Item>, AllocError>
 }
 
 fn body_in(shown: Vec<ShownExpression>, position: usize) -> Option<Expression>
-    ensures { option_map term_of result ≡ option_map (λ e. e.0) (slice_get (map shown_of shown.items) position) }
+    ensures { option_map term_of result
+        ≡ option_map (λ e. e.0) (slice_get (map shown_of shown.items) position) }
 {
     let mut shown = shown;
     if position < shown.len() {
@@ -49,7 +50,8 @@ fn body_in(shown: Vec<ShownExpression>, position: usize) -> Option<Expression>
 
 // A copy of the expression that an item shows at a position.
 fn body_at(alloc: Global, item: &Item, position: usize) -> Result<Option<Expression>, AllocError>
-    ensures { IfOk result (λ found. option_map term_of found ≡ body_at position (clause_of item.now)) }
+    ensures { IfOk result (λ found. option_map term_of found
+        ≡ body_at position (clause_of item.now)) }
 {
     match copied_item(alloc, item)? {
         Item::Show { shown, .. } => Ok(body_in(shown, position)),
@@ -66,7 +68,8 @@ fn body_of(
     items: &[Item],
     shown: &ShownName,
 ) -> Result<Option<Expression>, AllocError>
-    ensures { IfOk result (λ found. option_map term_of found ≡ body_of (clauses_of items.now) shown.now) }
+    ensures { IfOk result (λ found. option_map term_of found
+        ≡ body_of (clauses_of items.now) shown.now) }
 {
     match items.get(shown.item) {
         Some(item) => body_at(alloc, item, shown.position),
@@ -87,14 +90,16 @@ fn check_on(body: Expression) -> Item
     }
 }
 
-/// The items over which a shown relation has its value: its expression as the body of a check, behind the
-/// definitions before it; none where no expression stands there. Errors: want of memory.
+/// The items over which a shown relation has its value: its expression as the body of a check,
+/// behind the definitions before it; none where no expression stands there. Errors: want of memory.
 pub fn text_of(
     alloc: Global,
     items: &[Item],
     shown: &ShownName,
 ) -> Result<Option<ModelText>, AllocError>
-    ensures { let clauses = clauses_of items.now in IfOk result (λ found. MatchOption found (body_of clauses shown.now ≡ None) (λ text. IsTextFor clauses shown.now text.items.items)) }
+    ensures { let clauses = clauses_of items.now in
+        IfOk result (λ found. MatchOption found (body_of clauses shown.now ≡ None)
+        (λ text. IsTextFor clauses shown.now text.items.items)) }
 {
     let Some(body) = body_of(alloc, items, shown)? else {
         return Ok(None);

@@ -33,7 +33,8 @@ fn check_values(
     columns: &[Vec<Column>],
     item: &ResolvedItem,
 ) -> Result<Option<Column>, AllocError>
-    ensures { IfOk result (λ found. MatchOption found (IsNoCheck item.now.role) (IsCheckValue space.now columns.now item.now)) }
+    ensures { IfOk result (λ found. MatchOption found (IsNoCheck item.now.role)
+        (IsCheckValue space.now columns.now item.now)) }
 {
     match &item.role {
         Role::Check(check) => {
@@ -55,7 +56,8 @@ fn last_values(
 ) -> Result<Option<Column>, AllocError>
     requires faultless { IsFaultless text.now }
     requires items { AreItemsOf text.now resolved.now.items.items }
-    ensures { IfOk result (λ found. MatchOption found (HasNoLastCheck resolved.now.items.items) (IsLastValue space.now text.now)) }
+    ensures { IfOk result (λ found. MatchOption found (HasNoLastCheck resolved.now.items.items)
+        (IsLastValue space.now text.now)) }
 {
     let _text = text;
     let found = answers(alloc, space, resolved)?;
@@ -71,7 +73,8 @@ fn named(
     shown: &ShownName,
     values: Option<Column>,
 ) -> Result<Option<ShownValues>, AllocError>
-    ensures { IfOk result (λ found. MatchOption found (values ≡ None) (λ v. (values ≡ Some v.values) × (v.name ≡ shown.now.name))) }
+    ensures { IfOk result (λ found. MatchOption found (values ≡ None)
+        (λ v. (values ≡ Some v.values) × (v.name ≡ shown.now.name))) }
 {
     match values {
         Some(values) => {
@@ -91,7 +94,8 @@ fn text_values(
     text: &ModelText,
 ) -> Result<Option<ShownValues>, AllocError>
     requires { IsTextFor (clauses_of items.now) shown.now text.now.items.items }
-    ensures { IfOk result (λ found. MatchOption found (HasNoValue (clauses_of items.now) shown.now) (IsShownValue (clauses_of items.now) space.now shown.now)) }
+    ensures { IfOk result (λ found. MatchOption found (HasNoValue (clauses_of items.now) shown.now)
+        (IsShownValue (clauses_of items.now) space.now shown.now)) }
 {
     let _items = items;
     match resolve(alloc, text) {
@@ -111,7 +115,8 @@ fn values_of(
     items: &[Item],
     shown: &ShownName,
 ) -> Result<Option<ShownValues>, AllocError>
-    ensures { IfOk result (λ found. MatchOption found (HasNoValue (clauses_of items.now) shown.now) (IsShownValue (clauses_of items.now) space.now shown.now)) }
+    ensures { IfOk result (λ found. MatchOption found (HasNoValue (clauses_of items.now) shown.now)
+        (IsShownValue (clauses_of items.now) space.now shown.now)) }
 {
     match text_of(alloc, items, shown)? {
         Some(text) => text_values(alloc, space, items, shown, &text),
@@ -135,7 +140,8 @@ fn found_values(
     items: &[Item],
     names: &[ShownName],
 ) -> Result<Vec<ShownValues>, AllocError>
-    ensures all { IfOk result (λ v. AreShown space.now (clauses_of items.now) names.now (length names.now) v.items) }
+    ensures all { IfOk result (λ v.
+        AreShown space.now (clauses_of items.now) names.now (length names.now) v.items) }
     ensures sized { IfOk result (λ v. All (λ s. IsSized space.now s.values) v.items) }
 {
     let mut values = Vec::new(alloc);
@@ -146,8 +152,8 @@ fn found_values(
     Ok(values)
 }
 
-/// The relations that a model shows, in order, with their values in the candidates of a space. Errors: want
-/// of memory.
+/// The relations that a model shows, in order, with their values in the candidates of a space.
+/// Errors: want of memory.
 pub fn shown_values(
     alloc: Global,
     space: &Space,

@@ -11,33 +11,41 @@ ghost use Rattle.model_slots.specs.Tables.{AreOrderedItems};
 ghost use Rattle.slot_laws.specs.Closed.{predefined_names, AreClosed, IsReachedByNames, all_keys};
 ghost use Rattle.slot_laws.specs.Roles.{RolesStay};
 
-/// Items that are resolved use names of earlier groups alone, and those that the functions use which they apply.
+/// Items that are resolved use names of earlier groups alone, and those that the functions use
+/// which they apply.
 pub fn resolved_items_are_closed()
-    ensures { (clauses : List Clause) (items : List ResolvedItem) → AreResolved [] [] predefined_names 0 clauses items → AreClosed items }
+    ensures { (clauses : List Clause) (items : List ResolvedItem)
+        → AreResolved [] [] predefined_names 0 clauses items → AreClosed items }
 {}
 
-/// Of the items that checks and flags reach, in their order, each uses names of those before it alone.
+/// Of the items that checks and flags reach, in their order, each uses names of those before it
+/// alone.
 pub fn used_items_are_ordered()
-    ensures { (items : List ResolvedItem) (used : List ℕ) → AreClosed items → AreReached items used → AreOrderedItems items [] used }
+    ensures { (items : List ResolvedItem) (used : List ℕ) → AreClosed items → AreReached items used
+        → AreOrderedItems items [] used }
 {}
 
 /// Checks and flags reach each item that has a value by names alone.
 pub fn reached_items_are_named()
-    ensures { (items : List ResolvedItem) (index : ℕ) (r : ResolvedItem) → AreClosed items → IsReached items index → slice_get items index ≡ Some r → (r.role ≡ roles.Silent → ⊥) → IsReachedByNames items index }
+    ensures { (items : List ResolvedItem) (index : ℕ) (r : ResolvedItem) → AreClosed items
+        → IsReached items index → slice_get items index ≡ Some r → (r.role ≡ roles.Silent → ⊥)
+        → IsReachedByNames items index }
 {}
 
 /// Among the items that checks and flags reach are all flags, in their order.
 pub fn reached_flags_are_all()
-    ensures { (numbers : List ℕ) (items : List ResolvedItem) (used : List ℕ) → AreReached items used → keys_by flag_key numbers items used ≡ all_keys flag_key numbers 0 items }
+    ensures { (numbers : List ℕ) (items : List ResolvedItem) (used : List ℕ) → AreReached items used
+        → keys_by flag_key numbers items used ≡ all_keys flag_key numbers 0 items }
 {}
 
 /// Among them are all checks and flags, in their order.
 pub fn reached_checks_are_all()
-    ensures { (numbers : List ℕ) (items : List ResolvedItem) (used : List ℕ) → AreReached items used → keys_by answer_key numbers items used ≡ all_keys answer_key numbers 0 items }
+    ensures { (numbers : List ℕ) (items : List ResolvedItem) (used : List ℕ) → AreReached items used
+        → keys_by answer_key numbers items used ≡ all_keys answer_key numbers 0 items }
 {}
 
-/// After edits of its model an item whose keys are what they were does what it did, and its outputs go by the numbers by which
-/// they went, where each text among its keys is what it was.
+/// After edits of its model an item whose keys are what they were does what it did, and its outputs
+/// go by the numbers by which they went, where each text among its keys is what it was.
 pub fn roles_stay()
     ensures { RolesStay }
 {}

@@ -1,5 +1,5 @@
--- What a state is built of: its tests, and its models as they are read. Read it after States; the law `built_states_are_valid`
--- says that such a state is valid.
+-- What a state is built of: its tests, and its models as they are read. Read it after States; the
+-- law `built_states_are_valid` says that such a state is valid.
 use Rattle.std.specs.Prelude.{◌≡◌, ℕ, ◌<◌, ◌≤◌, List, [], ◌∷◌, length, map, Vec, Option, Some, None, slice_get}
 use Rattle.std.specs.declared.alloc.Global.{Global}
 use Rattle.std.specs.List.{AllZip, AllByRecursion as Each}
@@ -24,7 +24,9 @@ IsHeld s number role = (history : List SeenName) × (content s 0 number ≡ Some
 
 -- and so of each item
 abbrev pub AreHeld : State → List ℕ → List ResolvedItem → Type 0
-AreHeld s numbers items = (index : ℕ) (r : ResolvedItem) → slice_get items index ≡ Some r → IsHeld s (number_at numbers index) (role_content r.role)
+AreHeld s numbers items =
+    (index : ℕ) (r : ResolvedItem) → slice_get items index ≡ Some r
+    → IsHeld s (number_at numbers index) (role_content r.role)
 
 -- the model is there as it is read
 abbrev pub IsModelIn : State → ModelReading → Type 0

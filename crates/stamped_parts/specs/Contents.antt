@@ -18,8 +18,8 @@ use Rattle.bench_nodes.specs.declared.table.TestRow.{TestRow}
 use Rattle.model_slots.specs.Slots.{item_history}
 use Rattle.stamped_parts.specs.declared.parts.Parts.{Parts}
 
--- what a part holds: of an item its text, by which its stamp goes, and what it does, with its history, which its jobs are given;
--- of a model its fault; and the parts of a test
+-- what a part holds: of an item its text, by which its stamp goes, and what it does, with its
+-- history, which its jobs are given; of a model its fault; and the parts of a test
 pub data PartContent : Type 0 where
   OfText : (clause : Clause) → PartContent
   OfRole : (role : RoleContent) (history : List SeenName) → PartContent
@@ -38,7 +38,8 @@ role_part (Some s) = Some (OfRole (shared_role s) (shared_history s))
 abbrev pub item_content : List ItemRow → List (Option SharedItem) → ℕ → Option PartContent
 item_content [] roles number = None
 item_content (i ∷ is) [] number = None
-item_content (i ∷ is) (r ∷ rs) number = if i.number == number then role_part r else item_content is rs number
+item_content (i ∷ is) (r ∷ rs) number =
+    if i.number == number then role_part r else item_content is rs number
 
 -- the names that the item of a part has had
 abbrev pub part_history : Option PartContent → List SeenName
@@ -55,7 +56,8 @@ fault_content [] faults id = None
 fault_content (m ∷ ms) [] id = None
 fault_content (m ∷ ms) (f ∷ fs) id = if m.id == id then fault_part f else fault_content ms fs id
 
--- of a test with those locations: its condition, what is observed, its locations, its initial values, its threads
+-- of a test with those locations: its condition, what is observed, its locations, its initial
+-- values, its threads
 abbrev pub test_part : Test → List (List ℕ) → ℕ → Option PartContent
 test_part t locations part =
     if part == 2 then Some (OfCondition t.condition.quantifier (formula_of t.condition.proposition))
@@ -65,11 +67,13 @@ test_part t locations part =
     else option_map OfThread (slice_get (map steps_of t.threads.items) (part - 6)))))
 
 -- of the test of that number
-abbrev pub test_content : List TestRow → List Test → List (Vec (List ℕ) Global) → ℕ → ℕ → Option PartContent
+abbrev pub test_content : List TestRow → List Test → List (Vec (List ℕ) Global) → ℕ → ℕ
+    → Option PartContent
 test_content [] tests locations part id = None
 test_content (r ∷ rs) [] locations part id = None
 test_content (r ∷ rs) (t ∷ ts) [] part id = None
-test_content (r ∷ rs) (t ∷ ts) (l ∷ ls) part id = if r.id == id then test_part t l.items part else test_content rs ts ls part id
+test_content (r ∷ rs) (t ∷ ts) (l ∷ ls) part id =
+    if r.id == id then test_part t l.items part else test_content rs ts ls part id
 
 -- the parts of the bench beside its tests
 pub record State : Type 0 where

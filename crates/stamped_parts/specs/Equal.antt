@@ -1,4 +1,5 @@
--- When two values of nodes, and two things that nodes are given, are equal: where their codes are, which are trees of numbers.
+-- When two values of nodes, and two things that nodes are given, are equal: where their codes are,
+-- which are trees of numbers.
 use Rattle.std.specs.Prelude.{◌==◌, ◌&&◌, Bool, true, false}
 use base.Stored.{Gv, gnil, gnum, gcons, Coded}
 use Rattle.node_values.specs.contracts.given.Given as given

@@ -16,7 +16,8 @@ fault_stamp_by None = 0
 fault_stamp_by (Some h) = h.row.stamp
 
 -- the row of a model of that number with that fault, if any, which was there as `before`
-pub record IsModelRowOf (fresh : ℕ) (before : Option HeldModel) (id : ℕ) (fault : Option ModelFault) (row : ModelRow) : Type 0 where
+pub record IsModelRowOf (fresh : ℕ) (before : Option HeldModel) (id : ℕ) (fault : Option ModelFault)
+    (row : ModelRow) : Type 0 where
   pub id_is : row.id ≡ id
   pub stamp : IsStampOf fresh (fault_by before) (fault_stamp_by before) (fault_part fault) row.stamp
 

@@ -6,11 +6,13 @@ use Rattle.stamped_parts.specs.Contents.{PartContent}
 abbrev pub next_number : ℕ → ℕ
 next_number last = min (last + 1) (2 ^ 64 - 1)
 
--- The stamp of a part that holds `now`, and that held `before` under the stamp `was`: an equal part keeps its stamp, one that
--- differs has the new one, one that is not there has 0.
-abbrev pub IsStampOf : (fresh : ℕ) (before : Option PartContent) (was : ℕ) (now : Option PartContent) (stamp : ℕ) → Type 0
+-- The stamp of a part that holds `now`, and that held `before` under the stamp `was`: an equal part
+-- keeps its stamp, one that differs has the new one, one that is not there has 0.
+abbrev pub IsStampOf : (fresh : ℕ) (before : Option PartContent) (was : ℕ)
+    (now : Option PartContent) (stamp : ℕ) → Type 0
 IsStampOf fresh before was None stamp = stamp ≡ 0
-IsStampOf fresh before was (Some now) stamp = ((before ≡ Some now) × (stamp ≡ was)) ⊎ ((before ≢ Some now) × (stamp ≡ fresh))
+IsStampOf fresh before was (Some now) stamp =
+    ((before ≡ Some now) × (stamp ≡ was)) ⊎ ((before ≢ Some now) × (stamp ≡ fresh))
 
 -- a stamp above that of the last edit becomes the number of this one
 abbrev pub raised : (last number stamp : ℕ) → ℕ
@@ -22,5 +24,7 @@ pub record IsLaterNumber (last number : ℕ) : Type 0 where
   pub fits : number < 2 ^ 64
 
 -- a part is as it was, has the number of the edit, or is gone
-abbrev pub IsPartNow : (before : Option PartContent) (was number : ℕ) (now : Option PartContent) (stamp : ℕ) → Type 0
-IsPartNow before was number now stamp = ((stamp ≡ was) × (now ≡ before)) ⊎ (stamp ≡ number) ⊎ (stamp ≡ 0)
+abbrev pub IsPartNow : (before : Option PartContent) (was number : ℕ) (now : Option PartContent)
+    (stamp : ℕ) → Type 0
+IsPartNow before was number now stamp =
+    ((stamp ≡ was) × (now ≡ before)) ⊎ (stamp ≡ number) ⊎ (stamp ≡ 0)

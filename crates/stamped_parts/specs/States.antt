@@ -37,9 +37,11 @@ contents s (Part part of ∷ ks) = content s part of ∷ contents s ks
 contents s (Output n x ∷ ks) = contents s ks
 
 -- initial values, threads, and locations at the end
-abbrev pub space_given : List InitEntry → List (List Step) → List (Option PartContent) → Option GivenContent
+abbrev pub space_given : List InitEntry → List (List Step) → List (Option PartContent)
+    → Option GivenContent
 space_given init threads (Some (OfThread steps) ∷ cs) = space_given init (threads ++ steps ∷ []) cs
-space_given init threads (Some (OfLocations locations) ∷ cs) = Some (ForSpace (record { init = init; threads = threads; locations = locations }))
+space_given init threads (Some (OfLocations locations) ∷ cs) =
+    Some (ForSpace (record { init = init; threads = threads; locations = locations }))
 space_given init threads _ = None
 
 -- the text of that item is among some inputs
@@ -68,19 +70,29 @@ is_answer kinds.Verdict = false
 abbrev pub flags_read : State → List Key → List Key → List (Option (List ℕ))
 flags_read s keys [] = []
 flags_read s keys (Part part of ∷ ks) = flags_read s keys ks
-flags_read s keys (Output n x ∷ ks) = if is_answer n.kind then flag_read s keys n.of ∷ flags_read s keys ks else flags_read s keys ks
+flags_read s keys (Output n x ∷ ks) =
+    if is_answer n.kind then flag_read s keys n.of ∷ flags_read s keys ks else flags_read s keys ks
 
 abbrev pub asked_with : Quantifier → Formula → List Place → List (Option (List ℕ)) → GivenContent
-asked_with kind proposition observed flags = ForVerdict (record { kind = kind; proposition = proposition; observed = observed; flags = flags })
+asked_with kind proposition observed flags =
+    ForVerdict (record {
+      kind = kind;
+      proposition = proposition;
+      observed = observed;
+      flags = flags;
+    })
 
 -- a condition, and then what is observed, or the fault of a model
-abbrev pub verdict_given : Quantifier → Formula → List (Option PartContent) → List (Option (List ℕ)) → Option GivenContent
-verdict_given kind proposition (Some (OfObserved observed) ∷ cs) flags = Some (asked_with kind proposition observed flags)
-verdict_given kind proposition (Some (OfFault fault) ∷ cs) flags = Some (ForFault (record { kind = kind; proposition = proposition; fault = fault }))
+abbrev pub verdict_given : Quantifier → Formula → List (Option PartContent) → List (Option (List ℕ))
+    → Option GivenContent
+verdict_given kind proposition (Some (OfObserved observed) ∷ cs) flags =
+    Some (asked_with kind proposition observed flags)
+verdict_given kind proposition (Some (OfFault fault) ∷ cs) flags =
+    Some (ForFault (record { kind = kind; proposition = proposition; fault = fault }))
 verdict_given kind proposition _ flags = None
 
--- a space begins with initial values, an item with what it does, of which the history numbers the outputs, a verdict with a
--- condition
+-- a space begins with initial values, an item with what it does, of which the history numbers the
+-- outputs, a verdict with a condition
 abbrev pub given_space : List (Option PartContent) → Option GivenContent
 given_space (Some (OfInit init) ∷ cs) = space_given init [] cs
 given_space _ = None
@@ -90,7 +102,8 @@ given_item (Some (OfRole role history) ∷ cs) = Some (ForItem role (item_output
 given_item _ = None
 
 abbrev pub given_verdict : List (Option PartContent) → List (Option (List ℕ)) → Option GivenContent
-given_verdict (Some (OfCondition kind proposition) ∷ cs) flags = verdict_given kind proposition cs flags
+given_verdict (Some (OfCondition kind proposition) ∷ cs) flags =
+    verdict_given kind proposition cs flags
 given_verdict _ flags = None
 
 -- by the kind of the node, of its inputs
@@ -115,7 +128,8 @@ net_in s = net_of s.parts.table (λ n g. is_given (given s n) g)
 
 -- the values that it gives, each beside the number by which it goes
 abbrev pub makes : Making NodeContent GivenContent
-makes n g keys values outputs = (vs : List NodeContent) × Makes g values vs × (outputs ≡ zip (output_names g) vs)
+makes n g keys values outputs =
+    (vs : List NodeContent) × Makes g values vs × (outputs ≡ zip (output_names g) vs)
 
 -- ---- what a state owes
 
@@ -126,7 +140,8 @@ HasOutput s (Output n x) = (g : GivenContent) → given s n ≡ Some g → Has (
 
 pub record IsValid (s : State) : Type 0 where
   pub ordered : IsOrdered s.parts.table
-  pub outputs : (n : Node) → Has (used s.parts.table) n → Each (HasOutput s) (inputs s.parts.table n)
+  pub outputs : (n : Node) → Has (used s.parts.table) n
+      → Each (HasOutput s) (inputs s.parts.table n)
   pub gives : (n : Node) → Has (used s.parts.table) n → is_some (given s n) ≡ true
   pub empty : (part of : ℕ) → part_stamp s.parts.table part of ≡ 0 → content s part of ≡ None
   pub low : (part of : ℕ) → part_stamp s.parts.table part of ≤ s.parts.last
@@ -146,7 +161,8 @@ is_kind kind (Some k) = kind_number kind == kind_number k
 abbrev pub has_kind : List ItemRow → List (Option Kind) → Kind → ℕ → Bool
 has_kind [] ks kind number = false
 has_kind (i ∷ is) [] kind number = false
-has_kind (i ∷ is) (k ∷ ks) kind number = if i.number == number then is_kind kind k else has_kind is ks kind number
+has_kind (i ∷ is) (k ∷ ks) kind number =
+    if i.number == number then is_kind kind k else has_kind is ks kind number
 
 abbrev pub has_model : List ModelRow → ℕ → Bool
 has_model [] id = false
@@ -159,7 +175,8 @@ has_own p kinds.Group of = has_kind p.table.items.items p.kinds.items kinds.Grou
 has_own p kinds.Check of = has_kind p.table.items.items p.kinds.items kinds.Check of
 has_own p kinds.Verdict of = has_model p.table.models.items of
 
--- its test is there, and the item or model whose node it is, also where the model has a fault or nothing uses the node
+-- its test is there, and the item or model whose node it is, also where the model has a fault or
+-- nothing uses the node
 abbrev pub keeps : Parts → Node → Bool
 keeps p n = has_test p.table.tests.items n.test && has_own p n.kind n.of
 

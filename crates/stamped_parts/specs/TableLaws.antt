@@ -20,7 +20,8 @@ WasTestRow last None = ⊤
 WasTestRow last (Some e) = IsTestRow last e.row e.test
 
 -- the row of a test after the edit of that number, over what it was before
-pub record IsTestAfter (last number : ℕ) (before : Option TestEntry) (id : ℕ) (test : Test) (locations : List (List ℕ)) (new : TestRow) : Type 0 where
+pub record IsTestAfter (last number : ℕ) (before : Option TestEntry) (id : ℕ) (test : Test)
+    (locations : List (List ℕ)) (new : TestRow) : Type 0 where
   pub later : IsLaterNumber last number
   pub was : WasTestRow last before
   pub row : TestRow
@@ -29,8 +30,11 @@ pub record IsTestAfter (last number : ℕ) (before : Option TestEntry) (id : ℕ
 
 abbrev pub TestPartsGoOn : Type 0
 TestPartsGoOn =
-    (last number id : ℕ) (before : Option TestEntry) (test : Test) (locations : List (List ℕ)) (new : TestRow) → IsTestAfter last number before id test locations new
-    → (part : ℕ) → IsPartNow (held_by before part) (stamp_by before part) number (test_part test locations part) (stamp_in new part)
+    (last number id : ℕ) (before : Option TestEntry) (test : Test) (locations : List (List ℕ))
+    (new : TestRow) → IsTestAfter last number before id test locations new
+    → (part : ℕ)
+    → IsPartNow (held_by before part) (stamp_by before part) number
+    (test_part test locations part) (stamp_in new part)
 
 -- ---- models
 
@@ -39,12 +43,15 @@ WasModelRow last None = ⊤
 WasModelRow last (Some h) = IsModelRow last h.row h.fault
 
 -- the row of a model that is made for the edit of that number, over what it was before
-pub record IsModelAfter (last number : ℕ) (before : Option HeldModel) (id : ℕ) (fault : Option ModelFault) (row : ModelRow) : Type 0 where
+pub record IsModelAfter (last number : ℕ) (before : Option HeldModel) (id : ℕ)
+    (fault : Option ModelFault) (row : ModelRow) : Type 0 where
   pub later : IsLaterNumber last number
   pub was : WasModelRow last before
   pub made : IsModelRowOf (next_number last) before id fault row
 
 abbrev pub FaultsGoOn : Type 0
 FaultsGoOn =
-    (last number id : ℕ) (before : Option HeldModel) (fault : Option ModelFault) (row : ModelRow) → IsModelAfter last number before id fault row
-    → IsPartNow (fault_by before) (fault_stamp_by before) number (fault_part fault) (raised_model last number row).stamp
+    (last number id : ℕ) (before : Option HeldModel) (fault : Option ModelFault) (row : ModelRow)
+    → IsModelAfter last number before id fault row
+    → IsPartNow (fault_by before) (fault_stamp_by before) number (fault_part fault)
+    (raised_model last number row).stamp

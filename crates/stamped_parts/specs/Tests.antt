@@ -41,9 +41,12 @@ thread_stamp_by None k = 0
 thread_stamp_by (Some e) k = get_or e.row.threads.items k 0
 
 -- the row of a test of that number, which was there as `before`
-pub record IsRowOf (fresh : ℕ) (before : Option TestEntry) (id : ℕ) (test : Test) (locations : List (List ℕ)) (row : TestRow) : Type 0 where
+pub record IsRowOf (fresh : ℕ) (before : Option TestEntry) (id : ℕ) (test : Test)
+    (locations : List (List ℕ)) (row : TestRow) : Type 0 where
   pub id_is : row.id ≡ id
-  pub stamps : (part : ℕ) → IsStampOf fresh (held_by before part) (stamp_by before part) (test_part test locations part) (stamp_in row part)
+  pub stamps : (part : ℕ)
+      → IsStampOf fresh (held_by before part) (stamp_by before part) (test_part test locations part)
+      (stamp_in row part)
   pub each_thread : length row.threads.items ≡ length test.threads.items
 
 -- the row under the number of the edit

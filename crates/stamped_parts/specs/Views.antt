@@ -26,7 +26,8 @@ use Rattle.stamped_parts.specs.States.{contents, flags_read}
 abbrev pub content_of : Content → PartContent
 content_of (held.Role item) = OfRole (shared_role item.now) (shared_history item.now)
 content_of (held.Fault fault) = OfFault fault
-content_of (held.Condition condition) = OfCondition condition.now.quantifier (formula_of condition.now.proposition)
+content_of (held.Condition condition) =
+    OfCondition condition.now.quantifier (formula_of condition.now.proposition)
 content_of (held.Observed observed) = OfObserved observed.now
 content_of (held.Locations locations) = OfLocations locations.now
 content_of (held.Init init) = OfInit init.now
@@ -47,7 +48,9 @@ abbrev pub view_of : List TestRow → List Test → List (Vec (List ℕ) Global)
 view_of [] tests locations id = None
 view_of (r ∷ rs) [] locations id = None
 view_of (r ∷ rs) (t ∷ ts) [] id = None
-view_of (r ∷ rs) (t ∷ ts) (l ∷ ls) id = if r.id == id then Some (record { row = r; test = t; locations = l.items }) else view_of rs ts ls id
+view_of (r ∷ rs) (t ∷ ts) (l ∷ ls) id =
+    if r.id == id then Some (record { row = r; test = t; locations = l.items })
+    else view_of rs ts ls id
 
 -- ---- parts among inputs
 
@@ -85,12 +88,16 @@ flag_at s keys key = flags_read s keys (key ∷ [])
 -- the first check or flag, and those behind it
 abbrev pub flags_from : State → ℕ → List Key → Option FirstFlag → List (Option (List ℕ))
 flags_from s test keys None = []
-flags_from s test keys (Some f) = option_map (λ n. n.now) f.name ∷ flags_read s keys (keys_at test f.rest.now)
+flags_from s test keys (Some f) =
+    option_map (λ n. n.now) f.name ∷ flags_read s keys (keys_at test f.rest.now)
 
 -- ---- what a job is given
 
 abbrev pub given_of : State → ℕ → NodeParts → GivenContent
-given_of s test (parts.Space init threads locations) = ForSpace (parts_of init.now threads.now locations.now)
+given_of s test (parts.Space init threads locations) =
+    ForSpace (parts_of init.now threads.now locations.now)
 given_of s test (parts.Item item) = ForItem (shared_role item.now) (shared_outputs item.now)
-given_of s test (parts.Verdict condition observed keys) = ForVerdict (asked condition.now observed.now (flags_read s (keys_at test keys.now) (keys_at test keys.now)))
+given_of s test (parts.Verdict condition observed keys) =
+    ForVerdict (asked condition.now observed.now (flags_read s (keys_at test keys.now)
+    (keys_at test keys.now)))
 given_of s test (parts.Fault condition fault) = ForFault (faulted condition.now fault)

@@ -61,7 +61,8 @@ fn fault_content<'p>(
 }
 
 fn thread_part(threads: &[Thread], index: u64) -> Option<Content<'_>>
-    ensures { option_map content_of result ≡ option_map OfThread (slice_get (map steps_of threads.now) index) }
+    ensures { option_map content_of result
+        ≡ option_map OfThread (slice_get (map steps_of threads.now) index) }
 {
     if index < threads.len() as u64 {
         Some(Content::Thread(&threads[index as usize]))
@@ -88,7 +89,8 @@ fn test_part<'p>(test: &'p Test, locations: &'p [Name], part: u64) -> Option<Con
 }
 
 fn test_content<'p>(parts: &'p Parts, tests: &'p [Test], part: u64, id: u64) -> Option<Content<'p>>
-    ensures { option_map content_of result ≡ test_content parts.now.table.tests.items tests.now parts.now.locations.items part id }
+    ensures { option_map content_of result
+        ≡ test_content parts.now.table.tests.items tests.now parts.now.locations.items part id }
 {
     let index = parts.test_index(id);
     match test_at(&parts.table.tests, tests, &parts.locations, id, index) {

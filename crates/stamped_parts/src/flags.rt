@@ -49,7 +49,9 @@ fn is_read(test: u64, keys: &[SlotKey], item: u64) -> bool
 }
 
 fn role_flag(role: &Role) -> Option<&Name>
-    ensures { (history : List SeenName) → option_map (λ n. n.now) result ≡ flag_name (Some (OfRole (role_content role.now) history)) }
+    ensures { (history : List SeenName)
+        → option_map (λ n. n.now) result
+        ≡ flag_name (Some (OfRole (role_content role.now) history)) }
 {
     match role {
         Role::Group { .. } => None,
@@ -63,7 +65,8 @@ fn role_flag(role: &Role) -> Option<&Name>
 
 // The name of the item of that number, where it is a flag.
 fn item_flag<'p>(parts: &'p Parts, tests: &'p [Test], item: u64) -> Option<&'p Name>
-    ensures { option_map (λ n. n.now) result ≡ flag_name (content (state_of parts.now tests.now) 0 item) }
+    ensures { option_map (λ n. n.now) result
+        ≡ flag_name (content (state_of parts.now tests.now) 0 item) }
 {
     match content_at(parts, tests, ITEM, item) {
         Some(Content::Role(held)) => role_flag(&held.item().role),
@@ -85,7 +88,8 @@ fn flag_read<'p>(
     keys: &[SlotKey],
     item: u64,
 ) -> Option<&'p Name>
-    ensures { option_map (λ n. n.now) result ≡ flag_read (state_of parts.now tests.now) (keys_at test keys.now) item }
+    ensures { option_map (λ n. n.now) result
+        ≡ flag_read (state_of parts.now tests.now) (keys_at test keys.now) item }
 {
     if is_read(test, keys, item) {
         item_flag(parts, tests, item)
@@ -102,7 +106,8 @@ fn flag_at<'p>(
     keys: &[SlotKey],
     key: SlotKey,
 ) -> Option<Option<&'p Name>>
-    ensures { option_to_list (option_map (option_map (λ n. n.now)) result) ≡ flag_at (state_of parts.now tests.now) (keys_at test keys.now) (key_at test key) }
+    ensures { option_to_list (option_map (option_map (λ n. n.now)) result)
+        ≡ flag_at (state_of parts.now tests.now) (keys_at test keys.now) (key_at test key) }
 {
     match key {
         SlotKey::Test(_) => None,
@@ -124,7 +129,8 @@ fn copied_name(alloc: Global, name: Option<&Name>) -> Result<Option<Name>, Alloc
     }
 }
 
-/// For each check and flag among some inputs, in order, a copy of the name of the flag. Errors: out of memory.
+/// For each check and flag among some inputs, in order, a copy of the name of the flag. Errors: out
+/// of memory.
 pub(crate) fn copied_flags(
     alloc: Global,
     parts: &Parts,
@@ -132,7 +138,8 @@ pub(crate) fn copied_flags(
     test: u64,
     keys: &[SlotKey],
 ) -> Result<Vec<Option<Name>>, AllocError>
-    ensures { let all = keys_at test keys.now in IfOk result (λ v. v.items ≡ flags_read (state_of parts.now tests.now) all all) }
+    ensures { let all = keys_at test keys.now in
+        IfOk result (λ v. v.items ≡ flags_read (state_of parts.now tests.now) all all) }
 {
     let mut flags = Vec::new(alloc);
     for key in keys {
@@ -152,7 +159,9 @@ fn first_flag<'p>(
     keys: &[SlotKey],
     rest: &'p [SlotKey],
 ) -> Option<FirstFlag<'p>>
-    ensures { let s = state_of parts.now tests.now in let all = keys_at test keys.now in flags_from s test all result ≡ flags_read s all (keys_at test rest.now) }
+    ensures { let s = state_of parts.now tests.now in
+        let all = keys_at test keys.now in
+        flags_from s test all result ≡ flags_read s all (keys_at test rest.now) }
 {
     for (index, key) in rest.iter().enumerate() {
         match flag_at(parts, tests, test, keys, *key) {
@@ -191,7 +200,8 @@ pub(crate) fn has_flags(
     keys: &[SlotKey],
     flags: &[Option<Name>],
 ) -> bool
-    ensures { let all = keys_at test keys.now in IsTrue result ↔ (flags_read (state_of parts.now tests.now) all all ≡ flags.now) }
+    ensures { let all = keys_at test keys.now in
+        IsTrue result ↔ (flags_read (state_of parts.now tests.now) all all ≡ flags.now) }
 {
     let mut rest = keys;
     for flag in flags {

@@ -49,7 +49,8 @@ fn is_given_from(
     found: NodeParts<'_>,
     given: &Given,
 ) -> bool
-    ensures { IsTrue result ↔ (given_of (state_of parts.now tests.now) test found.entry ≡ given.now) }
+    ensures { IsTrue result
+        ↔ (given_of (state_of parts.now tests.now) test found.entry ≡ given.now) }
 {
     match found {
         NodeParts::Space {
@@ -88,7 +89,8 @@ impl Parts {
     pub fn give(&self, alloc: Global, tests: &[Test], node: Node) -> Result<Given, AllocError>
         requires { IsThere (state_of self.now tests.now) node }
         ensures given { IfOk result (λ g. given_in (state_of self.now tests.now) node ≡ Some g) }
-        ensures gives { IfOk result (λ g. is_given (given_in (state_of self.now tests.now) node) g ≡ true) }
+        ensures gives { IfOk result (λ g. is_given (given_in (state_of self.now tests.now) node) g
+            ≡ true) }
     {
         match node_parts(self, tests, node) {
             Some(found) => given_from(alloc, self, tests, node.test, found),
@@ -106,8 +108,8 @@ impl Parts {
         }
     }
 
-    /// Whether what the node holds may stay after an edit: its test is there, and its item, by the text of the same kind, or
-    /// its model.
+    /// Whether what the node holds may stay after an edit: its test is there, and its item, by the
+    /// text of the same kind, or its model.
     pub fn keeps(&self, node: Node) -> bool
         ensures { result ≡ keeps self.now node }
     {

@@ -20,7 +20,8 @@ pub struct HeldItem<'p> {
 
 // What the item at an index did.
 fn role_at(roles: &[Option<SharedItem>], index: usize) -> Option<&SharedItem>
-    ensures { option_map (λ r. r.now) result ≡ option_and_then (λ r. r) (slice_get roles.now index) }
+    ensures { option_map (λ r. r.now) result
+        ≡ option_and_then (λ r. r) (slice_get roles.now index) }
 {
     match roles.get(index) {
         Some(role) => role.as_ref(),
@@ -45,7 +46,8 @@ impl HeldItem<'_> {
 
 /// The item of that number.
 pub fn held_item(parts: &Parts, number: u64) -> HeldItem<'_>
-    ensures role { held_part result ≡ item_content parts.now.table.items.items parts.now.roles.items number }
+    ensures role { held_part result
+        ≡ item_content parts.now.table.items.items parts.now.roles.items number }
     ensures stamp { result.stamp ≡ item_stamp parts.now.table.items.items number }
 {
     let index = parts.item_index(number);

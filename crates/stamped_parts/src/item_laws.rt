@@ -2,7 +2,8 @@
 
 ghost use Rattle.stamped_parts.specs.ItemLaws.{ItemPartsGoOn, ItemsArePartsAfter, ItemsWithoutStampAreGone, EqualItemsKeepStamps, HistoriesGoOn, ItemsDoWhatIsRead, ItemRowsAreStamped, ItemsStayInOrder, ReadItemsAreHeld, ItemsHaveTheirKinds, KindsFollowRoles};
 
-/// What an item says is as it was, under the stamp that it had, or has the number of the edit, or the item is gone.
+/// What an item says is as it was, under the stamp that it had, or has the number of the edit, or
+/// the item is gone.
 pub fn item_parts_go_on()
     ensures { ItemPartsGoOn }
 {}
@@ -42,7 +43,8 @@ pub fn items_stay_in_order()
     ensures { ItemsStayInOrder }
 {}
 
-/// Where items do what is read of them, each item of a model without fault does what it is resolved to.
+/// Where items do what is read of them, each item of a model without fault does what it is resolved
+/// to.
 pub fn read_items_are_held()
     ensures { ReadItemsAreHeld }
 {}

@@ -35,8 +35,8 @@ pub struct ModelItems<'m> {
 pub struct ItemLists {
     /// Their numbers and stamps.
     pub rows: Vec<ItemRow>,
-    /// What each of them does, or under a fault of its model what it did when the model was last without one, if it was there then;
-    /// with the names that it has had.
+    /// What each of them does, or under a fault of its model what it did when the model was last
+    /// without one, if it was there then; with the names that it has had.
     pub roles: Vec<Option<SharedItem>>,
     /// The kind of node that each of them is by its text, if it is one.
     pub kinds: Vec<Option<Kind>>,
@@ -44,7 +44,8 @@ pub struct ItemLists {
 
 // The stamp of an item that says this now: one that says what it said keeps its stamp.
 fn stamp_of(fresh: u64, stamp: u64, was: Option<&Item>, now: Option<&Item>) -> u64
-    ensures { IsStampOf fresh (text_part (option_map (λ x. x.now) was.entry)) stamp (text_part (option_map (λ x. x.now) now.entry)) result }
+    ensures { IsStampOf fresh (text_part (option_map (λ x. x.now) was.entry)) stamp
+        (text_part (option_map (λ x. x.now) now.entry)) result }
 {
     let Some(now) = now else {
         return 0;
@@ -55,15 +56,17 @@ fn stamp_of(fresh: u64, stamp: u64, was: Option<&Item>, now: Option<&Item>) -> u
     }
 }
 
-// The item at an index, with its names behind those that it had, and what it did before where none is there. Errors: want of
-// memory, or too many shares.
+// The item at an index, with its names behind those that it had, and what it did before where none
+// is there. Errors: want of memory, or too many shares.
 fn shared_item(
     alloc: Global,
     resolved: &Arc<Resolved>,
     index: usize,
     held: &HeldItem,
 ) -> Result<Option<SharedItem>, AllocError>
-    ensures { IfOk result (λ r. role_part r ≡ held_after (read_role (Some (arc_value resolved.now).items.items) index) (held_part held.now)) }
+    ensures { IfOk result (λ r. role_part r
+        ≡ held_after (read_role (Some (arc_value resolved.now).items.items) index)
+        (held_part held.now)) }
 {
     if index < resolved.items.len() {
         Ok(Some(SharedItem::new(alloc, Arc::try_clone(resolved)?, index, held.role)?))
@@ -89,7 +92,8 @@ impl ModelItems<'_> {
 
     // What the item at an index says.
     fn text(&self, index: usize) -> Option<&Item>
-        ensures { text_part (option_map (λ x. x.now) result) ≡ text_part (slice_get self.now.items.now index) }
+        ensures { text_part (option_map (λ x. x.now) result)
+            ≡ text_part (slice_get self.now.items.now index) }
     {
         self.items.get(index)
     }
@@ -104,15 +108,16 @@ impl ModelItems<'_> {
         }
     }
 
-    // What the item at an index does: under a fault of its model what it did before. Errors: want of memory, or too many
-    // shares.
+    // What the item at an index does: under a fault of its model what it did before. Errors: want
+    // of memory, or too many shares.
     fn role_after(
         &self,
         alloc: Global,
         index: usize,
         held: &HeldItem,
     ) -> Result<Option<SharedItem>, AllocError>
-        ensures { IfOk result (λ r. role_part r ≡ held_after (read_role (resolved_items self.now) index) (held_part held.now)) }
+        ensures { IfOk result (λ r. role_part r
+            ≡ held_after (read_role (resolved_items self.now) index) (held_part held.now)) }
     {
         match self.resolved {
             Some(resolved) => shared_item(alloc, resolved, index, held),
@@ -139,8 +144,9 @@ impl ItemLists {
         }
     }
 
-    /// Adds the item at an index of a model, over the parts before the edit and what the item of its number said before it, where
-    /// `fresh` stands for the stamp of what changed. Errors: want of memory.
+    /// Adds the item at an index of a model, over the parts before the edit and what the item of
+    /// its number said before it, where `fresh` stands for the stamp of what changed. Errors: want
+    /// of memory.
     pub fn add_item(
         &mut self,
         alloc: Global,
@@ -150,7 +156,14 @@ impl ItemLists {
         model: &ModelItems,
         index: usize,
     ) -> Result<(), AllocError>
-        ensures { (texts : ℕ → Option PartContent) (facts : List ItemFact) → texts (get_or model.now.numbers.now index 0) ≡ text_part (option_map (λ x. x.now) was.entry) → AreListsOf fresh before.now texts facts self.old → OnOk result (AreListsOf fresh before.now texts (facts ++ fact_at model.now.numbers.now model.now.items.now (resolved_items model.now) index ∷ []) self.new) }
+        ensures { (texts : ℕ → Option PartContent) (facts : List ItemFact)
+            → texts (get_or model.now.numbers.now index 0)
+            ≡ text_part (option_map (λ x. x.now) was.entry)
+            → AreListsOf fresh before.now texts facts self.old
+            → OnOk result (AreListsOf fresh before.now texts
+            (facts
+            ++ fact_at model.now.numbers.now model.now.items.now
+            (resolved_items model.now) index ∷ []) self.new) }
     {
         let number = model.number_at(index);
         let held = held_item(before, number);

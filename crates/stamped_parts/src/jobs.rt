@@ -18,8 +18,12 @@ fn put_output(
     names: &[u64],
     value: NodeValue,
 ) -> Result<(), AllocError>
-    ensures named { let at = length outputs.old.items in at < length names.now → IfOk result (λ _. named_values outputs.new.items ≡ named_values outputs.old.items ++ (slice_index names.now at, value) ∷ []) }
-    ensures past { length names.now ≤ length outputs.old.items → IfOk result (λ _. outputs.new.items ≡ outputs.old.items) }
+    ensures named { let at = length outputs.old.items in
+        at < length names.now
+        → IfOk result (λ _. named_values outputs.new.items
+        ≡ named_values outputs.old.items ++ (slice_index names.now at, value) ∷ []) }
+    ensures past { length names.now ≤ length outputs.old.items
+        → IfOk result (λ _. outputs.new.items ≡ outputs.old.items) }
 {
     let at = outputs.len();
     if at < names.len() {
@@ -45,14 +49,17 @@ fn outputs_of(
     Ok(outputs)
 }
 
-/// The outputs of a node, from what it is given and from the values of the nodes that it uses, in the order of its inputs.
-/// Those of a group go by the numbers of its names in its history, each other one by 0. Errors: out of memory.
+/// The outputs of a node, from what it is given and from the values of the nodes that it uses, in
+/// the order of its inputs. Those of a group go by the numbers of its names in its history, each
+/// other one by 0. Errors: out of memory.
 pub fn run(
     alloc: Global,
     given: &Given,
     values: &[&NodeValue],
 ) -> Result<Vec<Output<NodeValue>>, AllocError>
-    ensures { (node : Node) (keys : List Key) → IfOk result (λ outputs. makes node given.now keys (map (λ v. v.now) values.now) (named_values outputs.items)) }
+    ensures { (node : Node) (keys : List Key)
+        → IfOk result (λ outputs. makes node given.now keys (map (λ v. v.now) values.now)
+        (named_values outputs.items)) }
 {
     let names = given.output_names(alloc)?;
     let made = run_node(alloc, given, values)?;

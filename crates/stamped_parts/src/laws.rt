@@ -18,7 +18,8 @@ pub fn equal_values_are_same()
     ensures { (a b : NodeContent) → (same_value a b ≡ true) ↔ (a ≡ b) }
 {}
 
-/// Each output among the inputs of a node that is there gets a value, and its input nodes are there.
+/// Each output among the inputs of a node that is there gets a value, and its input nodes are
+/// there.
 pub fn states_are_sound()
     ensures { (s : State) → IsValid s → IsSound makes (net_in s) (IsThere s) }
 {}
@@ -51,7 +52,8 @@ pub fn since_is_reflexive()
 
 /// A state after an edit is since all that the state before the edit is since.
 pub fn since_goes_on()
-    ensures { (w v u : WrittenState) (number : ℕ) → IsSince w v → IsStamped v number u → IsSince w u }
+    ensures { (w v u : WrittenState) (number : ℕ) → IsSince w v → IsStamped v number u
+        → IsSince w u }
 {}
 
 /// A node whose inputs and parts are what they were in an earlier state is given what it was.
@@ -61,7 +63,8 @@ pub fn given_stays()
 
 /// An edit leaves each part its stamp, gives it the edit's number, or drops it.
 pub fn parts_go_on()
-    ensures { (w v : WrittenState) (number : ℕ) → IsStamped w number v → PartsGoOn (net_in w.state) number (net_in v.state) }
+    ensures { (w v : WrittenState) (number : ℕ) → IsStamped w number v
+        → PartsGoOn (net_in w.state) number (net_in v.state) }
 {}
 
 /// States that are the same, wherever they lie in memory, say the same of nodes.
@@ -76,7 +79,8 @@ pub fn same_states_are_since()
 
 /// They are built of the same models.
 pub fn same_states_are_built()
-    ensures { (s t : State) (models : List ModelReading) → IsSameState s t → IsBuilt s models → IsBuilt t models }
+    ensures { (s t : State) (models : List ModelReading) → IsSameState s t → IsBuilt s models
+        → IsBuilt t models }
 {}
 
 /// A state that is built of its tests, and of models as they are read, is valid.

@@ -1,9 +1,11 @@
-//! The parts of the bench's texts: what they hold, with their stamps, and what the nodes are given of them; and their rows
-//! after an edit, in which an equal part keeps its stamp and one that differs gets a new one. The part of an item is its text,
-//! whatever that is resolved to; what the item does stands beside it, for its nodes. Read `specs/Contents` first: what a part
-//! holds, then `specs/States`: what a job is given, and what the states owe, `specs/Built`: of what a state is built, and
-//! `specs/Written`: what the stamps go by, and which states come of others; `laws` cites these. Of the rows read `specs/Tests`,
-//! `specs/Models` and `specs/Items`; `table_laws` and `item_laws` say what they are after an edit.
+//! The parts of the bench's texts: what they hold, with their stamps, and what the nodes are given
+//! of them; and their rows after an edit, in which an equal part keeps its stamp and one that
+//! differs gets a new one. The part of an item is its text, whatever that is resolved to; what the
+//! item does stands beside it, for its nodes. Read `specs/Contents` first: what a part holds, then
+//! `specs/States`: what a job is given, and what the states owe, `specs/Built`: of what a state is
+//! built, and `specs/Written`: what the stamps go by, and which states come of others; `laws` cites
+//! these. Of the rows read `specs/Tests`, `specs/Models` and `specs/Items`; `table_laws` and
+//! `item_laws` say what they are after an edit.
 #![tactic(auto)]
 
 mod content;

@@ -18,7 +18,8 @@ pub struct HeldModel {
 
 // The stamp of a fault that was this one, with this stamp.
 fn stamp_after(fresh: u64, held: HeldModel, fault: ModelFault) -> u64
-    ensures { IsStampOf fresh (fault_part held.fault) held.row.stamp (fault_part (Some fault)) result }
+    ensures { IsStampOf fresh (fault_part held.fault) held.row.stamp (fault_part (Some fault))
+        result }
 {
     match held.fault {
         Some(earlier) => {
@@ -44,7 +45,8 @@ fn fault_stamp(fresh: u64, before: Option<HeldModel>, fault: Option<ModelFault>)
     }
 }
 
-/// The row of a model of this number with this fault, if it has one. `before` is the model before the edit, if it was there.
+/// The row of a model of this number with this fault, if it has one. `before` is the model before
+/// the edit, if it was there.
 pub fn model_row(
     fresh: u64,
     before: Option<HeldModel>,

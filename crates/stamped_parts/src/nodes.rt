@@ -94,7 +94,8 @@ fn first_content<'p>(
     test: u64,
     keys: &'p [SlotKey],
 ) -> Option<FirstContent<'p>>
-    ensures { let s = state_of parts.now tests.now in contents_from s test result ≡ contents s (keys_at test keys.now) }
+    ensures { let s = state_of parts.now tests.now in
+        contents_from s test result ≡ contents s (keys_at test keys.now) }
 {
     match first_part(test, keys) {
         Some(first) => Some(FirstContent {
@@ -106,7 +107,9 @@ fn first_content<'p>(
 }
 
 fn space_parts<'p>(parts: &'p Parts, tests: &'p [Test], test: u64) -> Option<NodeParts<'p>>
-    ensures { let s = state_of parts.now tests.now in option_map (given_of s test) result ≡ given_space (contents s (space_keys parts.now.table.tests.items test)) }
+    ensures { let s = state_of parts.now tests.now in
+        option_map (given_of s test) result
+        ≡ given_space (contents s (space_keys parts.now.table.tests.items test)) }
 {
     let index = parts.test_index(test);
     match test_at(&parts.table.tests, tests, &parts.locations, test, index) {
@@ -132,7 +135,8 @@ fn item_parts<'p>(
     test: u64,
     keys: &'p [SlotKey],
 ) -> Option<NodeParts<'p>>
-    ensures { let s = state_of parts.now tests.now in option_map (given_of s test) result ≡ given_item (contents s (keys_at test keys.now)) }
+    ensures { let s = state_of parts.now tests.now in
+        option_map (given_of s test) result ≡ given_item (contents s (keys_at test keys.now)) }
 {
     match first_content(parts, tests, test, keys) {
         Some(first) => match first.held {
@@ -149,7 +153,8 @@ fn item_parts<'p>(
     }
 }
 
-// What a verdict of this condition is given by the inputs behind it, and by which checks are flags among all of its inputs.
+// What a verdict of this condition is given by the inputs behind it, and by which checks are flags
+// among all of its inputs.
 fn parts_behind<'p>(
     parts: &'p Parts,
     tests: &'p [Test],
@@ -158,7 +163,11 @@ fn parts_behind<'p>(
     rest: &'p [SlotKey],
     keys: &'p [SlotKey],
 ) -> Option<NodeParts<'p>>
-    ensures { let s = state_of parts.now tests.now in let all = keys_at test keys.now in option_map (given_of s test) result ≡ verdict_given condition.now.quantifier (formula_of condition.now.proposition) (contents s (keys_at test rest.now)) (flags_read s all all) }
+    ensures { let s = state_of parts.now tests.now in
+        let all = keys_at test keys.now in
+        option_map (given_of s test) result
+        ≡ verdict_given condition.now.quantifier (formula_of condition.now.proposition)
+        (contents s (keys_at test rest.now)) (flags_read s all all) }
 {
     match first_content(parts, tests, test, rest) {
         Some(second) => match second.held {
@@ -185,7 +194,10 @@ fn verdict_parts<'p>(
     test: u64,
     keys: &'p [SlotKey],
 ) -> Option<NodeParts<'p>>
-    ensures { let s = state_of parts.now tests.now in let all = keys_at test keys.now in option_map (given_of s test) result ≡ given_verdict (contents s all) (flags_read s all all) }
+    ensures { let s = state_of parts.now tests.now in
+        let all = keys_at test keys.now in
+        option_map (given_of s test) result
+        ≡ given_verdict (contents s all) (flags_read s all all) }
 {
     match first_content(parts, tests, test, keys) {
         Some(first) => match first.held {
@@ -210,7 +222,8 @@ pub(crate) fn node_parts<'p>(
     tests: &'p [Test],
     node: Node,
 ) -> Option<NodeParts<'p>>
-    ensures { let s = state_of parts.now tests.now in option_map (given_of s node.test) result ≡ given s node }
+    ensures { let s = state_of parts.now tests.now in
+        option_map (given_of s node.test) result ≡ given s node }
 {
     let table = &parts.table;
     match node.kind {

@@ -16,9 +16,11 @@ pub struct Parts {
     pub locations: Vec<Vec<Name>>,
     /// The fault of each model, if it has one.
     pub faults: Vec<Option<ModelFault>>,
-    /// What each item does, or under a fault of its model what it did when the model was last without one, if it was there then.
+    /// What each item does, or under a fault of its model what it did when the model was last
+    /// without one, if it was there then.
     pub roles: Vec<Option<SharedItem>>,
-    /// The kind of node that each item is by its text, if it is one: a group of bindings, or a check or a flag.
+    /// The kind of node that each item is by its text, if it is one: a group of bindings, or a
+    /// check or a flag.
     pub kinds: Vec<Option<Kind>>,
     /// The number of the last edit.
     pub last: u64,
@@ -78,7 +80,8 @@ impl Parts {
 
     /// The index of the first item of that number, or how many items there are.
     pub fn item_index(&self, number: u64) -> usize
-        ensures found { result ≡ position_or_len (λ i. i.number == number) self.now.table.items.items }
+        ensures found { result
+            ≡ position_or_len (λ i. i.number == number) self.now.table.items.items }
         ensures within { result ≤ length self.now.table.items.items }
     {
         item_index(&self.table.items, number)

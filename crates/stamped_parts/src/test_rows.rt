@@ -24,7 +24,10 @@ pub struct HeldTest<'a> {
 
 // The stamp of a condition.
 fn condition_stamp(fresh: u64, before: Option<&HeldTest>, condition: &Condition) -> u64
-    ensures { let held = option_map (λ h. entry_of h.now) before.entry in IsStampOf fresh (held_by held 2) (stamp_by held 2) (Some (OfCondition condition.now.quantifier (formula_of condition.now.proposition))) result }
+    ensures { let held = option_map (λ h. entry_of h.now) before.entry in
+        IsStampOf fresh (held_by held 2) (stamp_by held 2)
+        (Some (OfCondition condition.now.quantifier (formula_of condition.now.proposition)))
+        result }
 {
     match before {
         Some(held) => {
@@ -40,7 +43,8 @@ fn condition_stamp(fresh: u64, before: Option<&HeldTest>, condition: &Condition)
 
 // The stamp of what is observed.
 fn observed_stamp(fresh: u64, before: Option<&HeldTest>, observed: &[Place]) -> u64
-    ensures { let held = option_map (λ h. entry_of h.now) before.entry in IsStampOf fresh (held_by held 3) (stamp_by held 3) (Some (OfObserved observed.now)) result }
+    ensures { let held = option_map (λ h. entry_of h.now) before.entry in
+        IsStampOf fresh (held_by held 3) (stamp_by held 3) (Some (OfObserved observed.now)) result }
 {
     match before {
         Some(held) => {
@@ -56,7 +60,9 @@ fn observed_stamp(fresh: u64, before: Option<&HeldTest>, observed: &[Place]) -> 
 
 // The stamp of the set of locations.
 fn locations_stamp(fresh: u64, before: Option<&HeldTest>, locations: &[Name]) -> u64
-    ensures { let held = option_map (λ h. entry_of h.now) before.entry in IsStampOf fresh (held_by held 4) (stamp_by held 4) (Some (OfLocations locations.now)) result }
+    ensures { let held = option_map (λ h. entry_of h.now) before.entry in
+        IsStampOf fresh (held_by held 4) (stamp_by held 4) (Some (OfLocations locations.now))
+        result }
 {
     match before {
         Some(held) => {
@@ -72,7 +78,8 @@ fn locations_stamp(fresh: u64, before: Option<&HeldTest>, locations: &[Name]) ->
 
 // The stamp of the initial values.
 fn init_stamp(fresh: u64, before: Option<&HeldTest>, init: &[InitEntry]) -> u64
-    ensures { let held = option_map (λ h. entry_of h.now) before.entry in IsStampOf fresh (held_by held 5) (stamp_by held 5) (Some (OfInit init.now)) result }
+    ensures { let held = option_map (λ h. entry_of h.now) before.entry in
+        IsStampOf fresh (held_by held 5) (stamp_by held 5) (Some (OfInit init.now)) result }
 {
     match before {
         Some(held) => {
@@ -95,7 +102,9 @@ fn stamp_at(stamps: &[u64], k: usize) -> u64
 
 // The stamp of the thread of that number of a test that was there.
 fn held_stamp(fresh: u64, held: &HeldTest, k: usize, thread: &Thread) -> u64
-    ensures { let was = Some (entry_of held.now) in IsStampOf fresh (thread_by was k) (thread_stamp_by was k) (Some (OfThread (steps_of thread.now))) result }
+    ensures { let was = Some (entry_of held.now) in
+        IsStampOf fresh (thread_by was k) (thread_stamp_by was k)
+        (Some (OfThread (steps_of thread.now))) result }
 {
     match held.test.threads.get(k) {
         Some(earlier) => {
@@ -110,7 +119,9 @@ fn held_stamp(fresh: u64, held: &HeldTest, k: usize, thread: &Thread) -> u64
 }
 
 fn thread_stamp(fresh: u64, before: Option<&HeldTest>, k: usize, thread: &Thread) -> u64
-    ensures { let held = option_map (λ h. entry_of h.now) before.entry in IsStampOf fresh (thread_by held k) (thread_stamp_by held k) (Some (OfThread (steps_of thread.now))) result }
+    ensures { let held = option_map (λ h. entry_of h.now) before.entry in
+        IsStampOf fresh (thread_by held k) (thread_stamp_by held k)
+        (Some (OfThread (steps_of thread.now))) result }
 {
     match before {
         Some(held) => held_stamp(fresh, held, k, thread),
@@ -125,7 +136,10 @@ fn thread_stamps(
     threads: &[Thread],
 ) -> Result<Vec<u64>, AllocError>
     ensures count { IfOk result (λ v. length v.items ≡ length threads.now) }
-    ensures each { let held = option_map (λ h. entry_of h.now) before.entry in IfOk result (λ v. (k : ℕ) → IsStampOf fresh (thread_by held k) (thread_stamp_by held k) (thread_at threads.now k) (get_or v.items k 0)) }
+    ensures each { let held = option_map (λ h. entry_of h.now) before.entry in
+        IfOk result (λ v. (k : ℕ)
+        → IsStampOf fresh (thread_by held k) (thread_stamp_by held k) (thread_at threads.now k)
+        (get_or v.items k 0)) }
 {
     let mut stamps = Vec::with_capacity(alloc, threads.len())?;
     for (k, thread) in threads.iter().enumerate() {
@@ -141,8 +155,8 @@ pub fn next_number(last: u64) -> u64
     last.saturating_add(1)
 }
 
-/// The row of a test of this number, with the set of its locations. `before` is the test before the edit, if it was there.
-/// Errors: out of memory.
+/// The row of a test of this number, with the set of its locations. `before` is the test before the
+/// edit, if it was there. Errors: out of memory.
 pub fn test_row(
     alloc: Global,
     fresh: u64,
@@ -151,7 +165,8 @@ pub fn test_row(
     test: &Test,
     locations: &[Name],
 ) -> Result<TestRow, AllocError>
-    ensures { IfOk result (λ row. IsRowOf fresh (option_map (λ h. entry_of h.now) before.entry) id test.now locations.now row) }
+    ensures { IfOk result (λ row. IsRowOf fresh (option_map (λ h. entry_of h.now) before.entry) id
+        test.now locations.now row) }
 {
     let threads = thread_stamps(alloc, fresh, before, &test.threads)?;
     Ok(TestRow {

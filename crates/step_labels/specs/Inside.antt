@@ -18,9 +18,11 @@ abbrev pub relation_in : Step → Option Source
 relation_in (steps.PushRelation source) = Some source
 relation_in step = None
 
--- the names of relations in an expression of an item, from left to right: those of the language and of earlier items
+-- the names of relations in an expression of an item, from left to right: those of the language and
+-- of earlier items
 abbrev pub names_in : ℕ → List Input → Code → List ModelName
-names_in item inputs code = filter_map (earlier_name item inputs) (filter_map relation_in code.steps.items)
+names_in item inputs code =
+    filter_map (earlier_name item inputs) (filter_map relation_in code.steps.items)
 
 -- what a group binds at a position
 abbrev pub body_at : Role → ℕ → Option Body
@@ -34,7 +36,8 @@ names_in_body item inputs (Some body) = names_in item inputs body.code
 
 abbrev pub names_in_item : Input → Option ResolvedItem → List ModelName
 names_in_item input None = []
-names_in_item input (Some r) = names_in_body input.item r.inputs.items (body_at r.role input.position)
+names_in_item input (Some r) =
+    names_in_body input.item r.inputs.items (body_at r.role input.position)
 
 -- the names in what a name is bound to
 abbrev pub names_inside : List ResolvedItem → Input → List ModelName

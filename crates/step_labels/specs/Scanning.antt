@@ -1,4 +1,5 @@
--- The steps of an expression, read from the last to the first: the operator stands before its operands.
+-- The steps of an expression, read from the last to the first: the operator stands before its
+-- operands.
 use Rattle.std.specs.Prelude.{List, [], ◌∷◌, Bool, true, false, Option, Some, None}
 use Rattle.std.specs.List.{cons_option}
 use Rattle.binding_graph.specs.declared.resolved.Blend.TheVariants as blends

@@ -52,8 +52,8 @@ pub fn body_at(role: &Role, position: usize) -> Option<&Body>
     }
 }
 
-/// The names of relations in what a bound name stands for, from left to right: those of the language and
-/// of earlier items. Errors: want of memory.
+/// The names of relations in what a bound name stands for, from left to right: those of the
+/// language and of earlier items. Errors: want of memory.
 pub fn names_inside(
     alloc: Global,
     items: &[ResolvedItem],

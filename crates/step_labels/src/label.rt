@@ -76,7 +76,8 @@ impl NameValues<'_> {
 
     // The first of the names that relates the events.
     fn first_related(&self, names: &[ModelName], pair: EventPair) -> Option<ModelName>
-        ensures { MatchOption result (NoneOf (Relates self.now pair) names.now) (λ name. IsFirst (Relates self.now pair) names.now name) }
+        ensures { MatchOption result (NoneOf (Relates self.now pair) names.now)
+            (λ name. IsFirst (Relates self.now pair) names.now name) }
     {
         for index in 0..names.len() {
             if self.relates(names[index], pair) {
@@ -87,8 +88,8 @@ impl NameValues<'_> {
     }
 }
 
-/// Of the names of a union, which stand before an item, the innermost that relates the events. Errors:
-/// want of memory.
+/// Of the names of a union, which stand before an item, the innermost that relates the events.
+/// Errors: want of memory.
 pub fn innermost(
     alloc: Global,
     items: &[ResolvedItem],

@@ -1,5 +1,6 @@
-//! What carries a step of a cycle: the innermost name of the check's expression that relates the two events. Read
-//! specs/Operands first (of which names an expression is a union), then specs/Labels (`IsInnermost`) and specs/Inside.
+//! What carries a step of a cycle: the innermost name of the check's expression that relates the
+//! two events. Read specs/Operands first (of which names an expression is a union), then
+//! specs/Labels (`IsInnermost`) and specs/Inside.
 #![tactic(auto)]
 
 mod inside;

@@ -69,7 +69,8 @@ fn drop_next(pending: &mut Vec<bool>)
 }
 
 fn close_both(pending: &mut Vec<bool>) -> Result<(), AllocError>
-    ensures { OnOk result (reverse pending.new.items ≡ next_twice (next_inside (reverse pending.old.items))) }
+    ensures { OnOk result (reverse pending.new.items
+        ≡ next_twice (next_inside (reverse pending.old.items))) }
 {
     close_next(pending)?;
     push_twice(pending)
@@ -77,7 +78,8 @@ fn close_both(pending: &mut Vec<bool>) -> Result<(), AllocError>
 
 // What is still to come before a step.
 fn open_before(pending: &mut Vec<bool>, step: Step) -> Result<(), AllocError>
-    ensures { OnOk result (reverse pending.new.items ≡ open_after step (reverse pending.old.items)) }
+    ensures { OnOk result (reverse pending.new.items
+        ≡ open_after step (reverse pending.old.items)) }
 {
     match step {
         Step::PushRelation(_) | Step::PushNoPairs | Step::Multiply | Step::IdentityOn => {
@@ -97,8 +99,10 @@ fn read_step(
     sources: &mut Vec<Source>,
     step: Step,
 ) -> Result<(), AllocError>
-    ensures pending { OnOk result (reverse pending.new.items ≡ open_after step (reverse pending.old.items)) }
-    ensures sources { OnOk result (reverse sources.new.items ≡ cons_option (name_at step (reverse pending.old.items)) (reverse sources.old.items)) }
+    ensures pending { OnOk result (reverse pending.new.items
+        ≡ open_after step (reverse pending.old.items)) }
+    ensures sources { OnOk result (reverse sources.new.items
+        ≡ cons_option (name_at step (reverse pending.old.items)) (reverse sources.old.items)) }
 {
     if let Some(source) = name_at(step, pending) {
         sources.push(source)?;
@@ -156,7 +160,8 @@ fn earlier_name(item: usize, inputs: &[Input], source: Source) -> Option<ModelNa
     }
 }
 
-/// The names that stand there, of those of the language and of earlier items. Errors: want of memory.
+/// The names that stand there, of those of the language and of earlier items. Errors: want of
+/// memory.
 pub fn earlier_names(
     alloc: Global,
     item: usize,
@@ -171,9 +176,9 @@ pub fn earlier_names(
         .collect(alloc)
 }
 
-/// The names that an expression of the item at this index is a union of: those of the language and of
-/// earlier items, from left to right. `inputs` are the names of other items that the item uses. Errors:
-/// want of memory.
+/// The names that an expression of the item at this index is a union of: those of the language and
+/// of earlier items, from left to right. `inputs` are the names of other items that the item uses.
+/// Errors: want of memory.
 pub fn operands(
     alloc: Global,
     item: usize,

@@ -1,7 +1,8 @@
 //! Tables of cases: each line is a question, ` | ` and a text.
 //!
-//! In a text `%` begins what is no plain letter: `%n` is a line feed, `%#233;` the byte 233, `%*65:ab`
-//! is `ab` 65 times and `%+65:ab` the line `ab` 65 times, each up to the next `%`, and `%.` is nothing.
+//! In a text `%` begins what is no plain letter: `%n` is a line feed, `%#233;` the byte 233,
+//! `%*65:ab` is `ab` 65 times and `%+65:ab` the line `ab` 65 times, each up to the next `%`, and
+//! `%.` is nothing.
 #![tactic(auto)]
 
 use std::alloc::{AllocError, Global};

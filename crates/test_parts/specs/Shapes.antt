@@ -1,5 +1,5 @@
--- An instruction is known by its shape and its label: which kind it is, which operation, condition or fence, its
--- registers and its number.
+-- An instruction is known by its shape and its label: which kind it is, which operation, condition
+-- or fence, its registers and its number.
 use Rattle.std.specs.Prelude.{ℕ, List, Option, Some, None, ℤ, pos}
 use Rattle.text_values.specs.declared.instruction.Instruction.{Instruction}
 use Rattle.text_values.specs.declared.instruction.Instruction.TheVariants as instructions
@@ -33,20 +33,30 @@ fence_number fences.Eieio = 2
 fence_number fences.Isync = 3
 
 abbrev pub shape : ℕ → ℕ → ℕ → ℕ → ℕ → ℤ → Shape
-shape kind word first second third value = record { kind = kind; word = word; first = first; second = second; third = third; value = value }
+shape kind word first second third value =
+    record {
+      kind = kind;
+      word = word;
+      first = first;
+      second = second;
+      third = third;
+      value = value;
+    }
 
 abbrev pub shape_of : Instruction → Shape
 shape_of (instructions.LoadImmediate target value) = shape 0 0 target 0 0 value
 shape_of (instructions.Move target source) = shape 1 0 target source 0 (pos 0)
 shape_of (instructions.AddImmediate target left value) = shape 2 0 target left 0 value
-shape_of (instructions.Compute operation target left right) = shape 3 (operation_number operation) target left right (pos 0)
+shape_of (instructions.Compute operation target left right) =
+    shape 3 (operation_number operation) target left right (pos 0)
 shape_of (instructions.Load target base) = shape 4 0 target base 0 (pos 0)
 shape_of (instructions.LoadIndexed target base index) = shape 5 0 target base index (pos 0)
 shape_of (instructions.Store source base) = shape 6 0 source base 0 (pos 0)
 shape_of (instructions.StoreIndexed source base index) = shape 7 0 source base index (pos 0)
 shape_of (instructions.Compare left right) = shape 8 0 left right 0 (pos 0)
 shape_of (instructions.CompareImmediate left value) = shape 9 0 left 0 0 value
-shape_of (instructions.BranchIf condition label) = shape 10 (condition_number condition) 0 0 0 (pos 0)
+shape_of (instructions.BranchIf condition label) =
+    shape 10 (condition_number condition) 0 0 0 (pos 0)
 shape_of (instructions.Branch label) = shape 11 0 0 0 0 (pos 0)
 shape_of (instructions.Fence fence) = shape 12 (fence_number fence) 0 0 0 (pos 0)
 

@@ -6,7 +6,8 @@ ghost use Rattle.text_values.specs.TestValue.{formula_of};
 use crate::places::{is_same_place, is_same_value};
 use text_values::{Condition, Proposition};
 
-/// Whether two propositions are equal, wherever they lie in memory. It goes as deep as the first one does.
+/// Whether two propositions are equal, wherever they lie in memory. It goes as deep as the first
+/// one does.
 pub(crate) fn is_same_proposition(first: &Proposition, second: &Proposition) -> bool
     ensures { IsTrue result ↔ (formula_of first.now ≡ formula_of second.now) }
 {
@@ -26,8 +27,10 @@ pub(crate) fn is_same_proposition(first: &Proposition, second: &Proposition) -> 
 /// Whether two conditions are equal.
 pub fn is_same_condition(first: &Condition, second: &Condition) -> bool
     ensures quantifier { IsTrue result → first.now.quantifier ≡ second.now.quantifier }
-    ensures proposition { IsTrue result → formula_of first.now.proposition ≡ formula_of second.now.proposition }
-    ensures exact { first.now.quantifier ≡ second.now.quantifier → formula_of first.now.proposition ≡ formula_of second.now.proposition → IsTrue result }
+    ensures proposition { IsTrue result
+        → formula_of first.now.proposition ≡ formula_of second.now.proposition }
+    ensures exact { first.now.quantifier ≡ second.now.quantifier
+        → formula_of first.now.proposition ≡ formula_of second.now.proposition → IsTrue result }
 {
     first.quantifier == second.quantifier
         && is_same_proposition(&first.proposition, &second.proposition)

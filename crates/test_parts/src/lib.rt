@@ -1,5 +1,5 @@
-//! When two parts of litmus tests are equal: initial values, threads, observed lists, conditions. No call takes memory.
-//! Read specs/Shapes first: an instruction is known by its shape.
+//! When two parts of litmus tests are equal: initial values, threads, observed lists, conditions.
+//! No call takes memory. Read specs/Shapes first: an instruction is known by its shape.
 #![tactic(auto)]
 
 mod conditions;

@@ -101,7 +101,8 @@ fn valued(kind: u8, first: Register, second: u8, value: i32) -> Shape
 }
 
 fn computed(operation: Operation, target: Register, left: Register, right: Register) -> Shape
-    ensures { result ≡ shapes.shape 3 (shapes.operation_number operation) target left right (pos 0) }
+    ensures { result
+        ≡ shapes.shape 3 (shapes.operation_number operation) target left right (pos 0) }
 {
     Shape {
         kind: 3,
@@ -184,7 +185,8 @@ fn is_same_shape(first: Shape, second: Shape) -> bool
 }
 
 fn is_same_label(first: Option<&Name>, second: Option<&Name>) -> bool
-    ensures { IsTrue result ↔ (option_map (λ n. n.now) first.entry ≡ option_map (λ n. n.now) second.entry) }
+    ensures { IsTrue result
+        ↔ (option_map (λ n. n.now) first.entry ≡ option_map (λ n. n.now) second.entry) }
 {
     match (first, second) {
         (Some(a), Some(b)) => a.is_same(b),

@@ -1,4 +1,5 @@
--- Comments as they nest: what a comment holds is a tree, whose brackets are `(*` and `*)`. And what a string holds.
+-- Comments as they nest: what a comment holds is a tree, whose brackets are `(*` and `*)`. And what
+-- a string holds.
 use Rattle.std.specs.Prelude.{◌≡◌, ℕ, ◌+◌, ◌<◌, List, ◌∷◌, Bool, false, ◌||◌, ◌&&◌, ◌==◌, length, slice_index}
 use Rattle.text_values.specs.Layout.{is_quote}
 
@@ -23,7 +24,9 @@ spelled (Nested inner more) rest = 40 ∷ 42 ∷ spelled inner (42 ∷ 41 ∷ sp
 -- none of its bytes begins `(*` or `*)`, beside those of its comments
 abbrev pub IsPlain : Inside → List ℕ → Type 0
 IsPlain Nothing rest = Unit {0}
-IsPlain (Byte b more) rest = ((begins_comment (b ∷ spelled more rest) || ends_comment (b ∷ spelled more rest)) ≡ false) × IsPlain more rest
+IsPlain (Byte b more) rest =
+    ((begins_comment (b ∷ spelled more rest) || ends_comment (b ∷ spelled more rest)) ≡ false)
+    × IsPlain more rest
 IsPlain (Nested inner more) rest = IsPlain inner (42 ∷ 41 ∷ spelled more rest) × IsPlain more rest
 
 -- the text begins with a comment of n bytes

@@ -7,7 +7,9 @@ MeansOne {V} Means = (bytes : List ℕ) (v w : V) → Means bytes v → Means by
 
 -- the bytes have one fault, if any: they break one rule, at one offset
 abbrev pub HasOneFault : {R : Type 0} → (R → ℕ → Type 0) → Type 0
-HasOneFault {R} IsFault = (rule other : R) (offset again : ℕ) → IsFault rule offset → IsFault other again → (rule ≡ other) × (offset ≡ again)
+HasOneFault {R} IsFault =
+    (rule other : R) (offset again : ℕ) → IsFault rule offset → IsFault other again
+    → (rule ≡ other) × (offset ≡ again)
 
 -- the bytes do not both mean something and have a fault
 abbrev pub AreApart : {V R : Type 0} → (V → Type 0) → (R → ℕ → Type 0) → Type 0

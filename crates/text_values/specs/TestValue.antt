@@ -1,4 +1,5 @@
--- What a test means, without its layout in memory: `content_of` is the meaning of a test, `Formula` of a proposition.
+-- What a test means, without its layout in memory: `content_of` is the meaning of a test, `Formula`
+-- of a proposition.
 use Rattle.std.specs.Prelude.{ℕ, List, map, Bool}
 use Rattle.text_values.specs.declared.test.Place.{Place}
 use Rattle.text_values.specs.declared.test.Value as declared_value

@@ -106,7 +106,8 @@ pub enum Instruction {
         left: Register,
         value: i32,
     },
-    /// Sets a register to the result of an operation on two others (`add`, `subf`, `xor`, `or`, `and`).
+    /// Sets a register to the result of an operation on two others (`add`, `subf`, `xor`, `or`,
+    /// `and`).
     Compute {
         operation: Operation,
         target: Register,

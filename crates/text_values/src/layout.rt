@@ -25,8 +25,8 @@ pub fn line_length(bytes: &[u8]) -> usize
     }
 }
 
-/// The length of the string at the front of the bytes, in bytes, with both of its quotes; `None` if the string does
-/// not end. The first byte counts as the opening `"`, whatever it is.
+/// The length of the string at the front of the bytes, in bytes, with both of its quotes; `None` if
+/// the string does not end. The first byte counts as the opening `"`, whatever it is.
 pub fn quoted_length(bytes: &[u8]) -> Option<usize>
     ensures value { result ≡ quoted_from bytes.now }
     ensures within { IfSome result (λ n. (2 ≤ n) × (n ≤ length bytes.now)) }
@@ -66,8 +66,9 @@ fn open_comment(bytes: &[u8]) -> Option<usize>
     None
 }
 
-/// The length of the comment at the front of the bytes, in bytes, with its `(*` and its `*)`; `None` if the comment
-/// does not end. Comments nest. The first two bytes count as the opening `(*`, whatever they are.
+/// The length of the comment at the front of the bytes, in bytes, with its `(*` and its `*)`;
+/// `None` if the comment does not end. Comments nest. The first two bytes count as the opening
+/// `(*`, whatever they are.
 pub fn comment_length(bytes: &[u8]) -> Option<usize>
     ensures value { result ≡ comment_of bytes.now }
     ensures within { IfSome result (λ n. (2 ≤ n) × (n ≤ length bytes.now)) }

@@ -26,7 +26,8 @@ pub fn byte_at(bytes: &[u8], index: usize) -> u8
     if index < bytes.len() { bytes[index] } else { 0 }
 }
 
-/// Whether a text is this word. Lengths and first bytes are compared where it is called, as most words differ there.
+/// Whether a text is this word. Lengths and first bytes are compared where it is called, as most
+/// words differ there.
 #[inline(always)]
 pub fn is_word(text: &[u8], word: &[u8]) -> bool
     ensures { result ≡ bytes_eq text.now word.now }

@@ -1,11 +1,12 @@
 //! What the readers of tests and of models share, and what they make.
 //!
-//! - Names, blanks, lines, strings, comments, numbers and the limit of length: read specs/Layout.antt first. Other crates cite
-//!   proofs/Separated.antt, which says that a list printed part by part is the list with a separator between its parts.
-//! - Litmus tests of Power as values: threads, instructions, initial values, conditions. Read specs/TestValue.antt first: it
-//!   says what a test means, without its layout in memory.
-//! - Models in the cat language as values, and the predefined names. Read specs/ModelValue.antt first: it says what an item and
-//!   an expression mean. Other crates cite proofs/Arguments.antt.
+//! - Names, blanks, lines, strings, comments, numbers and the limit of length: read
+//!   specs/Layout.antt first. Other crates cite proofs/Separated.antt, which says that a list
+//!   printed part by part is the list with a separator between its parts.
+//! - Litmus tests of Power as values: threads, instructions, initial values, conditions. Read
+//!   specs/TestValue.antt first: it says what a test means, without its layout in memory.
+//! - Models in the cat language as values, and the predefined names. Read specs/ModelValue.antt
+//!   first: it says what an item and an expression mean. Other crates cite proofs/Arguments.antt.
 #![tactic(auto)]
 
 mod instruction;

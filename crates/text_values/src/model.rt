@@ -33,7 +33,8 @@ pub enum Postfix {
     Closure,
 }
 
-/// An expression (the herd7 manual, chapter on cat). The value does not show which operands stood in parentheses.
+/// An expression (the herd7 manual, chapter on cat). The value does not show which operands stood
+/// in parentheses.
 #[derive(Drop)]
 pub enum Expression {
     /// A name.

@@ -8,8 +8,8 @@ use crate::letters::byte_at;
 use std::alloc::{AllocError, Global};
 use std::marker::Model;
 
-// As many bytes are kept in place. With four bytes for the length they stand so that a name is moved in whole words: what
-// is moved in words that overlap is slow to read again.
+// As many bytes are kept in place. With four bytes for the length they stand so that a name is
+// moved in whole words: what is moved in words that overlap is slow to read again.
 const SHORT: usize = 16;
 
 // Where the bytes of a name are: in place as far as the length says, or in an allocation.
@@ -101,7 +101,8 @@ impl Name {
         }
     }
 
-    /// The length and the first bytes of the name as one number: names with different keys are different.
+    /// The length and the first bytes of the name as one number: names with different keys are
+    /// different.
     #[inline(always)]
     pub fn key(&self) -> u64
         ensures { result ≡ key_of self.now }

@@ -76,7 +76,8 @@ fn is_no_events(expression: &Expression) -> bool
 
 // The operator of an infix expression, and its operands.
 fn joined_parts(expression: &Expression) -> Option<(Infix, &Expression, &Expression)>
-    ensures { MatchOption result (IsNoJoin (term_of expression.now)) (λ p. term_of expression.now ≡ Join p.0 (term_of p.1.now) (term_of p.2.now)) }
+    ensures { MatchOption result (IsNoJoin (term_of expression.now)) (λ p. term_of expression.now
+        ≡ Join p.0 (term_of p.1.now) (term_of p.2.now)) }
 {
     match expression {
         Expression::Joined(op, left, right) => Some((*op, left, right)),
@@ -93,7 +94,8 @@ fn joined_parts(expression: &Expression) -> Option<(Infix, &Expression, &Express
 
 // The operator of a postfix expression, and its operand.
 fn marked_parts(expression: &Expression) -> Option<(Postfix, &Expression)>
-    ensures { MatchOption result (IsNoMark (term_of expression.now)) (λ p. term_of expression.now ≡ Mark p.0 (term_of p.1.now)) }
+    ensures { MatchOption result (IsNoMark (term_of expression.now))
+        (λ p. term_of expression.now ≡ Mark p.0 (term_of p.1.now)) }
 {
     match expression {
         Expression::Marked(op, operand) => Some((*op, operand)),
@@ -110,7 +112,8 @@ fn marked_parts(expression: &Expression) -> Option<(Postfix, &Expression)>
 
 // The operand of `~`.
 fn complemented(expression: &Expression) -> Option<&Expression>
-    ensures { MatchOption result (IsNoComplement (term_of expression.now)) (λ e. term_of expression.now ≡ Not (term_of e.now)) }
+    ensures { MatchOption result (IsNoComplement (term_of expression.now))
+        (λ e. term_of expression.now ≡ Not (term_of e.now)) }
 {
     match expression {
         Expression::Complement(operand) => Some(operand),
@@ -127,7 +130,8 @@ fn complemented(expression: &Expression) -> Option<&Expression>
 
 // The set of an identity.
 fn identity_set(expression: &Expression) -> Option<&Expression>
-    ensures { MatchOption result (IsNoIdentity (term_of expression.now)) (λ e. term_of expression.now ≡ On (term_of e.now)) }
+    ensures { MatchOption result (IsNoIdentity (term_of expression.now))
+        (λ e. term_of expression.now ≡ On (term_of e.now)) }
 {
     match expression {
         Expression::Identity(set) => Some(set),
@@ -144,7 +148,8 @@ fn identity_set(expression: &Expression) -> Option<&Expression>
 
 // A function that is applied, and its arguments.
 fn applied_parts(expression: &Expression) -> Option<(&Name, &[Expression])>
-    ensures { MatchOption result (IsNoApplication (term_of expression.now)) (λ p. term_of expression.now ≡ Apply p.0.now (gathered (map term_of p.1.now))) }
+    ensures { MatchOption result (IsNoApplication (term_of expression.now))
+        (λ p. term_of expression.now ≡ Apply p.0.now (gathered (map term_of p.1.now))) }
 {
     match expression {
         Expression::Applied(name, arguments) => Some((name, arguments.as_slice())),
@@ -293,7 +298,8 @@ fn are_same_shown(these: &[ShownExpression], those: &[ShownExpression]) -> bool
 }
 
 fn is_let(item: &Item, recursive: bool, group: &[Binding]) -> bool
-    ensures { IsTrue result ↔ (value.Binding recursive (map binding_of group.now) ≡ clause_of item.now) }
+    ensures { IsTrue result
+        ↔ (value.Binding recursive (map binding_of group.now) ≡ clause_of item.now) }
 {
     match item {
         Item::Let {
@@ -309,7 +315,8 @@ fn is_let(item: &Item, recursive: bool, group: &[Binding]) -> bool
 }
 
 fn is_function(item: &Item, name: &Name, parameters: &[Name], body: &Expression) -> bool
-    ensures { IsTrue result ↔ (Function name.now parameters.now (term_of body.now) ≡ clause_of item.now) }
+    ensures { IsTrue result
+        ↔ (Function name.now parameters.now (term_of body.now) ≡ clause_of item.now) }
 {
     match item {
         Item::Function {
@@ -389,7 +396,8 @@ fn is_include(item: &Item, path: &Name) -> bool
 }
 
 impl Item {
-    /// Whether both items are the same: they are exactly where two texts that mean them mean the same item.
+    /// Whether both items are the same: they are exactly where two texts that mean them mean the
+    /// same item.
     pub fn is_same(&self, other: &Item) -> bool
         ensures { IsTrue result ↔ (clause_of self.now ≡ clause_of other.now) }
     {
@@ -411,7 +419,8 @@ impl Item {
 impl ModelText {
     /// Whether both models have the same items in the same order.
     pub fn is_same(&self, other: &ModelText) -> bool
-        ensures { IsTrue result ↔ (clauses_of self.now.items.items ≡ clauses_of other.now.items.items) }
+        ensures { IsTrue result
+            ↔ (clauses_of self.now.items.items ≡ clauses_of other.now.items.items) }
     {
         if self.items.len() != other.items.len() {
             return false;

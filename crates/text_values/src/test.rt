@@ -159,8 +159,8 @@ pub struct Test {
     pub init: Vec<InitEntry>,
     /// The threads. The number of a thread is its index.
     pub threads: Vec<Thread>,
-    /// The locations and registers of `locations`, in the order of the text, with repeats. A final state shows them
-    /// beside those of the condition.
+    /// The locations and registers of `locations`, in the order of the text, with repeats. A final
+    /// state shows them beside those of the condition.
     pub observed: Vec<Place>,
     /// The condition.
     pub condition: Condition,

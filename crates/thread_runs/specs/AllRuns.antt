@@ -48,7 +48,8 @@ executes i b = goes_on b.stopped b.walk.seeking (is_fault i b.walk.state)
 
 -- the load takes the value
 abbrev pub with_load : Instruction → Beginning → Value → Beginning
-with_load i b v = record { values = b.values ++ v ∷ []; stopped = false; walk = advanced i false v b.walk }
+with_load i b v =
+    record { values = b.values ++ v ∷ []; stopped = false; walk = advanced i false v b.walk }
 
 abbrev pub spread : List Value → Instruction → Beginning → List Beginning
 spread V i b = if executes i b then map (with_load i b) V else gone_over (Does i) b ∷ []
@@ -72,12 +73,16 @@ abbrev pub served : List Value → List (Vec Value Global) → Value → List Va
 served V held (Address location) = values_or V (slice_get held location)
 served V held _ = V
 
-abbrev pub spread_over : List Value → List (Vec Value Global) → Instruction → Beginning → List Beginning
-spread_over V held i b = if executes i b then map (with_load i b) (served V held (address_of i b.walk.state)) else gone_over (Does i) b ∷ []
+abbrev pub spread_over : List Value → List (Vec Value Global) → Instruction → Beginning
+    → List Beginning
+spread_over V held i b =
+    if executes i b then map (with_load i b) (served V held (address_of i b.walk.state))
+    else gone_over (Does i) b ∷ []
 
 abbrev pub next_over : List Value → List (Vec Value Global) → Line → Beginning → List Beginning
 next_over V held (Label m) b = gone_over (Label m) b ∷ []
-next_over V held (Does i) b = if is_load i then spread_over V held i b else gone_over (Does i) b ∷ []
+next_over V held (Does i) b =
+    if is_load i then spread_over V held i b else gone_over (Does i) b ∷ []
 
 abbrev pub all_over : List Value → List (Vec Value Global) → List Line → Beginning → List Beginning
 all_over V held [] b = b ∷ []
@@ -109,11 +114,19 @@ abbrev pub shown_whole : Beginning → Shown
 shown_whole b = shown_of (whole b)
 
 abbrev pub shown : made.Run → Shown
-shown r = record { values = r.values.items; steps = r.steps.items; events = r.events.items; registers = r.registers; faulted = r.faulted }
+shown r =
+    record {
+      values = r.values.items;
+      steps = r.steps.items;
+      events = r.events.items;
+      registers = r.registers;
+      faulted = r.faulted;
+    }
 
 -- the list shows all runs of the thread whose loads take these values, in order
 abbrev pub ShowsRuns : Thread → List Value → List made.Run → Type 0
-ShowsRuns t V runs = (all : List Run) × AreRuns t (Contains V) all × (map shown runs ≡ map shown_of all)
+ShowsRuns t V runs =
+    (all : List Run) × AreRuns t (Contains V) all × (map shown runs ≡ map shown_of all)
 
 -- how many runs a thread has over these values
 abbrev pub HasRuns : Thread → List Value → ℕ → Type 0
@@ -125,7 +138,11 @@ lines_at None = []
 lines_at (Some v) = v.items
 
 abbrev pub first_of : Program → ℕ → State
-first_of p t = record { registers = slice_index_or p.registers.items t (replicate 32 (Number 0)); compared = Equal }
+first_of p t =
+    record {
+      registers = slice_index_or p.registers.items t (replicate 32 (Number 0));
+      compared = Equal;
+    }
 
 abbrev pub thread_of : Program → ℕ → Thread
 thread_of p t = record { lines = lines_at (slice_get p.threads.items t); first = first_of p t }

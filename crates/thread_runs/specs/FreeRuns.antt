@@ -37,7 +37,9 @@ sized size i n = if is_load i then size * n else n
 abbrev pub count_one : ℕ → Option ℕ → Line → (Option ℕ → ℕ) → ℕ
 count_one size (Some l) x go = go (found_at x l)
 count_one size None (Label m) go = go None
-count_one size None (Does i) go = if is_branch i then go (target i true) + go (target i false) else sized size i (go (target i false))
+count_one size None (Does i) go =
+    if is_branch i then go (target i true) + go (target i false)
+    else sized size i (go (target i false))
 
 abbrev pub count_free : ℕ → List Line → Option ℕ → ℕ
 count_free size [] seeking = 1
@@ -49,4 +51,6 @@ capped n = min n 4097
 
 -- the counts of what goes on from each index, from an index on
 abbrev pub AreCounts : List Line → ℕ → List ℕ → ℕ → Type 0
-AreCounts lines size counts from = (k : ℕ) → from ≤ k → k ≤ length lines → slice_index_or counts k 0 ≡ capped (count_free size (drop k lines) None)
+AreCounts lines size counts from =
+    (k : ℕ) → from ≤ k → k ≤ length lines
+    → slice_index_or counts k 0 ≡ capped (count_free size (drop k lines) None)

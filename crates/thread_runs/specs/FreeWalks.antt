@@ -52,9 +52,11 @@ has_store (Does i) = is_store i
 
 -- no line from the one index on, and before the other, is a store
 abbrev pub HasNoStore : List Line → ℕ → ℕ → Type 0
-HasNoStore lines from to = (k : ℕ) (d : Line) → from ≤ k → k < to → has_store (slice_index_or lines k d) ≡ false
+HasNoStore lines from to =
+    (k : ℕ) (d : Line) → from ≤ k → k < to → has_store (slice_index_or lines k d) ≡ false
 
--- what it becomes by a line: a load takes each value, and a branch goes on, and there, where free runs do
+-- what it becomes by a line: a load takes each value, and a branch goes on, and there, where free
+-- runs do
 abbrev pub one_if : Bool → FreeWalk → List FreeWalk
 one_if true w = w ∷ []
 one_if false w = []
@@ -65,7 +67,8 @@ chosen on there i w = one_if on (walked i false NoValue w) ++ one_if there (walk
 abbrev pub loaded : List Value → Instruction → FreeWalk → List FreeWalk
 loaded V i w = map (λ v. walked i false v w) V
 
-abbrev pub does_next : Bool → Bool → List Value → Bool → Bool → Instruction → FreeWalk → List FreeWalk
+abbrev pub does_next : Bool → Bool → List Value → Bool → Bool → Instruction → FreeWalk
+    → List FreeWalk
 does_next true branches V on there i w = loaded V i w
 does_next false true V on there i w = chosen on there i w
 does_next false false V on there i w = walked i false NoValue w ∷ []

@@ -1,5 +1,6 @@
--- Which values a location may hold: what it holds at the start, and what some run of some thread stores there, its loads
--- taking any values. A run with a load of anything else is in no execution, and `served_runs_of` leaves some of these out.
+-- Which values a location may hold: what it holds at the start, and what some run of some thread
+-- stores there, its loads taking any values. A run with a load of anything else is in no execution,
+-- and `served_runs_of` leaves some of these out.
 use Rattle.std.specs.Prelude.{Vec, vec_len, ℕ, ◌≡◌, ◌<◌, ◌⊎◌, ◌||◌, ◌&&◌, Bool, true, false, nat_eq, List, [], ◌∷◌, map, Some, slice_get, Contains}
 use Rattle.std.specs.List.{list_any}
 use Rattle.std.specs.declared.alloc.Global.{Global}
@@ -21,7 +22,8 @@ use Rattle.thread_runs.specs.AllRuns.{shown, shown_of, thread_of}
 abbrev pub IsStored : Program → ℕ → Value → Type 0
 IsStored p location v =
     (t : ℕ) × (t < vec_len p.threads) × (vs : List Value) × (o : Outcome)
-    × (run_of (thread_of p t).lines (thread_of p t).first vs ≡ Some o) × Contains o.walk.events (Writes (Address location) v)
+    × (run_of (thread_of p t).lines (thread_of p t).first vs ≡ Some o)
+    × Contains o.walk.events (Writes (Address location) v)
 
 abbrev pub MayHold : Program → ℕ → Value → Type 0
 MayHold p location v = (slice_get p.initial.items location ≡ Some v) ⊎ IsStored p location v
@@ -34,17 +36,23 @@ pub data AreLeft {X : Type 0} (Out : X → Type 0) : List X → List X → Type 
 
 -- for each of some first locations the values of the list that it may hold, and maybe others
 abbrev pub AreHeld : Program → List Value → List (Vec Value Global) → Type 0
-AreHeld p V held = (location : ℕ) (vs : Vec Value Global) → slice_get held location ≡ Some vs → AreLeft (λ v. MayHold p location v → ⊥) V vs.items
+AreHeld p V held =
+    (location : ℕ) (vs : Vec Value Global) → slice_get held location ≡ Some vs
+    → AreLeft (λ v. MayHold p location v → ⊥) V vs.items
 
 -- a load of the run takes a value that its location never holds
 abbrev pub IsUnserved : Program → Run → Type 0
-IsUnserved p r = (location : ℕ) × (v : Value) × Contains r.outcome.walk.events (Reads (Address location) v) × (MayHold p location v → ⊥)
+IsUnserved p r =
+    (location : ℕ) × (v : Value) × Contains r.outcome.walk.events (Reads (Address location) v)
+    × (MayHold p location v → ⊥)
 
--- the list shows the runs of a thread whose loads take these values, in order, but for some that are unserved
+-- the list shows the runs of a thread whose loads take these values, in order, but for some that
+-- are unserved
 abbrev pub ShowsServed : Program → ℕ → List Value → List made.Run → Type 0
 ShowsServed p t V runs =
     (all : List Run) × AreRuns (thread_of p t) (Contains V) all
-    × (served : List Run) × AreLeft (IsUnserved p) all served × (map shown runs ≡ map shown_of served)
+    × (served : List Run) × AreLeft (IsUnserved p) all served
+    × (map shown runs ≡ map shown_of served)
 
 -- what the text tells: both are one value
 abbrev pub same_value : Value → Value → Bool
@@ -53,7 +61,8 @@ same_value (Address k) (Address l) = nat_eq k l
 same_value NoValue NoValue = true
 same_value _ _ = false
 
--- the instruction may write the value into the register: a number that the text has, or whatever is loaded or computed
+-- the instruction may write the value into the register: a number that the text has, or whatever is
+-- loaded or computed
 abbrev pub may_put : Instruction → ℕ → Value → Bool
 may_put (Immediate d n) r v = nat_eq d r && same_value (Number n) v
 may_put (Move d a) r v = nat_eq d r
@@ -73,7 +82,8 @@ may_hold lines first r v = same_value (register first r) v || list_any (line_may
 
 -- the line may store the value at the location
 abbrev pub may_store : List Line → State → ℕ → Value → Instruction → Bool
-may_store lines first location v (Store d a) = may_hold lines first a (Address location) && may_hold lines first d v
+may_store lines first location v (Store d a) =
+    may_hold lines first a (Address location) && may_hold lines first d v
 may_store lines first location v (StoreIndexed d a b) = may_hold lines first d v
 may_store lines first location v _ = false
 
@@ -82,4 +92,6 @@ line_may_store lines first location v (Label m) = false
 line_may_store lines first location v (Does i) = may_store lines first location v i
 
 abbrev pub thread_may_store : Program → ℕ → Value → ℕ → Bool
-thread_may_store p location v t = list_any (line_may_store (thread_of p t).lines (thread_of p t).first location v) (thread_of p t).lines
+thread_may_store p location v t =
+    list_any (line_may_store (thread_of p t).lines (thread_of p t).first location v)
+    (thread_of p t).lines

@@ -58,7 +58,8 @@ abbrev pub offset : ℕ → ℕ
 offset n = (n + 2 ^ 31) % 2 ^ 32
 
 abbrev pub numbers_compared : ℕ → ℕ → Comparison
-numbers_compared m n = if nat_eq m n then how.Equal else if nat_lt (offset m) (offset n) then how.Less else how.Greater
+numbers_compared m n =
+    if nat_eq m n then how.Equal else if nat_lt (offset m) (offset n) then how.Less else how.Greater
 
 abbrev pub comparison_of : Value → Value → Comparison
 comparison_of (Number m) (Number n) = numbers_compared m n
@@ -116,7 +117,8 @@ abbrev pub event_of : Instruction → Value → State → List Event
 event_of (Load d a) v s = Reads (register s a) v ∷ []
 event_of (LoadIndexed d a b) v s = Reads (sum_of (register s a) (register s b)) v ∷ []
 event_of (Store d a) v s = Writes (register s a) (register s d) ∷ []
-event_of (StoreIndexed d a b) v s = Writes (sum_of (register s a) (register s b)) (register s d) ∷ []
+event_of (StoreIndexed d a b) v s =
+    Writes (sum_of (register s a) (register s b)) (register s d) ∷ []
 event_of (Barrier f) v s = Orders f ∷ []
 event_of _ v s = []
 

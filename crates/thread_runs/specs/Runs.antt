@@ -10,7 +10,17 @@ use Rattle.thread_runs.specs.declared.instruction.Line.TheVariants.{Label, Does}
 use Rattle.thread_runs.specs.declared.instruction.RunStep.{RunStep}
 use Rattle.thread_runs.specs.declared.instruction.Event.{Event}
 use Rattle.thread_runs.specs.declared.instruction.Event.TheVariants.{Writes}
-pub use Rattle.thread_runs.specs.Machine.{State, offset, after, event_of, is_fault, is_load, is_branch, goes, target}
+pub use Rattle.thread_runs.specs.Machine.{
+  State,
+  offset,
+  after,
+  event_of,
+  is_fault,
+  is_load,
+  is_branch,
+  goes,
+  target,
+}
 
 -- a thread on its way: the label that it is looking for, and what it has done
 pub record Walk : Type 0 where
@@ -119,7 +129,8 @@ StoresFreely threads P v =
 abbrev pub InDomain : List Value → List Thread → ℕ → Value → Type 0
 InDomain initial threads zero v = Contains initial v
 InDomain initial threads (suc k) v =
-    InDomain initial threads k v ⊎ (StoresFreely threads (InDomain initial threads k) v × (v ≡ NoValue → ⊥))
+    InDomain initial threads k v
+    ⊎ (StoresFreely threads (InDomain initial threads k) v × (v ≡ NoValue → ⊥))
 
 -- the instruction at an index, and the value that it loaded
 abbrev pub nothing : RunStep
@@ -153,7 +164,8 @@ IsLess (Number m) (Address l) = Unit {0}
 IsLess (Address k) (Address l) = k < l
 IsLess _ _ = ⊥
 
--- the list has just the runs of the thread over the values with the property, in lexicographic order
+-- the list has just the runs of the thread over the values with the property, in lexicographic
+-- order
 pub record AreRuns (t : Thread) (P : Value → Type 0) (runs : List Run) : Type 0 where
   pub rising : AllPairs (λ r s. IsBefore IsLess r.values s.values) runs
   pub exact : (r : Run) → Contains runs r ↔ IsRun t P r

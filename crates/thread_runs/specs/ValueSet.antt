@@ -16,7 +16,8 @@ pub record IsSet (values : List Value) : Type 0 where
 
 -- the new list has what the old one has, and the value if it is one
 abbrev pub IsAdded : Value → List Value → List Value → Type 0
-IsAdded value old new = (v : Value) → Contains new v ↔ (Contains old v ⊎ ((v ≡ value) × IsOne value))
+IsAdded value old new =
+    (v : Value) → Contains new v ↔ (Contains old v ⊎ ((v ≡ value) × IsOne value))
 
 -- the values before the index are less than the value, and it is less than the one there
 pub record IsIndexOf (value : Value) (values : List Value) (index : ℕ) : Type 0 where

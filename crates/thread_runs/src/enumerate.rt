@@ -143,7 +143,8 @@ fn add_loads(
     values: &[Value],
     next: &mut Vec<Beginning>,
 ) -> Result<(), AllocError>
-    ensures { OnOk result (next.new.items ≡ next.old.items ++ map (all.with_load instruction beginning.now) values.now) }
+    ensures { OnOk result (next.new.items
+        ≡ next.old.items ++ map (all.with_load instruction beginning.now) values.now) }
 {
     for value in values {
         next.push(beginning.with_load(alloc, instruction, *value)?)?;
@@ -159,7 +160,8 @@ fn add_all_loads(
     values: &[Value],
     next: &mut Vec<Beginning>,
 ) -> Result<(), AllocError>
-    ensures { OnOk result (next.new.items ≡ next.old.items ++ map (all.with_load instruction beginning) values.now) }
+    ensures { OnOk result (next.new.items
+        ≡ next.old.items ++ map (all.with_load instruction beginning) values.now) }
 {
     if let Some((last, others)) = values.split_last() {
         add_loads(alloc, &beginning, instruction, others, next)?;
@@ -192,7 +194,8 @@ fn spread(
     held: &[Vec<Value>],
     next: &mut Vec<Beginning>,
 ) -> Result<(), AllocError>
-    ensures { OnOk result (next.new.items ≡ next.old.items ++ all.spread_over values.now held.now instruction beginning) }
+    ensures { OnOk result (next.new.items
+        ≡ next.old.items ++ all.spread_over values.now held.now instruction beginning) }
 {
     if beginning.executes(instruction) {
         let taken = served(values, held, beginning.walk.address(instruction));
@@ -211,7 +214,8 @@ fn spread_all(
     values: &[Value],
     held: &[Vec<Value>],
 ) -> Result<Vec<Beginning>, AllocError>
-    ensures { IfOk result (λ v. v.items ≡ flat_map (all.spread_over values.now held.now instruction) beginnings.items) }
+    ensures { IfOk result (λ v. v.items
+        ≡ flat_map (all.spread_over values.now held.now instruction) beginnings.items) }
 {
     let mut next = Vec::new(alloc);
     for beginning in beginnings {
@@ -239,7 +243,8 @@ fn go_on(
     values: &[Value],
     held: &[Vec<Value>],
 ) -> Result<Vec<Beginning>, AllocError>
-    ensures { IfOk result (λ v. v.items ≡ flat_map (all.next_over values.now held.now line) beginnings.items) }
+    ensures { IfOk result (λ v. v.items
+        ≡ flat_map (all.next_over values.now held.now line) beginnings.items) }
 {
     match line {
         Line::Label(_) => {
@@ -264,7 +269,8 @@ fn beginnings_of(
     values: &[Value],
     held: &[Vec<Value>],
 ) -> Result<Vec<Beginning>, AllocError>
-    ensures { IfOk result (λ v. v.items ≡ all.all_over values.now held.now lines.now (all.beginning_at first)) }
+    ensures { IfOk result (λ v. v.items
+        ≡ all.all_over values.now held.now lines.now (all.beginning_at first)) }
 {
     let mut beginnings = Vec::new(alloc);
     beginnings.push(Beginning::new(alloc, first))?;
@@ -282,7 +288,8 @@ pub fn run_count(
     first: State,
     values: &[Value],
 ) -> Result<usize, AllocError>
-    ensures { AllPairs IsLess values.now → IfOk result (all.HasRuns (record { lines = lines.now; first = first }) values.now) }
+    ensures { AllPairs IsLess values.now
+        → IfOk result (all.HasRuns (record { lines = lines.now; first = first }) values.now) }
 {
     Ok(beginnings_of(alloc, lines, first, values, &[])?.len())
 }
@@ -305,7 +312,11 @@ fn runs_over(
     values: &[Value],
     held: &[Vec<Value>],
 ) -> Result<Vec<Run>, AllocError>
-    ensures runs { IfOk result (λ v. thread < vec_len program.now.threads → map all.shown v.items ≡ map all.shown_whole (all.all_over values.now held.now (all.thread_of program.now thread).lines (all.beginning_at (all.thread_of program.now thread).first))) }
+    ensures runs { IfOk result (λ v. thread < vec_len program.now.threads
+        → map all.shown v.items
+        ≡ map all.shown_whole (all.all_over values.now held.now
+        (all.thread_of program.now thread).lines
+        (all.beginning_at (all.thread_of program.now thread).first))) }
     ensures no_thread { IfOk result (λ v. vec_len program.now.threads ≤ thread → v.items ≡ []) }
 {
     match program.threads.get(thread) {
@@ -327,14 +338,16 @@ pub fn runs_of(
     thread: usize,
     domain: &Domain,
 ) -> Result<Vec<Run>, AllocError>
-    ensures runs { IfOk result (λ v. AllPairs IsLess domain.now.values.items → thread < vec_len program.now.threads → all.ShowsRuns (all.thread_of program.now thread) domain.now.values.items v.items) }
+    ensures runs { IfOk result (λ v. AllPairs IsLess domain.now.values.items
+        → thread < vec_len program.now.threads
+        → all.ShowsRuns (all.thread_of program.now thread) domain.now.values.items v.items) }
     ensures no_thread { IfOk result (λ v. vec_len program.now.threads ≤ thread → v.items ≡ []) }
 {
     runs_over(alloc, program, thread, &domain.values, &[])
 }
 
-/// The same runs but for some with a load that takes what its location never holds, where `held` says
-/// what locations may hold. Errors: out of memory.
+/// The same runs but for some with a load that takes what its location never holds, where `held`
+/// says what locations may hold. Errors: out of memory.
 pub fn served_runs_of(
     alloc: Global,
     program: &Program,
@@ -342,7 +355,10 @@ pub fn served_runs_of(
     domain: &Domain,
     held: &[Vec<Value>],
 ) -> Result<Vec<Run>, AllocError>
-    ensures { IfOk result (λ v. AllPairs IsLess domain.now.values.items → AreHeld program.now domain.now.values.items held.now → thread < vec_len program.now.threads → ShowsServed program.now thread domain.now.values.items v.items) }
+    ensures { IfOk result (λ v. AllPairs IsLess domain.now.values.items
+        → AreHeld program.now domain.now.values.items held.now
+        → thread < vec_len program.now.threads
+        → ShowsServed program.now thread domain.now.values.items v.items) }
 {
     runs_over(alloc, program, thread, &domain.values, held)
 }

@@ -37,7 +37,9 @@ fn label_index(lines: &[Line], from: usize, label: usize) -> usize
     requires { from ≤ length lines.now }
     ensures within { from ≤ result }
     ensures bound { result ≤ length lines.now }
-    ensures count { (size : ℕ) → count_free size (drop from lines.now) (Some label) ≡ count_free size (drop result lines.now) None }
+    ensures count { (size : ℕ)
+        → count_free size (drop from lines.now) (Some label)
+        ≡ count_free size (drop result lines.now) None }
 {
     for index in from..lines.len() {
         if is_label(lines[index], label) {
@@ -93,7 +95,8 @@ fn count_does(
 ) -> u32
     requires within { from ≤ length lines.now }
     requires counted { AreCounts lines.now size counts.now from }
-    ensures { result ≡ capped (count_one size None (Does instruction) (count_free size (drop from lines.now))) }
+    ensures { result
+        ≡ capped (count_one size None (Does instruction) (count_free size (drop from lines.now))) }
 {
     let next = count_on(lines, counts, size, from, target(instruction, false));
     if is_branch(instruction) {
@@ -133,10 +136,11 @@ fn free_counts(alloc: Global, lines: &[Line], size: usize) -> Result<Vec<u32>, A
     Ok(counts)
 }
 
-/// How many free runs go on from the instruction, where so many go on from the next line; none where
-/// it is a branch or a jump.
+/// How many free runs go on from the instruction, where so many go on from the next line; none
+/// where it is a branch or a jump.
 fn straight_one(instruction: Instruction, size: usize, next: u32) -> Option<u32>
-    ensures { (go : Option ℕ → ℕ) → next ≡ capped (go None) → IfSome result (λ n. n ≡ capped (count_one size None (Does instruction) go)) }
+    ensures { (go : Option ℕ → ℕ) → next ≡ capped (go None)
+        → IfSome result (λ n. n ≡ capped (count_one size None (Does instruction) go)) }
 {
     match target(instruction, false) {
         Some(_) => None,
@@ -192,12 +196,18 @@ fn count_all(alloc: Global, lines: &[Line], size: usize) -> Result<u32, AllocErr
     }
 }
 
-/// The number of free runs of the thread over so many values, or 4,097 if there are more. Where it is
-/// less, the thread has no more runs over at most so many values, of which there is one at least.
+/// The number of free runs of the thread over so many values, or 4,097 if there are more. Where it
+/// is less, the thread has no more runs over at most so many values, of which there is one at
+/// least.
 pub fn free_count(alloc: Global, lines: &[Line], size: usize) -> Result<u32, AllocError>
     ensures counted { IfOk result (λ n. n ≡ capped (count_free size lines.now None)) }
-    ensures runs { IfOk result (λ n. (first : State) → (V : List Value) → AllPairs IsLess V → length V ≡ size → (m : ℕ) × HasFreeRuns (record { lines = lines.now; first = first }) V m × (n ≡ capped m)) }
-    ensures few { IfOk result (λ n. (first : State) → (V : List Value) → AllPairs IsLess V → length V ≤ size → 0 < size → n < 4097 → (m : ℕ) × HasRuns (record { lines = lines.now; first = first }) V m × (m ≤ n)) }
+    ensures runs { IfOk result (λ n. (first : State) → (V : List Value) → AllPairs IsLess V
+        → length V ≡ size
+        → (m : ℕ) × HasFreeRuns (record { lines = lines.now; first = first }) V m
+        × (n ≡ capped m)) }
+    ensures few { IfOk result (λ n. (first : State) → (V : List Value) → AllPairs IsLess V
+        → length V ≤ size → 0 < size → n < 4097
+        → (m : ℕ) × HasRuns (record { lines = lines.now; first = first }) V m × (m ≤ n)) }
 {
     let count = count_all(alloc, lines, size)?;
     Ok(count)
@@ -278,7 +288,8 @@ impl FreeWalk {
 fn note_one(walk: &FreeWalk, line: Line, stored: &mut Vec<Value>) -> Result<(), AllocError>
     requires { IsSet stored.old.items }
     ensures set { IsSet stored.new.items }
-    ensures added { OnOk result (free.AreAdded (Contains (free.stored_at line walk.now)) stored.old.items stored.new.items) }
+    ensures added { OnOk result (free.AreAdded (Contains (free.stored_at line walk.now))
+        stored.old.items stored.new.items) }
 {
     match walk.stored_at(line) {
         Some(value) => {
@@ -297,7 +308,8 @@ fn note_one(walk: &FreeWalk, line: Line, stored: &mut Vec<Value>) -> Result<(), 
 fn note_all(walks: &[FreeWalk], line: Line, stored: &mut Vec<Value>) -> Result<(), AllocError>
     requires { IsSet stored.old.items }
     ensures set { IsSet stored.new.items }
-    ensures added { OnOk result (free.AreAdded (free.SomeStores line walks.now) stored.old.items stored.new.items) }
+    ensures added { OnOk result (free.AreAdded (free.SomeStores line walks.now) stored.old.items
+        stored.new.items) }
 {
     for walk in walks {
         note_one(walk, line, stored)?;
@@ -321,7 +333,8 @@ fn push_loads(
     values: &[Value],
     next: &mut Vec<FreeWalk>,
 ) -> Result<(), AllocError>
-    ensures { OnOk result (next.new.items ≡ next.old.items ++ free.loaded values.now instruction walk.now) }
+    ensures { OnOk result (next.new.items
+        ≡ next.old.items ++ free.loaded values.now instruction walk.now) }
 {
     for value in values {
         next.push(walk.advanced(instruction, false, *value))?;
@@ -337,7 +350,8 @@ fn push_choices(
     there: bool,
     next: &mut Vec<FreeWalk>,
 ) -> Result<(), AllocError>
-    ensures { OnOk result (next.new.items ≡ next.old.items ++ free.chosen on there instruction walk.now) }
+    ensures { OnOk result (next.new.items
+        ≡ next.old.items ++ free.chosen on there instruction walk.now) }
 {
     if on {
         next.push(walk.advanced(instruction, false, Value::NoValue))?;
@@ -357,7 +371,8 @@ fn push_next(
     there: bool,
     next: &mut Vec<FreeWalk>,
 ) -> Result<(), AllocError>
-    ensures { OnOk result (next.new.items ≡ next.old.items ++ free.next_of values.now on there (Does instruction) walk.now) }
+    ensures { OnOk result (next.new.items
+        ≡ next.old.items ++ free.next_of values.now on there (Does instruction) walk.now) }
 {
     match walk.seeking {
         Some(_) => {
@@ -388,7 +403,8 @@ fn spread(
     on: bool,
     there: bool,
 ) -> Result<Vec<FreeWalk>, AllocError>
-    ensures { IfOk result (λ v. v.items ≡ flat_map (free.next_of values.now on there (Does instruction)) walks.now) }
+    ensures { IfOk result (λ v. v.items
+        ≡ flat_map (free.next_of values.now on there (Does instruction)) walks.now) }
 {
     let mut next = Vec::new(alloc);
     for walk in walks {
@@ -406,7 +422,8 @@ fn go_on(
     on: bool,
     there: bool,
 ) -> Result<Vec<FreeWalk>, AllocError>
-    ensures { IfOk result (λ v. v.items ≡ flat_map (free.next_of values.now on there line) walks.items) }
+    ensures { IfOk result (λ v. v.items
+        ≡ flat_map (free.next_of values.now on there line) walks.items) }
 {
     match line {
         Line::Label(_) => {
@@ -483,7 +500,8 @@ pub fn add_stored(
 ) -> Result<(), AllocError>
     requires { IsSet stored.old.items }
     ensures set { IsSet stored.new.items }
-    ensures added { OnOk result (free.AreAdded (free.Stores lines.now first values.now) stored.old.items stored.new.items) }
+    ensures added { OnOk result (free.AreAdded (free.Stores lines.now first values.now)
+        stored.old.items stored.new.items) }
 {
     let end = stores_end(lines);
     if end == 0 {

@@ -70,7 +70,9 @@ pub fn thread_lines(program: &Program, thread: usize) -> &[Line]
 
 /// Whether the register may hold the value on some way through the lines of the thread.
 fn may_hold(program: &Program, thread: usize, r: u8, value: Value) -> bool
-    ensures { result ≡ held.may_hold (all.thread_of program.now thread).lines (all.first_of program.now thread) r value }
+    ensures { result
+        ≡ held.may_hold (all.thread_of program.now thread).lines (all.first_of program.now thread) r
+        value }
 {
     if is_same(first_value(program, thread, r), value) {
         return true;
@@ -85,7 +87,9 @@ fn may_hold(program: &Program, thread: usize, r: u8, value: Value) -> bool
 
 /// Whether the line of the thread may store the value at the location.
 fn may_store(program: &Program, thread: usize, location: usize, value: Value, line: Line) -> bool
-    ensures { result ≡ held.line_may_store (all.thread_of program.now thread).lines (all.first_of program.now thread) location value line }
+    ensures { result
+        ≡ held.line_may_store (all.thread_of program.now thread).lines
+        (all.first_of program.now thread) location value line }
 {
     match line {
         Line::Label(_) => false,
@@ -138,7 +142,8 @@ fn values_at(
     values: &[Value],
 ) -> Result<Vec<Value>, AllocError>
     requires { slice_get program.now.initial.items location ≡ Some initial }
-    ensures { IfOk result (λ v. held.AreLeft (λ u. held.MayHold program.now location u → ⊥) values.now v.items) }
+    ensures { IfOk result (λ v.
+        held.AreLeft (λ u. held.MayHold program.now location u → ⊥) values.now v.items) }
 {
     let mut found = Vec::with_capacity(alloc, values.len())?;
     for value in values {

@@ -3,7 +3,8 @@
 use crate::value::Value;
 use text_values::{BranchCondition, Fence, Name, Operation};
 
-/// An instruction (Power ISA, books I and II). Its first register is the one that it writes, or stores.
+/// An instruction (Power ISA, books I and II). Its first register is the one that it writes, or
+/// stores.
 #[derive(Clone, Copy)]
 pub enum Instruction {
     /// `li`: the register becomes the number.
@@ -12,7 +13,8 @@ pub enum Instruction {
     Move(u8, u8),
     /// `addi`: the first becomes the sum of the second and the number.
     AddImmediate(u8, u8, u32),
-    /// `add`, `subf`, `xor`, `or` or `and`: the first becomes the result on the second and the third.
+    /// `add`, `subf`, `xor`, `or` or `and`: the first becomes the result on the second and the
+    /// third.
     Operate(Operation, u8, u8, u8),
     /// `lwz`: the first is loaded from the address in the second.
     Load(u8, u8),

@@ -7,5 +7,6 @@ ghost use Rattle.thread_runs.specs.Machine.{State};
 
 /// The run of a thread goes over its lines one by one.
 pub fn runs_go_line_by_line()
-    ensures { (lines : List Line) (first : State) (values : List Value) → GoesLineByLine lines first values }
+    ensures { (lines : List Line) (first : State) (values : List Value)
+        → GoesLineByLine lines first values }
 {}

@@ -48,7 +48,8 @@ fn outcome(operation: Operation, v: Value, w: Value) -> Value
     }
 }
 
-/// Whether the operation gives the same value whatever its registers hold, as both are the same register.
+/// Whether the operation gives the same value whatever its registers hold, as both are the same
+/// register.
 pub fn cancels(operation: Operation, a: u8, b: u8) -> bool
     ensures { result ≡ machine.cancels operation a b }
 {

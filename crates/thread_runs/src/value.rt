@@ -7,7 +7,8 @@ ghost use Rattle.thread_runs.specs.Machine as machine;
 pub enum Value {
     /// A number.
     Number(u32),
-    /// The address of a location, by its index among the locations of the test, sorted by name bytes.
+    /// The address of a location, by its index among the locations of the test, sorted by name
+    /// bytes.
     Address(usize),
     /// No value.
     NoValue,
@@ -26,7 +27,8 @@ pub enum Comparison {
     Unlike,
 }
 
-/// The result of `add`: of numbers modulo 2^32; of an address and 0 the address; of others no value.
+/// The result of `add`: of numbers modulo 2^32; of an address and 0 the address; of others no
+/// value.
 pub fn sum(v: Value, w: Value) -> Value
     ensures { result ≡ machine.sum_of v w }
 {

@@ -66,7 +66,8 @@ pub fn add_value(values: &mut Vec<Value>, value: Value) -> Result<(), AllocError
     requires { IsSet values.old.items }
     ensures set { IsSet values.new.items }
     ensures longer { length values.old.items ≤ length values.new.items }
-    ensures unchanged { length values.old.items ≡ length values.new.items → values.old.items ≡ values.new.items }
+    ensures unchanged { length values.old.items ≡ length values.new.items
+        → values.old.items ≡ values.new.items }
     ensures added { OnOk result (IsAdded value values.old.items values.new.items) }
 {
     if !is_value(value) {

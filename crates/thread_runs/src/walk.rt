@@ -32,7 +32,12 @@ impl Model for Walk {
 
     ghost Value = { runs.Walk };
 
-    ghost view = { λ w. record { state = w.state; seeking = w.seeking; steps = w.steps.items; events = w.events.items } };
+    ghost view = { λ w. record {
+      state = w.state;
+      seeking = w.seeking;
+      steps = w.steps.items;
+      events = w.events.items;
+    } };
 }
 
 impl Walk {

@@ -1,4 +1,5 @@
-//! What is asked of benches and desks. Their model and their test are files of the folder that the program runs in.
+//! What is asked of benches and desks. Their model and their test are files of the folder that the
+//! program runs in.
 
 use crate::tables::{COUNTED, Size, TIMED};
 use crate::{desks, tables};
@@ -18,7 +19,8 @@ const COUNTED_TEST: &str = "MP+lwsync+addr.litmus";
 /// The test of a bench or a desk that is timed.
 const TIMED_TEST: &str = "IRIW+syncs.litmus";
 
-/// Prints for benches of these sizes how many jobs settle them, and, if they are timed, how long that takes.
+/// Prints for benches of these sizes how many jobs settle them, and, if they are timed, how long
+/// that takes.
 fn show_sizes<R>(rt: &R, test: &str, sizes: &[Size], is_timed: bool) -> io::Result<()>
 where
     R: Files + Clock + Print + AllocGlobal + Wait,

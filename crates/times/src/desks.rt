@@ -1,4 +1,5 @@
-//! Desks with workers: how long they take until each cell is settled, and how long a viewer takes for a board.
+//! Desks with workers: how long they take until each cell is settled, and how long a viewer takes
+//! for a board.
 
 ghost use Rattle.std.specs.Prelude.{◌≡◌};
 
@@ -24,7 +25,8 @@ const SIZE: Size = Size {
     models: 16,
 };
 
-/// How a desk is settled: by how many workers, and whether boards of it are read meanwhile and afterwards.
+/// How a desk is settled: by how many workers, and whether boards of it are read meanwhile and
+/// afterwards.
 #[derive(Clone, Copy)]
 struct Form {
     workers: u32,
@@ -71,8 +73,8 @@ struct Reads {
 
 const NO_READS: Reads = Reads { count: 0, nanos: 0 };
 
-/// The nanoseconds of the edits, and until each cell was settled; the boards that were read until then, and afterwards; and
-/// whether all was answered as it should.
+/// The nanoseconds of the edits, and until each cell was settled; the boards that were read until
+/// then, and afterwards; and whether all was answered as it should.
 #[derive(Clone, Copy)]
 struct Times {
     edited: u128,
@@ -194,7 +196,8 @@ fn settle<J: Naming + StoreName, X: BoardTexts, R: Wait + Drop, W: Wait + Clock>
     })
 }
 
-/// Makes edits at a desk, and settles it. None where it gives no viewer, or a worker does not start.
+/// Makes edits at a desk, and settles it. None where it gives no viewer, or a worker does not
+/// start.
 fn measure<J, X, R>(
     rt: &R,
     desk: &Desk<J, X, R>,
@@ -276,7 +279,8 @@ where
     }
 }
 
-/// Settles desks by none, one, two and four workers, and then one whose boards are read, and prints the times.
+/// Settles desks by none, one, two and four workers, and then one whose boards are read, and prints
+/// the times.
 pub fn show<R>(rt: &R, model: &[u8], test: &[u8]) -> io::Result<()>
 where
     R: Print + AllocGlobal + Clock + Wait + Threads + Copy + Send + Sync + Drop,

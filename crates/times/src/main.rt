@@ -1,6 +1,6 @@
 //! Prints how long evaluations, benches, desks and operations on relations take, by its words.
-//! Without words it prints the forms of its words and what needs no clock: whether the operations on relations give the
-//! same as plain loops, and how many jobs settle benches.
+//! Without words it prints the forms of its words and what needs no clock: whether the operations
+//! on relations give the same as plain loops, and how many jobs settle benches.
 #![tactic(auto)]
 
 mod benches;

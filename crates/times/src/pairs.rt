@@ -1,11 +1,13 @@
-//! How long one evaluation takes of a pair of a model's file and a test's file, and how that time is spent.
+//! How long one evaluation takes of a pair of a model's file and a test's file, and how that time
+//! is spent.
 
 use crate::phases::{Evaluation, PHASES, Phase};
 use crate::timing::{forget_memory, show_memory, show_microseconds, time_of};
 use std::rt::{Clock, Files};
 use std::{fs, io};
 
-/// Prints how long the quickest evaluation of a pair takes, and the most memory that is held meanwhile.
+/// Prints how long the quickest evaluation of a pair takes, and the most memory that is held
+/// meanwhile.
 fn show<R: Files + Clock + Print + AllocGlobal>(rt: &R, model: &str, test: &str) -> io::Result<()> {
     let model_text = fs::read(rt, model)?;
     let test_text = fs::read(rt, test)?;
@@ -49,7 +51,8 @@ fn show_phases<R: Files + Clock + Print + AllocGlobal>(
     Ok(())
 }
 
-/// Prints how long an evaluation takes of each pair of a model's file and a test's file, or how that time is spent.
+/// Prints how long an evaluation takes of each pair of a model's file and a test's file, or how
+/// that time is spent.
 pub fn show_all<R: Files + Clock + Print + AllocGlobal>(
     rt: &R,
     paths: &[String],

@@ -18,7 +18,8 @@ pub enum Phase {
     Resolved,
     /// And the candidates of the test are made, not under the model.
     Space,
-    /// And each item that is evaluated goes over the candidates with the predefined names that it uses, without an operator.
+    /// And each item that is evaluated goes over the candidates with the predefined names that it
+    /// uses, without an operator.
     Names,
     /// And with its operators, and the names of other items.
     Items,
@@ -100,7 +101,8 @@ fn go_on(alloc: Global, phase: Phase, model: &ModelText, test: &Test) {
     }
 }
 
-/// Evaluates the items of the model over the candidates of the test, or of each item the predefined names alone.
+/// Evaluates the items of the model over the candidates of the test, or of each item the predefined
+/// names alone.
 fn evaluate_items(alloc: Global, model: &ModelText, test: &Test, is_names_alone: bool) {
     if let Ok(mut resolved) = resolve(alloc, model) {
         if is_names_alone {

@@ -4,8 +4,8 @@ ghost use Rattle.std.specs.Prelude.{◌≤◌, ◌<◌};
 
 use bit_relations::MAX_EVENTS;
 
-/// A relation between the events below a count, at most 128: for each event a low word and a high word, whose bits are
-/// the events that it leads to.
+/// A relation between the events below a count, at most 128: for each event a low word and a high
+/// word, whose bits are the events that it leads to.
 #[derive(Clone, Copy)]
 pub struct PlainRelation {
     count: usize,

@@ -1,4 +1,5 @@
-//! The operations on relations beside plain loops, on a chain, a sparse and a dense relation of each size.
+//! The operations on relations beside plain loops, on a chain, a sparse and a dense relation of
+//! each size.
 
 ghost use Rattle.std.specs.Prelude.{◌≡◌, ◌≤◌};
 
@@ -243,8 +244,8 @@ fn show<R: Clock + Print>(rt: &R, shape: Shape, count: usize, is_timed: bool) ->
     Ok(())
 }
 
-/// Prints for each relation whether both forms gave the same, and, if it is timed, how many nanoseconds each
-/// call takes, the least of many turns.
+/// Prints for each relation whether both forms gave the same, and, if it is timed, how many
+/// nanoseconds each call takes, the least of many turns.
 pub fn show_all<R: Clock + Print>(rt: &R, is_timed: bool) -> io::Result<()> {
     for shape in [Shape::Chain, Shape::Sparse, Shape::Dense] {
         for count in SIZES {

@@ -100,7 +100,8 @@ fn show_time<R: Files + Clock + Print + AllocGlobal>(
     println!(rt; " ({cells} cells, {} turns)", timing.turns)
 }
 
-/// Prints how long a cell takes of these tests under these models, evaluated together and one by one.
+/// Prints how long a cell takes of these tests under these models, evaluated together and one by
+/// one.
 fn show<R: Files + Clock + Print + AllocGlobal>(
     rt: &R,
     model_paths: &[String],
@@ -131,7 +132,8 @@ fn index_of(words: &[String], word: &str) -> usize
     words.len()
 }
 
-/// Prints how long a cell of a suite takes: the models stand before the word `over`, the tests behind it.
+/// Prints how long a cell of a suite takes: the models stand before the word `over`, the tests
+/// behind it.
 pub fn show_all<R: Files + Clock + Print + AllocGlobal>(
     rt: &R,
     words: &[String],

@@ -103,7 +103,8 @@ fn show_measured<R: Print>(
     Ok(())
 }
 
-/// Makes edits on a bench over a store and settles it, and then makes one edit more and settles it again.
+/// Makes edits on a bench over a store and settles it, and then makes one edit more and settles it
+/// again.
 fn measure<R: Clock + Wait, K: StoreName, T: CellTexts>(
     rt: &R,
     alloc: Global,
@@ -126,7 +127,8 @@ fn measure<R: Clock + Wait, K: StoreName, T: CellTexts>(
     })
 }
 
-/// Settles a bench of this size, sets the first item of the first model to an equal value, and settles it again.
+/// Settles a bench of this size, sets the first item of the first model to an equal value, and
+/// settles it again.
 pub fn show<R: Clock + Print + Wait + AllocGlobal, K: StoreName>(
     rt: &R,
     opened: Opened<NodeValue>,

@@ -61,7 +61,8 @@ pub fn show_microseconds<R: Print>(rt: &R, nanoseconds: u128) -> io::Result<()> 
     print!(rt; "{whole}.{tenths} microseconds")
 }
 
-/// Where the system is asked to forget the most memory that the program has held, by this digit (Linux).
+/// Where the system is asked to forget the most memory that the program has held, by this digit
+/// (Linux).
 const FORGET: &str = "/proc/self/clear_refs";
 
 /// Has the system measure the most memory anew, if it can.
@@ -75,7 +76,8 @@ const STATUS: &str = "/proc/self/status";
 /// How the line begins that tells it.
 const MOST_MEMORY: &str = "VmHWM:";
 
-/// Prints the most memory that the program has held since the last `forget_memory`, where the system tells it.
+/// Prints the most memory that the program has held since the last `forget_memory`, where the
+/// system tells it.
 pub fn show_memory<R: Files + Print + AllocGlobal>(rt: &R) -> io::Result<()> {
     if let Ok(status) = fs::read_to_string(rt, STATUS) {
         for line in status.as_str().split('\n') {

@@ -1,6 +1,6 @@
 //! Values that threads share, each shown by a token in place of a copy. Read `specs/Tokens` first:
-//! what a clause sees of a token. Others may cite `Store::see` (a token shows its value for good) and
-//! `Store::is_one` (two tokens of one index show one value).
+//! what a clause sees of a token. Others may cite `Store::see` (a token shows its value for good)
+//! and `Store::is_one` (two tokens of one index show one value).
 #![tactic(auto)]
 
 mod fault;

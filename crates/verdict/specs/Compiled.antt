@@ -22,8 +22,11 @@ value_of state (formulas.Joined' op p a q b) = joined_by op (value_of state a) (
 
 -- all known places of a text are among these
 abbrev pub Shows : List (List ℕ) → List ShownPlace → List Place → Type 0
-Shows locations shown places = (p : ShownPlace) → is_among (known_places locations places) p ≡ true → is_among shown p ≡ true
+Shows locations shown places =
+    (p : ShownPlace) → is_among (known_places locations places) p ≡ true → is_among shown p ≡ true
 
 -- it is true of each state over these places just where the proposition is
 abbrev pub Means : List (List ℕ) → List ShownPlace → text.Formula → code.Formula → Type 0
-Means locations shown proposition f = Shows locations shown (places_of proposition) → (content : ShownPlace → FinalValue) → value_of (map content shown) f ≡ satisfies locations content proposition
+Means locations shown proposition f =
+    Shows locations shown (places_of proposition) → (content : ShownPlace → FinalValue)
+    → value_of (map content shown) f ≡ satisfies locations content proposition

@@ -39,48 +39,68 @@ values_of states = map (λ s. s.values) states
 
 -- a state over these places has its text, and the answer of a proposition over places of a state
 abbrev pub IsWorded : List (List ℕ) → List ShownPlace → code.Formula → CountedState → Type 0
-IsWorded locations shown f s = (s.text ≡ state_text locations shown s.values) × (s.holds ≡ value_of s.values f)
+IsWorded locations shown f s =
+    (s.text ≡ state_text locations shown s.values) × (s.holds ≡ value_of s.values f)
 
--- the states in which those of the executions end that are kept, over places that show those of the proposition and the observed ones
-pub record AreEndStates (locations : List (List ℕ)) (executions : List Shown) (proposition : Formula) (observed : List Place) (keep : List Bool) (states : List CountedState) : Type 0 where
+-- the states in which those of the executions end that are kept, over places that show those of the
+-- proposition and the observed ones
+pub record AreEndStates (locations : List (List ℕ)) (executions : List Shown)
+    (proposition : Formula) (observed : List Place) (keep : List Bool) (states : List CountedState)
+    : Type 0 where
   pub shown : List ShownPlace
   pub compiled : code.Formula
   pub entries : List (Vec FinalValue Global × ℕ)
   pub are_shown : AreShown locations (places_of proposition ++ observed) shown
   pub means : Means locations shown proposition compiled
-  pub tallies : (v : List FinalValue) → tally entries v ≡ min (count_kept (λ e. is_state v (final_state shown e)) keep executions) (2 ^ 64 - 1)
+  pub tallies : (v : List FinalValue)
+      → tally entries v
+      ≡ min (count_kept (λ e. is_state v (final_state shown e)) keep executions) (2 ^ 64 - 1)
   pub above : AreAbove entries
   pub counts : pairs_of states ≡ pairs_in entries
   pub rising : IsStrictlySortedBy state_cmp (values_of states)
   pub words : All (IsWorded locations shown compiled) states
 
--- a state over these places in which some of the executions end: its text, their number, and whether the proposition holds
-pub record IsCounted (locations : List (List ℕ)) (proposition : Formula) (shown : List ShownPlace) (candidates : List (ℕ × Shown)) (s : CountedState) : Type 0 where
+-- a state over these places in which some of the executions end: its text, their number, and
+-- whether the proposition holds
+pub record IsCounted (locations : List (List ℕ)) (proposition : Formula) (shown : List ShownPlace)
+    (candidates : List (ℕ × Shown)) (s : CountedState) : Type 0 where
   pub text : s.text ≡ state_text locations shown s.values
   pub count : s.count ≡ number_that (λ x. is_state s.values (final_state shown x)) candidates
   pub above : 0 < s.count
-  pub holds : (content : ShownPlace → FinalValue) → s.values ≡ map content shown → s.holds ≡ satisfies locations content proposition
+  pub holds : (content : ShownPlace → FinalValue) → s.values ≡ map content shown
+      → s.holds ≡ satisfies locations content proposition
 
 -- the evaluation says this of these executions over these places
-pub record Says (locations : List (List ℕ)) (kind : Quantifier) (proposition : Formula) (shown : List ShownPlace) (candidates : List (ℕ × Shown)) (flags : List Flag) (e : Evaluation) : Type 0 where
+pub record Says (locations : List (List ℕ)) (kind : Quantifier) (proposition : Formula)
+    (shown : List ShownPlace) (candidates : List (ℕ × Shown)) (flags : List Flag) (e : Evaluation)
+    : Type 0 where
   pub rising : IsStrictlySortedBy state_cmp (values_of e.states)
   pub states : All (IsCounted locations proposition shown candidates) e.states
   pub ended : All (λ x. Contains (values_of e.states) (final_state shown x.1)) candidates
   pub positive : e.positive ≡ number_that (is_satisfied locations proposition) candidates
-  pub negative : e.negative ≡ number_that (λ x. not (is_satisfied locations proposition x)) candidates
+  pub negative : e.negative
+      ≡ number_that (λ x. not (is_satisfied locations proposition x)) candidates
   pub names : e.flags ≡ raised_names candidates flags
   pub judged : IsJudged kind e
 
--- the evaluation of a condition on the executions that the checks keep: its states show the places of the proposition and the observed ones
-abbrev pub IsEvaluation : List (List ℕ) → List Shown → Quantifier → Formula → List Place → List (List Bool) → List Flag → Evaluation → Type 0
-IsEvaluation locations executions kind proposition observed checks flags e = (shown : List ShownPlace) × AreShown locations (places_of proposition ++ observed) shown × Says locations kind proposition shown (kept checks executions) flags e
+-- the evaluation of a condition on the executions that the checks keep: its states show the places
+-- of the proposition and the observed ones
+abbrev pub IsEvaluation : List (List ℕ) → List Shown → Quantifier → Formula → List Place
+    → List (List Bool) → List Flag → Evaluation → Type 0
+IsEvaluation locations executions kind proposition observed checks flags e =
+    (shown : List ShownPlace) × AreShown locations (places_of proposition ++ observed) shown
+    × Says locations kind proposition shown (kept checks executions) flags e
 
 abbrev pub IsEvaluatedAs : (Evaluation → Type 0) → OutcomeResult → Type 0
 IsEvaluatedAs P (Refused _) = ⊥
 IsEvaluatedAs P (Evaluated e) = P e
 
--- the outcome of a condition of this kind on these executions: the condition as it is printed, and its evaluation
-pub record IsOutcome (locations : List (List ℕ)) (executions : List Shown) (kind : Quantifier) (proposition : Formula) (observed : List Place) (checks : List (List Bool)) (flags : List Flag) (o : Outcome) : Type 0 where
+-- the outcome of a condition of this kind on these executions: the condition as it is printed, and
+-- its evaluation
+pub record IsOutcome (locations : List (List ℕ)) (executions : List Shown) (kind : Quantifier)
+    (proposition : Formula) (observed : List Place) (checks : List (List Bool)) (flags : List Flag)
+    (o : Outcome) : Type 0 where
   pub kind_is : o.kind ≡ kind
   pub text : o.condition ≡ condition_text kind proposition
-  pub result : IsEvaluatedAs (IsEvaluation locations executions kind proposition observed checks flags) o.result
+  pub result : IsEvaluatedAs
+      (IsEvaluation locations executions kind proposition observed checks flags) o.result

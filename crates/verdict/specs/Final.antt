@@ -21,7 +21,10 @@ value_shown run_values.NoValue = values.NoValue
 
 -- what a register of a thread holds at the end
 abbrev pub final_register : Shown → ℕ → ℕ → Value
-final_register e thread register = unwrap_or (option_and_then (λ registers. slice_get registers register) (slice_get e.registers thread)) run_values.NoValue
+final_register e thread register =
+    unwrap_or
+    (option_and_then (λ registers. slice_get registers register) (slice_get e.registers thread))
+    run_values.NoValue
 
 -- what an action stores at a location, if it stores there
 abbrev pub stored_by : ℕ → Action → Option Value
@@ -31,7 +34,8 @@ stored_by location (actions.Fence f) = None
 
 -- what an event stores at a location, if it stores there
 abbrev pub stored_at : List Event → ℕ → ℕ → Option Value
-stored_at events location event = option_and_then (λ e. stored_by location e.action) (slice_get events event)
+stored_at events location event =
+    option_and_then (λ e. stored_by location e.action) (slice_get events event)
 
 -- the last of a list, or this where it has none
 abbrev pub last_or : {X : Type 0} → X → List X → X
@@ -40,7 +44,8 @@ last_or d (x ∷ xs) = last_or x xs
 
 -- what a location holds at the end: what the last store at it stores, in coherence order
 abbrev pub final_word : Shown → ℕ → Value
-final_word e location = last_or run_values.NoValue (filter_map (stored_at e.events location) e.order)
+final_word e location =
+    last_or run_values.NoValue (filter_map (stored_at e.events location) e.order)
 
 -- what an observable holds at the end
 abbrev pub final_value : Shown → ShownPlace → FinalValue

@@ -21,7 +21,8 @@ total_of test states = sum_by (λ s. if test s then s.count else 0) states
 
 -- of so many kept candidates that satisfy the proposition, and so many that do not
 abbrev pub observation_of : ℕ → ℕ → Observation
-observation_of positive negative = if positive == 0 then Never else (if negative == 0 then Always else Sometimes)
+observation_of positive negative =
+    if positive == 0 then Never else (if negative == 0 then Always else Sometimes)
 
 -- whether a condition is met
 abbrev pub is_met : Quantifier → ℕ → ℕ → Bool
@@ -31,7 +32,9 @@ is_met Forall positive negative = negative == 0
 
 -- the words follow from the numbers
 abbrev pub IsJudged : Quantifier → Evaluation → Type 0
-IsJudged kind e = (e.observation ≡ observation_of e.positive e.negative) × (e.ok ≡ is_met kind e.positive e.negative)
+IsJudged kind e =
+    (e.observation ≡ observation_of e.positive e.negative)
+    × (e.ok ≡ is_met kind e.positive e.negative)
 
 -- an evaluation, and no refusal
 abbrev pub IsEvaluated : Quantifier → OutcomeResult → Type 0

@@ -8,7 +8,10 @@ use Rattle.verdict.specs.Evaluated.{IsOutcome}
 use Rattle.verdict.specs.Kept.{Flag}
 use Rattle.verdict.specs.declared.answer.Outcome.{Outcome}
 
--- an outcome is the only one of its locations, its executions, its condition, what it observes, and the answers of checks and flags
-abbrev pub HasOneOutcome : List (List ℕ) → List Shown → Quantifier → Formula → List Place → List (List Bool) → List Flag → Type 0
+-- an outcome is the only one of its locations, its executions, its condition, what it observes, and
+-- the answers of checks and flags
+abbrev pub HasOneOutcome : List (List ℕ) → List Shown → Quantifier → Formula → List Place
+    → List (List Bool) → List Flag → Type 0
 HasOneOutcome locations executions kind proposition observed checks flags =
-    (o p : Outcome) → IsOutcome locations executions kind proposition observed checks flags o → IsOutcome locations executions kind proposition observed checks flags p → o ≡ p
+    (o p : Outcome) → IsOutcome locations executions kind proposition observed checks flags o
+    → IsOutcome locations executions kind proposition observed checks flags p → o ≡ p

@@ -22,7 +22,8 @@ location_of locations name = position (is_name name) locations
 -- a place that a test writes, where its location is one of the test
 abbrev pub known_place : List (List ℕ) → Place → Option ShownPlace
 known_place locations (places.Register thread register) = Some (shown.Register thread register)
-known_place locations (places.Location name) = option_map shown.Location (location_of locations name)
+known_place locations (places.Location name) =
+    option_map shown.Location (location_of locations name)
 
 -- a value that a test writes, where its location is one of the test
 abbrev pub known_value : List (List ℕ) → text.Value → Option FinalValue
@@ -54,9 +55,11 @@ joined_by Implies a b = not a || b
 -- whether a proposition is true where the places hold this
 abbrev pub satisfies : List (List ℕ) → (ShownPlace → FinalValue) → Formula → Bool
 satisfies locations content (Constant b) = b
-satisfies locations content (Holds place value) = is_held content (known_place locations place) (known_value locations value)
+satisfies locations content (Holds place value) =
+    is_held content (known_place locations place) (known_value locations value)
 satisfies locations content (Not a) = not (satisfies locations content a)
-satisfies locations content (Join op a b) = joined_by op (satisfies locations content a) (satisfies locations content b)
+satisfies locations content (Join op a b) =
+    joined_by op (satisfies locations content a) (satisfies locations content b)
 
 -- the places of a proposition
 abbrev pub places_of : Formula → List Place

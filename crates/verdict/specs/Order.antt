@@ -11,7 +11,8 @@ use Rattle.verdict.specs.declared.shown_place.ShownPlace.TheVariants.{Register, 
 
 -- registers by thread and number, then locations
 abbrev pub place_cmp : ShownPlace → ShownPlace → Ordering
-place_cmp (Register thread register) (Register thread' register') = ordering_then (nat_cmp thread thread') (nat_cmp register register')
+place_cmp (Register thread register) (Register thread' register') =
+    ordering_then (nat_cmp thread thread') (nat_cmp register register')
 place_cmp (Register thread register) (Location location) = Less
 place_cmp (Location location) (Register thread register) = Greater
 place_cmp (Location location) (Location location') = nat_cmp location location'

@@ -18,6 +18,7 @@ abbrev pub Adds : List ShownPlace → List ShownPlace → List ShownPlace → Ty
 Adds old new added = (p : ShownPlace) → is_among new p ≡ (is_among old p || is_among added p)
 
 -- the places of a text that are known, in order, each once
-pub record AreShown (locations : List (List ℕ)) (places : List Place) (shown : List ShownPlace) : Type 0 where
+pub record AreShown (locations : List (List ℕ)) (places : List Place) (shown : List ShownPlace)
+    : Type 0 where
   pub ordered : IsStrictlySortedBy place_cmp shown
   pub exact : (p : ShownPlace) → is_among shown p ≡ is_among (known_places locations places) p

@@ -27,8 +27,11 @@ value_text locations values.NoValue = []
 
 -- what a place holds, as `1:r1=0;`
 abbrev pub held_text : List (List ℕ) → ShownPlace → FinalValue → List ℕ
-held_text locations place value = place_text (place_of locations place) ++ (codes "=" ++ (value_text locations value ++ codes ";"))
+held_text locations place value =
+    place_text (place_of locations place)
+    ++ (codes "=" ++ (value_text locations value ++ codes ";"))
 
 -- the state, its places joined by one space
 abbrev pub state_text : List (List ℕ) → List ShownPlace → List FinalValue → List ℕ
-state_text locations places values = joined (codes " ") (map (λ x. held_text locations x.0 x.1) (zip places values))
+state_text locations places values =
+    joined (codes " ") (map (λ x. held_text locations x.0 x.1) (zip places values))

@@ -5,13 +5,14 @@ use candidates::EvalRefusal;
 use std::marker::Model;
 use text_values::{Name, Quantifier};
 
-/// The final value of a register or a location. Their order: numbers, rising; then addresses, by the
-/// names of their locations; then no value.
+/// The final value of a register or a location. Their order: numbers, rising; then addresses, by
+/// the names of their locations; then no value.
 #[derive(Clone, Copy, PartialEq, Eq, PartialOrd, Ord)]
 pub enum FinalValue {
     /// A number of 32 bits.
     Number(i32),
-    /// The address of a location, by its index among the locations of the test, sorted by name bytes.
+    /// The address of a location, by its index among the locations of the test, sorted by name
+    /// bytes.
     Address(usize),
     /// The result of an operation that has no value, such as the sum of two addresses.
     NoValue,
@@ -35,7 +36,8 @@ impl Model for CountedState {
 
     ghost Value = { StateContent };
 
-    ghost view = { λ s. record { values = s.values.items; text = s.text.items; count = s.count; holds = s.holds } };
+    ghost view = { λ s.
+        record { values = s.values.items; text = s.text.items; count = s.count; holds = s.holds } };
 }
 
 /// In how many kept candidates the proposition holds.
@@ -49,7 +51,8 @@ pub enum Observation {
     Always,
 }
 
-/// The evaluation of a condition on the candidates that the checks keep. Contracts see it as plain data.
+/// The evaluation of a condition on the candidates that the checks keep. Contracts see it as plain
+/// data.
 #[derive(Drop)]
 pub struct Evaluation {
     /// The final states, rising by their values.
@@ -71,7 +74,14 @@ impl Model for Evaluation {
 
     ghost Value = { EvaluationContent };
 
-    ghost view = { λ e. record { states = e.states.items; positive = e.positive; negative = e.negative; observation = e.observation; ok = e.ok; flags = e.flags.items } };
+    ghost view = { λ e. record {
+      states = e.states.items;
+      positive = e.positive;
+      negative = e.negative;
+      observation = e.observation;
+      ok = e.ok;
+      flags = e.flags.items;
+    } };
 }
 
 /// Why a test has no evaluation under a model.
@@ -118,5 +128,6 @@ impl Model for Outcome {
 
     ghost Value = { OutcomeContent };
 
-    ghost view = { λ o. record { kind = o.kind; condition = o.condition.items; result = o.result } };
+    ghost view = { λ o.
+        record { kind = o.kind; condition = o.condition.items; result = o.result } };
 }

@@ -111,7 +111,8 @@ fn write_state(
     places: &[ShownPlace],
     state: &mut Vec<FinalValue>,
 ) -> Result<(), AllocError>
-    ensures { OnOk result (state.new.items ≡ map (final_value space.now combination.now order.now) places.now) }
+    ensures { OnOk result (state.new.items
+        ≡ map (final_value space.now combination.now order.now) places.now) }
 {
     state.clear();
     for place in places {
@@ -158,7 +159,8 @@ fn kept_with_order(kept: &[bool], ways: usize, orders: usize, order: usize) -> u
 // Adds so many to the count of a state, if it has one, and says whether it has.
 fn raise_count(counts: &mut StateCounts, state: &[FinalValue], found: u64) -> bool
     ensures raised { IsTrue result → Raises counts.old.entries counts.new.entries state.now found }
-    ensures none { result ≡ false → (counts.new ≡ counts.old) × (tally counts.old.entries state.now ≡ 0) }
+    ensures none { result ≡ false
+        → (counts.new ≡ counts.old) × (tally counts.old.entries state.now ≡ 0) }
 {
     match counts.get_mut(state) {
         Some(count) => {
@@ -194,7 +196,10 @@ fn count_order(
     found: u64,
     tally: &mut Tally,
 ) -> Result<(), AllocError>
-    ensures { OnOk result (Counts tally.old.counts.entries tally.new.counts.entries (λ v. if is_state v (map (final_value space.now combination.now order.now) places.now) then found else 0)) }
+    ensures { OnOk result (Counts tally.old.counts.entries tally.new.counts.entries
+        (λ v. if is_state v (map (final_value space.now combination.now order.now)
+        places.now) then found
+        else 0)) }
 {
     if found == 0 {
         return Ok(());
@@ -212,7 +217,10 @@ fn count_combination(
     places: &[ShownPlace],
     tally: &mut Tally,
 ) -> Result<(), AllocError>
-    ensures { OnOk result (Counts tally.old.counts.entries tally.new.counts.entries (λ v. count_kept (λ t. is_state v (map (final_value space.now combination.now t.1) places.now)) kept.now (candidates_of combination.now))) }
+    ensures { OnOk result (Counts tally.old.counts.entries tally.new.counts.entries
+        (λ v. count_kept
+        (λ t. is_state v (map (final_value space.now combination.now t.1) places.now))
+        kept.now (candidates_of combination.now))) }
 {
     let ways = combination.sources.len();
     let orders = combination.orders.len();
@@ -240,7 +248,12 @@ pub fn final_states(
     places: &[ShownPlace],
 ) -> Result<StateCounts, AllocError>
     ensures above { IfOk result (λ t. AreAbove t.entries) }
-    ensures tally { IfOk result (λ t. (v : List FinalValue) → tally t.entries v ≡ min (count_kept (λ e. is_state v (shown.final_state places.now e)) kept.now (shown_in space.now)) (2 ^ 64 - 1)) }
+    ensures tally { IfOk result (λ t. (v : List FinalValue)
+        → tally t.entries v
+        ≡ min
+        (count_kept (λ e. is_state v (shown.final_state places.now e)) kept.now
+        (shown_in space.now))
+        (2 ^ 64 - 1)) }
 {
     let mut tally = Tally {
         counts: BTreeMap::new(alloc),

@@ -25,7 +25,8 @@ pub enum Formula {
     Joined(Connective, Box<Formula>, Box<Formula>),
 }
 
-/// The value of a state for one of the text, or `None` if it names a location that is not one of the test.
+/// The value of a state for one of the text, or `None` if it names a location that is not one of
+/// the test.
 pub fn known_value(locations: &[Name], value: &Value) -> Option<FinalValue>
     ensures { result ≡ known_value locations.now value.now }
 {

@@ -33,7 +33,9 @@ pub struct Raised<'a> {
 
 // Drops the candidates on which the check does not hold.
 fn keep_where(kept: &mut [bool], holds: &[bool])
-    ensures { (k : ℕ) → k < length kept.old → slice_index_or kept.new k false ≡ (slice_index_or kept.old k false && holds_at k holds.now) }
+    ensures { (k : ℕ) → k < length kept.old
+        → slice_index_or kept.new k false
+        ≡ (slice_index_or kept.old k false && holds_at k holds.now) }
 {
     for (index, keep) in kept.iter_mut().enumerate() {
         *keep = *keep && holds.get(index).copied() == Some(true);
@@ -47,7 +49,8 @@ fn kept_candidates(
     checks: &[&[bool]],
 ) -> Result<Vec<bool>, AllocError>
     ensures len { IfOk result (λ v. vec_len v ≡ candidates) }
-    ensures kept { IfOk result (λ v. (k : ℕ) → k < candidates → slice_index_or v.items k false ≡ is_kept (map (λ c. c.now) checks.now) k) }
+    ensures kept { IfOk result (λ v. (k : ℕ) → k < candidates
+        → slice_index_or v.items k false ≡ is_kept (map (λ c. c.now) checks.now) k) }
 {
     let mut kept = vec![in alloc; true; candidates]?;
     for holds in checks {
@@ -75,7 +78,9 @@ fn is_among(names: &[Name], name: &Name) -> bool
 
 // Appends a name that is not there.
 fn add_name(alloc: Global, names: &mut Vec<Name>, name: &Name) -> Result<(), AllocError>
-    ensures { OnOk result (names.new.items ≡ names.old.items ++ (if list_any (is_name name.now) names.old.items then [] else name.now ∷ [])) }
+    ensures { OnOk result (names.new.items
+        ≡ names.old.items
+        ++ (if list_any (is_name name.now) names.old.items then [] else name.now ∷ [])) }
 {
     if !is_among(names, name) {
         names.push(name.copied(alloc)?)?;
@@ -84,7 +89,8 @@ fn add_name(alloc: Global, names: &mut Vec<Name>, name: &Name) -> Result<(), All
 }
 
 fn raised_names(alloc: Global, kept: &[bool], flags: &[Raised]) -> Result<Vec<Name>, AllocError>
-    ensures { IfOk result (λ v. v.items ≡ names_of (λ f. holds_on_some kept.now f.1) (of_raised flags.now)) }
+    ensures { IfOk result (λ v. v.items
+        ≡ names_of (λ f. holds_on_some kept.now f.1) (of_raised flags.now)) }
 {
     let mut names: Vec<Name> = Vec::new(alloc);
     for flag in flags {
@@ -164,7 +170,8 @@ fn end_states(
     observed: &[Place],
     kept: &[bool],
 ) -> Result<Vec<CountedState>, AllocError>
-    ensures { IfOk result (λ v. AreEndStates space.now.locations.items (shown_in space.now) (formula_of condition.now.proposition) observed.now kept.now v.items) }
+    ensures { IfOk result (λ v. AreEndStates space.now.locations.items (shown_in space.now)
+        (formula_of condition.now.proposition) observed.now kept.now v.items) }
 {
     let places = shown_places(alloc, &space.locations, &condition.proposition, observed)?;
     let formula = formula_over(alloc, &places, &space.locations, &condition.proposition)?;
@@ -181,7 +188,11 @@ fn evaluation(
     kept: &[bool],
     flags: &[Raised],
 ) -> Result<Evaluation, AllocError>
-    ensures said { (checks : List (List Bool)) → AreKeptBy checks (length (shown_in space.now)) kept.now → IfOk result (λ e. IsEvaluation space.now.locations.items (shown_in space.now) condition.now.quantifier (formula_of condition.now.proposition) observed.now checks (of_raised flags.now) e) }
+    ensures said { (checks : List (List Bool))
+        → AreKeptBy checks (length (shown_in space.now)) kept.now
+        → IfOk result (λ e. IsEvaluation space.now.locations.items (shown_in space.now)
+        condition.now.quantifier (formula_of condition.now.proposition) observed.now checks
+        (of_raised flags.now) e) }
     ensures judged { IfOk result (IsJudged condition.now.quantifier) }
 {
     let states = end_states(alloc, space, condition, observed, kept)?;
@@ -197,8 +208,9 @@ fn evaluation(
     })
 }
 
-/// The outcome of a condition on the candidates that are kept: `kept` tells of each candidate of the space whether all
-/// checks hold there. Each of the `flags` has one answer for each candidate. Errors: out of memory.
+/// The outcome of a condition on the candidates that are kept: `kept` tells of each candidate of
+/// the space whether all checks hold there. Each of the `flags` has one answer for each candidate.
+/// Errors: out of memory.
 pub fn outcome_kept(
     alloc: Global,
     space: &Space,
@@ -207,7 +219,11 @@ pub fn outcome_kept(
     kept: &[bool],
     flags: &[Raised],
 ) -> Result<Outcome, AllocError>
-    ensures whole { (checks : List (List Bool)) → AreKeptBy checks (length (shown_in space.now)) kept.now → IfOk result (λ o. IsOutcome space.now.locations.items (shown_in space.now) condition.now.quantifier (formula_of condition.now.proposition) observed.now checks (of_raised flags.now) o) }
+    ensures whole { (checks : List (List Bool))
+        → AreKeptBy checks (length (shown_in space.now)) kept.now
+        → IfOk result (λ o. IsOutcome space.now.locations.items (shown_in space.now)
+        condition.now.quantifier (formula_of condition.now.proposition) observed.now checks
+        (of_raised flags.now) o) }
     ensures judged { IfOk result (λ o. IsOutcomeOf condition.now.quantifier o) }
 {
     let found = evaluation(alloc, space, condition, observed, kept, flags)?;
@@ -218,8 +234,8 @@ pub fn outcome_kept(
     })
 }
 
-/// The outcome of a condition on the candidates on which all checks hold. `checks` and `flags` are in
-/// the order of the model, each with one answer for each candidate of the space. Errors: out of
+/// The outcome of a condition on the candidates on which all checks hold. `checks` and `flags` are
+/// in the order of the model, each with one answer for each candidate of the space. Errors: out of
 /// memory.
 pub fn outcome(
     alloc: Global,
@@ -229,7 +245,9 @@ pub fn outcome(
     checks: &[&[bool]],
     flags: &[Raised],
 ) -> Result<Outcome, AllocError>
-    ensures whole { IfOk result (λ o. IsOutcome space.now.locations.items (shown_in space.now) condition.now.quantifier (formula_of condition.now.proposition) observed.now (map (λ c. c.now) checks.now) (of_raised flags.now) o) }
+    ensures whole { IfOk result (λ o. IsOutcome space.now.locations.items (shown_in space.now)
+        condition.now.quantifier (formula_of condition.now.proposition) observed.now
+        (map (λ c. c.now) checks.now) (of_raised flags.now) o) }
     ensures judged { IfOk result (λ o. IsOutcomeOf condition.now.quantifier o) }
 {
     let kept = kept_candidates(alloc, space.len(), checks)?;

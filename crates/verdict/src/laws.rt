@@ -10,5 +10,8 @@ ghost use Rattle.verdict.specs.Laws.{HasOneOutcome};
 
 /// Executions, a condition and the answers of checks and flags have one outcome.
 pub fn outcome_is_one()
-    ensures { (locations : List (List ℕ)) (executions : List Shown) (kind : Quantifier) (proposition : Formula) (observed : List Place) (checks : List (List Bool)) (flags : List Flag) → HasOneOutcome locations executions kind proposition observed checks flags }
+    ensures { (locations : List (List ℕ)) (executions : List Shown) (kind : Quantifier)
+        (proposition : Formula) (observed : List Place) (checks : List (List Bool))
+        (flags : List Flag)
+        → HasOneOutcome locations executions kind proposition observed checks flags }
 {}

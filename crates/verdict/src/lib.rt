@@ -1,5 +1,6 @@
-//! The outcome of a test: the final states of the candidates that a model keeps, their counts and the observation. Read
-//! specs/Evaluated.antt first (`IsEvaluation`), then specs/Meaning.antt (when a state satisfies a proposition).
+//! The outcome of a test: the final states of the candidates that a model keeps, their counts and
+//! the observation. Read specs/Evaluated.antt first (`IsEvaluation`), then specs/Meaning.antt (when
+//! a state satisfies a proposition).
 #![tactic(auto)]
 
 mod answer;

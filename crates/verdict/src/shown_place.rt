@@ -9,7 +9,8 @@ use std::alloc::{AllocError, Global};
 use std::collections::BTreeSet;
 use text_values::{Name, Place, Proposition};
 
-/// An observable of a state: a register by its thread and number, or a location by its index among those of the test.
+/// An observable of a state: a register by its thread and number, or a location by its index among
+/// those of the test.
 #[derive(Clone, Copy, PartialEq, Eq, PartialOrd, Ord)]
 pub enum ShownPlace {
     /// A register, by its thread and its number.
@@ -50,7 +51,8 @@ fn add_place(
     locations: &[Name],
     place: &Place,
 ) -> Result<(), AllocError>
-    ensures { OnOk result (Adds shown.old.keys shown.new.keys (known_places locations.now (place.now ∷ []))) }
+    ensures { OnOk result (Adds shown.old.keys shown.new.keys
+        (known_places locations.now (place.now ∷ []))) }
 {
     if let Some(place) = shown_place(locations, place) {
         shown.insert(place)?;
@@ -63,7 +65,8 @@ fn add_proposition(
     locations: &[Name],
     proposition: &Proposition,
 ) -> Result<(), AllocError>
-    ensures { OnOk result (Adds shown.old.keys shown.new.keys (known_places locations.now (places_of (formula_of proposition.now)))) }
+    ensures { OnOk result (Adds shown.old.keys shown.new.keys (known_places locations.now
+        (places_of (formula_of proposition.now)))) }
 {
     match proposition {
         Proposition::Constant(_) => Ok(()),
@@ -76,15 +79,16 @@ fn add_proposition(
     }
 }
 
-/// The observables of the proposition and of `locations`, each once: registers by thread and number,
-/// then locations by name. Errors: out of memory.
+/// The observables of the proposition and of `locations`, each once: registers by thread and
+/// number, then locations by name. Errors: out of memory.
 pub fn shown_places(
     alloc: Global,
     locations: &[Name],
     proposition: &Proposition,
     observed: &[Place],
 ) -> Result<Vec<ShownPlace>, AllocError>
-    ensures { IfOk result (λ v. AreShown locations.now (places_of (formula_of proposition.now) ++ observed.now) v.items) }
+    ensures { IfOk result (λ v. AreShown locations.now
+        (places_of (formula_of proposition.now) ++ observed.now) v.items) }
 {
     let mut shown = BTreeSet::new(alloc);
     add_proposition(&mut shown, locations, proposition)?;

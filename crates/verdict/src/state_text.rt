@@ -11,7 +11,8 @@ use litmus_printing::put_value;
 use std::alloc::{AllocError, Global};
 use text_values::{Name, Value, put_bytes, put_decimal};
 
-/// Appends the name of a location, by its index, and nothing where there is none. Errors: out of memory.
+/// Appends the name of a location, by its index, and nothing where there is none. Errors: out of
+/// memory.
 pub fn put_location(
     text: &mut Vec<u8>,
     locations: &[Name],
@@ -26,7 +27,8 @@ pub fn put_location(
 }
 
 fn put_shown(text: &mut Vec<u8>, locations: &[Name], place: ShownPlace) -> Result<(), AllocError>
-    ensures { OnOk result (text.new.items ≡ text.old.items ++ place_text (place_of locations.now place)) }
+    ensures { OnOk result (text.new.items
+        ≡ text.old.items ++ place_text (place_of locations.now place)) }
 {
     match place {
         ShownPlace::Register(thread, register) => {
@@ -60,7 +62,9 @@ fn put_held(
     place: ShownPlace,
     value: FinalValue,
 ) -> Result<(), AllocError>
-    ensures { OnOk result (text.new.items ≡ text.old.items ++ (between (codes " ") number ++ held_text locations.now place value)) }
+    ensures { OnOk result (text.new.items
+        ≡ text.old.items
+        ++ (between (codes " ") number ++ held_text locations.now place value)) }
 {
     if number > 0 {
         put_bytes(text, b" ")?;

@@ -1,4 +1,5 @@
--- Read this first: what changes of items make of a model, and which changes leave alone what both versions have in common.
+-- Read this first: what changes of items make of a model, and which changes leave alone what both
+-- versions have in common.
 use Rattle.std.specs.Prelude.{◌≡◌, ℕ, suc, ◌+◌, ◌-◌, ◌<◌, ◌≤◌, List, [], ◌∷◌, ◌++◌, length, take, drop}
 use Rattle.text_values.specs.ModelValue.{Clause}
 use Rattle.version_edits.specs.declared.items.ItemChange.{ItemChange}

@@ -12,11 +12,12 @@ use Rattle.version_edits.specs.Changes.{element_at}
 abbrev pub item_text : List Clause → ℕ → List ℕ
 item_text new i = flat_map printed_item (element_at i new)
 
--- the edit that makes a change of a model of this name whose items have these numbers (0 behind the last), where these are the
--- items of its new version
+-- the edit that makes a change of a model of this name whose items have these numbers (0 behind the
+-- last), where these are the items of its new version
 abbrev pub item_edit : (name numbers : List ℕ) → List Clause → ItemChange → Edit
 item_edit name numbers new (changes.Set i) = SetItem name (slice_index numbers i) (item_text new i)
-item_edit name numbers new (changes.Insert i) = InsertItem name (slice_index numbers i) (item_text new i)
+item_edit name numbers new (changes.Insert i) =
+    InsertItem name (slice_index numbers i) (item_text new i)
 item_edit name numbers new (changes.Remove i) = RemoveItem name (slice_index numbers i)
 
 -- the edit puts a part of the test of this name

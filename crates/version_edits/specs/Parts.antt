@@ -8,7 +8,15 @@ use Rattle.version_edits.specs.declared.parts.TestPart.TheVariants.{Init, Thread
 use Rattle.version_edits.specs.Changes.{element_at, set_at}
 
 abbrev pub with_threads : List (List Step) → Content → Content
-with_threads threads c = record { name = c.name; init = c.init; threads = threads; observed = c.observed; quantifier = c.quantifier; condition = c.condition }
+with_threads threads c =
+    record {
+      name = c.name;
+      init = c.init;
+      threads = threads;
+      observed = c.observed;
+      quantifier = c.quantifier;
+      condition = c.condition;
+    }
 
 -- the test with a part of the new version
 abbrev pub put : Content → TestPart → Content → Content

@@ -35,15 +35,17 @@ fn item_text(alloc: Global, items: &[Item], index: usize) -> Result<Vec<u8>, All
     }
 }
 
-/// The edit that makes a change of the items of the model, where these are the items of its new version. Errors: out of
-/// memory.
+/// The edit that makes a change of the items of the model, where these are the items of its new
+/// version. Errors: out of memory.
 pub fn item_edit(
     alloc: Global,
     model: &NamedModel,
     new: &[Item],
     change: ItemChange,
 ) -> Result<Edit, AllocError>
-    ensures { IfOk result (λ e. edit_of e ≡ item_edit (model_of model.now).name model.now.numbers.items (clauses_of new.now) change) }
+    ensures { IfOk result (λ e. edit_of e
+        ≡ item_edit (model_of model.now).name model.now.numbers.items (clauses_of new.now)
+        change) }
 {
     let name = Vec::from_slice(alloc, model.name())?;
     match change {

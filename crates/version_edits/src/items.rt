@@ -7,8 +7,8 @@ ghost use Rattle.version_edits.specs.Changes.{element_at, all_applied, IsCommonE
 use std::alloc::{AllocError, Global};
 use text_values::Item;
 
-/// A change of the items of a model. Its index is that in the list which the changes before it made, and an item that it puts
-/// is the one that the new version has at the same index.
+/// A change of the items of a model. Its index is that in the list which the changes before it
+/// made, and an item that it puts is the one that the new version has at the same index.
 #[derive(Clone, Copy, Debug, PartialEq, Eq)]
 pub enum ItemChange {
     /// The item at the index becomes that of the new version.
@@ -24,8 +24,10 @@ pub enum ItemChange {
 fn is_same_at(old: &[Item], at: usize, new: &[Item], other: usize) -> bool
     requires old { at < length old.now }
     requires new { other < length new.now }
-    ensures yes { IsTrue result → element_at at (clauses_of old.now) ≡ element_at other (clauses_of new.now) }
-    ensures no { IsFalse result → element_at at (clauses_of old.now) ≡ element_at other (clauses_of new.now) → ⊥ }
+    ensures yes { IsTrue result
+        → element_at at (clauses_of old.now) ≡ element_at other (clauses_of new.now) }
+    ensures no { IsFalse result
+        → element_at at (clauses_of old.now) ≡ element_at other (clauses_of new.now) → ⊥ }
 {
     let this = &old[at];
     let that = &new[other];
@@ -38,8 +40,10 @@ fn is_longer_end(old: &[Item], new: &[Item], count: usize) -> bool
     requires old { count < length old.now }
     requires new { count < length new.now }
     requires end { IsCommonEnd (clauses_of old.now) (clauses_of new.now) count }
-    ensures yes { IsTrue result → IsCommonEnd (clauses_of old.now) (clauses_of new.now) (count + 1) }
-    ensures no { IsFalse result → (s : ℕ) → IsCommonEnd (clauses_of old.now) (clauses_of new.now) s → s ≤ count }
+    ensures yes { IsTrue result
+        → IsCommonEnd (clauses_of old.now) (clauses_of new.now) (count + 1) }
+    ensures no { IsFalse result → (s : ℕ) → IsCommonEnd (clauses_of old.now) (clauses_of new.now) s
+        → s ≤ count }
 {
     is_same_at(old, old.len() - 1 - count, new, new.len() - 1 - count)
 }
@@ -47,7 +51,8 @@ fn is_longer_end(old: &[Item], new: &[Item], count: usize) -> bool
 // How many items at the end of both versions are the same.
 fn common_end(old: &[Item], new: &[Item]) -> usize
     ensures common { IsCommonEnd (clauses_of old.now) (clauses_of new.now) result }
-    ensures longest { (s : ℕ) → IsCommonEnd (clauses_of old.now) (clauses_of new.now) s → s ≤ result }
+    ensures longest { (s : ℕ) → IsCommonEnd (clauses_of old.now) (clauses_of new.now) s
+        → s ≤ result }
 {
     let most = old.len().min(new.len());
     let mut count = 0;
@@ -71,11 +76,16 @@ fn set_item(
 ) -> Result<(), AllocError>
     requires old { index < length old.now }
     requires new { index < length new.now }
-    requires applied { all_applied (clauses_of new.now) changes.old.items (clauses_of old.now) ≡ take index (clauses_of new.now) ++ drop index (clauses_of old.now) }
+    requires applied { all_applied (clauses_of new.now) changes.old.items (clauses_of old.now)
+        ≡ take index (clauses_of new.now) ++ drop index (clauses_of old.now) }
     requires needed { All (IsNeeded (clauses_of old.now) (clauses_of new.now)) changes.old.items }
-    ensures applied { OnOk result (all_applied (clauses_of new.now) changes.new.items (clauses_of old.now) ≡ take (index + 1) (clauses_of new.now) ++ drop (index + 1) (clauses_of old.now)) }
-    ensures before { OnOk result ((m n s : ℕ) → index + s < m → index + s < n → All (IsBefore m n s) changes.old.items → All (IsBefore m n s) changes.new.items) }
-    ensures needed { OnOk result (All (IsNeeded (clauses_of old.now) (clauses_of new.now)) changes.new.items) }
+    ensures applied { OnOk result (all_applied (clauses_of new.now) changes.new.items
+        (clauses_of old.now)
+        ≡ take (index + 1) (clauses_of new.now) ++ drop (index + 1) (clauses_of old.now)) }
+    ensures before { OnOk result ((m n s : ℕ) → index + s < m → index + s < n
+        → All (IsBefore m n s) changes.old.items → All (IsBefore m n s) changes.new.items) }
+    ensures needed { OnOk result (All (IsNeeded (clauses_of old.now) (clauses_of new.now))
+        changes.new.items) }
 {
     if !is_same_at(old, index, new, index) {
         changes.push(ItemChange::Set(index))?;
@@ -93,9 +103,14 @@ fn set_items(
     requires old { end ≤ length old.now }
     requires new { end ≤ length new.now }
     requires none { changes.old.items ≡ [] }
-    ensures applied { OnOk result (all_applied (clauses_of new.now) changes.new.items (clauses_of old.now) ≡ take (min (length old.now) (length new.now) - end) (clauses_of new.now) ++ drop (min (length old.now) (length new.now) - end) (clauses_of old.now)) }
-    ensures before { OnOk result ((s : ℕ) → s ≤ end → All (IsBefore (length old.now) (length new.now) s) changes.new.items) }
-    ensures needed { OnOk result (All (IsNeeded (clauses_of old.now) (clauses_of new.now)) changes.new.items) }
+    ensures applied { OnOk result (all_applied (clauses_of new.now) changes.new.items
+        (clauses_of old.now)
+        ≡ take (min (length old.now) (length new.now) - end) (clauses_of new.now)
+        ++ drop (min (length old.now) (length new.now) - end) (clauses_of old.now)) }
+    ensures before { OnOk result ((s : ℕ) → s ≤ end
+        → All (IsBefore (length old.now) (length new.now) s) changes.new.items) }
+    ensures needed { OnOk result (All (IsNeeded (clauses_of old.now) (clauses_of new.now))
+        changes.new.items) }
 {
     let stop = old.len().min(new.len()) - end;
     for index in 0..stop {
@@ -115,11 +130,16 @@ fn insert_item(
 ) -> Result<(), AllocError>
     requires new { index < length new.now }
     requires longer { length old.now < length new.now }
-    requires applied { all_applied (clauses_of new.now) changes.old.items (clauses_of old.now) ≡ take index (clauses_of new.now) ++ drop at (clauses_of old.now) }
+    requires applied { all_applied (clauses_of new.now) changes.old.items (clauses_of old.now)
+        ≡ take index (clauses_of new.now) ++ drop at (clauses_of old.now) }
     requires needed { All (IsNeeded (clauses_of old.now) (clauses_of new.now)) changes.old.items }
-    ensures applied { OnOk result (all_applied (clauses_of new.now) changes.new.items (clauses_of old.now) ≡ take (index + 1) (clauses_of new.now) ++ drop at (clauses_of old.now)) }
-    ensures before { OnOk result ((m n s : ℕ) → index + s < n → All (IsBefore m n s) changes.old.items → All (IsBefore m n s) changes.new.items) }
-    ensures needed { OnOk result (All (IsNeeded (clauses_of old.now) (clauses_of new.now)) changes.new.items) }
+    ensures applied { OnOk result (all_applied (clauses_of new.now) changes.new.items
+        (clauses_of old.now)
+        ≡ take (index + 1) (clauses_of new.now) ++ drop at (clauses_of old.now)) }
+    ensures before { OnOk result ((m n s : ℕ) → index + s < n
+        → All (IsBefore m n s) changes.old.items → All (IsBefore m n s) changes.new.items) }
+    ensures needed { OnOk result (All (IsNeeded (clauses_of old.now) (clauses_of new.now))
+        changes.new.items) }
 {
     changes.push(ItemChange::Insert(index))?;
     Ok(())
@@ -134,12 +154,20 @@ fn insert_items(
 ) -> Result<(), AllocError>
     requires old { end ≤ length old.now }
     requires new { end ≤ length new.now }
-    requires applied { all_applied (clauses_of new.now) changes.old.items (clauses_of old.now) ≡ take (min (length old.now) (length new.now) - end) (clauses_of new.now) ++ drop (min (length old.now) (length new.now) - end) (clauses_of old.now) }
-    requires before { (s : ℕ) → s ≤ end → All (IsBefore (length old.now) (length new.now) s) changes.old.items }
+    requires applied { all_applied (clauses_of new.now) changes.old.items (clauses_of old.now)
+        ≡ take (min (length old.now) (length new.now) - end) (clauses_of new.now)
+        ++ drop (min (length old.now) (length new.now) - end) (clauses_of old.now) }
+    requires before { (s : ℕ) → s ≤ end
+        → All (IsBefore (length old.now) (length new.now) s) changes.old.items }
     requires needed { All (IsNeeded (clauses_of old.now) (clauses_of new.now)) changes.old.items }
-    ensures applied { OnOk result (all_applied (clauses_of new.now) changes.new.items (clauses_of old.now) ≡ take (length new.now - end) (clauses_of new.now) ++ drop (min (length old.now) (length new.now) - end) (clauses_of old.now)) }
-    ensures before { OnOk result ((s : ℕ) → s ≤ end → All (IsBefore (length old.now) (length new.now) s) changes.new.items) }
-    ensures needed { OnOk result (All (IsNeeded (clauses_of old.now) (clauses_of new.now)) changes.new.items) }
+    ensures applied { OnOk result (all_applied (clauses_of new.now) changes.new.items
+        (clauses_of old.now)
+        ≡ take (length new.now - end) (clauses_of new.now)
+        ++ drop (min (length old.now) (length new.now) - end) (clauses_of old.now)) }
+    ensures before { OnOk result ((s : ℕ) → s ≤ end
+        → All (IsBefore (length old.now) (length new.now) s) changes.new.items) }
+    ensures needed { OnOk result (All (IsNeeded (clauses_of old.now) (clauses_of new.now))
+        changes.new.items) }
 {
     if new.len() <= old.len() {
         return Ok(());
@@ -162,11 +190,16 @@ fn remove_item(
     requires old { at < length old.now }
     requires new { index ≤ length new.now }
     requires shorter { length new.now < length old.now }
-    requires applied { all_applied (clauses_of new.now) changes.old.items (clauses_of old.now) ≡ take index (clauses_of new.now) ++ drop at (clauses_of old.now) }
+    requires applied { all_applied (clauses_of new.now) changes.old.items (clauses_of old.now)
+        ≡ take index (clauses_of new.now) ++ drop at (clauses_of old.now) }
     requires needed { All (IsNeeded (clauses_of old.now) (clauses_of new.now)) changes.old.items }
-    ensures applied { OnOk result (all_applied (clauses_of new.now) changes.new.items (clauses_of old.now) ≡ take index (clauses_of new.now) ++ drop (at + 1) (clauses_of old.now)) }
-    ensures before { OnOk result ((m n s : ℕ) → index + s < m → All (IsBefore m n s) changes.old.items → All (IsBefore m n s) changes.new.items) }
-    ensures needed { OnOk result (All (IsNeeded (clauses_of old.now) (clauses_of new.now)) changes.new.items) }
+    ensures applied { OnOk result (all_applied (clauses_of new.now) changes.new.items
+        (clauses_of old.now)
+        ≡ take index (clauses_of new.now) ++ drop (at + 1) (clauses_of old.now)) }
+    ensures before { OnOk result ((m n s : ℕ) → index + s < m
+        → All (IsBefore m n s) changes.old.items → All (IsBefore m n s) changes.new.items) }
+    ensures needed { OnOk result (All (IsNeeded (clauses_of old.now) (clauses_of new.now))
+        changes.new.items) }
 {
     changes.push(ItemChange::Remove(index))?;
     Ok(())
@@ -181,12 +214,20 @@ fn remove_items(
 ) -> Result<(), AllocError>
     requires old { end ≤ length old.now }
     requires new { end ≤ length new.now }
-    requires applied { all_applied (clauses_of new.now) changes.old.items (clauses_of old.now) ≡ take (length new.now - end) (clauses_of new.now) ++ drop (min (length old.now) (length new.now) - end) (clauses_of old.now) }
-    requires before { (s : ℕ) → s ≤ end → All (IsBefore (length old.now) (length new.now) s) changes.old.items }
+    requires applied { all_applied (clauses_of new.now) changes.old.items (clauses_of old.now)
+        ≡ take (length new.now - end) (clauses_of new.now)
+        ++ drop (min (length old.now) (length new.now) - end) (clauses_of old.now) }
+    requires before { (s : ℕ) → s ≤ end
+        → All (IsBefore (length old.now) (length new.now) s) changes.old.items }
     requires needed { All (IsNeeded (clauses_of old.now) (clauses_of new.now)) changes.old.items }
-    ensures applied { OnOk result (all_applied (clauses_of new.now) changes.new.items (clauses_of old.now) ≡ take (length new.now - end) (clauses_of new.now) ++ drop (length old.now - end) (clauses_of old.now)) }
-    ensures before { OnOk result ((s : ℕ) → s ≤ end → All (IsBefore (length old.now) (length new.now) s) changes.new.items) }
-    ensures needed { OnOk result (All (IsNeeded (clauses_of old.now) (clauses_of new.now)) changes.new.items) }
+    ensures applied { OnOk result (all_applied (clauses_of new.now) changes.new.items
+        (clauses_of old.now)
+        ≡ take (length new.now - end) (clauses_of new.now)
+        ++ drop (length old.now - end) (clauses_of old.now)) }
+    ensures before { OnOk result ((s : ℕ) → s ≤ end
+        → All (IsBefore (length old.now) (length new.now) s) changes.new.items) }
+    ensures needed { OnOk result (All (IsNeeded (clauses_of old.now) (clauses_of new.now))
+        changes.new.items) }
 {
     if old.len() <= new.len() {
         return Ok(());
@@ -198,19 +239,26 @@ fn remove_items(
     Ok(())
 }
 
-/// The changes that lead from the old items to the new ones. Items at the end that both versions have stay. Before them an
-/// item is set where it differs from the new one at its index, and then items are inserted or removed. Errors: out of memory.
+/// The changes that lead from the old items to the new ones. Items at the end that both versions
+/// have stay. Before them an item is set where it differs from the new one at its index, and then
+/// items are inserted or removed. Errors: out of memory.
 pub fn item_changes(
     alloc: Global,
     old: &[Item],
     new: &[Item],
 ) -> Result<Vec<ItemChange>, AllocError>
     // The changes make the new items of the old ones.
-    ensures applied { IfOk result (λ cs. all_applied (clauses_of new.now) cs.items (clauses_of old.now) ≡ clauses_of new.now) }
-    // They leave alone the items in which both versions end: all of them where the versions are equal.
-    ensures before { IfOk result (λ cs. (s : ℕ) → IsCommonEnd (clauses_of old.now) (clauses_of new.now) s → All (IsBefore (length old.now) (length new.now) s) cs.items) }
-    // An item is set only where it differs, and only the longer version has items inserted or removed.
-    ensures needed { IfOk result (λ cs. All (IsNeeded (clauses_of old.now) (clauses_of new.now)) cs.items) }
+    ensures applied { IfOk result (λ cs. all_applied (clauses_of new.now) cs.items
+        (clauses_of old.now) ≡ clauses_of new.now) }
+    // They leave alone the items in which both versions end: all of them where the versions are
+    // equal.
+    ensures before { IfOk result (λ cs. (s : ℕ)
+        → IsCommonEnd (clauses_of old.now) (clauses_of new.now) s
+        → All (IsBefore (length old.now) (length new.now) s) cs.items) }
+    // An item is set only where it differs, and only the longer version has items inserted or
+    // removed.
+    ensures needed { IfOk result (λ cs.
+        All (IsNeeded (clauses_of old.now) (clauses_of new.now)) cs.items) }
 {
     let end = common_end(old, new);
     let mut changes = Vec::new(alloc);

@@ -66,7 +66,8 @@ fn rows_in(text: &[u8]) -> &[u8] {
     }
 }
 
-/// The steps of one thread, with semicolons between them: the rows of the printed test of that thread alone.
+/// The steps of one thread, with semicolons between them: the rows of the printed test of that
+/// thread alone.
 pub fn thread_text(alloc: Global, thread: &[Thread]) -> Result<Vec<u8>, AllocError> {
     let test = bare_test(alloc, thread)?;
     let text = print_test(alloc, &test)?;

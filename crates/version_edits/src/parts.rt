@@ -33,8 +33,10 @@ fn has_same_shape(old: &Test, new: &Test) -> bool
 
 fn push_init(old: &Test, new: &Test, parts: &mut Vec<TestPart>) -> Result<(), AllocError>
     requires { parts.old.items ≡ [] }
-    ensures put { OnOk result (all_put (content_of new.now) parts.new.items (content_of old.now) ≡ with_init (content_of new.now).init (content_of old.now)) }
-    ensures differ { OnOk result (All (Differs (content_of old.now) (content_of new.now)) parts.new.items) }
+    ensures put { OnOk result (all_put (content_of new.now) parts.new.items (content_of old.now)
+        ≡ with_init (content_of new.now).init (content_of old.now)) }
+    ensures differ { OnOk result (All (Differs (content_of old.now) (content_of new.now))
+        parts.new.items) }
 {
     if !are_same_entries(&old.init, &new.init) {
         parts.push(TestPart::Init)?;
@@ -47,8 +49,12 @@ fn push_init(old: &Test, new: &Test, parts: &mut Vec<TestPart>) -> Result<(), Al
 fn has_same_thread(old: &Test, new: &Test, index: usize) -> bool
     requires old { index < length (content_of old.now).threads }
     requires new { index < length (content_of new.now).threads }
-    ensures yes { IsTrue result → element_at index (content_of old.now).threads ≡ element_at index (content_of new.now).threads }
-    ensures no { IsFalse result → element_at index (content_of old.now).threads ≡ element_at index (content_of new.now).threads → ⊥ }
+    ensures yes { IsTrue result
+        → element_at index (content_of old.now).threads
+        ≡ element_at index (content_of new.now).threads }
+    ensures no { IsFalse result
+        → element_at index (content_of old.now).threads
+        ≡ element_at index (content_of new.now).threads → ⊥ }
 {
     let this = &old.threads[index];
     let that = &new.threads[index];
@@ -64,10 +70,18 @@ fn push_thread(
 ) -> Result<(), AllocError>
     requires old { index < length (content_of old.now).threads }
     requires new { index < length (content_of new.now).threads }
-    requires put { all_put (content_of new.now) parts.old.items (content_of old.now) ≡ with_threads (take index (content_of new.now).threads ++ drop index (content_of old.now).threads) (with_init (content_of new.now).init (content_of old.now)) }
+    requires put { all_put (content_of new.now) parts.old.items (content_of old.now)
+        ≡ with_threads
+        (take index (content_of new.now).threads ++ drop index (content_of old.now).threads)
+        (with_init (content_of new.now).init (content_of old.now)) }
     requires differ { All (Differs (content_of old.now) (content_of new.now)) parts.old.items }
-    ensures put { OnOk result (all_put (content_of new.now) parts.new.items (content_of old.now) ≡ with_threads (take (index + 1) (content_of new.now).threads ++ drop (index + 1) (content_of old.now).threads) (with_init (content_of new.now).init (content_of old.now))) }
-    ensures differ { OnOk result (All (Differs (content_of old.now) (content_of new.now)) parts.new.items) }
+    ensures put { OnOk result (all_put (content_of new.now) parts.new.items (content_of old.now)
+        ≡ with_threads
+        (take (index + 1) (content_of new.now).threads
+        ++ drop (index + 1) (content_of old.now).threads)
+        (with_init (content_of new.now).init (content_of old.now))) }
+    ensures differ { OnOk result (All (Differs (content_of old.now) (content_of new.now))
+        parts.new.items) }
 {
     if !has_same_thread(old, new, index) {
         parts.push(TestPart::Thread(index))?;
@@ -77,10 +91,14 @@ fn push_thread(
 
 fn push_threads(old: &Test, new: &Test, parts: &mut Vec<TestPart>) -> Result<(), AllocError>
     requires shape { HasSameShape (content_of old.now) (content_of new.now) }
-    requires put { all_put (content_of new.now) parts.old.items (content_of old.now) ≡ with_init (content_of new.now).init (content_of old.now) }
+    requires put { all_put (content_of new.now) parts.old.items (content_of old.now)
+        ≡ with_init (content_of new.now).init (content_of old.now) }
     requires differ { All (Differs (content_of old.now) (content_of new.now)) parts.old.items }
-    ensures put { OnOk result (all_put (content_of new.now) parts.new.items (content_of old.now) ≡ with_threads (content_of new.now).threads (with_init (content_of new.now).init (content_of old.now))) }
-    ensures differ { OnOk result (All (Differs (content_of old.now) (content_of new.now)) parts.new.items) }
+    ensures put { OnOk result (all_put (content_of new.now) parts.new.items (content_of old.now)
+        ≡ with_threads (content_of new.now).threads
+        (with_init (content_of new.now).init (content_of old.now))) }
+    ensures differ { OnOk result (All (Differs (content_of old.now) (content_of new.now))
+        parts.new.items) }
 {
     for index in 0..old.threads.len() {
         push_thread(old, new, index, parts)?;
@@ -90,10 +108,16 @@ fn push_threads(old: &Test, new: &Test, parts: &mut Vec<TestPart>) -> Result<(),
 
 #[tactic(auto, using(crate::proofs::Steps::put_last))]
 fn push_condition(old: &Test, new: &Test, parts: &mut Vec<TestPart>) -> Result<(), AllocError>
-    requires put { all_put (content_of new.now) parts.old.items (content_of old.now) ≡ with_threads (content_of new.now).threads (with_init (content_of new.now).init (content_of old.now)) }
+    requires put { all_put (content_of new.now) parts.old.items (content_of old.now)
+        ≡ with_threads (content_of new.now).threads
+        (with_init (content_of new.now).init (content_of old.now)) }
     requires differ { All (Differs (content_of old.now) (content_of new.now)) parts.old.items }
-    ensures put { OnOk result (all_put (content_of new.now) parts.new.items (content_of old.now) ≡ with_condition ((content_of new.now).quantifier, (content_of new.now).condition) (with_threads (content_of new.now).threads (with_init (content_of new.now).init (content_of old.now)))) }
-    ensures differ { OnOk result (All (Differs (content_of old.now) (content_of new.now)) parts.new.items) }
+    ensures put { OnOk result (all_put (content_of new.now) parts.new.items (content_of old.now)
+        ≡ with_condition ((content_of new.now).quantifier, (content_of new.now).condition)
+        (with_threads (content_of new.now).threads
+        (with_init (content_of new.now).init (content_of old.now)))) }
+    ensures differ { OnOk result (All (Differs (content_of old.now) (content_of new.now))
+        parts.new.items) }
 {
     if !is_same_condition(&old.condition, &new.condition) {
         parts.push(TestPart::Condition)?;
@@ -104,10 +128,15 @@ fn push_condition(old: &Test, new: &Test, parts: &mut Vec<TestPart>) -> Result<(
 #[tactic(auto, using(crate::proofs::Steps::put_last))]
 fn push_locations(old: &Test, new: &Test, parts: &mut Vec<TestPart>) -> Result<(), AllocError>
     requires shape { HasSameShape (content_of old.now) (content_of new.now) }
-    requires put { all_put (content_of new.now) parts.old.items (content_of old.now) ≡ with_condition ((content_of new.now).quantifier, (content_of new.now).condition) (with_threads (content_of new.now).threads (with_init (content_of new.now).init (content_of old.now))) }
+    requires put { all_put (content_of new.now) parts.old.items (content_of old.now)
+        ≡ with_condition ((content_of new.now).quantifier, (content_of new.now).condition)
+        (with_threads (content_of new.now).threads
+        (with_init (content_of new.now).init (content_of old.now))) }
     requires differ { All (Differs (content_of old.now) (content_of new.now)) parts.old.items }
-    ensures put { OnOk result (all_put (content_of new.now) parts.new.items (content_of old.now) ≡ content_of new.now) }
-    ensures differ { OnOk result (All (Differs (content_of old.now) (content_of new.now)) parts.new.items) }
+    ensures put { OnOk result (all_put (content_of new.now) parts.new.items (content_of old.now)
+        ≡ content_of new.now) }
+    ensures differ { OnOk result (All (Differs (content_of old.now) (content_of new.now))
+        parts.new.items) }
 {
     if !are_same_places(&old.observed, &new.observed) {
         parts.push(TestPart::Locations)?;
@@ -115,19 +144,22 @@ fn push_locations(old: &Test, new: &Test, parts: &mut Vec<TestPart>) -> Result<(
     Ok(())
 }
 
-/// The parts of the new version that differ. None where the versions differ in the name or in the number of threads. Errors:
-/// out of memory.
+/// The parts of the new version that differ. None where the versions differ in the name or in the
+/// number of threads. Errors: out of memory.
 pub fn changed_parts(
     alloc: Global,
     old: &Test,
     new: &Test,
 ) -> Result<Option<Vec<TestPart>>, AllocError>
     // The parts make the new version of the old one.
-    ensures put { IfOk result (λ r. IfSome r (λ ps. all_put (content_of new.now) ps.items (content_of old.now) ≡ content_of new.now)) }
+    ensures put { IfOk result (λ r. IfSome r (λ ps. all_put (content_of new.now) ps.items
+        (content_of old.now) ≡ content_of new.now)) }
     // Each of them differs.
-    ensures differ { IfOk result (λ r. IfSome r (λ ps. All (Differs (content_of old.now) (content_of new.now)) ps.items)) }
+    ensures differ { IfOk result (λ r.
+        IfSome r (λ ps. All (Differs (content_of old.now) (content_of new.now)) ps.items)) }
     // None is answered only where no parts make it.
-    ensures none { IfOk result (λ r. IfNone r (HasSameShape (content_of old.now) (content_of new.now) → ⊥)) }
+    ensures none { IfOk result (λ r.
+        IfNone r (HasSameShape (content_of old.now) (content_of new.now) → ⊥)) }
 {
     if !has_same_shape(old, new) {
         return Ok(None);

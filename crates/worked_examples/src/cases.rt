@@ -1,5 +1,5 @@
-//! Asks the evaluator what each line of `cases.txt` asks, and prints the line and the answer. The answers that are wanted
-//! were worked out by hand.
+//! Asks the evaluator what each line of `cases.txt` asks, and prints the line and the answer. The
+//! answers that are wanted were worked out by hand.
 
 use crate::{bindings, cells, nodes, outcomes, streams, told, values};
 use std::alloc::{AllocError, Global};

@@ -42,8 +42,8 @@ pub fn put_cell(
     }
 }
 
-/// Appends the outcome of a test under a model. Where a suite of the test under the model twice has another one, it says
-/// so.
+/// Appends the outcome of a test under a model. Where a suite of the test under the model twice has
+/// another one, it says so.
 fn put_both(
     alloc: Global,
     answer: &mut Vec<u8>,

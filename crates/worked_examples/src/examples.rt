@@ -1,5 +1,5 @@
-//! Evaluates each test of `examples.txt` under its model, and prints the whole log or the line
-//! that tells the outcome. Then compares the models that the bench's library holds as constants with
+//! Evaluates each test of `examples.txt` under its model, and prints the whole log or the line that
+//! tells the outcome. Then compares the models that the bench's library holds as constants with
 //! their files.
 
 use litmusbench::eval;

@@ -1,6 +1,7 @@
-//! Says of known tests why the model of Power forbids them, or shows an execution that it keeps, or both, and why small models
-//! do that check in other ways; and draws executions of four, one under a model that shows relations of its own, and one in which
-//! a reason begins at an initial store that nothing reads.
+//! Says of known tests why the model of Power forbids them, or shows an execution that it keeps, or
+//! both, and why small models do that check in other ways; and draws executions of four, one under
+//! a model that shows relations of its own, and one in which a reason begins at an initial store
+//! that nothing reads.
 
 mod texts;
 

@@ -1,7 +1,8 @@
 //! Prints what is known beforehand, as the file `stdout` has it: evaluations of known tests, inputs
-//! with a known answer, the words of the rules, what `docs/USING.md` shows of files, and reasons and drawings. Each of these parts
-//! begins with a line that names it. Behind them it asks the evaluator what a table of questions asks, evaluates from sources
-//! and to sinks of bytes that fail, and prints reports and logs of outcomes that are made up.
+//! with a known answer, the words of the rules, what `docs/USING.md` shows of files, and reasons
+//! and drawings. Each of these parts begins with a line that names it. Behind them it asks the
+//! evaluator what a table of questions asks, evaluates from sources and to sinks of bytes that
+//! fail, and prints reports and logs of outcomes that are made up.
 #![tactic(auto)]
 
 mod bindings;

@@ -130,8 +130,8 @@ fn put_outcome_of(
     }
 }
 
-/// Appends the outcome of a test: each state with its count and whether it satisfies the condition, and
-/// what stands under them.
+/// Appends the outcome of a test: each state with its count and whether it satisfies the condition,
+/// and what stands under them.
 pub fn put_outcome(
     alloc: Global,
     answer: &mut Vec<u8>,

@@ -34,8 +34,8 @@ fn show_report<R: Print + AllocGlobal>(rt: &R, report: Report) -> io::Result<()>
     show(rt, report.faults)
 }
 
-/// Prints a table of three tests, the difference of two models over two of them, and what is told of a test that is given
-/// as a model.
+/// Prints a table of three tests, the difference of two models over two of them, and what is told
+/// of a test that is given as a model.
 pub fn show_all<R: Files + Print + AllocGlobal>(rt: &R) -> io::Result<()> {
     let models = files(rt, MODELS)?;
     let tests = files(rt, TESTS)?;

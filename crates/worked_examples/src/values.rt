@@ -1,4 +1,5 @@
-//! Values of names and answers to checks, as `cat_eval` finds them over the candidates of a small test.
+//! Values of names and answers to checks, as `cat_eval` finds them over the candidates of a small
+//! test.
 
 use crate::cases::put_bool;
 use binding_graph::{Resolved, ResolvedItem, resolve};

@@ -180,7 +180,8 @@ fn cell_of(shown: Shown<'_, Outcome>) -> Cell<'_> {
     }
 }
 
-/// A bench with the jobs that were claimed, and the list of questions that is being written, if one is.
+/// A bench with the jobs that were claimed, and the list of questions that is being written, if one
+/// is.
 #[derive(Drop)]
 pub struct BenchPlay<'a, B: PlayedBench> {
     claimed: ClaimedBench<B>,
@@ -223,7 +224,8 @@ impl<'a, B: PlayedBench> BenchPlay<'a, B> {
         )
     }
 
-    /// Plays the events that a list of questions asks for, and answers with the replies. False if it is refused memory.
+    /// Plays the events that a list of questions asks for, and answers with the replies. False if
+    /// it is refused memory.
     fn play_events<W: Wait>(
         &mut self,
         rt: &W,
@@ -344,7 +346,8 @@ impl<'a, B: PlayedBench> BenchPlay<'a, B> {
         }
     }
 
-    /// What is answered to a question. Where memory was refused, this is told, and the question is asked once more.
+    /// What is answered to a question. Where memory was refused, this is told, and the question is
+    /// asked once more.
     fn answer_again<W: Wait>(
         &mut self,
         rt: &W,
@@ -360,7 +363,8 @@ impl<'a, B: PlayedBench> BenchPlay<'a, B> {
         self.answer(rt, alloc, answer, question)
     }
 
-    /// Adds a question to the list that is being written. False if none is, or the question ends it.
+    /// Adds a question to the list that is being written. False if none is, or the question ends
+    /// it.
     fn is_written(&mut self, question: &Question<'a>) -> Result<bool, AllocError> {
         let Some(list) = &mut self.list else {
             return Ok(false);
@@ -372,7 +376,8 @@ impl<'a, B: PlayedBench> BenchPlay<'a, B> {
         Ok(true)
     }
 
-    /// What is answered to a line, with a line feed behind it: nothing where the line is one of a list of events.
+    /// What is answered to a line, with a line feed behind it: nothing where the line is one of a
+    /// list of events.
     pub fn answer_line<W: Wait>(
         &mut self,
         rt: &W,

@@ -6,8 +6,8 @@ use cells::events::Event;
 use std::alloc::{AllocError, Global};
 use test_cases::text_of;
 
-/// A question: its words, and the text behind them. In front of it may stand a viewer's number and a colon. The answer to a
-/// quiet one is not told.
+/// A question: its words, and the text behind them. In front of it may stand a viewer's number and
+/// a colon. The answer to a quiet one is not told.
 #[derive(Clone, Copy)]
 pub struct Question<'a> {
     pub viewer: usize,

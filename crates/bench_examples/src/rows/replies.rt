@@ -206,7 +206,8 @@ pub fn put_tally(answer: &mut Vec<u8>, tally: &Tally) -> Result<(), AllocError> 
     put_numbered(answer, b", refused ", tally.refused)
 }
 
-/// Says how many jobs were stored, how many made what was there, and how many came to something else.
+/// Says how many jobs were stored, how many made what was there, and how many came to something
+/// else.
 pub fn put_count(answer: &mut Vec<u8>, tally: &Tally) -> Result<(), AllocError> {
     let late = tally.stale.saturating_add(tally.unknown);
     put_numbered(answer, b"stored ", tally.stored)?;

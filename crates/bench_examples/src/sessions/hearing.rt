@@ -3,7 +3,8 @@
 use litmusbench::{AnswerListener, Progress, ProgressListener};
 use text_values::Item;
 
-/// What was heard: how often of how far a table is and what the last time, how many tables ended, and of how many models.
+/// What was heard: how often of how far a table is and what the last time, how many tables ended,
+/// and of how many models.
 #[derive(Drop)]
 pub struct Hearing {
     pub told: u64,

@@ -1,6 +1,8 @@
-//! Runs each script of the list `scripts.txt` through the call that the program makes of its standard input, with 0, 1, 2 and 4
-//! workers, and prints a line for each: its name, whether the output is the one that is wanted with each number of workers, and
-//! how many lines it has. The first three are run again from sources and to sinks that fail at each call, and the first cut at each byte.
+//! Runs each script of the list `scripts.txt` through the call that the program makes of its
+//! standard input, with 0, 1, 2 and 4 workers, and prints a line for each: its name, whether the
+//! output is the one that is wanted with each number of workers, and how many lines it has. The
+//! first three are run again from sources and to sinks that fail at each call, and the first cut at
+//! each byte.
 
 use crate::sessions::run::{Ending, Setting, is_same, run, with_workers};
 use litmusbench::SessionFault;
@@ -164,7 +166,8 @@ where
     Ok(())
 }
 
-/// Answers each script, the first three from sources and to sinks that fail, and the first cut at each byte.
+/// Answers each script, the first three from sources and to sinks that fail, and the first cut at
+/// each byte.
 pub fn show_all<R>(rt: &R) -> io::Result<()>
 where
     R: AllocGlobal + Files + Print + Wait + Threads + Copy + Drop + Send + Sync + 'static,

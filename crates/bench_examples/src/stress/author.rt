@@ -59,7 +59,8 @@ impl<D: PlayedDesk> Author<D> {
         self.sight.faults().saturating_add(self.kept.faults())
     }
 
-    /// Makes an edit. It is a fault if the desk does not answer as the texts did, or does not publish it at once.
+    /// Makes an edit. It is a fault if the desk does not answer as the texts did, or does not
+    /// publish it at once.
     fn edit<W: Wait>(
         &mut self,
         rt: &W,
@@ -99,7 +100,8 @@ impl<D: PlayedDesk> Author<D> {
         viewer
     }
 
-    /// Makes an edit, takes a job and looks. After so many edits it waits until each cell is settled.
+    /// Makes an edit, takes a job and looks. After so many edits it waits until each cell is
+    /// settled.
     fn play_step<W: Wait>(
         &mut self,
         rt: &W,

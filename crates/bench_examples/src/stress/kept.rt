@@ -46,7 +46,8 @@ fn run<D: PlayedDesk, W: Wait>(
     }
 }
 
-/// Whether a return is answered as it must be: as that of a claim that was not out if it was closed, and otherwise as another.
+/// Whether a return is answered as it must be: as that of a claim that was not out if it was
+/// closed, and otherwise as another.
 fn is_answered<D: PlayedDesk, W: Wait>(
     rt: &W,
     desk: &D,
@@ -121,7 +122,8 @@ impl<D: PlayedDesk> Kept<D> {
         }
     }
 
-    /// Keeps a job, and returns the oldest where there are too many. False where memory is refused; then its claim is closed.
+    /// Keeps a job, and returns the oldest where there are too many. False where memory is refused;
+    /// then its claim is closed.
     fn keep<W: Wait>(&mut self, rt: &W, alloc: Global, desk: &D, job: D::Job) -> bool {
         if self.jobs.len() >= MOST_KEPT {
             self.return_oldest(rt, alloc, desk);
@@ -145,7 +147,8 @@ impl<D: PlayedDesk> Kept<D> {
         }
     }
 
-    /// Takes a job, if there is one, and loses it, returns it twice or keeps it; now and then it closes every claim.
+    /// Takes a job, if there is one, and loses it, returns it twice or keeps it; now and then it
+    /// closes every claim.
     pub fn meddle<W: Wait>(&mut self, rt: &W, alloc: Global, desk: &D) {
         if self.draw.below(50) == 0 {
             self.renew(rt, desk);

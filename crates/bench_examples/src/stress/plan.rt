@@ -18,7 +18,8 @@ pub struct Step {
     pub is_accepted: bool,
 }
 
-/// The edits in order, and the logs of the cells, evaluated from nothing, after each number of edits that are accepted.
+/// The edits in order, and the logs of the cells, evaluated from nothing, after each number of
+/// edits that are accepted.
 #[derive(Drop)]
 pub struct Plan {
     steps: Vec<Step>,

@@ -54,8 +54,8 @@ impl Sight {
         board.edit_count() == self.edits && self.settled.get(index).copied().unwrap_or(false)
     }
 
-    /// Looks at a board: it has no fewer edits than the last, each cell that was settled after as many is settled, and each
-    /// cell that is settled carries what evaluating from nothing gives.
+    /// Looks at a board: it has no fewer edits than the last, each cell that was settled after as
+    /// many is settled, and each cell that is settled carries what evaluating from nothing gives.
     pub fn look(&mut self, alloc: Global, plan: &Plan, board: &Board) -> Result<(), AllocError> {
         let (tests, models) = draw::names();
         let mut settled = Vec::new(alloc);

@@ -13,7 +13,8 @@ use std::time::Duration;
 /// So many microseconds a viewer rests between two boards.
 const REST: u64 = 200;
 
-/// What author and viewers share: the plan, the faults that were found, and whether the last edit is settled.
+/// What author and viewers share: the plan, the faults that were found, and whether the last edit
+/// is settled.
 #[derive(Drop)]
 pub struct Shared {
     pub plan: Plan,
@@ -51,7 +52,8 @@ impl Shared {
     }
 }
 
-/// Looks at the board that was published last, and gives the viewer back. No board or no memory is a fault.
+/// Looks at the board that was published last, and gives the viewer back. No board or no memory is
+/// a fault.
 pub fn look<D: ViewedDesk>(
     alloc: Global,
     viewer: D::Viewer,
@@ -71,8 +73,9 @@ pub fn look<D: ViewedDesk>(
     }
 }
 
-/// Looks at boards until the author has ended, and then once more: that board has all edits, and no cell is open. No viewer is a fault. Every other
-/// viewer also asks the desk now and then whether all is settled, which tells it what is published.
+/// Looks at boards until the author has ended, and then once more: that board has all edits, and no
+/// cell is open. No viewer is a fault. Every other viewer also asks the desk now and then whether
+/// all is settled, which tells it what is published.
 pub fn watch<D: ViewedDesk, W: Wait + Clock>(
     rt: &W,
     alloc: Global,

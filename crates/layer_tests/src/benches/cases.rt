@@ -1,5 +1,6 @@
-//! The parts of `benches.txt`, each behind a line that names it: the lines are played at a bench of their own, and printed with
-//! what is answered. The answers that are wanted were worked out by hand.
+//! The parts of `benches.txt`, each behind a line that names it: the lines are played at a bench of
+//! their own, and printed with what is answered. The answers that are wanted were worked out by
+//! hand.
 
 ghost use Rattle.std.specs.Prelude.{◌≡◌};
 

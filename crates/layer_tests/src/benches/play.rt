@@ -1,5 +1,5 @@
-//! A bench over a sheet, with the jobs that were claimed. Each call that takes memory is tried again where memory is
-//! refused, and has to answer as the first try would have.
+//! A bench over a sheet, with the jobs that were claimed. Each call that takes memory is tried
+//! again where memory is refused, and has to answer as the first try would have.
 
 use crate::benches::answer::{Answer, counted, finished, told};
 use crate::benches::sheet::{Change, Sheet, SheetFault};
@@ -105,7 +105,8 @@ impl<K: StoreName> Play<K> {
         }
     }
 
-    /// The claim of the job at an index among those that are kept, if there are any: the indexes begin anew behind the last.
+    /// The claim of the job at an index among those that are kept, if there are any: the indexes
+    /// begin anew behind the last.
     pub fn kept(&self, index: usize) -> Option<u64> {
         if self.jobs.is_empty() {
             return None;

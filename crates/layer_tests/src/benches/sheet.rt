@@ -25,7 +25,8 @@ pub enum Change {
     SetBase(u64),
 }
 
-/// An edit that is checked, with room for one more row. No more than `used` nodes are used after it.
+/// An edit that is checked, with room for one more row. No more than `used` nodes are used after
+/// it.
 #[derive(Drop)]
 pub struct Prepared {
     pub change: Change,
@@ -84,7 +85,8 @@ impl Texts for Sheet {
 
     ghost prepares = { IsPrepared };
 
-    ghost is_ready = { λ s p. (vec_len s.rows < vec_capacity s.rows) × (p.used ≡ length s.rows.items + 2) };
+    ghost is_ready = { λ s p. (vec_len s.rows < vec_capacity s.rows)
+        × (p.used ≡ length s.rows.items + 2) };
 
     ghost commits = { λ s p number new. IsChanged s p.change number new };
 

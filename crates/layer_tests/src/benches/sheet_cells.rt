@@ -1,4 +1,5 @@
-//! A sheet as texts of cells. The cell of no name shows the tens of the base, that of one byte the row of that number.
+//! A sheet as texts of cells. The cell of no name shows the tens of the base, that of one byte the
+//! row of that number.
 
 use crate::benches::nodes::{TENS, cell};
 use crate::benches::rows::find_row;
@@ -22,7 +23,8 @@ impl CellTexts for Sheet {
 
     ghost reaches = { λ s e _ test _. reaches s e test ≡ true };
 
-    ghost is_empty = { λ s. (s.rows.items ≡ []) × (s.base ≡ 0) × (s.base_stamp ≡ 0) × (s.last ≡ 0) };
+    ghost is_empty = { λ s. (s.rows.items ≡ []) × (s.base ≡ 0) × (s.base_stamp ≡ 0)
+        × (s.last ≡ 0) };
 
     ghost same_edit = { λ e f. e ≡ f };
 
@@ -70,5 +72,6 @@ impl CellTexts for Sheet {
 
     ghost solved = { λ s test model _. cells_solved s test model };
 
-    ghost unreached = { λ s u e number test model _ is away. cells_left s u e number test model is away };
+    ghost unreached = { λ s u e number test model _ is away.
+        cells_left s u e number test model is away };
 }

@@ -1,5 +1,5 @@
-//! A walk by random events from a fixed seed. After each, what a cell shows is compared with its evaluation from nothing; at
-//! the end all is settled, and each cell is compared.
+//! A walk by random events from a fixed seed. After each, what a cell shows is compared with its
+//! evaluation from nothing; at the end all is settled, and each cell is compared.
 
 ghost use Rattle.std.specs.Prelude.{◌≡◌};
 

@@ -44,8 +44,8 @@ fn printed(alloc: Global, text: &[u8]) -> Result<Vec<u8>, AllocError> {
     }
 }
 
-/// Appends the printed model, without its last line feed, and whether it is printed otherwise once it is
-/// read again.
+/// Appends the printed model, without its last line feed, and whether it is printed otherwise once
+/// it is read again.
 pub fn put_printed(alloc: Global, answer: &mut Vec<u8>, text: &[u8]) -> Result<(), AllocError> {
     let once = printed(alloc, text)?;
     let twice = printed(alloc, &once)?;
@@ -56,8 +56,8 @@ pub fn put_printed(alloc: Global, answer: &mut Vec<u8>, text: &[u8]) -> Result<(
     Ok(())
 }
 
-/// What a text is read as: `.` for a model, and else a letter for how far before its end the refusal
-/// stands, `A` for the end itself.
+/// What a text is read as: `.` for a model, and else a letter for how far before its end the
+/// refusal stands, `A` for the end itself.
 fn cut_letter(alloc: Global, text: &[u8]) -> Result<u8, AllocError> {
     match read_model(alloc, text) {
         Ok(_) => Ok(b'.'),

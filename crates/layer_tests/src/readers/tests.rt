@@ -1,4 +1,5 @@
-//! Tests and their parts as `litmus_ppc` reads and prints them; a part is one of a test of one thread.
+//! Tests and their parts as `litmus_ppc` reads and prints them; a part is one of a test of one
+//! thread.
 
 use crate::readers::{put_comparison, put_refusal};
 use litmus_ppc::*;
@@ -73,8 +74,8 @@ fn number_letter(rule: LitmusRule) -> u8 {
     }
 }
 
-/// The number of a text's refusal as a letter, and how far before its end that stands, at most 9, as a
-/// digit. Both are `.` for a test.
+/// The number of a text's refusal as a letter, and how far before its end that stands, at most 9,
+/// as a digit. Both are `.` for a test.
 fn cut_letters(alloc: Global, text: &[u8]) -> Result<(u8, u8), AllocError> {
     match read_test(alloc, text) {
         Ok(_) => Ok((b'.', b'.')),
@@ -109,8 +110,8 @@ fn offset_of(alloc: Global, text: &[u8]) -> usize {
     }
 }
 
-/// Whether what stands before the offset of a text's refusal begins a test: alone it is one, or it ends
-/// too early, at its end.
+/// Whether what stands before the offset of a text's refusal begins a test: alone it is one, or it
+/// ends too early, at its end.
 fn begins_test(alloc: Global, text: &[u8]) -> bool {
     let offset = offset_of(alloc, text);
     if offset > text.len() {

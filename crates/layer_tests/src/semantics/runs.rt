@@ -140,8 +140,8 @@ fn put_links_of(alloc: Global, answer: &mut Vec<u8>, run: &Run) -> Result<(), Al
     put_named_pairs(answer, b"; need ", &found.need_pairs)
 }
 
-/// Appends how many runs the first thread of a test has over the value 0, and the dependencies of the
-/// first of them.
+/// Appends how many runs the first thread of a test has over the value 0, and the dependencies of
+/// the first of them.
 pub fn put_links(alloc: Global, answer: &mut Vec<u8>, test: &Test) -> Result<(), AllocError> {
     let mut values = Vec::new(alloc);
     values.push(Value::Number(0))?;

@@ -107,8 +107,8 @@ PPC MP\n\
 exists (1:r1=1 /\\ 1:r3=0)\n\
 ";
 
-/// A model that shows relations: of `preserved` what stands last counts, `com` is hidden, and the others stand for no
-/// relation.
+/// A model that shows relations: of `preserved` what stands last counts, `com` is hidden, and the
+/// others stand for no relation.
 pub const SHOWING: &[u8] = b"\
 \"Showing\"\n\
 let com = rf | fr | co\n\
@@ -134,8 +134,8 @@ exists ([x]=1)\n\
 /// A model that forbids each store.
 pub const ONCE: &[u8] = b"empty co as once\n";
 
-/// Models that forbid what `CoWR` asks for: by a walk with an identity, with a closure, with an optional step; by a pair, by an
-/// event; and by what a negated check asks for.
+/// Models that forbid what `CoWR` asks for: by a walk with an identity, with a closure, with an
+/// optional step; by a pair, by an event; and by what a negated check asks for.
 pub const SMALL: [&[u8]; 6] = [
     b"irreflexive [R];fr;po-loc as walk\n",
     b"irreflexive po-loc;fr+ as closed\n",
