@@ -17,33 +17,43 @@ use Rattle.live_bench.proofs.Runs.{sound_after}
 use Rattle.live_bench.proofs.SameVerdicts.{same_verdicts}
 
 -- two benches with the same nodes, memos and verdicts
-module _ (b c : LiveState) (nodes : net_of c.texts ≡ net_of b.texts) (memos : c.memos ≡ b.memos) (verdicts : (test model : List ℕ) → verdict_of c.texts test model ≡ verdict_of b.texts test model) where
-  settled_alike : (n : Node) → IsSettled (net_of b.texts) b.memos n → IsSettled (net_of c.texts) c.memos n
+module _ (b c : LiveState) (nodes : net_of c.texts ≡ net_of b.texts) (memos : c.memos ≡ b.memos)
+    (verdicts : (test model : List ℕ)
+    → verdict_of c.texts test model ≡ verdict_of b.texts test model) where
+  settled_alike : (n : Node) → IsSettled (net_of b.texts) b.memos n
+      → IsSettled (net_of c.texts) c.memos n
   settled_alike n s =
       subst (λ (net : Net GivenContent). IsSettled net c.memos n) (sym nodes)
       (subst (λ (ms : List (Memo NodeContent)). IsSettled (net_of b.texts) ms n) (sym memos) s)
 
-  settled_before : (n : Node) → IsSettled (net_of c.texts) c.memos n → IsSettled (net_of b.texts) b.memos n
+  settled_before : (n : Node) → IsSettled (net_of c.texts) c.memos n
+      → IsSettled (net_of b.texts) b.memos n
   settled_before n s =
       subst (λ (net : Net GivenContent). IsSettled net b.memos n) nodes
       (subst (λ (ms : List (Memo NodeContent)). IsSettled (net_of c.texts) ms n) memos s)
 
-  settled_cell : (test model : List ℕ) (o : Outcome) → IsSettledCell net_of live_cells b test model o → IsSettledCell net_of live_cells c test model o
+  settled_cell : (test model : List ℕ) (o : Outcome)
+      → IsSettledCell net_of live_cells b test model o
+      → IsSettledCell net_of live_cells c test model o
   settled_cell test model o h = record {
     verdict = h.verdict;
     is = verdicts test model ∙ h.is;
     settled = settled_alike h.verdict h.settled;
-    carries = subst (λ (ms : List (Memo NodeContent)). Carries outcome_in ms h.verdict o) (sym memos) h.carries;
+    carries =
+        subst (λ (ms : List (Memo NodeContent)). Carries outcome_in ms h.verdict o) (sym memos)
+        h.carries;
   }
 
-  open_cell : (test model : List ℕ) → IsOpenCell net_of live_cells b test model → IsOpenCell net_of live_cells c test model
+  open_cell : (test model : List ℕ) → IsOpenCell net_of live_cells b test model
+      → IsOpenCell net_of live_cells c test model
   open_cell test model h = record {
     verdict = h.verdict;
     is = verdicts test model ∙ h.is;
     unsettled = λ s. h.unsettled (settled_before h.verdict s);
   }
 
-  shown_alike : (test model : List ℕ) (shown : Shown Outcome) → IsShown net_of live_cells b test model shown → IsShown net_of live_cells c test model shown
+  shown_alike : (test model : List ℕ) (shown : Shown Outcome)
+      → IsShown net_of live_cells b test model shown → IsShown net_of live_cells c test model shown
   shown_alike test model (Settled o) h = settled_cell test model o.now h
   shown_alike test model Open h = open_cell test model h
   shown_alike test model NoCell h = verdicts test model ∙ h
@@ -62,7 +72,8 @@ refused_changes_nothing events start old new s run step =
       claims = step.claims;
       taken = step.taken;
       cells = λ test model shown. (
-        (λ is. shown_alike new old (sym nodes) (sym step.memos) (λ t m. sym (verdicts t m)) test model shown is),
+        (λ is. shown_alike new old (sym nodes) (sym step.memos) (λ t m. sym (verdicts t m)) test
+            model shown is),
         (λ is. shown_alike old new nodes step.memos verdicts test model shown is),
       );
     }

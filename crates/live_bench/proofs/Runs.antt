@@ -28,14 +28,20 @@ pub has_ranks : HasRanks live_meaning (λ t. rank t.parts.table)
 has_ranks = record { falls = ranks_fall; used_closed = used_closed }
 
 -- they are sound, and what is kept of computations is right
-pub right_after : (events : List (Event Edit NodeContent GivenContent)) (start end : LiveState) → IsStart IsSound net_of start → Run live_meaning start events end → IsSound end.texts × RightState (counted live_meaning end.texts) (state_in live_meaning end)
-right_after events start end s run = run_right live_meaning kept events start end (s.valid, record { each = rw s.no_memos tt; parts = s.parts }) run
+pub right_after : (events : List (Event Edit NodeContent GivenContent)) (start end : LiveState)
+    → IsStart IsSound net_of start → Run live_meaning start events end
+    → IsSound end.texts × RightState (counted live_meaning end.texts) (state_in live_meaning end)
+right_after events start end s run =
+    run_right live_meaning kept events start end
+    (s.valid, record { each = rw s.no_memos tt; parts = s.parts }) run
 
-pub sound_after : (events : List (Event Edit NodeContent GivenContent)) (start end : LiveState) → IsStart IsSound net_of start → Run live_meaning start events end → IsSound end.texts
+pub sound_after : (events : List (Event Edit NodeContent GivenContent)) (start end : LiveState)
+    → IsStart IsSound net_of start → Run live_meaning start events end → IsSound end.texts
 sound_after events start end s run = (right_after events start end s run).0
 
 -- a cell that is settled carries what evaluating from nothing gives
 pub settled_from_scratch : SettledCellIsFromScratch live_meaning live_cells
 settled_from_scratch =
     from_scratch_after live_meaning live_cells IsThere
-    (record { kept = kept; sound = texts_are_sound; there = used_there; closed = used_closed }) cells_solved
+    (record { kept = kept; sound = texts_are_sound; there = used_there; closed = used_closed })
+    cells_solved

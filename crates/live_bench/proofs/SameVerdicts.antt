@@ -48,36 +48,45 @@ models_both [] more = refl
 models_both (s ∷ ss) more = one (is_verdict s.kind) (models_both ss more)
   where
     one : (b : Bool) → models_of (ss ++ more) ≡ models_of ss ++ models_of more
-        → (if b then s.of ∷ models_of (ss ++ more) else models_of (ss ++ more)) ≡ (if b then s.of ∷ models_of ss else models_of ss) ++ models_of more
+        → (if b then s.of ∷ models_of (ss ++ more) else models_of (ss ++ more))
+        ≡ (if b then s.of ∷ models_of ss else models_of ss) ++ models_of more
     one true rest = ap (λ (is : List ℕ). s.of ∷ is) rest
     one false rest = rest
 
-role_models : (role : Role) (own : ℕ) (keys : List SlotKey) → models_of (slots_of role own keys) ≡ []
+role_models : (role : Role) (own : ℕ) (keys : List SlotKey)
+    → models_of (slots_of role own keys) ≡ []
 role_models (roles.Group recursive bodies) own keys = refl
 role_models (roles.Check check) own keys = refl
 role_models roles.Silent own keys = refl
 
-item_models : (past : ℕ → List SeenName) (numbers : List ℕ) (items : List ResolvedItem) (own : ℕ) (r : Option ResolvedItem) → models_of (item_slots past numbers items own r) ≡ []
+item_models : (past : ℕ → List SeenName) (numbers : List ℕ) (items : List ResolvedItem) (own : ℕ)
+    (r : Option ResolvedItem) → models_of (item_slots past numbers items own r) ≡ []
 item_models past numbers items own None = refl
 item_models past numbers items own (Some r) = role_models r.role own _
 
-used_models : (past : ℕ → List SeenName) (numbers : List ℕ) (items : List ResolvedItem) (is : List ℕ) → models_of (used_slots past numbers items is) ≡ []
+used_models : (past : ℕ → List SeenName) (numbers : List ℕ) (items : List ResolvedItem)
+    (is : List ℕ) → models_of (used_slots past numbers items is) ≡ []
 used_models past numbers items [] = refl
 used_models past numbers items (i ∷ is) =
-    models_both (item_slots past numbers items (number_at numbers i) (slice_get items i)) (used_slots past numbers items is)
-    ∙ ap (λ (ms : List ℕ). ms ++ models_of (used_slots past numbers items is)) (item_models past numbers items (number_at numbers i) (slice_get items i))
+    models_both (item_slots past numbers items (number_at numbers i) (slice_get items i))
+    (used_slots past numbers items is)
+    ∙ ap (λ (ms : List ℕ). ms ++ models_of (used_slots past numbers items is))
+    (item_models past numbers items (number_at numbers i) (slice_get items i))
     ∙ used_models past numbers items is
 
 abbrev id_of : ModelReading → ℕ
 id_of (Sound id numbers items used) = id
 id_of (Faulty id fault) = id
 
-model_models : (past : ℕ → List SeenName) (m : ModelReading) → models_of (slots_in past m) ≡ id_of m ∷ []
+model_models : (past : ℕ → List SeenName) (m : ModelReading)
+    → models_of (slots_in past m) ≡ id_of m ∷ []
 model_models past (Sound id numbers items used) =
-    models_both (used_slots past numbers items used) _ ∙ ap (λ (ms : List ℕ). ms ++ id ∷ []) (used_models past numbers items used)
+    models_both (used_slots past numbers items used) _ ∙ ap (λ (ms : List ℕ). ms ++ id ∷ [])
+    (used_models past numbers items used)
 model_models past (Faulty id fault) = refl
 
-each_model : (past : ℕ → List SeenName) (ms : List ModelReading) → models_of (flat_map (slots_in past) ms) ≡ map id_of ms
+each_model : (past : ℕ → List SeenName) (ms : List ModelReading)
+    → models_of (flat_map (slots_in past) ms) ≡ map id_of ms
 each_model past [] = refl
 each_model past (m ∷ ms) =
     models_both (slots_in past m) (flat_map (slots_in past) ms)
@@ -89,7 +98,8 @@ space_models [] = refl
 space_models (Sound id numbers items used ∷ ms) = refl
 space_models (Faulty id fault ∷ ms) = space_models ms
 
-all_models : (past : ℕ → List SeenName) (ms : List ModelReading) → models_of (all_slots past ms) ≡ map id_of ms
+all_models : (past : ℕ → List SeenName) (ms : List ModelReading)
+    → models_of (all_slots past ms) ≡ map id_of ms
 all_models past ms =
     models_both (space_slots ms) (flat_map (slots_in past) ms)
     ∙ ap (λ (is : List ℕ). is ++ models_of (flat_map (slots_in past) ms)) (space_models ms)
@@ -99,11 +109,13 @@ all_models past ms =
 abbrev model_ids : List ModelRow → List ℕ
 model_ids rs = map (λ r. r.id) rs
 
-id_read : (id : ℕ) (numbers : List ℕ) (reading : Reading) → id_of (reading_by id numbers reading) ≡ id
+id_read : (id : ℕ) (numbers : List ℕ) (reading : Reading)
+    → id_of (reading_by id numbers reading) ≡ id
 id_read id numbers (readings.Sound resolved used) = refl
 id_read id numbers (readings.Faulty fault) = refl
 
-ids_read : (rs : List ModelRow) (ms : List NamedModel) → length rs ≡ length ms → map id_of (readings_of rs ms) ≡ model_ids rs
+ids_read : (rs : List ModelRow) (ms : List NamedModel) → length rs ≡ length ms
+    → map id_of (readings_of rs ms) ≡ model_ids rs
 ids_read [] ms l = refl
 ids_read (r ∷ rs) [] l = absurd (omega (arith, l))
 ids_read (r ∷ rs) (m ∷ ms) l =
@@ -121,7 +133,8 @@ verdicts_both [] more = refl
 verdicts_both (n ∷ ns) more = one (is_verdict n.kind) (verdicts_both ns more)
   where
     one : (b : Bool) → verdicts (ns ++ more) ≡ verdicts ns ++ verdicts more
-        → (if b then n ∷ verdicts (ns ++ more) else verdicts (ns ++ more)) ≡ (if b then n ∷ verdicts ns else verdicts ns) ++ verdicts more
+        → (if b then n ∷ verdicts (ns ++ more) else verdicts (ns ++ more))
+        ≡ (if b then n ∷ verdicts ns else verdicts ns) ++ verdicts more
     one true rest = ap (λ (ms : List Node). n ∷ ms) rest
     one false rest = rest
 
@@ -129,27 +142,33 @@ abbrev verdict : ℕ → ℕ → Node
 verdict test model = record { kind = kinds.Verdict; test = test; of = model }
 
 one_verdict : (k : Kind) (test of : ℕ) (ns : List Node) (is : List ℕ) → ns ≡ map (verdict test) is
-    → (if is_verdict k then record { kind = k; test = test; of = of } ∷ ns else ns) ≡ map (verdict test) (if is_verdict k then of ∷ is else is)
+    → (if is_verdict k then record { kind = k; test = test; of = of } ∷ ns else ns)
+    ≡ map (verdict test) (if is_verdict k then of ∷ is else is)
 one_verdict kinds.Space test of ns is e = e
 one_verdict kinds.Group test of ns is e = e
 one_verdict kinds.Check test of ns is e = e
 one_verdict kinds.Verdict test of ns is e = ap (λ (ms : List Node). verdict test of ∷ ms) e
 
-test_verdicts : (ss : List Slot) (test : ℕ) → verdicts (nodes_at ss test) ≡ map (verdict test) (models_of (map plain ss))
+test_verdicts : (ss : List Slot) (test : ℕ)
+    → verdicts (nodes_at ss test) ≡ map (verdict test) (models_of (map plain ss))
 test_verdicts [] test = refl
-test_verdicts (s ∷ ss) test = one_verdict s.kind test s.of (verdicts (nodes_at ss test)) (models_of (map plain ss)) (test_verdicts ss test)
+test_verdicts (s ∷ ss) test =
+    one_verdict s.kind test s.of (verdicts (nodes_at ss test)) (models_of (map plain ss))
+    (test_verdicts ss test)
 
 -- a row of verdicts for each test
 abbrev all_verdicts : List TestRow → List ℕ → List Node
 all_verdicts [] is = []
 all_verdicts (r ∷ rs) is = map (verdict r.id) is ++ all_verdicts rs is
 
-used_verdicts : (ss : List Slot) (rs : List TestRow) → verdicts (used_in ss rs) ≡ all_verdicts rs (models_of (map plain ss))
+used_verdicts : (ss : List Slot) (rs : List TestRow)
+    → verdicts (used_in ss rs) ≡ all_verdicts rs (models_of (map plain ss))
 used_verdicts ss [] = refl
 used_verdicts ss (r ∷ rs) =
     verdicts_both (nodes_at ss r.id) (used_in ss rs)
     ∙ ap (λ (ns : List Node). ns ++ verdicts (used_in ss rs)) (test_verdicts ss r.id)
-    ∙ ap (λ (ns : List Node). map (verdict r.id) (models_of (map plain ss)) ++ ns) (used_verdicts ss rs)
+    ∙ ap (λ (ns : List Node). map (verdict r.id) (models_of (map plain ss)) ++ ns)
+    (used_verdicts ss rs)
 
 -- ---- equal lists have equal rows
 
@@ -159,7 +178,8 @@ heads e = cc
 tails : {X : Type 0} {x y : X} {xs ys : List X} → x ∷ xs ≡ y ∷ ys → xs ≡ ys
 tails e = cc
 
-split : {X : Type 0} (xs ys zs ws : List X) → length xs ≡ length zs → xs ++ ys ≡ zs ++ ws → (xs ≡ zs) × (ys ≡ ws)
+split : {X : Type 0} (xs ys zs ws : List X) → length xs ≡ length zs → xs ++ ys ≡ zs ++ ws
+    → (xs ≡ zs) × (ys ≡ ws)
 split [] ys [] ws l e = (refl, e)
 split [] ys (z ∷ zs) ws l e = absurd (omega (arith, l))
 split (x ∷ xs) ys [] ws l e = absurd (omega (arith, l))
@@ -170,7 +190,8 @@ split {X} (x ∷ xs) ys (z ∷ zs) ws l e =
 abbrev rows : List TestRow → List ℕ → List (List Node)
 rows rs is = map (λ r. map (verdict r.id) is) rs
 
-same_rows : (is js : List ℕ) (rs qs : List TestRow) → length is ≡ length js → length rs ≡ length qs → all_verdicts rs is ≡ all_verdicts qs js → rows rs is ≡ rows qs js
+same_rows : (is js : List ℕ) (rs qs : List TestRow) → length is ≡ length js → length rs ≡ length qs
+    → all_verdicts rs is ≡ all_verdicts qs js → rows rs is ≡ rows qs js
 same_rows is js [] [] l m e = refl
 same_rows is js [] (q ∷ qs) l m e = absurd (omega (arith, m))
 same_rows is js (r ∷ rs) [] l m e = absurd (omega (arith, m))
@@ -179,7 +200,8 @@ same_rows is js (r ∷ rs) (q ∷ qs) l m e =
     let other = length-map js (verdict q.id) in
     let parts = split (map (verdict r.id) is) (all_verdicts rs is) (map (verdict q.id) js) (all_verdicts qs js) (omega (arith, l, one, other)) e in
     ap (λ (ns : List Node). ns ∷ rows rs is) parts.0
-    ∙ ap (λ (nss : List (List Node)). map (verdict q.id) js ∷ nss) (same_rows is js rs qs l (omega (arith, m)) parts.1)
+    ∙ ap (λ (nss : List (List Node)). map (verdict q.id) js ∷ nss)
+    (same_rows is js rs qs l (omega (arith, m)) parts.1)
 
 -- ---- the verdict of a test and a model
 
@@ -187,25 +209,32 @@ abbrev at_both : Option (List Node) → ℕ → Option Node
 at_both None j = None
 at_both (Some ns) j = slice_get ns j
 
-by_row : (r : TestRow) (m : Option ModelRow) → verdict_by (Some r) m ≡ option_map (verdict r.id) (option_map (λ (m : ModelRow). m.id) m)
+by_row : (r : TestRow) (m : Option ModelRow)
+    → verdict_by (Some r) m ≡ option_map (verdict r.id) (option_map (λ (m : ModelRow). m.id) m)
 by_row r None = refl
 by_row r (Some m) = refl
 
-by_rows : (r : Option TestRow) (ms : List ModelRow) (j : ℕ) → verdict_by r (slice_get ms j) ≡ at_both (option_map (λ (r : TestRow). map (verdict r.id) (model_ids ms)) r) j
+by_rows : (r : Option TestRow) (ms : List ModelRow) (j : ℕ)
+    → verdict_by r (slice_get ms j)
+    ≡ at_both (option_map (λ (r : TestRow). map (verdict r.id) (model_ids ms)) r) j
 by_rows None ms j = refl
 by_rows (Some r) ms j =
     by_row r (slice_get ms j)
     ∙ ap (option_map (verdict r.id)) (sym (slice_get-map (λ (m : ModelRow). m.id) ms j))
     ∙ sym (slice_get-map (verdict r.id) (model_ids ms) j)
 
-verdict_at : (rs : List TestRow) (ms : List ModelRow) (i j : ℕ) → verdict_by (slice_get rs i) (slice_get ms j) ≡ at_both (slice_get (rows rs (model_ids ms)) i) j
+verdict_at : (rs : List TestRow) (ms : List ModelRow) (i j : ℕ)
+    → verdict_by (slice_get rs i) (slice_get ms j)
+    ≡ at_both (slice_get (rows rs (model_ids ms)) i) j
 verdict_at rs ms i j =
     by_rows (slice_get rs i) ms j
-    ∙ ap (λ (o : Option (List Node)). at_both o j) (sym (slice_get-map (λ (r : TestRow). map (verdict r.id) (model_ids ms)) rs i))
+    ∙ ap (λ (o : Option (List Node)). at_both o j) (sym (slice_get-map
+    (λ (r : TestRow). map (verdict r.id) (model_ids ms)) rs i))
 
 -- ---- texts
 
-row_count : (last : ℕ) (rs : List TestRow) (ts : List Test) (ls : List (Vec (List ℕ) Global)) → AreTestRows last rs ts ls → length rs ≡ length ts
+row_count : (last : ℕ) (rs : List TestRow) (ts : List Test) (ls : List (Vec (List ℕ) Global))
+    → AreTestRows last rs ts ls → length rs ≡ length ts
 row_count last [] [] [] all = refl
 row_count last [] [] (l ∷ ls) all = absurd all
 row_count last [] (t ∷ ts) [] all = absurd all
@@ -213,18 +242,24 @@ row_count last [] (t ∷ ts) (l ∷ ls) all = absurd all
 row_count last (r ∷ rs) [] [] all = absurd all
 row_count last (r ∷ rs) [] (l ∷ ls) all = absurd all
 row_count last (r ∷ rs) (t ∷ ts) [] all = absurd all
-row_count last (r ∷ rs) (t ∷ ts) (l ∷ ls) all = let more = row_count last rs ts ls all.1 in omega (arith, more)
+row_count last (r ∷ rs) (t ∷ ts) (l ∷ ls) all =
+    let more = row_count last rs ts ls all.1 in omega (arith, more)
 
-verdicts_of : (t : StampedTexts) → IsSound t → verdicts (used t.parts.table) ≡ all_verdicts t.parts.table.tests.items (model_ids t.parts.table.models.items)
+verdicts_of : (t : StampedTexts) → IsSound t
+    → verdicts (used t.parts.table)
+    ≡ all_verdicts t.parts.table.tests.items (model_ids t.parts.table.models.items)
 verdicts_of t sound =
     let parts = sound.parts_are in
     let table = t.parts.table in
     let read = readings_of table.models.items t.texts.models.items in
     used_verdicts table.slots.items table.tests.items
     ∙ ap (λ (is : List ℕ). all_verdicts table.tests.items is)
-    (ap models_of (parts.built).slots ∙ all_models (histories (state_of t)) read ∙ ids_read table.models.items t.texts.models.items parts.each_model)
+    (ap models_of (parts.built).slots ∙ all_models (histories (state_of t)) read ∙ ids_read
+    table.models.items t.texts.models.items parts.each_model)
 
-pub same_verdicts : (t u : StampedTexts) → IsSound t → IsSound u → HasTextsOf t u → used u.parts.table ≡ used t.parts.table → (test model : List ℕ) → verdict_of u test model ≡ verdict_of t test model
+pub same_verdicts : (t u : StampedTexts) → IsSound t → IsSound u → HasTextsOf t u
+    → used u.parts.table ≡ used t.parts.table → (test model : List ℕ)
+    → verdict_of u test model ≡ verdict_of t test model
 same_verdicts t u sound later same nodes test model =
     let rs = t.parts.table.tests.items in
     let ms = t.parts.table.models.items in
@@ -240,7 +275,9 @@ same_verdicts t u sound later same nodes test model =
     let alike = same_rows (model_ids ns) (model_ids ms) qs rs (here ∙ models ∙ sym there) tests all in
     let i : ℕ = test_index test (texts_of t.texts).tests in
     let j : ℕ = model_index model (texts_of t.texts).models in
-    ap (λ (b : BenchTexts). verdict_by (slice_get qs (test_index test b.tests)) (slice_get ns (model_index model b.models))) same.texts
+    ap
+    (λ (b : BenchTexts). verdict_by (slice_get qs (test_index test b.tests))
+    (slice_get ns (model_index model b.models))) same.texts
     ∙ verdict_at qs ns i j
     ∙ ap (λ (nss : List (List Node)). at_both (slice_get nss i) j) alike
     ∙ sym (verdict_at rs ms i j)

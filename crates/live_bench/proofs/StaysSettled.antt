@@ -20,14 +20,18 @@ use Rattle.live_bench.proofs.CellLists.{put_same, put_other}
 use Rattle.live_bench.proofs.Openings.{fold_last, made_beginning, keeps_unreached, named_after, shown_at}
 
 -- a cell that is settled is settled after another, or the same, is
-still_settled : (rows : List RowContent) (i j k l : ℕ) (p o : Outcome) → cell_at rows k l ≡ Some (Some o) → (q : Outcome) × (cell_at (put_cell i j (Some p) rows) k l ≡ Some (Some q))
+still_settled : (rows : List RowContent) (i j k l : ℕ) (p o : Outcome)
+    → cell_at rows k l ≡ Some (Some o)
+    → (q : Outcome) × (cell_at (put_cell i j (Some p) rows) k l ≡ Some (Some q))
 still_settled rows i j k l p o e = elim (cases_Bool (i == k)) [
   | inl t ↦ elim (cases_Bool (j == l)) [
     | inl m ↦ (let tests = eqb-true i k t in let models = eqb-true j l m in (
       p,
       subst (λ (n : ℕ). cell_at (put_cell i j (Some p) rows) n l ≡ Some (Some p)) tests
           (subst (λ (n : ℕ). cell_at (put_cell i j (Some p) rows) i n ≡ Some (Some p)) models
-          (put_same j (Some p) i rows (Some o) (subst (λ (n : ℕ). cell_at rows i n ≡ Some (Some o)) (sym models) (subst (λ (n : ℕ). cell_at rows n l ≡ Some (Some o)) (sym tests) e)))),
+          (put_same j (Some p) i rows (Some o) (subst (λ (n : ℕ). cell_at rows i n ≡ Some (Some o))
+          (sym models) (subst (λ (n : ℕ). cell_at rows n l ≡ Some (Some o)) (sym tests)
+          e)))),
     ))
     | inr m ↦ (o, put_other j (Some p) i rows k l (λ f g. eqb-false j l m g) ∙ e)
   ]
@@ -35,18 +39,25 @@ still_settled rows i j k l p o e = elim (cases_Bool (i == k)) [
 ]
 
 -- a cell that is shown as settled is a settled one
-settled_cell : (c : Option (Option Outcome)) (o : Outcome) → shown_cell c ≡ Settled o → c ≡ Some (Some o)
+settled_cell : (c : Option (Option Outcome)) (o : Outcome) → shown_cell c ≡ Settled o
+    → c ≡ Some (Some o)
 settled_cell None o e = cc
 settled_cell (Some None) o e = cc
 settled_cell (Some (Some p)) o e = cc
 
 beginning : (ops others : List BoardOp) → IsHistory (ops ++ others) → IsHistory ops
-beginning ops others history = (beginning_is_legal ops others nothing_held 0 history.0, made_beginning ops others no_contents history.1)
+beginning ops others history = (
+  beginning_is_legal ops others nothing_held 0 history.0,
+  made_beginning ops others no_contents history.1,
+)
 
-result_shown : (h : Held) (test model : List ℕ) (c : Cell) (o : Outcome) → IsRightCell h test model c → c ≡ Settled o → IsResultIn h test model o
+result_shown : (h : Held) (test model : List ℕ) (c : Cell) (o : Outcome)
+    → IsRightCell h test model c → c ≡ Settled o → IsResultIn h test model o
 result_shown h test model c o right e = subst (λ (x : Cell). IsRightCell h test model x) e right
 
-module _ (ops : List BoardOp) (at : CellIndex) (outcome : _) (history : IsHistory (ops ++ Settle at outcome ∷ [])) (test model : List ℕ) (o : Outcome) (was : shown (board_after ops) test model ≡ Settled o) where
+module _ (ops : List BoardOp) (at : CellIndex) (outcome : _)
+    (history : IsHistory (ops ++ Settle at outcome ∷ [])) (test model : List ℕ) (o : Outcome)
+    (was : shown (board_after ops) test model ≡ Settled o) where
   abbrev after : List BoardOp
   after = ops ++ Settle at outcome ∷ []
 
@@ -62,11 +73,19 @@ module _ (ops : List BoardOp) (at : CellIndex) (outcome : _) (history : IsHistor
   board_is : board_after after ≡ after_operation (board_after ops) (Settle at outcome)
   board_is = fold_last after_operation ops (Settle at outcome) no_board
 
-  moved : shown (board_after after) test model ≡ shown_cell (cell_at (put_cell at.test at.model (Some (arc_value outcome)) (board_after ops).rows) (test_at h test) (model_at h model))
+  moved : shown (board_after after) test model
+      ≡ shown_cell (cell_at
+      (put_cell at.test at.model (Some (arc_value outcome)) (board_after ops).rows)
+      (test_at h test) (model_at h model))
   moved =
       shown_at (texts_after after) (board_after after) (named_after after history.0) test model
-      ∙ (ap (λ (c : BoardContent). shown_cell (cell_at c.rows (test_at (texts_after after) test) (model_at (texts_after after) model))) board_is
-      ∙ ap (λ (g : Held). shown_cell (cell_at (put_cell at.test at.model (Some (arc_value outcome)) (board_after ops).rows) (test_at g test) (model_at g model))) texts_same)
+      ∙ (ap
+      (λ (c : BoardContent). shown_cell (cell_at c.rows (test_at (texts_after after) test)
+      (model_at (texts_after after) model))) board_is
+      ∙ ap
+      (λ (g : Held). shown_cell (cell_at
+      (put_cell at.test at.model (Some (arc_value outcome)) (board_after ops).rows)
+      (test_at g test) (model_at g model))) texts_same)
 
   -- some outcome is shown
   some_shown : (q : Outcome) × (shown (board_after after) test model ≡ Settled q)
@@ -84,19 +103,28 @@ module _ (ops : List BoardOp) (at : CellIndex) (outcome : _) (history : IsHistor
       let same = one_result h test model some_shown.0 o (subst (λ (g : Held). IsResultIn g test model some_shown.0) texts_same new) old in
       some_shown.1 ∙ ap Settled same
 
-one_stays : (ops : List BoardOp) (op : BoardOp) (test model : List ℕ) (o : Outcome) → IsHistory (ops ++ op ∷ []) → LeavesCell ops op test model → shown (board_after ops) test model ≡ Settled o
+one_stays : (ops : List BoardOp) (op : BoardOp) (test model : List ℕ) (o : Outcome)
+    → IsHistory (ops ++ op ∷ []) → LeavesCell ops op test model
+    → shown (board_after ops) test model ≡ Settled o
     → shown (board_after (ops ++ op ∷ [])) test model ≡ Settled o
-one_stays ops (Edit edit) test model o history leaves was = keeps_unreached ops edit history test model leaves.0 leaves.1 ∙ was
-one_stays ops (Settle at outcome) test model o history leaves was = settle_stays ops at outcome history test model o was
+one_stays ops (Edit edit) test model o history leaves was =
+    keeps_unreached ops edit history test model leaves.0 leaves.1 ∙ was
+one_stays ops (Settle at outcome) test model o history leaves was =
+    settle_stays ops at outcome history test model o was
 
-all_stay : (more ops : List BoardOp) (test model : List ℕ) (o : Outcome) → IsHistory (ops ++ more) → AllLeaveCell ops more test model → shown (board_after ops) test model ≡ Settled o
+all_stay : (more ops : List BoardOp) (test model : List ℕ) (o : Outcome) → IsHistory (ops ++ more)
+    → AllLeaveCell ops more test model → shown (board_after ops) test model ≡ Settled o
     → shown (board_after (ops ++ more)) test model ≡ Settled o
-all_stay [] ops test model o history leaves was = subst (λ (l : List BoardOp). shown (board_after l) test model ≡ Settled o) (sym (append-nil ops)) was
+all_stay [] ops test model o history leaves was =
+    subst (λ (l : List BoardOp). shown (board_after l) test model ≡ Settled o)
+    (sym (append-nil ops)) was
 all_stay (op ∷ more) ops test model o history leaves was =
     let same = append_assoc ops (op ∷ []) more in
     let later : IsHistory ((ops ++ op ∷ []) ++ more) = subst (λ (l : List BoardOp). IsHistory l) (sym same) history in
     let one = one_stays ops op test model o (beginning (ops ++ op ∷ []) more later) leaves.0 was in
-    subst (λ (l : List BoardOp). shown (board_after l) test model ≡ Settled o) same (all_stay more (ops ++ op ∷ []) test model o later leaves.1 one)
+    subst (λ (l : List BoardOp). shown (board_after l) test model ≡ Settled o) same
+    (all_stay more (ops ++ op ∷ []) test model o later leaves.1 one)
 
 pub stays_settled : (ops more : List BoardOp) → IsHistory (ops ++ more) → StaysSettled ops more
-stays_settled ops more history test model o leaves was = all_stay more ops test model o history leaves was
+stays_settled ops more history test model o leaves was =
+    all_stay more ops test model o history leaves was

@@ -23,20 +23,24 @@ later_names : {a b : ℕ × NodeContent} {xs ys : List (ℕ × NodeContent)} →
 later_names e = cc
 
 -- the outputs that have a number go by names among these
-stamped_among : (k : ℕ) (ns : List ℕ) (vs : List NodeContent) (os : List (Made NodeContent)) → named_values os ≡ zip ns vs → Each (Has ns) (names_stamped k os)
+stamped_among : (k : ℕ) (ns : List ℕ) (vs : List NodeContent) (os : List (Made NodeContent))
+    → named_values os ≡ zip ns vs → Each (Has ns) (names_stamped k os)
 stamped_among k ns vs [] e = tt
 stamped_among k [] vs (o ∷ os) e = cc
 stamped_among k (n ∷ ns) [] (o ∷ os) e = cc
 stamped_among k (n ∷ ns) (v ∷ vs) (o ∷ os) e =
-    one (o.stamp == k) (sym (ap (λ (p : ℕ × NodeContent). p.0) (first_of e))) (each_later n ns (names_stamped k os) (stamped_among k ns vs os (later_names e)))
+    one (o.stamp == k) (sym (ap (λ (p : ℕ × NodeContent). p.0) (first_of e)))
+    (each_later n ns (names_stamped k os) (stamped_among k ns vs os (later_names e)))
   where
-    one : (b : Bool) → n ≡ o.name → Each (Has (n ∷ ns)) (names_stamped k os) → Each (Has (n ∷ ns)) (if b then o.name ∷ names_stamped k os else names_stamped k os)
+    one : (b : Bool) → n ≡ o.name → Each (Has (n ∷ ns)) (names_stamped k os)
+        → Each (Has (n ∷ ns)) (if b then o.name ∷ names_stamped k os else names_stamped k os)
     one true is rest = (inl is, rest)
     one false is rest = rest
 
 given_some : (o : Option GivenContent) (g : GivenContent) → is_given o g ≡ true → o ≡ Some g
 given_some None g e = cc
-given_some (Some h) g e = ap (λ (x : GivenContent). let o : Option GivenContent = Some x in o) ((given_exact h g).0 e)
+given_some (Some h) g e =
+    ap (λ (x : GivenContent). let o : Option GivenContent = Some x in o) ((given_exact h g).0 e)
 
 pub returns_tell_outputs : ReturnsTellOutputs
 returns_tell_outputs old new r names h =

@@ -35,13 +35,16 @@ each_has P (y ∷ ys) x all (inl e) = subst P e all.0
 each_has P (y ∷ ys) x all (inr h) = each_has P ys x all.1 h
 
 -- what a settled node stands on is settled
-settled_under : {V G : Type 0} (net : Net G) (ms : List (Memo V)) (steps d : ℕ) (n m : Node) → StandsOnBy steps net n m → IsSettledBy d net ms n → IsSettled net ms m
+settled_under : {V G : Type 0} (net : Net G) (ms : List (Memo V)) (steps d : ℕ) (n m : Node)
+    → StandsOnBy steps net n m → IsSettledBy d net ms n → IsSettled net ms m
 settled_under net ms zero d n m e s = subst (λ (k : Node). IsSettled net ms k) e (d, s)
 settled_under net ms (suc steps) zero n m h s = absurd s
 settled_under net ms (suc steps) (suc d) n m h s =
-    settled_under net ms steps d h.0 m h.2 (each_has (IsSettledBy d net ms) (input_nodes (net.inputs n)) h.0 s.1 h.1)
+    settled_under net ms steps d h.0 m h.2 (each_has (IsSettledBy d net ms)
+    (input_nodes (net.inputs n)) h.0 s.1 h.1)
 
-settled_matches : {V G : Type 0} (net : Net G) (ms : List (Memo V)) (d : ℕ) (n : Node) → IsSettledBy d net ms n → Matches net ms n
+settled_matches : {V G : Type 0} (net : Net G) (ms : List (Memo V)) (d : ℕ) (n : Node)
+    → IsSettledBy d net ms n → Matches net ms n
 settled_matches net ms zero n s = absurd s
 settled_matches net ms (suc d) n s = s.0
 
@@ -60,18 +63,21 @@ record HasParts (c : Option Test) (m : Option NamedModel) : Type 0 where
   test_is : c ≡ Some test
   model_is : m ≡ Some model
 
-parts_there : (c : Option Test) (m : Option NamedModel) (s : Slice) → cell_slice c m ≡ Some s → HasParts c m
+parts_there : (c : Option Test) (m : Option NamedModel) (s : Slice) → cell_slice c m ≡ Some s
+    → HasParts c m
 parts_there None m s e = none_is e
 parts_there (Some c) None s e = none_is e
 parts_there (Some c) (Some m) s e = record { test = c; model = m; test_is = refl; model_is = refl }
 
-slice_there : (c : Option Test) (m : Option NamedModel) (test : Test) (model : NamedModel) → c ≡ Some test → m ≡ Some model → (s : Slice) × (cell_slice c m ≡ Some s)
+slice_there : (c : Option Test) (m : Option NamedModel) (test : Test) (model : NamedModel)
+    → c ≡ Some test → m ≡ Some model → (s : Slice) × (cell_slice c m ≡ Some s)
 slice_there None m test model e f = none_is e
 slice_there (Some c) None test model e f = none_is f
 slice_there (Some c) (Some m) test model e f = (_, refl)
 
 -- where a test and a model are there, they have a verdict
-verdict_there : (t : StampedTexts) (test model : List ℕ) → IsSound t → HasParts (test_of t test) (model_of t model) → (v : Node) × (verdict_of t test model ≡ Some v)
+verdict_there : (t : StampedTexts) (test model : List ℕ) → IsSound t
+    → HasParts (test_of t test) (model_of t model) → (v : Node) × (verdict_of t test model ≡ Some v)
 verdict_there t test model sound parts =
     let i : ℕ = test_index test (texts_of t.texts).tests in
     let j : ℕ = model_index model (texts_of t.texts).models in
@@ -84,11 +90,14 @@ verdict_there t test model sound parts =
 
 -- ---- after an edit
 
-module _ (old new : LiveState) (e : Code) (sound : IsSound old.texts) (step : Step live_meaning old (Edit e) new) (all : AllAreSettled net_of old) (same : HaveSameSlices old.texts new.texts) where
+module _ (old new : LiveState) (e : Code) (sound : IsSound old.texts)
+    (step : Step live_meaning old (Edit e) new) (all : AllAreSettled net_of old)
+    (same : HaveSameSlices old.texts new.texts) where
   sound_now : IsSound new.texts
   sound_now = (step.0).sound sound
 
-  verdict_before : (test model : List ℕ) (v : Node) → verdict_of new.texts test model ≡ Some v → verdict_of old.texts test model ≡ Some v
+  verdict_before : (test model : List ℕ) (v : Node) → verdict_of new.texts test model ≡ Some v
+      → verdict_of old.texts test model ≡ Some v
   verdict_before test model v is =
       let now = cell_in new.texts test model v sound_now is in
       let of = slice_there (test_of new.texts test) (model_of new.texts model) now.of_test now.of_model now.test_is now.model_is in
@@ -97,20 +106,26 @@ module _ (old new : LiveState) (e : Code) (sound : IsSound old.texts) (step : St
       let left = cells_left old.texts new.texts e (old.taken + 1) test model sound step.0 (λ reached. reached (same test model)) was.0 was.1 in
       was.1 ∙ sym left.0 ∙ is
 
-  verdict_settled : (test model : List ℕ) (v : Node) → verdict_of new.texts test model ≡ Some v → IsSettled (net_of new.texts) new.memos v
+  verdict_settled : (test model : List ℕ) (v : Node) → verdict_of new.texts test model ≡ Some v
+      → IsSettled (net_of new.texts) new.memos v
   verdict_settled test model v is =
       let was = verdict_before test model v is in
       let left = cells_left old.texts new.texts e (old.taken + 1) test model sound step.0 (λ reached. reached (same test model)) v was in
-      untouched_edit (λ n. keeps new.texts.parts n) (state_in live_meaning old) (state_in live_meaning new) v step.1 left.1 (all v (verdicts_used old.texts test model v sound was))
+      untouched_edit (λ n. keeps new.texts.parts n) (state_in live_meaning old)
+      (state_in live_meaning new) v step.1 left.1
+      (all v (verdicts_used old.texts test model v sound was))
 
   all_settled : AllAreSettled net_of new
   all_settled n has =
       let need = all_needed new.texts sound_now n has in
       let settled = verdict_settled need.test need.model need.verdict need.is in
-      settled_under (net_of new.texts) new.memos (need.stands).0 settled.0 need.verdict n (need.stands).1 settled.1
+      settled_under (net_of new.texts) new.memos (need.stands).0 settled.0 need.verdict n
+      (need.stands).1 settled.1
 
   no_work : HasNoWork new
-  no_work n work = let s = all_settled n work.used in work.unmatched (settled_matches (net_of new.texts) new.memos s.0 n s.1)
+  no_work n work =
+      let s = all_settled n work.used in
+      work.unmatched (settled_matches (net_of new.texts) new.memos s.0 n s.1)
 
 pub unreached_needs_no_job : UnreachedNeedsNoJob
 unreached_needs_no_job events start old new e s run step all same =

@@ -60,7 +60,8 @@ IsNamed (said.Flagging check label) x = IsLabelled check.negated (Some label) x.
 IsNamed (said.Showing hidden shown) x = Unit {0}
 IsNamed (said.Including path) x = Unit {0}
 
-named_of : (i : code_item.Item) (x : ResolvedItem) → IsLabelledAs i x → IsNamed (values.clause_of i) x
+named_of : (i : code_item.Item) (x : ResolvedItem) → IsLabelledAs i x
+    → IsNamed (values.clause_of i) x
 named_of (items.Let r g) x h = tt
 named_of (items.Function n ps b) x h = tt
 named_of (items.Check c l) x h = h
@@ -68,7 +69,8 @@ named_of (items.Flag c l) x h = h
 named_of (items.Show s t) x h = tt
 named_of (items.Include n) x h = tt
 
-labelled_of : (i : code_item.Item) (x : ResolvedItem) → IsNamed (values.clause_of i) x → IsLabelledAs i x
+labelled_of : (i : code_item.Item) (x : ResolvedItem) → IsNamed (values.clause_of i) x
+    → IsLabelledAs i x
 labelled_of (items.Let r g) x h = tt
 labelled_of (items.Function n ps b) x h = tt
 labelled_of (items.Check c l) x h = h
@@ -76,13 +78,15 @@ labelled_of (items.Flag c l) x h = h
 labelled_of (items.Show s t) x h = tt
 labelled_of (items.Include n) x h = tt
 
-all_named : (is : List code_item.Item) (rs : List ResolvedItem) → AreLabelled is rs → AllZip IsNamed (values.clauses_of is) rs
+all_named : (is : List code_item.Item) (rs : List ResolvedItem) → AreLabelled is rs
+    → AllZip IsNamed (values.clauses_of is) rs
 all_named [] [] h = tt
 all_named [] (r ∷ rs) h = h
 all_named (i ∷ is) [] h = h
 all_named (i ∷ is) (r ∷ rs) h = (named_of i r h.0, all_named is rs h.1)
 
-all_labelled : (is : List code_item.Item) (rs : List ResolvedItem) → AllZip IsNamed (values.clauses_of is) rs → AreLabelled is rs
+all_labelled : (is : List code_item.Item) (rs : List ResolvedItem)
+    → AllZip IsNamed (values.clauses_of is) rs → AreLabelled is rs
 all_labelled [] [] h = tt
 all_labelled [] (r ∷ rs) h = h
 all_labelled (i ∷ is) [] h = h
@@ -90,23 +94,42 @@ all_labelled (i ∷ is) (r ∷ rs) h = (labelled_of i r h.0, all_labelled is rs 
 
 -- ---- models
 
-module _ (model other : ModelText) (same : values.clauses_of model.items.items ≡ values.clauses_of other.items.items) where
+module _ (model other : ModelText)
+    (same : values.clauses_of model.items.items ≡ values.clauses_of other.items.items) where
   clauses : map clause_of model.items.items ≡ map clause_of other.items.items
-  clauses = sym (all_clauses model.items.items) ∙ (ap (map clause_by) same ∙ all_clauses other.items.items)
+  clauses =
+      sym (all_clauses model.items.items) ∙
+      (ap (map clause_by) same ∙ all_clauses other.items.items)
 
-  labels : (rs : List ResolvedItem) → AreLabelled model.items.items rs → AreLabelled other.items.items rs
-  labels rs h = all_labelled other.items.items rs (subst (λ (cs : List said.Clause). AllZip IsNamed cs rs) same (all_named model.items.items rs h))
+  labels : (rs : List ResolvedItem) → AreLabelled model.items.items rs
+      → AreLabelled other.items.items rs
+  labels rs h =
+      all_labelled other.items.items rs (subst (λ (cs : List said.Clause). AllZip IsNamed cs rs)
+      same (all_named model.items.items rs h))
 
   moved : (test : Test) (r : OutcomeResult) → IsResultOf test model r → IsResultOf test other r
-  moved test (Refused (refusals.Model k)) h = subst (λ (cs : List Clause). FirstFault [] outermost 0 cs k) clauses h
-  moved test (Refused (refusals.Space r)) h = (subst (λ (cs : List Clause). HasNoFault [] outermost 0 cs) clauses h.0, h.1)
+  moved test (Refused (refusals.Model k)) h =
+      subst (λ (cs : List Clause). FirstFault [] outermost 0 cs k) clauses h
+  moved test (Refused (refusals.Space r)) h =
+      (subst (λ (cs : List Clause). HasNoFault [] outermost 0 cs) clauses h.0, h.1)
   moved test (Evaluated e) h = (
     subst (λ (cs : List Clause). HasNoFault [] outermost 0 cs) clauses h.0,
-    (h.1.0, (subst (λ (cs : List Clause). AreResolved [] [] outermost 0 cs h.1.0) clauses h.1.1.0, labels h.1.0 h.1.1.1), h.1.2, h.1.3, h.1.4),
+    (
+      h.1.0,
+      (
+        subst (λ (cs : List Clause). AreResolved [] [] outermost 0 cs h.1.0) clauses h.1.1.0,
+        labels h.1.0 h.1.1.1,
+      ),
+      h.1.2,
+      h.1.3,
+      h.1.4,
+    ),
   )
 
-  pub equal_models : (test : Test) (o : Outcome) → IsFromScratch test model o → IsFromScratch test other o
-  equal_models test o h = record { kind = h.kind; condition = h.condition; result = moved test o.result h.result }
+  pub equal_models : (test : Test) (o : Outcome) → IsFromScratch test model o
+      → IsFromScratch test other o
+  equal_models test o h =
+      record { kind = h.kind; condition = h.condition; result = moved test o.result h.result }
 
 pub one_outcome_said : (test : Content) (model : PlainModel) → HasOneOutcome test model
 one_outcome_said test model o p h g =

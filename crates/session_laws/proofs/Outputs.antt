@@ -23,36 +23,53 @@ record AreOne (a b : Said) (after later : BenchTexts) : Type 0 where
   answer : a ≡ b
   texts : after ≡ later
 
-one_edited : (t : BenchTexts) (e : Edit) (a b : Said) (after later : BenchTexts) → AreFew t.tests → IsEdited t e a after → IsEdited t e b later → AreOne a b after later
-one_edited t e a b after later few (IsAccepted h x) (IsAccepted k y) = record { answer = x ∙ sym y; texts = one_made t e after later few h.makes k.makes }
-one_edited t e a b after later few (IsAccepted h x) (IsRefused fault is k y z) = absurd (not_both t few e after fault is h k)
-one_edited t e a b after later few (IsRefused fault is k y z) (IsAccepted h x) = absurd (not_both t few e later fault is h k)
+one_edited : (t : BenchTexts) (e : Edit) (a b : Said) (after later : BenchTexts) → AreFew t.tests
+    → IsEdited t e a after → IsEdited t e b later → AreOne a b after later
+one_edited t e a b after later few (IsAccepted h x) (IsAccepted k y) =
+    record { answer = x ∙ sym y; texts = one_made t e after later few h.makes k.makes }
+one_edited t e a b after later few (IsAccepted h x) (IsRefused fault is k y z) =
+    absurd (not_both t few e after fault is h k)
+one_edited t e a b after later few (IsRefused fault is k y z) (IsAccepted h x) =
+    absurd (not_both t few e later fault is h k)
 one_edited t e a b after later few (IsRefused fault is h x w) (IsRefused other so k y z) =
     record { answer = x ∙ ap (λ (f : EditFault). denied (fault_line f)) (one_refusal t few e fault other is so h k) ∙ sym y; texts = w ∙ sym z }
 
-one_asked : (t : BenchTexts) (q : Asked) (a b : Said) (after later : BenchTexts) → AreFew t.tests → IsAsked t q a after → IsAsked t q b later → AreOne a b after later
+one_asked : (t : BenchTexts) (q : Asked) (a b : Said) (after later : BenchTexts) → AreFew t.tests
+    → IsAsked t q a after → IsAsked t q b later → AreOne a b after later
 one_asked t (Editing e) a b after later few h k = one_edited t e a b after later few h k
-one_asked t (Asking q) a b after later few h k = record { answer = one_reply t q a b h.0 k.0; texts = h.1 ∙ sym k.1 }
+one_asked t (Asking q) a b after later few h k =
+    record { answer = one_reply t q a b h.0 k.0; texts = h.1 ∙ sym k.1 }
 
-one_answered : (t : BenchTexts) (c : Command) (a b : Said) (after later : BenchTexts) → AreFew t.tests → IsAnswered t c a after → IsAnswered t c b later → AreOne a b after later
-one_answered t (commands.Refused rule) a b after later few h k = record { answer = h.0 ∙ sym k.0; texts = h.1 ∙ sym k.1 }
-one_answered t (commands.Asked request text) a b after later few h k = one_asked t (asked_in request text) a b after later few h k
+one_answered : (t : BenchTexts) (c : Command) (a b : Said) (after later : BenchTexts)
+    → AreFew t.tests → IsAnswered t c a after → IsAnswered t c b later → AreOne a b after later
+one_answered t (commands.Refused rule) a b after later few h k =
+    record { answer = h.0 ∙ sym k.0; texts = h.1 ∙ sym k.1 }
+one_answered t (commands.Asked request text) a b after later few h k =
+    one_asked t (asked_in request text) a b after later few h k
 
-few_edited : (t : BenchTexts) (e : Edit) (a : Said) (after : BenchTexts) → AreFew t.tests → IsEdited t e a after → AreFew after.tests
+few_edited : (t : BenchTexts) (e : Edit) (a : Said) (after : BenchTexts) → AreFew t.tests
+    → IsEdited t e a after → AreFew after.tests
 few_edited t e a after few (IsAccepted h x) = few_made t e after h.all_there few h.makes
-few_edited t e a after few (IsRefused fault is k y z) = subst (λ (u : BenchTexts). AreFew u.tests) (sym z) few
+few_edited t e a after few (IsRefused fault is k y z) =
+    subst (λ (u : BenchTexts). AreFew u.tests) (sym z) few
 
-few_asked : (t : BenchTexts) (q : Asked) (a : Said) (after : BenchTexts) → AreFew t.tests → IsAsked t q a after → AreFew after.tests
+few_asked : (t : BenchTexts) (q : Asked) (a : Said) (after : BenchTexts) → AreFew t.tests
+    → IsAsked t q a after → AreFew after.tests
 few_asked t (Editing e) a after few h = few_edited t e a after few h
 few_asked t (Asking q) a after few h = subst (λ (u : BenchTexts). AreFew u.tests) (sym h.1) few
 
-few_answered : (t : BenchTexts) (c : Command) (a : Said) (after : BenchTexts) → AreFew t.tests → IsAnswered t c a after → AreFew after.tests
-few_answered t (commands.Refused rule) a after few h = subst (λ (u : BenchTexts). AreFew u.tests) (sym h.1) few
-few_answered t (commands.Asked request text) a after few h = few_asked t (asked_in request text) a after few h
+few_answered : (t : BenchTexts) (c : Command) (a : Said) (after : BenchTexts) → AreFew t.tests
+    → IsAnswered t c a after → AreFew after.tests
+few_answered t (commands.Refused rule) a after few h =
+    subst (λ (u : BenchTexts). AreFew u.tests) (sym h.1) few
+few_answered t (commands.Asked request text) a after few h =
+    few_asked t (asked_in request text) a after few h
 
-few_output : (cs : List Command) (text : List ℕ) (r : Bool) (t : BenchTexts) → IsOutput cs text r t → AreFew t.tests
+few_output : (cs : List Command) (text : List ℕ) (r : Bool) (t : BenchTexts) → IsOutput cs text r t
+    → AreFew t.tests
 few_output cs text r t Nothing = tt
-few_output cs text r t (OneMore front before refused texts c said after h answer) = few_answered texts c said after (few_output front before refused texts h) answer
+few_output cs text r t (OneMore front before refused texts c said after h answer) =
+    few_answered texts c said after (few_output front before refused texts h) answer
 
 -- ---- commands
 
@@ -64,10 +81,13 @@ no_command : (cs : List Command) (c : Command) → [] ≡ (cs ++ c ∷ []) → �
 no_command [] c e = absurd cc
 no_command (d ∷ cs) c e = absurd cc
 
-last_one : (front other : List Command) (c d : Command) → (front ++ c ∷ []) ≡ (other ++ d ∷ []) → AreSplit front other c d
+last_one : (front other : List Command) (c d : Command) → (front ++ c ∷ []) ≡ (other ++ d ∷ [])
+    → AreSplit front other c d
 last_one [] [] c d e = record { fronts = refl; ends = cc }
-last_one [] (x ∷ other) c d e = absurd (no_command other d (let h : [] ≡ (other ++ d ∷ []) = cc in h))
-last_one (x ∷ front) [] c d e = absurd (no_command front c (let h : [] ≡ (front ++ c ∷ []) = cc in h))
+last_one [] (x ∷ other) c d e =
+    absurd (no_command other d (let h : [] ≡ (other ++ d ∷ []) = cc in h))
+last_one (x ∷ front) [] c d e =
+    absurd (no_command front c (let h : [] ≡ (front ++ c ∷ []) = cc in h))
 last_one (x ∷ front) (y ∷ other) c d e =
     let heads : x ≡ y = cc in
     let rest : (front ++ c ∷ []) ≡ (other ++ d ∷ []) = cc in
@@ -81,28 +101,40 @@ record IsOne (a b : List ℕ) (p q : Bool) (t u : BenchTexts) : Type 0 where
   refused : p ≡ q
   texts : t ≡ u
 
-one_more : (c d : Command) (a b : List ℕ) (p q : Bool) (t u : BenchTexts) (s z : Said) (after later : BenchTexts) → c ≡ d → AreFew t.tests → IsOne a b p q t u
-    → IsAnswered t c s after → IsAnswered u d z later → IsOne (a ++ s.text) (b ++ z.text) (p || s.refused) (q || z.refused) after later
+one_more : (c d : Command) (a b : List ℕ) (p q : Bool) (t u : BenchTexts) (s z : Said)
+    (after later : BenchTexts) → c ≡ d → AreFew t.tests → IsOne a b p q t u
+    → IsAnswered t c s after → IsAnswered u d z later
+    → IsOne (a ++ s.text) (b ++ z.text) (p || s.refused) (q || z.refused) after later
 one_more c d a b p q t u s z after later ends few same h k =
     let moved : IsAnswered t c z later = subst (λ (e : Command). IsAnswered t e z later) (sym ends) (subst (λ (v : BenchTexts). IsAnswered v d z later) (sym same.texts) k) in
     let one = one_answered t c s z after later few h moved in
     record {
       text = ap (λ (l : List ℕ). l ++ s.text) same.text ∙ ap (λ (x : Said). b ++ x.text) one.answer;
-      refused = ap (λ (r : Bool). r || s.refused) same.refused ∙ ap (λ (x : Said). q || x.refused) one.answer;
+      refused =
+          ap (λ (r : Bool). r || s.refused) same.refused ∙ ap (λ (x : Said). q || x.refused)
+          one.answer;
       texts = one.texts;
     }
 
-one_output : (cs : List Command) (a : List ℕ) (p : Bool) (t : BenchTexts) → IsOutput cs a p t → (ds : List Command) (b : List ℕ) (q : Bool) (u : BenchTexts) → IsOutput ds b q u → cs ≡ ds → IsOne a b p q t u
-one_output cs a p t Nothing ds b q u Nothing e = record { text = refl; refused = refl; texts = refl }
-one_output cs a p t Nothing ds b q u (OneMore other text2 refused2 texts2 d said2 later h2 answer2) e = absurd (no_command other d e)
-one_output cs a p t (OneMore front text1 refused1 texts1 c said1 after h1 answer1) ds b q u Nothing e = absurd (no_command front c (sym e))
-one_output cs a p t (OneMore front text1 refused1 texts1 c said1 after h1 answer1) ds b q u (OneMore other text2 refused2 texts2 d said2 later h2 answer2) e =
+one_output : (cs : List Command) (a : List ℕ) (p : Bool) (t : BenchTexts) → IsOutput cs a p t
+    → (ds : List Command) (b : List ℕ) (q : Bool) (u : BenchTexts) → IsOutput ds b q u → cs ≡ ds
+    → IsOne a b p q t u
+one_output cs a p t Nothing ds b q u Nothing e =
+    record { text = refl; refused = refl; texts = refl }
+one_output cs a p t Nothing ds b q u (OneMore other text2 refused2 texts2 d said2 later h2 answer2)
+    e = absurd (no_command other d e)
+one_output cs a p t (OneMore front text1 refused1 texts1 c said1 after h1 answer1) ds b q u Nothing
+    e = absurd (no_command front c (sym e))
+one_output cs a p t (OneMore front text1 refused1 texts1 c said1 after h1 answer1) ds b q u
+    (OneMore other text2 refused2 texts2 d said2 later h2 answer2) e =
     let l = last_one front other c d e in
     let same = one_output front text1 refused1 texts1 h1 other text2 refused2 texts2 h2 l.fronts in
-    one_more c d text1 text2 refused1 refused2 texts1 texts2 said1 said2 after later l.ends (few_output front text1 refused1 texts1 h1) same answer1 answer2
+    one_more c d text1 text2 refused1 refused2 texts1 texts2 said1 said2 after later l.ends
+    (few_output front text1 refused1 texts1 h1) same answer1 answer2
 
 pub one_output_said : (cs : List Command) → HasOneOutput cs
-one_output_said cs a b p q t u h g = let r = one_output cs a p t h cs b q u g refl in (r.text, r.refused, r.texts)
+one_output_said cs a b p q t u h g =
+    let r = one_output cs a p t h cs b q u g refl in (r.text, r.refused, r.texts)
 
 -- ---- first commands
 
@@ -115,9 +147,11 @@ record IsFrontOf (first : List Command) (whole : List ℕ) : Type 0 where
   rest : List ℕ
   split : whole ≡ text ++ rest
 
-cut_last : (first others front : List Command) (c x : Command) → (first ++ x ∷ others) ≡ (front ++ c ∷ []) → (ys : List Command) × (front ≡ first ++ ys)
+cut_last : (first others front : List Command) (c x : Command)
+    → (first ++ x ∷ others) ≡ (front ++ c ∷ []) → (ys : List Command) × (front ≡ first ++ ys)
 cut_last [] others front c x e = (front, refl)
-cut_last (f ∷ first) others [] c x e = absurd (some_command first others x (let h : [] ≡ (first ++ x ∷ others) = cc in h))
+cut_last (f ∷ first) others [] c x e =
+    absurd (some_command first others x (let h : [] ≡ (first ++ x ∷ others) = cc in h))
   where
     some_command : (cs ds : List Command) (y : Command) → [] ≡ (cs ++ y ∷ ds) → ⊥
     some_command [] ds y k = absurd cc
@@ -128,18 +162,33 @@ cut_last (f ∷ first) others (g ∷ front) c x e =
     let r = cut_last first others front c x rest in
     (r.0, λ i. heads i ∷ r.1 i)
 
-front_output : (cs : List Command) (whole : List ℕ) (p : Bool) (t : BenchTexts) → IsOutput cs whole p t → (first others : List Command) → cs ≡ first ++ others → IsFrontOf first whole
-front_output cs whole p t Nothing [] others e = record { text = []; refused = false; texts = no_texts; output = Nothing; rest = []; split = refl }
-front_output cs whole p t Nothing (x ∷ first) others e = absurd (let h : [] ≡ x ∷ (first ++ others) = e in cc)
-front_output cs whole p t (OneMore front text refused texts c said after h answer) first [] e = record {
-  text = text ++ said.text;
-  refused = refused || said.refused;
-  texts = after;
-  output = subst (λ (l : List Command). IsOutput l (text ++ said.text) (refused || said.refused) after) (e ∙ append-nil first) (OneMore front text refused texts c said after h answer);
-  rest = [];
-  split = sym (append-nil (text ++ said.text));
-}
-front_output cs whole p t (OneMore front text refused texts c said after h answer) first (x ∷ others) e =
+front_output : (cs : List Command) (whole : List ℕ) (p : Bool) (t : BenchTexts)
+    → IsOutput cs whole p t → (first others : List Command) → cs ≡ first ++ others
+    → IsFrontOf first whole
+front_output cs whole p t Nothing [] others e =
+    record {
+      text = [];
+      refused = false;
+      texts = no_texts;
+      output = Nothing;
+      rest = [];
+      split = refl;
+    }
+front_output cs whole p t Nothing (x ∷ first) others e =
+    absurd (let h : [] ≡ x ∷ (first ++ others) = e in cc)
+front_output cs whole p t (OneMore front text refused texts c said after h answer) first [] e =
+    record {
+      text = text ++ said.text;
+      refused = refused || said.refused;
+      texts = after;
+      output =
+          subst (λ (l : List Command). IsOutput l (text ++ said.text) (refused || said.refused) after)
+          (e ∙ append-nil first) (OneMore front text refused texts c said after h answer);
+      rest = [];
+      split = sym (append-nil (text ++ said.text));
+    }
+front_output cs whole p t (OneMore front text refused texts c said after h answer) first
+    (x ∷ others) e =
     let cut = cut_last first others front c x (sym e) in
     let r = front_output front text refused texts h first cut.0 cut.1 in
     record { text = r.text; refused = r.refused; texts = r.texts; output = r.output; rest = r.rest ++ said.text; split = ap (λ (l : List ℕ). l ++ said.text) r.split ∙ append_assoc r.text r.rest said.text }

@@ -1,4 +1,5 @@
--- What begins a text under more counts, and under more depth, the machine takes under the limits themselves.
+-- What begins a text under more counts, and under more depth, the machine takes under the limits
+-- themselves.
 use Rattle.std.proofs.Common.{◌≡◌, ℕ, ◌+◌, ◌<◌, Bool, true, false, List, [], ◌∷◌, ◌++◌, Option, Some, None, Result, Ok, Err, length, ◌⊎◌, inl, inr, refl, sym, ap, ◌∙◌, subst, arith}
 use Rattle.std.specs.Prelude.{nat_lt, ◌&&◌, if◌then◌else◌}
 use Rattle.std.proofs.lemmas.Bool.{ltb-false}
@@ -25,22 +26,28 @@ IsRefused (Ok s) = ⊥
 IsRefused (Err e) = Unit {0}
 
 module _ (r : CatRule) (most : Limits) (form : Form) (cs : List Clause) where
-  unless_refused : (is : List Clause) (o : Option CatRule) (e : Fault) → IsRefused (at is (unless o (Err e)))
+  unless_refused : (is : List Clause) (o : Option CatRule) (e : Fault)
+      → IsRefused (at is (unless o (Err e)))
   unless_refused is None e = tt
   unless_refused is (Some k) e = tt
 
-  added_refused : (x : Result Clause Fault) → IsRefused (added cs x (λ n. item_or_end most form n (tokens.Broken r)))
+  added_refused : (x : Result Clause Fault)
+      → IsRefused (added cs x (λ n. item_or_end most form n (tokens.Broken r)))
   added_refused (Ok c) = unless_refused (cs ++ c ∷ []) (excess most form (length cs + 1)) (Here r)
   added_refused (Err e) = tt
 
-  ended_refused : (h : Head) (fs : List Frame) (v : Term) → IsRefused (goes_on most form cs h (tokens.Broken r) (ended (tokens.Broken r) (fs, v)))
+  ended_refused : (h : Head) (fs : List Frame) (v : Term)
+      → IsRefused (goes_on most form cs h (tokens.Broken r) (ended (tokens.Broken r) (fs, v)))
   ended_refused h [] v = added_refused (finished h v r)
   ended_refused h (f ∷ fs) v = tt
 
-  folded_refused : (h : Head) (p : List Frame × Term) → IsRefused (goes_on most form cs h (tokens.Broken r) (ended (tokens.Broken r) p))
+  folded_refused : (h : Head) (p : List Frame × Term)
+      → IsRefused (goes_on most form cs h (tokens.Broken r) (ended (tokens.Broken r) p))
   folded_refused h (fs, v) = ended_refused h fs v
 
-  body_refused : (h : Head) (fs : List Frame) (used : ℕ) (expected : Expectation) → IsRefused (goes_on most form cs h (tokens.Broken r) (expression_step most fs used expected (tokens.Broken r)))
+  body_refused : (h : Head) (fs : List Frame) (used : ℕ) (expected : Expectation)
+      → IsRefused (goes_on most form cs h (tokens.Broken r)
+      (expression_step most fs used expected (tokens.Broken r)))
   body_refused h fs used Wants = tt
   body_refused h fs used HasBrace = tt
   body_refused h fs used (HasName n) = folded_refused h (fold_to 0 fs (Atom n))
@@ -84,18 +91,22 @@ not_both d s e = absurd cc
 abbrev gated : Bool → State → Fault → Result State Fault
 gated b s d = if b then Ok s else Err d
 
-record Stepped (r : Result State Fault) (next : State → Result State Fault) (end : State) : Type 0 where
+record Stepped (r : Result State Fault) (next : State → Result State Fault) (end : State)
+    : Type 0 where
   state : State
   by : r ≡ Ok state
   on : next state ≡ Ok end
 
-first_step : (r : Result State Fault) (next : State → Result State Fault) (end : State) → (r >>= next) ≡ Ok end → Stepped r next end
+first_step : (r : Result State Fault) (next : State → Result State Fault) (end : State)
+    → (r >>= next) ≡ Ok end → Stepped r next end
 first_step (Ok s) next end e = record { state = s; by = refl; on = e }
 first_step (Err d) next end e = absurd cc
 
 module _ (form : Form) where
   -- the state before the last token
-  last_step : (most : Limits) (s : State) (ts : List Token) (t : Token) (end : State) → run_over most form s (ts ++ t ∷ []) ≡ Ok end → (u : State) × (run_over most form s ts ≡ Ok u) × (step most form u t ≡ Ok end)
+  last_step : (most : Limits) (s : State) (ts : List Token) (t : Token) (end : State)
+      → run_over most form s (ts ++ t ∷ []) ≡ Ok end
+      → (u : State) × (run_over most form s ts ≡ Ok u) × (step most form u t ≡ Ok end)
   last_step most s [] t end e =
       let f = first_step (step most form s t) (λ x. Ok x) end e in
       (s, refl, f.by ∙ f.on)
@@ -105,7 +116,8 @@ module _ (form : Form) where
       (r.0, ap (λ (y : Result State Fault). y >>= λ z. run_over most form z ts) f.by ∙ r.1, r.2)
 
   -- no text holds a token that stands nowhere
-  pub broken_nowhere : (most : Limits) (ts : List Token) (r : CatRule) → Begins most form (ts ++ tokens.Broken r ∷ []) → ⊥
+  pub broken_nowhere : (most : Limits) (ts : List Token) (r : CatRule)
+      → Begins most form (ts ++ tokens.Broken r ∷ []) → ⊥
   broken_nowhere most ts r b =
       let taken = takes most form (ts ++ tokens.Broken r ∷ []) b in
       let l = last_step most (start form) ts (tokens.Broken r) taken.0 taken.1 in
@@ -133,32 +145,41 @@ module _ (form : Form) where
       same : y ≡ x
       known : KnowsPart (p.1, t) x.part
 
-    step_both : (p : Token × Token) (s : State) (t : Token) (x y : State) → KnowsPart p s.part → step a form s t ≡ Ok x → step b form s t ≡ Ok y → Both p t s x y
+    step_both : (p : Token × Token) (s : State) (t : Token) (x y : State) → KnowsPart p s.part
+        → step a form s t ≡ Ok x → step b form s t ≡ Ok y → Both p t s x y
     step_both p s t x y k e h = by_shape (step_shape form p s t k)
       where
-        by_state : (z : State) → step most form s t ≡ Ok z → step a form s t ≡ Ok z → step b form s t ≡ Ok z → KnowsPart (p.1, t) z.part → Both p t s x y
+        by_state : (z : State) → step most form s t ≡ Ok z → step a form s t ≡ Ok z
+            → step b form s t ≡ Ok z → KnowsPart (p.1, t) z.part → Both p t s x y
         by_state z m f g known =
             let first = kept_is z x (sym f ∙ e) in
             let second = kept_is z y (sym g ∙ h) in
             record { taken = m ∙ ap kept first; same = sym second ∙ first; known = subst (λ (w : State). KnowsPart (p.1, t) w.part) first known }
 
-        by_gate : (g : Gate) (z : State) (d : Fault) → ((c : Limits) → step c form s t ≡ gated (passes g c) z d) → KnowsPart (p.1, t) z.part → Both p t s x y
+        by_gate : (g : Gate) (z : State) (d : Fault)
+            → ((c : Limits) → step c form s t ≡ gated (passes g c) z d) → KnowsPart (p.1, t) z.part
+            → Both p t s x y
         by_gate g z d q known = by_tests (passes g a) (passes g b) refl refl
           where
             at_test : (c : Limits) (v : Bool) → passes g c ≡ v → step c form s t ≡ gated v z d
             at_test c v i = q c ∙ ap (λ (w : Bool). gated w z d) i
 
             by_tests : (v w : Bool) → passes g a ≡ v → passes g b ≡ w → Both p t s x y
-            by_tests true true i j = by_state z (at_test most true (passes_both g i j)) (at_test a true i) (at_test b true j) known
+            by_tests true true i j =
+                by_state z (at_test most true (passes_both g i j)) (at_test a true i)
+                (at_test b true j) known
             by_tests false w i j = absurd (not_both d x (sym (at_test a false i) ∙ e))
             by_tests true false i j = absurd (not_both d y (sym (at_test b false j) ∙ h))
 
         by_shape : StepShape p t (λ c. step c form s t) → Both p t s x y
         by_shape (Always (Ok z) q known) = by_state z (q most) (q a) (q b) known
         by_shape (Always (Err d) q known) = absurd (not_both d x (sym (q a) ∙ e))
-        by_shape (Where g z q own known offset) = by_gate g z (gate_fault g (is_check t && is_tilde p.1)) q known
+        by_shape (Where g z q own known offset) =
+            by_gate g z (gate_fault g (is_check t && is_tilde p.1)) q known
 
-    run_both : (p : Token × Token) (s : State) (ts : List Token) (x y : State) → KnowsPart p s.part → run_over a form s ts ≡ Ok x → run_over b form s ts ≡ Ok y → (run_over most form s ts ≡ Ok x) × KnowsPart (last_two p.0 p.1 ts) x.part
+    run_both : (p : Token × Token) (s : State) (ts : List Token) (x y : State) → KnowsPart p s.part
+        → run_over a form s ts ≡ Ok x → run_over b form s ts ≡ Ok y
+        → (run_over most form s ts ≡ Ok x) × KnowsPart (last_two p.0 p.1 ts) x.part
     run_both p s [] x y k e h = (e, subst (λ (z : State). KnowsPart p z.part) (kept_is s x e) k)
     run_both p s (t ∷ ts) x y k e h =
         let f = first_step (step a form s t) (λ z. run_over a form z ts) x e in
@@ -170,23 +191,31 @@ module _ (form : Form) where
 -- ---- what can stand
 
 -- a state without a place for its name takes no token
-offset_before : (most : Limits) (form : Form) (cs : List Clause) (p : Part) (t : Token) (s : State) → step_part most form cs p t ≡ Ok s → has_offset most p ≡ true
-offset_before most form cs (InLet (And g)) (tokens.Name n) s e = choose (nat_lt (length g.bindings) most.names) e
+offset_before : (most : Limits) (form : Form) (cs : List Clause) (p : Part) (t : Token) (s : State)
+    → step_part most form cs p t ≡ Ok s → has_offset most p ≡ true
+offset_before most form cs (InLet (And g)) (tokens.Name n) s e =
+    choose (nat_lt (length g.bindings) most.names) e
   where
-    choose : (b : Bool) → at cs (if b then Ok (InLet (items.Bound g n)) else Err (Here rules.TooMany)) ≡ Ok s → b ≡ true
+    choose : (b : Bool)
+        → at cs (if b then Ok (InLet (items.Bound g n)) else Err (Here rules.TooMany)) ≡ Ok s
+        → b ≡ true
     choose true e = refl
     choose false e = absurd cc
 offset_before most form cs (InLet (And g)) _ s e = absurd cc
-offset_before most form cs (InLet (Parameter n ps)) (tokens.Name m) s e = choose (nat_lt (length ps) most.parameters) e
+offset_before most form cs (InLet (Parameter n ps)) (tokens.Name m) s e =
+    choose (nat_lt (length ps) most.parameters) e
   where
-    choose : (b : Bool) → at cs (if b then Ok (InLet (AfterParameter n (ps ++ m ∷ []))) else Err (Here rules.TooMany)) ≡ Ok s → b ≡ true
+    choose : (b : Bool)
+        → at cs (if b then Ok (InLet (AfterParameter n (ps ++ m ∷ [])))
+        else Err (Here rules.TooMany)) ≡ Ok s → b ≡ true
     choose true e = refl
     choose false e = absurd cc
 offset_before most form cs (InLet (Parameter n ps)) _ s e = absurd cc
 offset_before most form cs _ t s e = refl
 
 -- what such a state comes after
-separated : (most : Limits) (p : Token × Token) (q : Part) → 0 < most.names → 0 < most.parameters → KnowsPart p q → has_offset most q ≡ false → IsSeparator p.1
+separated : (most : Limits) (p : Token × Token) (q : Part) → 0 < most.names → 0 < most.parameters
+    → KnowsPart p q → has_offset most q ≡ false → IsSeparator p.1
 separated most p (InLet (And g)) one two k e = choose k.2
   where
     choose : IsSeparator p.1 ⊎ (length g.bindings ≡ 0) → IsSeparator p.1
@@ -204,23 +233,33 @@ last_is a b [] t = refl
 last_is a b (u ∷ ts) t = last_is b u ts t
 
 -- a token that can stand if more may be counted, and if more may be open, can stand
-pub stands_by_both : (most : Limits) (form : Form) (ts : List Token) (t : Token) (a b : Limits) → 0 < most.nesting → 0 < most.names → 0 < most.parameters → SameDepths most a → SameCounts most b → Begins a form (ts ++ t ∷ []) → Begins b form (ts ++ t ∷ []) → CanStand most form (ts ++ t ∷ [])
+pub stands_by_both : (most : Limits) (form : Form) (ts : List Token) (t : Token) (a b : Limits)
+    → 0 < most.nesting → 0 < most.names → 0 < most.parameters → SameDepths most a
+    → SameCounts most b → Begins a form (ts ++ t ∷ []) → Begins b form (ts ++ t ∷ [])
+    → CanStand most form (ts ++ t ∷ [])
 stands_by_both most form ts t a b some one two depths counts more deeper =
     let x = takes a form (ts ++ t ∷ []) more in
     let y = takes b form (ts ++ t ∷ []) deeper in
     let both = run_both form most a b depths counts (tokens.End, tokens.End) (start form) (ts ++ t ∷ []) x.0 y.0 (start_knows form) x.1 y.1 in
     choose x.0 both.0 both.1 (has_offset most x.0.part) refl
   where
-    choose : (x : State) → run_over most form (start form) (ts ++ t ∷ []) ≡ Ok x → KnowsPart (last_two tokens.End tokens.End (ts ++ t ∷ [])) x.part → (v : Bool) → has_offset most x.part ≡ v → CanStand most form (ts ++ t ∷ [])
-    choose x all known true offset = BeginsText (begins most form (ts ++ t ∷ []) x some one all offset)
+    choose : (x : State) → run_over most form (start form) (ts ++ t ∷ []) ≡ Ok x
+        → KnowsPart (last_two tokens.End tokens.End (ts ++ t ∷ [])) x.part → (v : Bool)
+        → has_offset most x.part ≡ v → CanStand most form (ts ++ t ∷ [])
+    choose x all known true offset =
+        BeginsText (begins most form (ts ++ t ∷ []) x some one all offset)
     choose x all known false offset =
         let l = last_step form most (start form) ts t x all in
         BeforeAName (record {
           earlier = ts;
           separator = t;
-          is_one = subst IsSeparator (last_is tokens.End tokens.End ts t) (separated most (last_two tokens.End tokens.End (ts ++ t ∷ [])) x.part one two known offset);
+          is_one =
+              subst IsSeparator (last_is tokens.End tokens.End ts t) (separated most
+              (last_two tokens.End tokens.End (ts ++ t ∷ [])) x.part one two known offset);
           split = refl;
-          begins = begins most form ts l.0 some one l.1 (offset_before most form l.0.items l.0.part t x l.2);
+          begins =
+              begins most form ts l.0 some one l.1
+              (offset_before most form l.0.items l.0.part t x l.2);
           wider = a;
           same = depths;
           more = more;

@@ -8,10 +8,13 @@ pub data Cut {A : Type 0} (first second : List A) (x y : A) : Type 0 where
   Behind : (middle : List A) → first ≡ second ++ y ∷ middle → Cut first second x y
 
 module _ {A : Type 0} where
-  pub cut : (first second : List A) (x y : A) (others rest : List A) → (first ++ x ∷ others) ≡ (second ++ y ∷ rest) → Cut first second x y
+  pub cut : (first second : List A) (x y : A) (others rest : List A)
+      → (first ++ x ∷ others) ≡ (second ++ y ∷ rest) → Cut first second x y
   cut [] [] x y others rest e = Same refl (let h : x ≡ y = cc in h)
-  cut [] (z ∷ second) x y others rest e = Before second (let h : z ≡ x = cc in ap (λ (a : A). a ∷ second) h)
-  cut (z ∷ first) [] x y others rest e = Behind first (let h : z ≡ y = cc in ap (λ (a : A). a ∷ first) h)
+  cut [] (z ∷ second) x y others rest e =
+      Before second (let h : z ≡ x = cc in ap (λ (a : A). a ∷ second) h)
+  cut (z ∷ first) [] x y others rest e =
+      Behind first (let h : z ≡ y = cc in ap (λ (a : A). a ∷ first) h)
   cut (z ∷ first) (w ∷ second) x y others rest e =
       let heads : z ≡ w = cc in
       let tails : (first ++ x ∷ others) ≡ (second ++ y ∷ rest) = cc in
@@ -26,16 +29,20 @@ module _ {A : Type 0} where
   none_behind [] ys e = sym e
   none_behind (x ∷ xs) ys e = absurd cc
 
-  -- what stands behind a front of a list that ends with this element is nothing, or goes on to that element
-  pub last_cut : (front behind others : List A) (x : A) → (front ++ behind) ≡ (others ++ x ∷ []) → (behind ≡ []) ⊎ ((rest : List A) × (others ≡ front ++ rest))
+  -- what stands behind a front of a list that ends with this element is nothing, or goes on to that
+  -- element
+  pub last_cut : (front behind others : List A) (x : A) → (front ++ behind) ≡ (others ++ x ∷ [])
+      → (behind ≡ []) ⊎ ((rest : List A) × (others ≡ front ++ rest))
   last_cut [] [] others x e = inl refl
   last_cut [] (b ∷ behind) others x e = inr (others, refl)
-  last_cut (f ∷ front) behind [] x e = inl (none_behind front behind (let h : [] ≡ (front ++ behind) = cc in h))
+  last_cut (f ∷ front) behind [] x e =
+      inl (none_behind front behind (let h : [] ≡ (front ++ behind) = cc in h))
   last_cut (f ∷ front) behind (o ∷ others) x e =
       let heads : o ≡ f = cc in
       let tails : (front ++ behind) ≡ (others ++ x ∷ []) = cc in
       by_cut heads (last_cut front behind others x tails)
     where
-      by_cut : o ≡ f → (behind ≡ []) ⊎ ((rest : List A) × (others ≡ front ++ rest)) → (behind ≡ []) ⊎ ((rest : List A) × ((o ∷ others) ≡ (f ∷ front) ++ rest))
+      by_cut : o ≡ f → (behind ≡ []) ⊎ ((rest : List A) × (others ≡ front ++ rest))
+          → (behind ≡ []) ⊎ ((rest : List A) × ((o ∷ others) ≡ (f ∷ front) ++ rest))
       by_cut heads (inl h) = inl h
       by_cut heads (inr h) = inr (h.0, λ i. heads i ∷ h.1 i)

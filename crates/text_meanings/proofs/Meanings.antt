@@ -37,45 +37,68 @@ one_test bytes v w r q = by_run (machine kinds.Test 0 bytes) refl
   where
     by_run : (x : Ran) → machine kinds.Test 0 bytes ≡ x → v ≡ w
     by_run (Ok s) e = sym (test_only bytes s (λ le. e) v r) ∙ test_only bytes s (λ le. e) w q
-    by_run (Err (rule, offset)) e = absurd (test_only_memory bytes (Refused rule offset) (λ le. e) v r)
+    by_run (Err (rule, offset)) e =
+        absurd (test_only_memory bytes (Refused rule offset) (λ le. e) v r)
 
-pub one_thread : (bytes : List ℕ) (v w : List Step) → ReadsThread bytes v → ReadsThread bytes w → v ≡ w
+pub one_thread : (bytes : List ℕ) (v w : List Step) → ReadsThread bytes v → ReadsThread bytes w
+    → v ≡ w
 one_thread bytes v w r q = by_run (machine kinds.Thread 1 bytes) refl
   where
     by_run : (x : Ran) → machine kinds.Thread 1 bytes ≡ x → v ≡ w
     by_run (Ok s) e = sym (thread_only bytes s (λ le. e) v r) ∙ thread_only bytes s (λ le. e) w q
-    by_run (Err (rule, offset)) e = absurd (thread_only_memory bytes (Refused rule offset) (λ le. e) v r)
+    by_run (Err (rule, offset)) e =
+        absurd (thread_only_memory bytes (Refused rule offset) (λ le. e) v r)
 
 module _ (threads : ℕ) (few : threads < 18446744073709551616) where
-  pub one_init : (bytes : List ℕ) (v w : List InitEntry) → ReadsInit threads bytes v → ReadsInit threads bytes w → v ≡ w
+  pub one_init : (bytes : List ℕ) (v w : List InitEntry) → ReadsInit threads bytes v
+      → ReadsInit threads bytes w → v ≡ w
   one_init bytes v w r q = by_run (machine kinds.Init threads bytes) refl
     where
       by_run : (x : Ran) → machine kinds.Init threads bytes ≡ x → v ≡ w
-      by_run (Ok s) e = sym (init_only threads few bytes s (λ le. e) v r) ∙ init_only threads few bytes s (λ le. e) w q
-      by_run (Err (rule, offset)) e = absurd (init_only_memory threads few bytes (Refused rule offset) (λ le. e) v r)
+      by_run (Ok s) e =
+          sym (init_only threads few bytes s (λ le. e) v r) ∙ init_only threads few bytes s
+          (λ le. e) w q
+      by_run (Err (rule, offset)) e =
+          absurd (init_only_memory threads few bytes (Refused rule offset) (λ le. e) v r)
 
-  pub one_condition : (bytes : List ℕ) (v w : Quantifier × Formula) → ReadsCondition threads bytes v → ReadsCondition threads bytes w → v ≡ w
+  pub one_condition : (bytes : List ℕ) (v w : Quantifier × Formula) → ReadsCondition threads bytes v
+      → ReadsCondition threads bytes w → v ≡ w
   one_condition bytes v w r q = by_run (machine kinds.Condition threads bytes) refl
     where
       by_run : (x : Ran) → machine kinds.Condition threads bytes ≡ x → v ≡ w
-      by_run (Ok s) e = sym (condition_only threads few bytes s (λ le. e) v r) ∙ condition_only threads few bytes s (λ le. e) w q
-      by_run (Err (rule, offset)) e = absurd (condition_only_memory threads few bytes (Refused rule offset) (λ le. e) v r)
+      by_run (Ok s) e =
+          sym (condition_only threads few bytes s (λ le. e) v r) ∙ condition_only threads few bytes
+          s (λ le. e) w q
+      by_run (Err (rule, offset)) e =
+          absurd (condition_only_memory threads few bytes (Refused rule offset) (λ le. e) v r)
 
-  pub one_list : (bytes : List ℕ) (v w : List Place) → ReadsLocations threads bytes v → ReadsLocations threads bytes w → v ≡ w
+  pub one_list : (bytes : List ℕ) (v w : List Place) → ReadsLocations threads bytes v
+      → ReadsLocations threads bytes w → v ≡ w
   one_list bytes v w r q = by_run (machine kinds.Locations threads bytes) refl
     where
       by_run : (x : Ran) → machine kinds.Locations threads bytes ≡ x → v ≡ w
-      by_run (Ok s) e = sym (locations_only threads few bytes s (λ le. e) v r) ∙ locations_only threads few bytes s (λ le. e) w q
-      by_run (Err (rule, offset)) e = absurd (locations_only_memory threads few bytes (Refused rule offset) (λ le. e) v r)
+      by_run (Ok s) e =
+          sym (locations_only threads few bytes s (λ le. e) v r) ∙ locations_only threads few bytes
+          s (λ le. e) w q
+      by_run (Err (rule, offset)) e =
+          absurd (locations_only_memory threads few bytes (Refused rule offset) (λ le. e) v r)
 
-pub one_model : (form : Form) (bytes : List ℕ) (v w : List Clause) → Reads form bytes v → Reads form bytes w → v ≡ w
-one_model form bytes v w r q = by_items (items_of (cat_run cat_limits form 0 (cat_start form) (cat_lexed bytes))) refl
+pub one_model : (form : Form) (bytes : List ℕ) (v w : List Clause) → Reads form bytes v
+    → Reads form bytes w → v ≡ w
+one_model form bytes v w r q =
+    by_items (items_of (cat_run cat_limits form 0 (cat_start form) (cat_lexed bytes))) refl
   where
-    by_items : (x : Result (List Clause) (CatRule × ℕ)) → items_of (cat_run cat_limits form 0 (cat_start form) (cat_lexed bytes)) ≡ x → v ≡ w
-    by_items (Ok cs) e = sym (items_only form (cat_lexed bytes) cs v e r.means) ∙ items_only form (cat_lexed bytes) cs w e q.means
-    by_items (Err (rule, offset)) e = absurd (no_fault form (cat_lexed bytes) v rule offset r.means (fault_found form (cat_lexed bytes) rule offset e))
+    by_items : (x : Result (List Clause) (CatRule × ℕ))
+        → items_of (cat_run cat_limits form 0 (cat_start form) (cat_lexed bytes)) ≡ x → v ≡ w
+    by_items (Ok cs) e =
+        sym (items_only form (cat_lexed bytes) cs v e r.means) ∙ items_only form (cat_lexed bytes)
+        cs w e q.means
+    by_items (Err (rule, offset)) e =
+        absurd (no_fault form (cat_lexed bytes) v rule offset r.means
+        (fault_found form (cat_lexed bytes) rule offset e))
 
-pub few_threads : (bytes : List ℕ) (v : Content) → ReadsTest bytes v → length v.threads < 18446744073709551616
+pub few_threads : (bytes : List ℕ) (v : Content) → ReadsTest bytes v
+    → length v.threads < 18446744073709551616
 few_threads bytes v r =
     let t = r.text.tree in
     let l = lexed_length (first_stage kinds.Test) bytes in

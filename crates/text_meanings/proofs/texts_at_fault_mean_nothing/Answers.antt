@@ -2,4 +2,12 @@ use Rattle.text_meanings.proofs.Faults.{test_apart, init_apart, thread_apart, co
 use Rattle.text_meanings.proofs.texts_at_fault_mean_nothing.Goals as goal
 
 pub returns : goal.returns
-returns c = record { test = test_apart; init = init_apart; thread = thread_apart; condition = condition_apart; locations = locations_apart; model = model_apart }
+returns c =
+    record {
+      test = test_apart;
+      init = init_apart;
+      thread = thread_apart;
+      condition = condition_apart;
+      locations = locations_apart;
+      model = model_apart;
+    }

@@ -2,4 +2,12 @@ use Rattle.text_meanings.proofs.Faults.{one_test_fault, one_init_fault, one_thre
 use Rattle.text_meanings.proofs.texts_have_one_fault.Goals as goal
 
 pub returns : goal.returns
-returns c = record { test = one_test_fault; init = one_init_fault; thread = one_thread_fault; condition = one_condition_fault; locations = one_locations_fault; model = one_model_fault }
+returns c =
+    record {
+      test = one_test_fault;
+      init = one_init_fault;
+      thread = one_thread_fault;
+      condition = one_condition_fault;
+      locations = one_locations_fault;
+      model = one_model_fault;
+    }

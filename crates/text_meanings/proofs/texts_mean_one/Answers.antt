@@ -2,4 +2,12 @@ use Rattle.text_meanings.proofs.Meanings.{one_test, one_init, one_thread, one_co
 use Rattle.text_meanings.proofs.texts_mean_one.Goals as goal
 
 pub returns : goal.returns
-returns c = record { test = one_test; init = one_init; thread = one_thread; condition = one_condition; locations = one_list; model = one_model }
+returns c =
+    record {
+      test = one_test;
+      init = one_init;
+      thread = one_thread;
+      condition = one_condition;
+      locations = one_list;
+      model = one_model;
+    }

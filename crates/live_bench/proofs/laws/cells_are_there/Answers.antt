@@ -6,5 +6,6 @@ pub returns : goal.returns
 returns c = record {
   there = λ events start end s run. has_just_its_cells end (sound_after events start end s run);
   right = λ events start end s run.
-      shows_right end (sound_after events start end s run) (λ test model o is. settled_from_scratch events start end s run test model o is);
+      shows_right end (sound_after events start end s run) (λ test model o is.
+      settled_from_scratch events start end s run test model o is);
 }

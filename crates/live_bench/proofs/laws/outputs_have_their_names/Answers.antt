@@ -5,4 +5,10 @@ use Rattle.live_bench.proofs.NamedOutputs.{returns_name_outputs}
 use Rattle.live_bench.proofs.laws.outputs_have_their_names.Goals as goal
 
 pub returns : goal.returns
-returns c = record { items = outputs_have_their_names; others = others_have_one_output; told = returns_tell_outputs; named = returns_name_outputs }
+returns c =
+    record {
+      items = outputs_have_their_names;
+      others = others_have_one_output;
+      told = returns_tell_outputs;
+      named = returns_name_outputs;
+    }
