@@ -29,54 +29,98 @@ use Rattle.litmus_ppc.proofs.Readers.{condition_only, condition_only_memory}
 
 -- ---- models and items
 
-pub clauses_one : (form : Form) (bytes : List ℕ) (v w : List Clause) → Reads form bytes v → Reads form bytes w → v ≡ w
-clauses_one form bytes v w a b = by_run (items_of (run limits form 0 (start form) (cat.lexed bytes))) refl
+pub clauses_one : (form : Form) (bytes : List ℕ) (v w : List Clause) → Reads form bytes v
+    → Reads form bytes w → v ≡ w
+clauses_one form bytes v w a b =
+    by_run (items_of (run limits form 0 (start form) (cat.lexed bytes))) refl
   where
-    by_run : (r : Result (List Clause) (CatRule × ℕ)) → items_of (run limits form 0 (start form) (cat.lexed bytes)) ≡ r → v ≡ w
-    by_run (Ok cs) e = sym (items_only form (cat.lexed bytes) cs v e a.means) ∙ items_only form (cat.lexed bytes) cs w e b.means
-    by_run (Err f) e = absurd (no_fault form (cat.lexed bytes) v f.0 f.1 a.means (fault_found form (cat.lexed bytes) f.0 f.1 e))
+    by_run : (r : Result (List Clause) (CatRule × ℕ))
+        → items_of (run limits form 0 (start form) (cat.lexed bytes)) ≡ r → v ≡ w
+    by_run (Ok cs) e =
+        sym (items_only form (cat.lexed bytes) cs v e a.means)
+        ∙ items_only form (cat.lexed bytes) cs w e b.means
+    by_run (Err f) e =
+        absurd (no_fault form (cat.lexed bytes) v f.0 f.1 a.means
+        (fault_found form (cat.lexed bytes) f.0 f.1 e))
 
 abbrev first : Clause → List Clause → Clause
 first d [] = d
 first d (c ∷ cs) = c
 
-pub item_one : (bytes : List ℕ) (c d : Clause) → Reads forms.Item bytes (c ∷ []) → Reads forms.Item bytes (d ∷ []) → c ≡ d
+pub item_one : (bytes : List ℕ) (c d : Clause) → Reads forms.Item bytes (c ∷ [])
+    → Reads forms.Item bytes (d ∷ []) → c ≡ d
 item_one bytes c d a b = ap (first c) (clauses_one forms.Item bytes (c ∷ []) (d ∷ []) a b)
 
 -- ---- tests and their parts
 
 pub test_one : (bytes : List ℕ) (v w : Content) → ReadsTest bytes v → ReadsTest bytes w → v ≡ w
-test_one bytes v w a b = by_run (machine.run (machine.start kinds.Test 0) (litmus.lexed (first_stage kinds.Test) bytes)) refl
+test_one bytes v w a b =
+    by_run (machine.run (machine.start kinds.Test 0) (litmus.lexed (first_stage kinds.Test) bytes))
+    refl
   where
-    by_run : (r : Ran) → machine.run (machine.start kinds.Test 0) (litmus.lexed (first_stage kinds.Test) bytes) ≡ r → v ≡ w
+    by_run : (r : Ran)
+        → machine.run (machine.start kinds.Test 0) (litmus.lexed (first_stage kinds.Test) bytes) ≡ r
+        → v ≡ w
     by_run (Ok s) e = sym (test_only bytes s (λ le. e) v a) ∙ test_only bytes s (λ le. e) w b
     by_run (Err f) e = absurd (test_only_memory bytes (Refused f.0 f.1) (λ le. e) v a)
 
-pub thread_one : (bytes : List ℕ) (v w : List Step) → ReadsThread bytes v → ReadsThread bytes w → v ≡ w
-thread_one bytes v w a b = by_run (machine.run (machine.start kinds.Thread 1) (litmus.lexed (first_stage kinds.Thread) bytes)) refl
+pub thread_one : (bytes : List ℕ) (v w : List Step) → ReadsThread bytes v → ReadsThread bytes w
+    → v ≡ w
+thread_one bytes v w a b =
+    by_run
+    (machine.run (machine.start kinds.Thread 1) (litmus.lexed (first_stage kinds.Thread) bytes))
+    refl
   where
-    by_run : (r : Ran) → machine.run (machine.start kinds.Thread 1) (litmus.lexed (first_stage kinds.Thread) bytes) ≡ r → v ≡ w
+    by_run : (r : Ran)
+        → machine.run (machine.start kinds.Thread 1) (litmus.lexed (first_stage kinds.Thread) bytes)
+        ≡ r → v ≡ w
     by_run (Ok s) e = sym (thread_only bytes s (λ le. e) v a) ∙ thread_only bytes s (λ le. e) w b
     by_run (Err f) e = absurd (thread_only_memory bytes (Refused f.0 f.1) (λ le. e) v a)
 
 module _ (threads : ℕ) (few : threads < 18446744073709551616) (bytes : List ℕ) where
-  pub init_one : (v w : List InitEntry) → ReadsInit threads bytes v → ReadsInit threads bytes w → v ≡ w
-  init_one v w a b = by_run (machine.run (machine.start kinds.Init threads) (litmus.lexed (first_stage kinds.Init) bytes)) refl
+  pub init_one : (v w : List InitEntry) → ReadsInit threads bytes v → ReadsInit threads bytes w
+      → v ≡ w
+  init_one v w a b =
+      by_run
+      (machine.run (machine.start kinds.Init threads) (litmus.lexed (first_stage kinds.Init) bytes))
+      refl
     where
-      by_run : (r : Ran) → machine.run (machine.start kinds.Init threads) (litmus.lexed (first_stage kinds.Init) bytes) ≡ r → v ≡ w
-      by_run (Ok s) e = sym (init_only threads few bytes s (λ le. e) v a) ∙ init_only threads few bytes s (λ le. e) w b
+      by_run : (r : Ran)
+          → machine.run (machine.start kinds.Init threads)
+          (litmus.lexed (first_stage kinds.Init) bytes) ≡ r → v ≡ w
+      by_run (Ok s) e =
+          sym (init_only threads few bytes s (λ le. e) v a)
+          ∙ init_only threads few bytes s (λ le. e) w b
       by_run (Err f) e = absurd (init_only_memory threads few bytes (Refused f.0 f.1) (λ le. e) v a)
 
-  pub locations_one : (v w : List Place) → ReadsLocations threads bytes v → ReadsLocations threads bytes w → v ≡ w
-  locations_one v w a b = by_run (machine.run (machine.start kinds.Locations threads) (litmus.lexed (first_stage kinds.Locations) bytes)) refl
+  pub locations_one : (v w : List Place) → ReadsLocations threads bytes v
+      → ReadsLocations threads bytes w → v ≡ w
+  locations_one v w a b =
+      by_run
+      (machine.run (machine.start kinds.Locations threads)
+      (litmus.lexed (first_stage kinds.Locations) bytes)) refl
     where
-      by_run : (r : Ran) → machine.run (machine.start kinds.Locations threads) (litmus.lexed (first_stage kinds.Locations) bytes) ≡ r → v ≡ w
-      by_run (Ok s) e = sym (locations_only threads few bytes s (λ le. e) v a) ∙ locations_only threads few bytes s (λ le. e) w b
-      by_run (Err f) e = absurd (locations_only_memory threads few bytes (Refused f.0 f.1) (λ le. e) v a)
+      by_run : (r : Ran)
+          → machine.run (machine.start kinds.Locations threads)
+          (litmus.lexed (first_stage kinds.Locations) bytes) ≡ r → v ≡ w
+      by_run (Ok s) e =
+          sym (locations_only threads few bytes s (λ le. e) v a)
+          ∙ locations_only threads few bytes s (λ le. e) w b
+      by_run (Err f) e =
+          absurd (locations_only_memory threads few bytes (Refused f.0 f.1) (λ le. e) v a)
 
-  pub condition_one : (v w : Quantifier × Formula) → ReadsCondition threads bytes v → ReadsCondition threads bytes w → v ≡ w
-  condition_one v w a b = by_run (machine.run (machine.start kinds.Condition threads) (litmus.lexed (first_stage kinds.Condition) bytes)) refl
+  pub condition_one : (v w : Quantifier × Formula) → ReadsCondition threads bytes v
+      → ReadsCondition threads bytes w → v ≡ w
+  condition_one v w a b =
+      by_run
+      (machine.run (machine.start kinds.Condition threads)
+      (litmus.lexed (first_stage kinds.Condition) bytes)) refl
     where
-      by_run : (r : Ran) → machine.run (machine.start kinds.Condition threads) (litmus.lexed (first_stage kinds.Condition) bytes) ≡ r → v ≡ w
-      by_run (Ok s) e = sym (condition_only threads few bytes s (λ le. e) v a) ∙ condition_only threads few bytes s (λ le. e) w b
-      by_run (Err f) e = absurd (condition_only_memory threads few bytes (Refused f.0 f.1) (λ le. e) v a)
+      by_run : (r : Ran)
+          → machine.run (machine.start kinds.Condition threads)
+          (litmus.lexed (first_stage kinds.Condition) bytes) ≡ r → v ≡ w
+      by_run (Ok s) e =
+          sym (condition_only threads few bytes s (λ le. e) v a)
+          ∙ condition_only threads few bytes s (λ le. e) w b
+      by_run (Err f) e =
+          absurd (condition_only_memory threads few bytes (Refused f.0 f.1) (λ le. e) v a)

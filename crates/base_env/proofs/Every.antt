@@ -6,10 +6,21 @@ use Rattle.text_values.specs.declared.predefined.Predefined.TheVariants as names
 use Rattle.text_values.specs.PredefinedNames.{is_set}
 
 abbrev pub all_names : List Predefined
-all_names = names.Loads ∷ names.Stores ∷ names.Accesses ∷ names.Fences ∷ names.InitialStores ∷ names.SyncFences ∷ names.LwsyncFences ∷ names.EieioFences ∷ names.IsyncFences ∷ names.Identity ∷ names.ProgramOrder ∷ names.SameLocation ∷ names.ProgramOrderSameLocation ∷ names.Internal ∷ names.External ∷ names.ReadsFrom ∷ names.Coherence ∷ names.FromReads ∷ names.ReadsFromExternal ∷ names.ReadsFromInternal ∷ names.CoherenceExternal ∷ names.CoherenceInternal ∷ names.FromReadsExternal ∷ names.FromReadsInternal ∷ names.Communication ∷ names.AddressDependency ∷ names.DataDependency ∷ names.ControlDependency ∷ names.ControlIsyncDependency ∷ names.SyncOrder ∷ names.LwsyncOrder ∷ names.EieioOrder ∷ names.IsyncOrder ∷ []
+all_names =
+    names.Loads ∷ names.Stores ∷ names.Accesses ∷ names.Fences ∷ names.InitialStores
+    ∷ names.SyncFences ∷ names.LwsyncFences ∷ names.EieioFences ∷ names.IsyncFences ∷ names.Identity
+    ∷ names.ProgramOrder ∷ names.SameLocation ∷ names.ProgramOrderSameLocation ∷ names.Internal
+    ∷ names.External ∷ names.ReadsFrom ∷ names.Coherence ∷ names.FromReads ∷ names.ReadsFromExternal
+    ∷ names.ReadsFromInternal ∷ names.CoherenceExternal ∷ names.CoherenceInternal
+    ∷ names.FromReadsExternal ∷ names.FromReadsInternal ∷ names.Communication
+    ∷ names.AddressDependency ∷ names.DataDependency ∷ names.ControlDependency
+    ∷ names.ControlIsyncDependency ∷ names.SyncOrder ∷ names.LwsyncOrder ∷ names.EieioOrder
+    ∷ names.IsyncOrder ∷ []
 
 abbrev pub all_sets : List Predefined
-all_sets = names.Loads ∷ names.Stores ∷ names.Accesses ∷ names.Fences ∷ names.InitialStores ∷ names.SyncFences ∷ names.LwsyncFences ∷ names.EieioFences ∷ names.IsyncFences ∷ []
+all_sets =
+    names.Loads ∷ names.Stores ∷ names.Accesses ∷ names.Fences ∷ names.InitialStores
+    ∷ names.SyncFences ∷ names.LwsyncFences ∷ names.EieioFences ∷ names.IsyncFences ∷ []
 
 pub every_name : (name : Predefined) → Contains all_names name
 every_name names.Loads = (0, omega arith, refl)

@@ -40,7 +40,16 @@ number names.EieioOrder = 31
 number names.IsyncOrder = 32
 
 numbered : List Predefined
-numbered = names.Loads ∷ names.Stores ∷ names.Accesses ∷ names.Fences ∷ names.InitialStores ∷ names.SyncFences ∷ names.LwsyncFences ∷ names.EieioFences ∷ names.IsyncFences ∷ names.Identity ∷ names.ProgramOrder ∷ names.SameLocation ∷ names.ProgramOrderSameLocation ∷ names.Internal ∷ names.External ∷ names.ReadsFrom ∷ names.Coherence ∷ names.FromReads ∷ names.ReadsFromExternal ∷ names.ReadsFromInternal ∷ names.CoherenceExternal ∷ names.CoherenceInternal ∷ names.FromReadsExternal ∷ names.FromReadsInternal ∷ names.Communication ∷ names.AddressDependency ∷ names.DataDependency ∷ names.ControlDependency ∷ names.ControlIsyncDependency ∷ names.SyncOrder ∷ names.LwsyncOrder ∷ names.EieioOrder ∷ names.IsyncOrder ∷ []
+numbered =
+    names.Loads ∷ names.Stores ∷ names.Accesses ∷ names.Fences ∷ names.InitialStores
+    ∷ names.SyncFences ∷ names.LwsyncFences ∷ names.EieioFences ∷ names.IsyncFences ∷ names.Identity
+    ∷ names.ProgramOrder ∷ names.SameLocation ∷ names.ProgramOrderSameLocation ∷ names.Internal
+    ∷ names.External ∷ names.ReadsFrom ∷ names.Coherence ∷ names.FromReads ∷ names.ReadsFromExternal
+    ∷ names.ReadsFromInternal ∷ names.CoherenceExternal ∷ names.CoherenceInternal
+    ∷ names.FromReadsExternal ∷ names.FromReadsInternal ∷ names.Communication
+    ∷ names.AddressDependency ∷ names.DataDependency ∷ names.ControlDependency
+    ∷ names.ControlIsyncDependency ∷ names.SyncOrder ∷ names.LwsyncOrder ∷ names.EieioOrder
+    ∷ names.IsyncOrder ∷ []
 
 number_kept : (p : Predefined) → get_or numbered (number p) names.Loads ≡ p
 unfolding numbered number

@@ -1,4 +1,5 @@
--- Where each slot stands behind those that it uses, the nodes of a table keep the laws of `Texts` on nodes.
+-- Where each slot stands behind those that it uses, the nodes of a table keep the laws of `Texts`
+-- on nodes.
 use Rattle.std.proofs.Common.{◌≡◌, ◌⊎◌, inl, inr, ℕ, ◌+◌, ◌<◌, Bool, true, false, ◌==◌, ◌&&◌, ◌||◌, List, [], ◌∷◌, ◌++◌, Option, Some, None, refl, ap, sym, ◌∙◌, subst, eq-eqb, arith}
 use Rattle.std.specs.Bool.{⊤}
 use Rattle.std.specs.List.{AllByRecursion as Each}
@@ -36,17 +37,26 @@ second_of false b h = cc
 -- ---- what a used node is
 
 pub used_test : (t : NodeTable) (n : Node) → Has (used t) n → has_test t.tests.items n.test ≡ true
-used_test t n h = first_of (has_test t.tests.items n.test) (has_slot t.slots.items n.kind n.of) (sym (has_used t.slots.items t.tests.items n) ∙ has_is n (used t) h)
+used_test t n h =
+    first_of (has_test t.tests.items n.test) (has_slot t.slots.items n.kind n.of)
+    (sym (has_used t.slots.items t.tests.items n) ∙ has_is n (used t) h)
 
-pub used_slot : (t : NodeTable) (n : Node) → Has (used t) n → has_slot t.slots.items n.kind n.of ≡ true
-used_slot t n h = second_of (has_test t.tests.items n.test) (has_slot t.slots.items n.kind n.of) (sym (has_used t.slots.items t.tests.items n) ∙ has_is n (used t) h)
+pub used_slot : (t : NodeTable) (n : Node) → Has (used t) n
+    → has_slot t.slots.items n.kind n.of ≡ true
+used_slot t n h =
+    second_of (has_test t.tests.items n.test) (has_slot t.slots.items n.kind n.of)
+    (sym (has_used t.slots.items t.tests.items n) ∙ has_is n (used t) h)
 
-pub used_by : (t : NodeTable) (n : Node) → has_test t.tests.items n.test ≡ true → has_slot t.slots.items n.kind n.of ≡ true → Has (used t) n
-used_by t n a b = has_yes n (used t) (has_used t.slots.items t.tests.items n ∙ and_from (has_test t.tests.items n.test) (has_slot t.slots.items n.kind n.of) a b)
+pub used_by : (t : NodeTable) (n : Node) → has_test t.tests.items n.test ≡ true
+    → has_slot t.slots.items n.kind n.of ≡ true → Has (used t) n
+used_by t n a b =
+    has_yes n (used t) (has_used t.slots.items t.tests.items n
+    ∙ and_from (has_test t.tests.items n.test) (has_slot t.slots.items n.kind n.of) a b)
 
 -- ---- the inputs of a space are parts
 
-no_nodes_among_threads : (id part : ℕ) (ts : List ℕ) (ks : List Key) → input_nodes (thread_parts id part ts ++ ks) ≡ input_nodes ks
+no_nodes_among_threads : (id part : ℕ) (ts : List ℕ) (ks : List Key)
+    → input_nodes (thread_parts id part ts ++ ks) ≡ input_nodes ks
 no_nodes_among_threads id part [] ks = refl
 no_nodes_among_threads id part (t ∷ ts) ks = no_nodes_among_threads id (part + 1) ts ks
 
@@ -65,7 +75,8 @@ HoldsOf P test (slots.Item number) = ⊤
 HoldsOf P test (slots.Fault id) = ⊤
 HoldsOf P test (slots.Value kind of name) = P test (record { kind = kind; test = test; of = of })
 
-each_node : (P : ℕ → Node → Type 0) (test : ℕ) (ks : List SlotKey) → Each (HoldsOf P test) ks → Each (P test) (input_nodes (keys_at test ks))
+each_node : (P : ℕ → Node → Type 0) (test : ℕ) (ks : List SlotKey) → Each (HoldsOf P test) ks
+    → Each (P test) (input_nodes (keys_at test ks))
 each_node P test [] h = tt
 each_node P test (slots.Test part ∷ ks) h = each_node P test ks h.1
 each_node P test (slots.Item number ∷ ks) h = each_node P test ks h.1
@@ -79,16 +90,23 @@ abbrev StandsBefore : List Slot → List Slot → ℕ → SlotKey → Type 0
 StandsBefore before ss i (slots.Test part) = ⊤
 StandsBefore before ss i (slots.Item number) = ⊤
 StandsBefore before ss i (slots.Fault id) = ⊤
-StandsBefore before ss i (slots.Value kind of name) = (has_slot before kind of ≡ true) ⊎ ((has_slot ss kind of ≡ true) × (slot_index ss kind of < i))
+StandsBefore before ss i (slots.Value kind of name) =
+    (has_slot before kind of ≡ true) ⊎ ((has_slot ss kind of ≡ true) × (slot_index ss kind of < i))
 
-behind_before : (before ss : List Slot) (i : ℕ) (ks : List SlotKey) → Each (IsBehind before) ks → Each (StandsBefore before ss i) ks
+behind_before : (before ss : List Slot) (i : ℕ) (ks : List SlotKey) → Each (IsBehind before) ks
+    → Each (StandsBefore before ss i) ks
 behind_before before ss i [] h = tt
 behind_before before ss i (slots.Test part ∷ ks) h = (tt, behind_before before ss i ks h.1)
 behind_before before ss i (slots.Item number ∷ ks) h = (tt, behind_before before ss i ks h.1)
 behind_before before ss i (slots.Fault id ∷ ks) h = (tt, behind_before before ss i ks h.1)
-behind_before before ss i (slots.Value kind of name ∷ ks) h = (inl h.0, behind_before before ss i ks h.1)
+behind_before before ss i (slots.Value kind of name ∷ ks) h =
+    (inl h.0, behind_before before ss i ks h.1)
 
-key_further : (before ss : List Slot) (s : Slot) (i : ℕ) (kind : Kind) (of : ℕ) → (has_slot (s ∷ before) kind of ≡ true) ⊎ ((has_slot ss kind of ≡ true) × (slot_index ss kind of < i)) → (has_slot before kind of ≡ true) ⊎ ((has_slot (s ∷ ss) kind of ≡ true) × (slot_index (s ∷ ss) kind of < i + 1))
+key_further : (before ss : List Slot) (s : Slot) (i : ℕ) (kind : Kind) (of : ℕ)
+    → (has_slot (s ∷ before) kind of ≡ true)
+    ⊎ ((has_slot ss kind of ≡ true) × (slot_index ss kind of < i))
+    → (has_slot before kind of ≡ true)
+    ⊎ ((has_slot (s ∷ ss) kind of ≡ true) × (slot_index (s ∷ ss) kind of < i + 1))
 key_further before ss s i kind of h = elim (cases_Bool (is_slot kind of s)) [
   | inl e ↦ inr (rw e refl, rw e (omega arith))
   | inr f ↦ elim h [
@@ -97,23 +115,29 @@ key_further before ss s i kind of h = elim (cases_Bool (is_slot kind of s)) [
   ]
 ]
 
-further : (before ss : List Slot) (s : Slot) (i : ℕ) (ks : List SlotKey) → Each (StandsBefore (s ∷ before) ss i) ks → Each (StandsBefore before (s ∷ ss) (i + 1)) ks
+further : (before ss : List Slot) (s : Slot) (i : ℕ) (ks : List SlotKey)
+    → Each (StandsBefore (s ∷ before) ss i) ks → Each (StandsBefore before (s ∷ ss) (i + 1)) ks
 further before ss s i [] h = tt
 further before ss s i (slots.Test part ∷ ks) h = (tt, further before ss s i ks h.1)
 further before ss s i (slots.Item number ∷ ks) h = (tt, further before ss s i ks h.1)
 further before ss s i (slots.Fault id ∷ ks) h = (tt, further before ss s i ks h.1)
-further before ss s i (slots.Value kind of name ∷ ks) h = (key_further before ss s i kind of h.0, further before ss s i ks h.1)
+further before ss s i (slots.Value kind of name ∷ ks) h =
+    (key_further before ss s i kind of h.0, further before ss s i ks h.1)
 
-keys_before : (before ss : List Slot) (kind : Kind) (of : ℕ) → AreOrderedAfter before ss → Each (StandsBefore before ss (slot_index ss kind of)) (slot_keys ss kind of)
+keys_before : (before ss : List Slot) (kind : Kind) (of : ℕ) → AreOrderedAfter before ss
+    → Each (StandsBefore before ss (slot_index ss kind of)) (slot_keys ss kind of)
 keys_before before [] kind of h = tt
 keys_before before (s ∷ ss) kind of h = elim (cases_Bool (is_slot kind of s)) [
   | inl e ↦ rw e (behind_before before (s ∷ ss) 0 s.inputs.items h.0)
-  | inr f ↦ rw f (further before ss s (slot_index ss kind of) (slot_keys ss kind of) (keys_before (s ∷ before) ss kind of h.1))
+  | inr f ↦ rw f (further before ss s (slot_index ss kind of) (slot_keys ss kind of)
+      (keys_before (s ∷ before) ss kind of h.1))
 ]
 
 -- ---- the laws
 
-each_used : (t : NodeTable) (test : ℕ) (i : ℕ) (ks : List SlotKey) → has_test t.tests.items test ≡ true → Each (StandsBefore [] t.slots.items i) ks → Each (HoldsOf (λ _ n. Has (used t) n) test) ks
+each_used : (t : NodeTable) (test : ℕ) (i : ℕ) (ks : List SlotKey)
+    → has_test t.tests.items test ≡ true → Each (StandsBefore [] t.slots.items i) ks
+    → Each (HoldsOf (λ _ n. Has (used t) n) test) ks
 each_used t test i [] there h = tt
 each_used t test i (slots.Test part ∷ ks) there h = (tt, each_used t test i ks there h.1)
 each_used t test i (slots.Item number ∷ ks) there h = (tt, each_used t test i ks there h.1)
@@ -126,20 +150,29 @@ each_used t test i (slots.Value kind of name ∷ ks) there h = (
   each_used t test i ks there h.1,
 )
 
-used_among : (t : NodeTable) (kind : Kind) (test of : ℕ) → IsOrdered t → has_test t.tests.items test ≡ true → Each (Has (used t)) (input_nodes (keys_at test (slot_keys t.slots.items kind of)))
-used_among t kind test of o there = each_node (λ _ n. Has (used t) n) test (slot_keys t.slots.items kind of) (each_used t test (slot_index t.slots.items kind of) (slot_keys t.slots.items kind of) there (keys_before [] t.slots.items kind of o))
+used_among : (t : NodeTable) (kind : Kind) (test of : ℕ) → IsOrdered t
+    → has_test t.tests.items test ≡ true
+    → Each (Has (used t)) (input_nodes (keys_at test (slot_keys t.slots.items kind of)))
+used_among t kind test of o there =
+    each_node (λ _ n. Has (used t) n) test (slot_keys t.slots.items kind of) (each_used t test
+    (slot_index t.slots.items kind of) (slot_keys t.slots.items kind of) there
+    (keys_before [] t.slots.items kind of o))
 
-used_inputs : (t : NodeTable) (kind : Kind) (test of : ℕ) → IsOrdered t → has_test t.tests.items test ≡ true → Each (Has (used t)) (input_nodes (inputs_of t kind test of))
+used_inputs : (t : NodeTable) (kind : Kind) (test of : ℕ) → IsOrdered t
+    → has_test t.tests.items test ≡ true
+    → Each (Has (used t)) (input_nodes (inputs_of t kind test of))
 used_inputs t Space test of o there = rw (no_nodes_in_space t.tests.items test) tt
 used_inputs t Group test of o there = used_among t Group test of o there
 used_inputs t Check test of o there = used_among t Check test of o there
 used_inputs t Verdict test of o there = used_among t Verdict test of o there
 
 -- the inputs of used nodes are used
-pub used_is_closed : {G : Type 0} (t : NodeTable) (gives : Node → G → Bool) → IsOrdered t → IsUsedClosed (net_of t gives)
+pub used_is_closed : {G : Type 0} (t : NodeTable) (gives : Node → G → Bool) → IsOrdered t
+    → IsUsedClosed (net_of t gives)
 used_is_closed t gives o n h = used_inputs t n.kind n.test n.of o (used_test t n h)
 
-lower : (ss : List Slot) (test : ℕ) (i : ℕ) (ks : List SlotKey) → Each (StandsBefore [] ss i) ks → Each (HoldsOf (λ _ m. rank_of ss m.kind m.of < i + 1) test) ks
+lower : (ss : List Slot) (test : ℕ) (i : ℕ) (ks : List SlotKey) → Each (StandsBefore [] ss i) ks
+    → Each (HoldsOf (λ _ m. rank_of ss m.kind m.of < i + 1) test) ks
 lower ss test i [] h = tt
 lower ss test i (slots.Test part ∷ ks) h = (tt, lower ss test i ks h.1)
 lower ss test i (slots.Item number ∷ ks) h = (tt, lower ss test i ks h.1)
@@ -158,23 +191,31 @@ lower ss test i (slots.Value kind of name ∷ ks) h = (
     low Check l = omega (arith, l)
     low Verdict l = omega (arith, l)
 
-lower_among : (t : NodeTable) (kind : Kind) (test of : ℕ) → IsOrdered t → Each (λ m. rank_of t.slots.items m.kind m.of < slot_index t.slots.items kind of + 1) (input_nodes (keys_at test (slot_keys t.slots.items kind of)))
+lower_among : (t : NodeTable) (kind : Kind) (test of : ℕ) → IsOrdered t
+    → Each (λ m. rank_of t.slots.items m.kind m.of < slot_index t.slots.items kind of + 1)
+    (input_nodes (keys_at test (slot_keys t.slots.items kind of)))
 lower_among t kind test of o =
-    each_node (λ _ m. rank_of t.slots.items m.kind m.of < slot_index t.slots.items kind of + 1) test (slot_keys t.slots.items kind of)
-    (lower t.slots.items test (slot_index t.slots.items kind of) (slot_keys t.slots.items kind of) (keys_before [] t.slots.items kind of o))
+    each_node (λ _ m. rank_of t.slots.items m.kind m.of < slot_index t.slots.items kind of + 1) test
+    (slot_keys t.slots.items kind of)
+    (lower t.slots.items test (slot_index t.slots.items kind of) (slot_keys t.slots.items kind of)
+    (keys_before [] t.slots.items kind of o))
 
-lower_inputs : (t : NodeTable) (kind : Kind) (test of : ℕ) → IsOrdered t → Each (λ m. rank_of t.slots.items m.kind m.of < rank_of t.slots.items kind of) (input_nodes (inputs_of t kind test of))
+lower_inputs : (t : NodeTable) (kind : Kind) (test of : ℕ) → IsOrdered t
+    → Each (λ m. rank_of t.slots.items m.kind m.of < rank_of t.slots.items kind of)
+    (input_nodes (inputs_of t kind test of))
 lower_inputs t Space test of o = rw (no_nodes_in_space t.tests.items test) tt
 lower_inputs t Group test of o = lower_among t Group test of o
 lower_inputs t Check test of o = lower_among t Check test of o
 lower_inputs t Verdict test of o = lower_among t Verdict test of o
 
 -- a node ranks above its inputs
-pub ranks_fall : {G : Type 0} (t : NodeTable) (gives : Node → G → Bool) → IsOrdered t → Falls (net_of t gives) (rank t)
+pub ranks_fall : {G : Type 0} (t : NodeTable) (gives : Node → G → Bool) → IsOrdered t
+    → Falls (net_of t gives) (rank t)
 ranks_fall t gives o n = lower_inputs t n.kind n.test n.of o
 
 -- the nodes among the inputs of a node are of its test
-node_test : (test : ℕ) (ks : List SlotKey) (n : Node) → Has (input_nodes (keys_at test ks)) n → n.test ≡ test
+node_test : (test : ℕ) (ks : List SlotKey) (n : Node) → Has (input_nodes (keys_at test ks)) n
+    → n.test ≡ test
 node_test test [] n h = absurd h
 node_test test (slots.Test part ∷ ks) n h = node_test test ks n h
 node_test test (slots.Item number ∷ ks) n h = node_test test ks n h
@@ -186,14 +227,21 @@ node_test test (slots.Value kind of name ∷ ks) n h = elim h [
 
 -- ---- users
 
-uses_among : (test : ℕ) (ks : List SlotKey) (n : Node) → Has (input_nodes (keys_at test ks)) n → uses n.kind n.of ks ≡ true
+uses_among : (test : ℕ) (ks : List SlotKey) (n : Node) → Has (input_nodes (keys_at test ks)) n
+    → uses n.kind n.of ks ≡ true
 uses_among test [] n h = absurd h
 uses_among test (slots.Test part ∷ ks) n h = uses_among test ks n h
 uses_among test (slots.Item number ∷ ks) n h = uses_among test ks n h
 uses_among test (slots.Fault id ∷ ks) n h = uses_among test ks n h
 uses_among test (slots.Value kind of name ∷ ks) n h = elim h [
-  | inl e ↦ subst (λ (m : Node). (is_output_of m.kind m.of (slots.Value kind of name) || uses m.kind m.of ks) ≡ true) e (either_of (is_output_of kind of (slots.Value kind of name)) (uses kind of ks) (and_from (kind_number kind == kind_number kind) (of == of) (eq-eqb (kind_number kind) (kind_number kind) refl) (eq-eqb of of refl)))
-  | inr l ↦ rw (uses_among test ks n l) (or_true (is_output_of n.kind n.of (slots.Value kind of name)))
+  | inl e ↦ subst
+      (λ (m : Node). (is_output_of m.kind m.of (slots.Value kind of name) || uses m.kind m.of ks)
+      ≡ true) e
+      (either_of (is_output_of kind of (slots.Value kind of name)) (uses kind of ks)
+      (and_from (kind_number kind == kind_number kind) (of == of)
+      (eq-eqb (kind_number kind) (kind_number kind) refl) (eq-eqb of of refl)))
+  | inr l ↦ rw (uses_among test ks n l) (or_true
+      (is_output_of n.kind n.of (slots.Value kind of name)))
 ]
   where
     either_of : (a b : Bool) → a ≡ true → a || b ≡ true
@@ -209,7 +257,10 @@ all_of true b c h i = rw i h
 all_of false b c h i = h
 
 -- the slot of a kind and number is among the users of what it uses
-user_among : (ss : List Slot) (kind : Kind) (of : ℕ) (used_kind : Kind) (used_of test : ℕ) → has_slot ss kind of ≡ true → uses used_kind used_of (slot_keys ss kind of) ≡ true → has_node (record { kind = kind; test = test; of = of }) (users_at ss used_kind used_of test) ≡ true
+user_among : (ss : List Slot) (kind : Kind) (of : ℕ) (used_kind : Kind) (used_of test : ℕ)
+    → has_slot ss kind of ≡ true → uses used_kind used_of (slot_keys ss kind of) ≡ true
+    → has_node (record { kind = kind; test = test; of = of }) (users_at ss used_kind used_of test)
+    ≡ true
 user_among [] kind of used_kind used_of test h u = cc
 user_among (s ∷ ss) kind of used_kind used_of test h u = elim (cases_Bool (is_slot kind of s)) [
   | inl e ↦ (
@@ -220,7 +271,8 @@ user_among (s ∷ ss) kind of used_kind used_of test h u = elim (cases_Bool (is_
   | inr f ↦ (
       let rest = user_among ss kind of used_kind used_of test (rw f at h) (rw f at u) in
       elim (cases_Bool (uses used_kind used_of s.inputs.items)) [
-        | inl v ↦ rw v (rw rest (or_true (same_node (record { kind = kind; test = test; of = of }) (node_of test s))))
+        | inl v ↦ rw v (rw rest (or_true (same_node (record { kind = kind; test = test; of = of })
+            (node_of test s))))
         | inr w ↦ rw w rest
       ]
       )
@@ -230,13 +282,22 @@ user_among (s ∷ ss) kind of used_kind used_of test h u = elim (cases_Bool (is_
     or_true true = refl
     or_true false = refl
 
-user_listed : (t : NodeTable) (n : Node) (kind : Kind) (test of : ℕ) → has_slot t.slots.items kind of ≡ true → Has (input_nodes (keys_at test (slot_keys t.slots.items kind of))) n → Has (users t n) (record { kind = kind; test = test; of = of })
+user_listed : (t : NodeTable) (n : Node) (kind : Kind) (test of : ℕ)
+    → has_slot t.slots.items kind of ≡ true
+    → Has (input_nodes (keys_at test (slot_keys t.slots.items kind of))) n
+    → Has (users t n) (record { kind = kind; test = test; of = of })
 user_listed t n kind test of h i =
     has_yes (record { kind = kind; test = test; of = of }) (users t n)
-    (subst (λ (x : ℕ). has_node (record { kind = kind; test = test; of = of }) (users_at t.slots.items n.kind n.of x) ≡ true) (sym (node_test test (slot_keys t.slots.items kind of) n i))
-    (user_among t.slots.items kind of n.kind n.of test h (uses_among test (slot_keys t.slots.items kind of) n i)))
+    (subst
+    (λ (x : ℕ). has_node (record { kind = kind; test = test; of = of })
+    (users_at t.slots.items n.kind n.of x) ≡ true)
+    (sym (node_test test (slot_keys t.slots.items kind of) n i))
+    (user_among t.slots.items kind of n.kind n.of test h
+    (uses_among test (slot_keys t.slots.items kind of) n i)))
 
-user_there : (t : NodeTable) (n : Node) (kind : Kind) (test of : ℕ) → has_slot t.slots.items kind of ≡ true → Has (input_nodes (inputs_of t kind test of)) n → Has (users t n) (record { kind = kind; test = test; of = of })
+user_there : (t : NodeTable) (n : Node) (kind : Kind) (test of : ℕ)
+    → has_slot t.slots.items kind of ≡ true → Has (input_nodes (inputs_of t kind test of)) n
+    → Has (users t n) (record { kind = kind; test = test; of = of })
 user_there t n Space test of h i = absurd (rw (no_nodes_in_space t.tests.items test) at i)
 user_there t n Group test of h i = user_listed t n Group test of h i
 user_there t n Check test of h i = user_listed t n Check test of h i
@@ -244,17 +305,24 @@ user_there t n Verdict test of h i = user_listed t n Verdict test of h i
 
 -- a user is the node of a slot, of the same test
 own_slot : (s : Slot) (ss : List Slot) → has_slot (s ∷ ss) s.kind s.of ≡ true
-own_slot s ss = either_of (is_slot s.kind s.of s) (has_slot ss s.kind s.of) (and_from (kind_number s.kind == kind_number s.kind) (s.of == s.of) (eq-eqb (kind_number s.kind) (kind_number s.kind) refl) (eq-eqb s.of s.of refl))
+own_slot s ss =
+    either_of (is_slot s.kind s.of s) (has_slot ss s.kind s.of) (and_from
+    (kind_number s.kind == kind_number s.kind) (s.of == s.of)
+    (eq-eqb (kind_number s.kind) (kind_number s.kind) refl) (eq-eqb s.of s.of refl))
   where
     either_of : (a b : Bool) → a ≡ true → a || b ≡ true
     either_of true b h = refl
     either_of false b h = cc
 
-user_is : (ss : List Slot) (kind : Kind) (of test : ℕ) (u : Node) → Has (users_at ss kind of test) u → (u.test ≡ test) × (has_slot ss u.kind u.of ≡ true)
+user_is : (ss : List Slot) (kind : Kind) (of test : ℕ) (u : Node) → Has (users_at ss kind of test) u
+    → (u.test ≡ test) × (has_slot ss u.kind u.of ≡ true)
 user_is [] kind of test u h = absurd h
 user_is (s ∷ ss) kind of test u h = elim (cases_Bool (uses kind of s.inputs.items)) [
   | inl e ↦ (let g : Has (node_of test s ∷ users_at ss kind of test) u = rw e at h in elim g [
-    | inl is ↦ (sym (ap (λ (m : Node). m.test) is), subst (λ (m : Node). has_slot (s ∷ ss) m.kind m.of ≡ true) is (own_slot s ss))
+    | inl is ↦ (
+      sym (ap (λ (m : Node). m.test) is),
+      subst (λ (m : Node). has_slot (s ∷ ss) m.kind m.of ≡ true) is (own_slot s ss),
+    )
     | inr l ↦ later (user_is ss kind of test u l)
   ])
   | inr f ↦ later (user_is ss kind of test u (rw f at h))
@@ -264,7 +332,8 @@ user_is (s ∷ ss) kind of test u h = elim (cases_Bool (uses kind of s.inputs.it
     or_true true = refl
     or_true false = refl
 
-    later : (u.test ≡ test) × (has_slot ss u.kind u.of ≡ true) → (u.test ≡ test) × (has_slot (s ∷ ss) u.kind u.of ≡ true)
+    later : (u.test ≡ test) × (has_slot ss u.kind u.of ≡ true)
+        → (u.test ≡ test) × (has_slot (s ∷ ss) u.kind u.of ≡ true)
     later p = (p.0, rw p.1 (or_true (is_slot u.kind u.of s)))
 
 user_used : (t : NodeTable) (n u : Node) → Has (used t) n → Has (users t n) u → Has (used t) u
@@ -273,7 +342,8 @@ user_used t n u h l =
     used_by t u (subst (λ (x : ℕ). has_test t.tests.items x ≡ true) (sym p.0) (used_test t n h)) p.1
 
 -- the users of a node hold each used node that stands on it, and those of a used node are used
-pub users_are_among : {G : Type 0} (t : NodeTable) (gives : Node → G → Bool) → AreUsers (net_of t gives) (users t)
+pub users_are_among : {G : Type 0} (t : NodeTable) (gives : Node → G → Bool)
+    → AreUsers (net_of t gives) (users t)
 users_are_among t gives = record {
   listed = λ n u h i. user_there t n u.kind u.test u.of (used_slot t u h) i;
   are_used = λ n u h l. user_used t n u h l;

@@ -17,7 +17,8 @@ use Rattle.bench_nodes.specs.Places.{is_after, rise_after, are_rising, are_apart
 
 -- ---- tests
 
-above : (n : ℕ) (ts : List TestRow) (i : ℕ) (t : TestRow) → rise_after (Some n) ts ≡ true → slice_get ts i ≡ Some t → n < t.id
+above : (n : ℕ) (ts : List TestRow) (i : ℕ) (t : TestRow) → rise_after (Some n) ts ≡ true
+    → slice_get ts i ≡ Some t → n < t.id
 above n [] i t h at = cc
 above n (u ∷ ts) zero t h at =
     let p = and_true (is_after (Some n) u.id) (rise_after (Some u.id) ts) h in
@@ -27,41 +28,55 @@ above n (u ∷ ts) (suc i) t h at =
     let here = ltb-true n u.id p.0 in
     let there = above u.id ts i t p.1 at in omega (arith, here, there)
 
-below : (last : Option ℕ) (ts : List TestRow) (k at : ℕ) (d t : TestRow) → rise_after last ts ≡ true → k < at → slice_get ts at ≡ Some t → (get_or ts k d).id < t.id
+below : (last : Option ℕ) (ts : List TestRow) (k at : ℕ) (d t : TestRow) → rise_after last ts ≡ true
+    → k < at → slice_get ts at ≡ Some t → (get_or ts k d).id < t.id
 below last [] k at d t h lt e = cc
 below last (u ∷ ts) k zero d t h lt e = absurd (omega (arith, lt))
-below last (u ∷ ts) zero (suc at) d t h lt e = above u.id ts at t (and_true (is_after last u.id) (rise_after (Some u.id) ts) h).1 e
-below last (u ∷ ts) (suc k) (suc at) d t h lt e = below (Some u.id) ts k at d t (and_true (is_after last u.id) (rise_after (Some u.id) ts) h).1 (omega (arith, lt)) e
+below last (u ∷ ts) zero (suc at) d t h lt e =
+    above u.id ts at t (and_true (is_after last u.id) (rise_after (Some u.id) ts) h).1 e
+below last (u ∷ ts) (suc k) (suc at) d t h lt e =
+    below (Some u.id) ts k at d t (and_true (is_after last u.id) (rise_after (Some u.id) ts) h).1
+    (omega (arith, lt)) e
 
 -- where the numbers rise, a test of that number is the first
-pub placed_at : (ts : List TestRow) (id at : ℕ) (t : TestRow) → are_rising ts ≡ true → slice_get ts at ≡ Some t → t.id ≡ id → at ≡ position_or_len (λ x. x.id == id) ts
+pub placed_at : (ts : List TestRow) (id at : ℕ) (t : TestRow) → are_rising ts ≡ true
+    → slice_get ts at ≡ Some t → t.id ≡ id → at ≡ position_or_len (λ x. x.id == id) ts
 placed_at ts id at t h e is =
     let within = slice_get_within ts at t e in
     sym (position_or_len_is (λ x. x.id == id) ts at t (omega (arith, within))
-    (λ k lt. let less = below None ts k at t t h lt e in ne_eqb (get_or ts k t).id id (λ same. omega (arith, less, same, is)))
-    (λ lt. eq-eqb (get_or ts at t).id id (ap (λ (x : TestRow). x.id) (get_or_from_slice_get ts at t t e) ∙ is)))
+    (λ k lt.
+    let less = below None ts k at t t h lt e in
+    ne_eqb (get_or ts k t).id id (λ same. omega (arith, less, same, is)))
+    (λ lt. eq-eqb (get_or ts at t).id id (ap (λ (x : TestRow). x.id)
+    (get_or_from_slice_get ts at t t e) ∙ is)))
 
 -- the test of a number stands at its index
-pub row_at : (ts : List TestRow) (id : ℕ) → slice_get ts (position_or_len (λ x. x.id == id) ts) ≡ row_of ts id
+pub row_at : (ts : List TestRow) (id : ℕ)
+    → slice_get ts (position_or_len (λ x. x.id == id) ts) ≡ row_of ts id
 row_at [] id = refl
 row_at (t ∷ ts) id = by_test (t.id == id) (row_at ts id)
   where
     next : (i : ℕ) → 1 + i ≡ suc i
     next i = omega arith
 
-    by_test : (b : Bool) → slice_get ts (position_or_len (λ x. x.id == id) ts) ≡ row_of ts id → slice_get (t ∷ ts) (cond (not b) (1 + position_or_len (λ x. x.id == id) ts) 0) ≡ (if b then Some t else row_of ts id)
+    by_test : (b : Bool) → slice_get ts (position_or_len (λ x. x.id == id) ts) ≡ row_of ts id
+        → slice_get (t ∷ ts) (cond (not b) (1 + position_or_len (λ x. x.id == id) ts) 0)
+        ≡ (if b then Some t else row_of ts id)
     by_test true later = refl
-    by_test false later = ap (λ (i : ℕ). slice_get (t ∷ ts) i) (next (position_or_len (λ x. x.id == id) ts)) ∙ later
+    by_test false later =
+        ap (λ (i : ℕ). slice_get (t ∷ ts) i) (next (position_or_len (λ x. x.id == id) ts)) ∙ later
 
 pub place_within : (ts : List TestRow) (id : ℕ) → position_or_len (λ x. x.id == id) ts ≤ length ts
 place_within [] id = omega arith
 place_within (t ∷ ts) id = by_test (t.id == id) (place_within ts id)
   where
-    by_test : (b : Bool) → position_or_len (λ x. x.id == id) ts ≤ length ts → cond (not b) (1 + position_or_len (λ x. x.id == id) ts) 0 ≤ suc (length ts)
+    by_test : (b : Bool) → position_or_len (λ x. x.id == id) ts ≤ length ts
+        → cond (not b) (1 + position_or_len (λ x. x.id == id) ts) 0 ≤ suc (length ts)
     by_test true later = omega arith
     by_test false later = omega (arith, later)
 
-pub row_stamp : (ts : List TestRow) (part id : ℕ) (t : TestRow) → Some t ≡ row_of ts id → stamp_in t part ≡ test_stamp ts part id
+pub row_stamp : (ts : List TestRow) (part id : ℕ) (t : TestRow) → Some t ≡ row_of ts id
+    → stamp_in t part ≡ test_stamp ts part id
 row_stamp [] part id t h = cc
 row_stamp (u ∷ ts) part id t h = elim (cases_Bool (u.id == id)) [
   | inl e ↦ rw e (ap (λ (x : TestRow). stamp_in x part) (same_Some t u (rw e at h)))
@@ -79,7 +94,8 @@ pub turned : (a b : ℕ) (c : Bool) → a == b ≡ c → b == a ≡ c
 turned a b true e = eq-eqb b a (sym (eqb-true a b e))
 turned a b false e = ne_eqb b a (λ same. let t = eq-eqb a b (sym same) in cc)
 
-pub has_row : (ts : List TestRow) (id : ℕ) (t : TestRow) → Some t ≡ row_of ts id → true ≡ has_test ts id
+pub has_row : (ts : List TestRow) (id : ℕ) (t : TestRow) → Some t ≡ row_of ts id
+    → true ≡ has_test ts id
 has_row [] id t h = cc
 has_row (u ∷ ts) id t h = elim (cases_Bool (u.id == id)) [
   | inl e ↦ rw (turned u.id id true e) refl
@@ -99,17 +115,21 @@ or_true : (a : Bool) → a || true ≡ true
 or_true true = refl
 or_true false = refl
 
-pub has_placed : (ss : List Slot) (kind : Kind) (of at : ℕ) → option_map (is_slot kind of) (slice_get ss at) ≡ Some true → true ≡ has_slot ss kind of
+pub has_placed : (ss : List Slot) (kind : Kind) (of at : ℕ)
+    → option_map (is_slot kind of) (slice_get ss at) ≡ Some true → true ≡ has_slot ss kind of
 has_placed [] kind of at h = cc
-has_placed (s ∷ ss) kind of zero h = let e : is_slot kind of s ≡ true = same_Some (is_slot kind of s) true h in rw e refl
-has_placed (s ∷ ss) kind of (suc at) h = let later = has_placed ss kind of at h in rw (sym later) (sym (or_true (is_slot kind of s)))
+has_placed (s ∷ ss) kind of zero h =
+    let e : is_slot kind of s ≡ true = same_Some (is_slot kind of s) true h in rw e refl
+has_placed (s ∷ ss) kind of (suc at) h =
+    let later = has_placed ss kind of at h in rw (sym later) (sym (or_true (is_slot kind of s)))
 
 all_of : (a b c : Bool) → a && c ≡ true → b ≡ true → a && b && c ≡ true
 all_of true b c h i = rw i h
 all_of false b c h i = h
 
 -- a slot of that kind and number has them
-pub slot_is : (kind : Kind) (of : ℕ) (s : Slot) → is_slot kind of s ≡ true → (kind ≡ s.kind) × (of ≡ s.of)
+pub slot_is : (kind : Kind) (of : ℕ) (s : Slot) → is_slot kind of s ≡ true
+    → (kind ≡ s.kind) × (of ≡ s.of)
 slot_is kind of s h =
     let a : Node = record { kind = kind; test = 0; of = of } in
     let b : Node = record { kind = s.kind; test = 0; of = s.of } in
@@ -117,7 +137,9 @@ slot_is kind of s h =
     (ap (λ (n : Node). n.kind) e, ap (λ (n : Node). n.of) e)
 
 -- where no two slots are of one kind and number, a slot of these is the first
-pub keys_placed : (ss : List Slot) (kind : Kind) (of at : ℕ) (s : Slot) → are_apart ss ≡ true → option_map (is_slot kind of) (slice_get ss at) ≡ Some true → Some s ≡ slice_get ss at → s.inputs.items ≡ slot_keys ss kind of
+pub keys_placed : (ss : List Slot) (kind : Kind) (of at : ℕ) (s : Slot) → are_apart ss ≡ true
+    → option_map (is_slot kind of) (slice_get ss at) ≡ Some true → Some s ≡ slice_get ss at
+    → s.inputs.items ≡ slot_keys ss kind of
 keys_placed [] kind of at s apart h e = cc
 keys_placed (u ∷ ss) kind of zero s apart h e =
     let is : is_slot kind of u ≡ true = same_Some (is_slot kind of u) true h in
@@ -136,19 +158,26 @@ keys_placed (u ∷ ss) kind of (suc at) s apart h e =
 
 -- ---- users
 
-pub users_named : (ss : List Slot) (kind : Kind) (of test : ℕ) → users_at ss kind of test ≡ map (named test) (user_names ss kind of)
+pub users_named : (ss : List Slot) (kind : Kind) (of test : ℕ)
+    → users_at ss kind of test ≡ map (named test) (user_names ss kind of)
 users_named [] kind of test = refl
 users_named (s ∷ ss) kind of test = elim (cases_Bool (uses kind of s.inputs.items)) [
   | inl e ↦ rw e (ap (λ (ns : List Node). node_of test s ∷ ns) (users_named ss kind of test))
   | inr f ↦ rw f (users_named ss kind of test)
 ]
 
-names_at : (all ss : List Slot) (kind : Kind) (of at : ℕ) (names : List SlotName) → option_map (is_slot kind of) (slice_get ss at) ≡ Some true → slice_get (user_lists all ss) at ≡ Some names → user_names all kind of ≡ names
+names_at : (all ss : List Slot) (kind : Kind) (of at : ℕ) (names : List SlotName)
+    → option_map (is_slot kind of) (slice_get ss at) ≡ Some true
+    → slice_get (user_lists all ss) at ≡ Some names → user_names all kind of ≡ names
 names_at all [] kind of at names h e = cc
 names_at all (s ∷ ss) kind of zero names h e =
     let same = slot_is kind of s (same_Some (is_slot kind of s) true h) in
     rw (same.0, same.1) (same_Some (user_names all s.kind s.of) names e)
 names_at all (s ∷ ss) kind of (suc at) names h e = names_at all ss kind of at names h e
 
-pub users_placed : (ss : List Slot) (kind : Kind) (of test at : ℕ) (names : List SlotName) → option_map (is_slot kind of) (slice_get ss at) ≡ Some true → slice_get (user_lists ss ss) at ≡ Some names → users_at ss kind of test ≡ map (named test) names
-users_placed ss kind of test at names h e = users_named ss kind of test ∙ ap (map (named test)) (names_at ss ss kind of at names h e)
+pub users_placed : (ss : List Slot) (kind : Kind) (of test at : ℕ) (names : List SlotName)
+    → option_map (is_slot kind of) (slice_get ss at) ≡ Some true
+    → slice_get (user_lists ss ss) at ≡ Some names
+    → users_at ss kind of test ≡ map (named test) names
+users_placed ss kind of test at names h e =
+    users_named ss kind of test ∙ ap (map (named test)) (names_at ss ss kind of at names h e)

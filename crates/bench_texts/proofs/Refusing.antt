@@ -12,41 +12,67 @@ use Rattle.bench_texts.specs.Edits.{Edit, missing, Makes, limit_fault, Applies, 
 use Rattle.bench_texts.specs.Answers.{Answers, IsChangeBy, IsLimited}
 
 -- a fault of the limits is one of two
-refused_so : (full spent : Bool) (f : EditFault) → (if full then Some faults.Full else (if spent then Some faults.Spent else None)) ≡ Some f → (f ≡ faults.Full) ⊎ (f ≡ faults.Spent)
+refused_so : (full spent : Bool) (f : EditFault)
+    → (if full then Some faults.Full else (if spent then Some faults.Spent else None)) ≡ Some f
+    → (f ≡ faults.Full) ⊎ (f ≡ faults.Spent)
 refused_so true spent f e = inl cc
 refused_so false true f e = inr cc
 refused_so false false f e = cc
 
-pub refused_by_limit : (t new : BenchTexts) (spent : Bool) (e : Edit) (f : EditFault) → missing t e ≡ None → Makes t e new → limit_fault t spent new ≡ Some f → Refuses t spent e f
-refused_by_limit t new spent e f there makes limit = elim (refused_so (is_full new) (spent || is_spent t) f limit) [
-  | inl h ↦ subst (λ g. Refuses t spent e g) (sym h) (there, record { new = new; makes = makes; limit = limit ∙ ap Some h })
-  | inr h ↦ subst (λ g. Refuses t spent e g) (sym h) (there, record { new = new; makes = makes; limit = limit ∙ ap Some h })
-]
+pub refused_by_limit : (t new : BenchTexts) (spent : Bool) (e : Edit) (f : EditFault)
+    → missing t e ≡ None → Makes t e new → limit_fault t spent new ≡ Some f → Refuses t spent e f
+refused_by_limit t new spent e f there makes limit =
+    elim (refused_so (is_full new) (spent || is_spent t) f limit) [
+      | inl h ↦ subst (λ g. Refuses t spent e g) (sym h) (
+        there,
+        record { new = new; makes = makes; limit = limit ∙ ap Some h },
+      )
+      | inr h ↦ subst (λ g. Refuses t spent e g) (sym h) (
+        there,
+        record { new = new; makes = makes; limit = limit ∙ ap Some h },
+      )
+    ]
 
-pub limited_answers : (t : BenchTexts) (spent : Bool) (e : Edit) (change : Change) (r : Result Change EditFault) → missing t e ≡ None → Makes t e (texts_after change t) → IsChangeBy t e change → IsLimited t spent change (texts_after change t) r → Answers t spent e r
+pub limited_answers : (t : BenchTexts) (spent : Bool) (e : Edit) (change : Change)
+    (r : Result Change EditFault) → missing t e ≡ None → Makes t e (texts_after change t)
+    → IsChangeBy t e change → IsLimited t spent change (texts_after change t) r
+    → Answers t spent e r
 limited_answers t spent e change (Ok c) there makes by l =
-    subst (λ d. Applies t spent e (texts_after d t) × IsChangeBy t e d) (sym l.0) (record { all_there = there; makes = makes; within = l.1 }, by)
-limited_answers t spent e change (Err f) there makes by l = refused_by_limit t (texts_after change t) spent e f there makes l
+    subst (λ d. Applies t spent e (texts_after d t) × IsChangeBy t e d) (sym l.0)
+    (record { all_there = there; makes = makes; within = l.1 }, by)
+limited_answers t spent e change (Err f) there makes by l =
+    refused_by_limit t (texts_after change t) spent e f there makes l
 
-pub limited_ready : (t : BenchTexts) (texts : Texts) (spent : Bool) (change : Change) (new : BenchTexts) (r : Result Change EditFault) → IsReady texts change → IsLimited t spent change new r → IfOk r (IsReady texts)
+pub limited_ready : (t : BenchTexts) (texts : Texts) (spent : Bool) (change : Change)
+    (new : BenchTexts) (r : Result Change EditFault) → IsReady texts change
+    → IsLimited t spent change new r → IfOk r (IsReady texts)
 limited_ready t texts spent change new (Ok c) ready l = subst (IsReady texts) (sym l.0) ready
 limited_ready t texts spent change new (Err f) ready l = tt
 
-pub limited_is : (t : BenchTexts) (spent : Bool) (change : Change) (new : BenchTexts) (r : Result Change EditFault) → IsLimited t spent change new r → IfOk r (λ c. c ≡ change)
+pub limited_is : (t : BenchTexts) (spent : Bool) (change : Change) (new : BenchTexts)
+    (r : Result Change EditFault) → IsLimited t spent change new r → IfOk r (λ c. c ≡ change)
 limited_is t spent change new (Ok c) l = l.0
 limited_is t spent change new (Err f) l = tt
 
 -- where what is asked holds of texts within the limits
-pub limited_ready_within : (t : BenchTexts) (texts : Texts) (spent : Bool) (change : Change) (new : BenchTexts) (r : Result Change EditFault) → (limit_fault t spent new ≡ None → IsReady texts change) → IsLimited t spent change new r → IfOk r (IsReady texts)
-limited_ready_within t texts spent change new (Ok c) ready l = subst (IsReady texts) (sym l.0) (ready l.1)
+pub limited_ready_within : (t : BenchTexts) (texts : Texts) (spent : Bool) (change : Change)
+    (new : BenchTexts) (r : Result Change EditFault)
+    → (limit_fault t spent new ≡ None → IsReady texts change) → IsLimited t spent change new r
+    → IfOk r (IsReady texts)
+limited_ready_within t texts spent change new (Ok c) ready l =
+    subst (IsReady texts) (sym l.0) (ready l.1)
 limited_ready_within t texts spent change new (Err f) ready l = tt
 
 -- texts within the limits have item numbers left
-unspent_by : (b : Bool) (n : ℕ) → nat_lt (2 ^ 63) n ≡ b → (if b then Some faults.Spent else None) ≡ None → n ≤ 2 ^ 63
+unspent_by : (b : Bool) (n : ℕ) → nat_lt (2 ^ 63) n ≡ b
+    → (if b then Some faults.Spent else None) ≡ None → n ≤ 2 ^ 63
 unspent_by true n s e = cc
 unspent_by false n s e = grind (arith, common_steps)
 
-unspent_so : (full spent : Bool) (n : ℕ) → (if full then Some faults.Full else (if spent || nat_lt (2 ^ 63) n then Some faults.Spent else None)) ≡ None → n ≤ 2 ^ 63
+unspent_so : (full spent : Bool) (n : ℕ)
+    → (if full then Some faults.Full
+    else (if spent || nat_lt (2 ^ 63) n then Some faults.Spent else None)) ≡ None
+    → n ≤ 2 ^ 63
 unspent_so true spent n e = cc
 unspent_so false true n e = cc
 unspent_so false false n e = unspent_by (nat_lt (2 ^ 63) n) n refl e

@@ -8,6 +8,7 @@ on_ok (Ok x) p = p
 on_ok (Err e) p = tt
 
 -- what holds of the one that it is
-pub if_same : {T E : Type 0} (r : Result T E) (x : T) (P : T → Type 0) → P x → IfOk r (λ y. y ≡ x) → IfOk r P
+pub if_same : {T E : Type 0} (r : Result T E) (x : T) (P : T → Type 0) → P x → IfOk r (λ y. y ≡ x)
+    → IfOk r P
 if_same (Ok y) x P p same = subst P (sym same) p
 if_same (Err e) x P p same = tt

@@ -32,7 +32,8 @@ abbrev arity_of : Option Sense → Option ℕ
 arity_of None = None
 arity_of (Some s) = Some s.arity
 
-arities : (fs : List Function) (ss : List Sense) (i : ℕ) → AreKept fs ss → slice_get (map (λ (f : Function). f.arity) fs) i ≡ arity_of (slice_get ss i)
+arities : (fs : List Function) (ss : List Sense) (i : ℕ) → AreKept fs ss
+    → slice_get (map (λ (f : Function). f.arity) fs) i ≡ arity_of (slice_get ss i)
 arities [] [] i h = refl
 arities [] (s ∷ ss) i h = absurd h
 arities (f ∷ fs) [] i h = absurd h
@@ -40,20 +41,32 @@ arities (f ∷ fs) (s ∷ ss) zero h = ap Some h.0.arity
 arities (f ∷ fs) (s ∷ ss) (suc i) h = arities fs ss i h.1
 
 -- a name with arguments
-pub applied_fault : (fs : List Function) (ss : List Sense) (n : ℕ) (p : Option ℕ) (o : Option Found) → AreKept fs ss → of_applied p (sense_of ss n o) ≡ fault_of (applied_of (λ (i : ℕ). slice_get (map (λ (f : Function). f.arity) fs) i) n p o)
+pub applied_fault : (fs : List Function) (ss : List Sense) (n : ℕ) (p : Option ℕ) (o : Option Found)
+    → AreKept fs ss
+    → of_applied p (sense_of ss n o)
+    ≡ fault_of (applied_of (λ (i : ℕ). slice_get (map (λ (f : Function). f.arity) fs) i) n p o)
 applied_fault fs ss n (Some q) o h = refl
 applied_fault fs ss n None None h = refl
 applied_fault fs ss n None (Some f) h = at_binder f.binder
   where
-    at_test : (i : ℕ) (s : Sense) (b : Bool) → of_applied None (if b then Ok s else Err faults.Arity) ≡ fault_of (if b then Ok i else Err faults.Arity)
+    at_test : (i : ℕ) (s : Sense) (b : Bool)
+        → of_applied None (if b then Ok s else Err faults.Arity)
+        ≡ fault_of (if b then Ok i else Err faults.Arity)
     at_test i s true = refl
     at_test i s false = refl
 
-    at_sense : (i : ℕ) (q : Option Sense) → of_applied None (with_arity n q) ≡ fault_of (applied i n (arity_of q))
+    at_sense : (i : ℕ) (q : Option Sense)
+        → of_applied None (with_arity n q) ≡ fault_of (applied i n (arity_of q))
     at_sense i None = refl
     at_sense i (Some s) = at_test i s (nat_eq s.arity n)
 
-    at_binder : (b : Binder) → of_applied None (sense_of ss n (Some (record { slot = f.slot; kind = f.kind; binder = b }))) ≡ fault_of (applied_of (λ (i : ℕ). slice_get (map (λ (g : Function). g.arity) fs) i) n None (Some (record { slot = f.slot; kind = f.kind; binder = b })))
+    at_binder : (b : Binder)
+        → of_applied None (sense_of ss n
+        (Some (record { slot = f.slot; kind = f.kind; binder = b })))
+        ≡ fault_of (applied_of (λ (i : ℕ). slice_get (map (λ (g : Function). g.arity) fs) i) n
+        None (Some (record { slot = f.slot; kind = f.kind; binder = b })))
     at_binder (binders.Predefined q) = refl
     at_binder (binders.Bound i) = refl
-    at_binder (binders.Applicable i) = at_sense i (slice_get ss i) ∙ ap (λ (q : Option ℕ). fault_of (applied i n q)) (sym (arities fs ss i h))
+    at_binder (binders.Applicable i) =
+        at_sense i (slice_get ss i)
+        ∙ ap (λ (q : Option ℕ). fault_of (applied i n q)) (sym (arities fs ss i h))

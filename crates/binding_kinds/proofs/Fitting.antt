@@ -30,27 +30,35 @@ holds true k e = search rules
 holds false k e = absurd (let f : Some k ≡ None = e in cc)
 
 -- a name is known among known names, unless it is a function
-pub known_found : (names : List Naming) (x : List ℕ) (f : Found) → AreKnown names → found names x ≡ Some f → IsKnownUnlessFunction f.binder f.kind
+pub known_found : (names : List Naming) (x : List ℕ) (f : Found) → AreKnown names
+    → found names x ≡ Some f → IsKnownUnlessFunction f.binder f.kind
 known_found [] x f h e = absurd (let g : None ≡ Some f = e in cc)
 known_found (n ∷ ns) x f h e = at_test (bytes_eq n.name x) (known_found ns x f h.1) e
   where
-    at_test : (b : Bool) → (found ns x ≡ Some f → IsKnownUnlessFunction f.binder f.kind) → (if b then Some (record { slot = length ns; kind = n.kind; binder = n.binder }) else found ns x) ≡ Some f → IsKnownUnlessFunction f.binder f.kind
+    at_test : (b : Bool) → (found ns x ≡ Some f → IsKnownUnlessFunction f.binder f.kind)
+        → (if b then Some (record { slot = length ns; kind = n.kind; binder = n.binder })
+        else found ns x) ≡ Some f → IsKnownUnlessFunction f.binder f.kind
     at_test true rest e =
         let g : Found = record { slot = length ns; kind = n.kind; binder = n.binder } in
         let s : g ≡ f = let same : Some g ≡ Some f = e in cc in
         rw (← s) h.0
     at_test false rest e = rest e
 
-known_use : (b : Binder) (k : Kind) (from : ℕ) (under : Bool) (slot : ℕ) → IsKnownUnlessFunction b k → of_use b from under slot ≡ None → IsValue b × IsKnown k
+known_use : (b : Binder) (k : Kind) (from : ℕ) (under : Bool) (slot : ℕ) → IsKnownUnlessFunction b k
+    → of_use b from under slot ≡ None → IsValue b × IsKnown k
 known_use (binders.Predefined p) k from under slot h e = (tt, h)
 known_use (binders.Bound i) k from under slot h e = (tt, h)
-known_use (binders.Applicable f) k from under slot h e = absurd (let g : Some faults.Arity ≡ None = e in cc)
+known_use (binders.Applicable f) k from under slot h e =
+    absurd (let g : Some faults.Arity ≡ None = e in cc)
 
-pub known_name : (names : List Naming) (x : List ℕ) (from : ℕ) (under : Bool) (o : Option Found) → AreKnown names → found names x ≡ o → of_name from under o ≡ None → IsKnownValue o
+pub known_name : (names : List Naming) (x : List ℕ) (from : ℕ) (under : Bool) (o : Option Found)
+    → AreKnown names → found names x ≡ o → of_name from under o ≡ None → IsKnownValue o
 known_name names x from under None h is e = absurd (let g : Some faults.Unbound ≡ None = e in cc)
-known_name names x from under (Some f) h is e = known_use f.binder f.kind from under f.slot (known_found names x f h is) e
+known_name names x from under (Some f) h is e =
+    known_use f.binder f.kind from under f.slot (known_found names x f h is) e
 
-joined_known : (op : Infix) (k l : Kind) → IsKnown k → IsKnown l → IsTrue (takes op k l) → IsKnown (joined op k l)
+joined_known : (op : Infix) (k l : Kind) → IsKnown k → IsKnown l → IsTrue (takes op k l)
+    → IsKnown (joined op k l)
 joined_known Union OfSet OfSet k l t = tt
 joined_known Union OfRelation OfRelation k l t = tt
 joined_known Union OfSet OfRelation k l t = cc
@@ -98,7 +106,8 @@ typed_known ks (Parameter i) h = h
 typed_known ks Everything h = tt
 typed_known ks NoPairs h = tt
 typed_known ks NoEvents h = tt
-typed_known ks (Joined op a b) h = joined_known op (kind_of ks a) (kind_of ks b) (typed_known ks a h.0) (typed_known ks b h.1) h.2
+typed_known ks (Joined op a b) h =
+    joined_known op (kind_of ks a) (kind_of ks b) (typed_known ks a h.0) (typed_known ks b h.1) h.2
 typed_known ks (Marked op a) h = marked_known (kind_of ks a) (typed_known ks a h.0) h.1
 typed_known ks (Complement a) h = typed_known ks a h
 typed_known ks (Identity a) h = narrowed_known (kind_of ks a) (typed_known ks a h.0) h.1

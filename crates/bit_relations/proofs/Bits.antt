@@ -64,7 +64,8 @@ Bit-width x k fits h =
     ]
 
 -- `x & !y`
-pub Bit-and_not : (x y k : ℕ) → x < 2 ^ 64 → y < 2 ^ 64 → Bit (bit_and x (bit_not w64 y)) k ↔ (Bit x k × (Bit y k → ⊥))
+pub Bit-and_not : (x y k : ℕ) → x < 2 ^ 64 → y < 2 ^ 64
+    → Bit (bit_and x (bit_not w64 y)) k ↔ (Bit x k × (Bit y k → ⊥))
 unfolding Bit
 Bit-and_not x y k fits_x fits_y = (
   (λ h. let both = (Bit-and x (bit_not w64 y) k).0 h in
@@ -91,7 +92,10 @@ Bit-set x a k lt =
       | inl same ↦ ((λ h. inr (sym same)), (λ h. rw same (bit_at_set_same w64 x a lt)))
       | inr other ↦
           let e : bit_at (bit_or x (1 * 2 ^ a % 2 ^ 64)) k ≡ bit_at x k = bit_at_set_other w64 x a lt k other in
-          rw e ((λ h. inl h), (λ h. elim h [ inl old ↦ old | inr same ↦ absurd (other (sym same)) ]))
+          rw e (
+            (λ h. inl h),
+            (λ h. elim h [ inl old ↦ old | inr same ↦ absurd (other (sym same)) ]),
+          )
     ]
 
 -- the word of one bit
@@ -108,15 +112,23 @@ Bit-one a k lt = (
 )
 
 -- `acc | if s & 1 << k == 0 { 0 } else { row }`
-pub Bit-chosen : (acc s k row b : ℕ) → k < 64 → Bit (bit_or acc (cond (eqb (bit_and s (1 * 2 ^ k % 2 ^ 64)) 0) 0 row)) b ↔ (Bit acc b ⊎ (Bit s k × Bit row b))
+pub Bit-chosen : (acc s k row b : ℕ) → k < 64
+    → Bit (bit_or acc (cond (eqb (bit_and s (1 * 2 ^ k % 2 ^ 64)) 0) 0 row)) b
+    ↔ (Bit acc b ⊎ (Bit s k × Bit row b))
 Bit-chosen acc s k row b lt =
     elim (eqb_tells met 0) [
       | inl zero_met ↦ rw zero_met.0 (
-        (λ h. elim ((Bit-or acc 0 b).0 h) [ inl old ↦ inl old | inr none ↦ absurd (Bit-zero b none) ]),
-        (λ h. (Bit-or acc 0 b).1 (elim h [ inl old ↦ inl old | inr t ↦ absurd (Bit-zero k (subst (λ (x : ℕ). Bit x k) zero_met.1 (has t.0))) ])),
+        (λ h. elim ((Bit-or acc 0 b).0 h)
+            [ inl old ↦ inl old | inr none ↦ absurd (Bit-zero b none) ]),
+        (λ h. (Bit-or acc 0 b).1 (elim h [
+          | inl old ↦ inl old
+          | inr t ↦ absurd
+              (Bit-zero k (subst (λ (x : ℕ). Bit x k) zero_met.1 (has t.0)))
+        ])),
       )
       | inr some ↦ rw some.0 (
-        (λ h. elim ((Bit-or acc row b).0 h) [ inl old ↦ inl old | inr new ↦ inr (set some.1, new) ]),
+        (λ h. elim ((Bit-or acc row b).0 h)
+            [ inl old ↦ inl old | inr new ↦ inr (set some.1, new) ]),
         (λ h. (Bit-or acc row b).1 (elim h [ inl old ↦ inl old | inr t ↦ inr t.1 ])),
       )
     ]
@@ -131,7 +143,9 @@ Bit-chosen acc s k row b lt =
     set some = elim (Bit_cases s k) [
       | inl here ↦ here
       | inr unset ↦ absurd (some (same_word met 0 (λ c. (
-        (λ h. let t = (Bit-and s (1 * 2 ^ k % 2 ^ 64) c).0 h in absurd (unset (subst (λ (x : ℕ). Bit s x) (sym ((Bit-one k c lt).0 t.1)) t.0))),
+        (λ h.
+            let t = (Bit-and s (1 * 2 ^ k % 2 ^ 64) c).0 h in
+            absurd (unset (subst (λ (x : ℕ). Bit s x) (sym ((Bit-one k c lt).0 t.1)) t.0))),
         (λ h. absurd (Bit-zero c h)),
       ))))
     ]
@@ -141,7 +155,8 @@ unfoldable pub spread : ℕ → ℕ → ℕ
 spread s k = (0 + (2 ^ 64 - bit_and (s / 2 ^ k) 1)) % 2 ^ 64
 
 -- `acc | (0 - ((s >> k) & 1)) & row`
-pub Bit-spread : (acc s k row b : ℕ) → row < 2 ^ 64 → Bit (bit_or acc (bit_and (spread s k) row)) b ↔ (Bit acc b ⊎ (Bit s k × Bit row b))
+pub Bit-spread : (acc s k row b : ℕ) → row < 2 ^ 64
+    → Bit (bit_or acc (bit_and (spread s k) row)) b ↔ (Bit acc b ⊎ (Bit s k × Bit row b))
 unfolding Bit spread
 Bit-spread acc s k row b fits =
     let e : bit_and (s / 2 ^ k) 1 ≡ bit_at s k = shr_and_one s k in
@@ -153,7 +168,9 @@ Bit-spread acc s k row b fits =
       (λ h. (Bit-and (2 ^ 64 - 1) row b).1 (bit_at_ones 64 b (Bit-width row b fits h), h)),
     )
 
-    go : (m : ℕ) → m < 2 → Bit (bit_or acc (bit_and ((0 + (2 ^ 64 - m)) % 2 ^ 64) row)) b ↔ (Bit acc b ⊎ ((m ≡ 1) × Bit row b))
+    go : (m : ℕ) → m < 2
+        → Bit (bit_or acc (bit_and ((0 + (2 ^ 64 - m)) % 2 ^ 64) row)) b
+        ↔ (Bit acc b ⊎ ((m ≡ 1) × Bit row b))
     go zero lt = (
       (λ h. elim ((Bit-or acc (bit_and 0 row) b).0 h) [
         | inl old ↦ inl old
@@ -169,7 +186,8 @@ Bit-spread acc s k row b fits =
         | inl old ↦ inl old
         | inr new ↦ inr (refl, all_ones.0 new)
       ]),
-      (λ h. (Bit-or acc (bit_and (2 ^ 64 - 1) row) b).1 (elim h [ inl old ↦ inl old | inr new ↦ inr (all_ones.1 new.1) ])),
+      (λ h. (Bit-or acc (bit_and (2 ^ 64 - 1) row) b).1 (elim h
+          [ inl old ↦ inl old | inr new ↦ inr (all_ones.1 new.1) ])),
     )
     go (suc (suc m)) lt = absurd (omega arith)
 
@@ -186,7 +204,8 @@ fits_below n w below = subst (λ (x : ℕ). x < 2 ^ n) (sym (same_from_bits w (w
 
     each : (k : ℕ) → bit_at w k ≡ bit_at (w % 2 ^ n) k
     each k = elim (cases_lt k n) [
-      | inl lt ↦ ap (λ (x : ℕ). bit_at x k) (sym (div-add-mod' w (2 ^ n))) ∙ bit_at_cat_low (w / 2 ^ n) n (w % 2 ^ n) k lt
+      | inl lt ↦ ap (λ (x : ℕ). bit_at x k) (sym (div-add-mod' w (2 ^ n)))
+          ∙ bit_at_cat_low (w / 2 ^ n) n (w % 2 ^ n) k lt
       | inr ge ↦
           let high : bit_at (w % 2 ^ n) k ≡ 0 = bit_at_above (w % 2 ^ n) n k small ge in
           zero_bit (bit_at-lt w k) (λ h. let lt : k < n = below k h in omega arith) ∙ sym high
@@ -205,7 +224,9 @@ Bit-lowest n b le =
     rw (e, same) (
       (λ h. elim (cases_lt b n) [
         | inl lt ↦ lt
-        | inr ge ↦ let z : bit_at (2 ^ n - 1) b ≡ 0 = bit_at_ones_above n b ge in absurd (zero_or_one _ z h)
+        | inr ge ↦
+            let z : bit_at (2 ^ n - 1) b ≡ 0 = bit_at_ones_above n b ge in
+            absurd (zero_or_one _ z h)
       ]),
       (λ lt. bit_at_ones n b lt),
     )

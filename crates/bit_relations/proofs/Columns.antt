@@ -34,7 +34,8 @@ abbrev pub of_columns : ℕ → List ℕ → List ℕ → Relation
 of_columns n low high = record { count = n; rows = wide low high }
 
 -- what a `Rel` keeps
-pub taken_apart : (n : ℕ) (low high : List ℕ) → AreColumns n low high → IsMade n low high (Has (of_columns n low high))
+pub taken_apart : (n : ℕ) (low high : List ℕ) → AreColumns n low high
+    → IsMade n low high (Has (of_columns n low high))
 taken_apart n low high c = record {
   few = c.few;
   low = record {
@@ -44,8 +45,13 @@ taken_apart n low high c = record {
   };
   high = record {
     height = c.high_height;
-    fits = λ a. word_fits (get_or high a 0) (λ b h. below a b ((high_bit low high a (b + 64) same fits (omega arith)).1 (subst (λ (x : ℕ). RowsHave high a x) (sym (less b)) h)));
-    bits = λ a b lt. turned (subst (λ (x : ℕ). RowsHave (wide low high) a (b + 64) ↔ RowsHave high a x) (less b) (high_bit low high a (b + 64) same fits (omega arith)));
+    fits =
+        λ a. word_fits (get_or high a 0) (λ b h. below a b ((high_bit low high a (b + 64) same fits
+        (omega arith)).1
+        (subst (λ (x : ℕ). RowsHave high a x) (sym (less b)) h)));
+    bits =
+        λ a b lt. turned (subst (λ (x : ℕ). RowsHave (wide low high) a (b + 64) ↔ RowsHave high a x)
+        (less b) (high_bit low high a (b + 64) same fits (omega arith)));
   };
   within = c.within;
 }
@@ -66,10 +72,13 @@ taken_apart n low high c = record {
     turned (f, g) = (g, f)
 
 -- the pairs of columns
-pub made_pairs : (n : ℕ) (low high : List ℕ) (R : ℕ → ℕ → Type 0) → IsMade n low high R → (a b : ℕ) → RowsHave (wide low high) a b ↔ R a b
+pub made_pairs : (n : ℕ) (low high : List ℕ) (R : ℕ → ℕ → Type 0) → IsMade n low high R → (a b : ℕ)
+    → RowsHave (wide low high) a b ↔ R a b
 made_pairs n low high R m a b =
     elim (cases_lt b 64) [
-      | inl lt ↦ let w = low_bit low high a b same lt in let r = m.low.bits a b lt in ((λ h. r.0 (w.0 h)), (λ h. w.1 (r.1 h)))
+      | inl lt ↦
+          let w = low_bit low high a b same lt in
+          let r = m.low.bits a b lt in ((λ h. r.0 (w.0 h)), (λ h. w.1 (r.1 h)))
       | inr ge ↦ let w = high_bit low high a b same m.low.fits ge in elim (cases_lt (b - 64) 64) [
         | inl lt ↦
             let r = subst (λ (x : ℕ). RowsHave high a (b - 64) ↔ R a x) (more ge) (m.high.bits a (b - 64) lt) in
@@ -94,7 +103,8 @@ made_pairs n low high R m a b =
     beyond p q r = omega (arith, m.few)
 
 -- columns make a `Rel`
-pub put_together : {n : ℕ} {low high : List ℕ} {R : ℕ → ℕ → Type 0} → IsMade n low high R → AreColumns n low high
+pub put_together : {n : ℕ} {low high : List ℕ} {R : ℕ → ℕ → Type 0} → IsMade n low high R
+    → AreColumns n low high
 put_together {n} {low} {high} {R} m = record {
   few = m.few;
   low_height = m.low.height;
@@ -105,7 +115,8 @@ put_together {n} {low} {high} {R} m = record {
 }
 
 -- and that is the relation
-pub made_relation : {n : ℕ} {low high : List ℕ} {R : ℕ → ℕ → Type 0} → IsMade n low high R → IsRelation (of_columns n low high) n R
+pub made_relation : {n : ℕ} {low high : List ℕ} {R : ℕ → ℕ → Type 0} → IsMade n low high R
+    → IsRelation (of_columns n low high) n R
 made_relation {n} {low} {high} {R} m = record {
   count = refl;
   regular = record {
@@ -117,49 +128,75 @@ made_relation {n} {low} {high} {R} m = record {
 }
 
 -- a column is written over up to an end behind which neither relation has pairs
-pub column_written : {n end : ℕ} {event : ℕ → ℕ} {old new : List ℕ} {R P Q : ℕ → ℕ → Type 0} → ((a b : ℕ) → a < n → event b < n → a < end) → IsColumn old event R → Within R n → Within P n → AllFit new → AreWritten old new end Q → ((a b : ℕ) → b < 64 → a < end → Q a b ↔ P a (event b)) → IsColumn new event P
-column_written {n} {end} {event} {old} {new} {R} {P} {Q} covered column within_old within_new fits written same = record {
-  height = written.height ∙ column.height;
-  fits = fits;
-  bits = λ a b lt. elim (cases_lt a end) [
-    | inl inside ↦ let w = written.inside a inside b in let s = same a b lt inside in ((λ h. s.0 (w.0 h)), (λ h. w.1 (s.1 h)))
-    | inr past ↦ rw (written.outside a past) (
-      (λ h. let p = within_old a (event b) ((column.bits a b lt).0 h) in absurd (both (covered a b p.0 p.1) past)),
-      (λ h. let p = within_new a (event b) h in absurd (both (covered a b p.0 p.1) past)),
-    )
-  ];
-}
+pub column_written : {n end : ℕ} {event : ℕ → ℕ} {old new : List ℕ} {R P Q : ℕ → ℕ → Type 0}
+    → ((a b : ℕ) → a < n → event b < n → a < end) → IsColumn old event R → Within R n → Within P n
+    → AllFit new → AreWritten old new end Q → ((a b : ℕ) → b < 64 → a < end → Q a b ↔ P a (event b))
+    → IsColumn new event P
+column_written {n} {end} {event} {old} {new} {R} {P} {Q} covered column within_old within_new fits
+    written same = record {
+      height = written.height ∙ column.height;
+      fits = fits;
+      bits = λ a b lt. elim (cases_lt a end) [
+        | inl inside ↦
+            let w = written.inside a inside b in
+            let s = same a b lt inside in ((λ h. s.0 (w.0 h)), (λ h. w.1 (s.1 h)))
+        | inr past ↦ rw (written.outside a past) (
+          (λ h.
+              let p = within_old a (event b) ((column.bits a b lt).0 h) in
+              absurd (both (covered a b p.0 p.1) past)),
+          (λ h. let p = within_new a (event b) h in absurd (both (covered a b p.0 p.1) past)),
+        )
+      ];
+    }
   where
     both : {a : ℕ} → a < end → end ≤ a → ⊥
     both p q = omega arith
 
 -- a row of two empty words has no pair
-pub empty_row : (low high : List ℕ) (n a b : ℕ) → AreColumns n low high → get_or low a 0 ≡ 0 → get_or high a 0 ≡ 0 → RowsHave (wide low high) a b → ⊥
+pub empty_row : (low high : List ℕ) (n a b : ℕ) → AreColumns n low high → get_or low a 0 ≡ 0
+    → get_or high a 0 ≡ 0 → RowsHave (wide low high) a b → ⊥
 empty_row low high n a b c p q h =
     elim (cases_lt b 64) [
       | inl lt ↦ Bit-zero b (rw p at ((low_bit low high a b same lt).0 h))
-      | inr ge ↦ Bit-zero (b - 64) (rw q at ((high_bit low high a b same (low_fits low high c.low_kept) ge).0 h))
+      | inr ge ↦ Bit-zero (b - 64) (rw q at ((high_bit low high a b same
+          (low_fits low high c.low_kept) ge).0 h))
     ]
   where
     same : length low ≡ length high
     same = c.low_height ∙ sym c.high_height
 
 -- columns of an empty relation, under an equal count
-pub emptied : {n : ℕ} {ls hs : List ℕ} {R : ℕ → ℕ → Type 0} (k : ℕ) → IsMade n ls hs R → n ≡ k → ((a b : ℕ) → R a b ↔ ⊥) → IsMade k ls hs (λ a b. ⊥)
+pub emptied : {n : ℕ} {ls hs : List ℕ} {R : ℕ → ℕ → Type 0} (k : ℕ) → IsMade n ls hs R → n ≡ k
+    → ((a b : ℕ) → R a b ↔ ⊥) → IsMade k ls hs (λ a b. ⊥)
 emptied k m e none = record {
   few = rw e at m.few;
-  low = record { height = m.low.height; fits = m.low.fits; bits = λ a b lt. ((λ h. (none a b).0 ((m.low.bits a b lt).0 h)), (λ h. absurd h)) };
-  high = record { height = m.high.height; fits = m.high.fits; bits = λ a b lt. ((λ h. (none a (b + 64)).0 ((m.high.bits a b lt).0 h)), (λ h. absurd h)) };
+  low =
+      record {
+        height = m.low.height;
+        fits = m.low.fits;
+        bits = λ a b lt. ((λ h. (none a b).0 ((m.low.bits a b lt).0 h)), (λ h. absurd h));
+      };
+  high =
+      record {
+        height = m.high.height;
+        fits = m.high.fits;
+        bits =
+            λ a b lt. ((λ h. (none a (b + 64)).0 ((m.high.bits a b lt).0 h)), (λ h. absurd h));
+      };
   within = λ a b h. absurd h;
 }
 
-pub columns_at : {n k : ℕ} {ls hs : List ℕ} {P : ℕ → ℕ → Type 0} → n ≡ k → IsMade k ls hs P → AreColumns n ls hs
+pub columns_at : {n k : ℕ} {ls hs : List ℕ} {P : ℕ → ℕ → Type 0} → n ≡ k → IsMade k ls hs P
+    → AreColumns n ls hs
 columns_at {n} {k} {ls} {hs} e m = subst (λ (x : ℕ). AreColumns x ls hs) (sym e) (put_together m)
 
-pub relation_at : {n k : ℕ} {ls hs : List ℕ} {P : ℕ → ℕ → Type 0} → n ≡ k → IsMade k ls hs P → IsRelation (of_columns n ls hs) k P
-relation_at {n} {k} {ls} {hs} {P} e m = subst (λ (x : ℕ). IsRelation (of_columns x ls hs) k P) (sym e) (made_relation m)
+pub relation_at : {n k : ℕ} {ls hs : List ℕ} {P : ℕ → ℕ → Type 0} → n ≡ k → IsMade k ls hs P
+    → IsRelation (of_columns n ls hs) k P
+relation_at {n} {k} {ls} {hs} {P} e m =
+    subst (λ (x : ℕ). IsRelation (of_columns x ls hs) k P) (sym e) (made_relation m)
 
-pub columns_relation : {n : ℕ} {ls hs : List ℕ} {P : ℕ → ℕ → Type 0} → AreColumns n ls hs → ((a b : ℕ) → RowsHave (wide ls hs) a b ↔ P a b) → IsRelation (of_columns n ls hs) n P
+pub columns_relation : {n : ℕ} {ls hs : List ℕ} {P : ℕ → ℕ → Type 0} → AreColumns n ls hs
+    → ((a b : ℕ) → RowsHave (wide ls hs) a b ↔ P a b) → IsRelation (of_columns n ls hs) n P
 columns_relation {n} {ls} {hs} c same = record {
   count = refl;
   regular = (made_relation (taken_apart n ls hs c)).regular;
@@ -167,7 +204,8 @@ columns_relation {n} {ls} {hs} c same = record {
 }
 
 -- a pair stands in a low word or in a high one
-pub found : {n : ℕ} {ls hs : List ℕ} {R : ℕ → ℕ → Type 0} → IsMade n ls hs R → (a b : ℕ) → R a b → ((b < 64) × RowsHave ls a b) ⊎ ((k : ℕ) × (k < 64) × (b ≡ k + 64) × RowsHave hs a k)
+pub found : {n : ℕ} {ls hs : List ℕ} {R : ℕ → ℕ → Type 0} → IsMade n ls hs R → (a b : ℕ) → R a b
+    → ((b < 64) × RowsHave ls a b) ⊎ ((k : ℕ) × (k < 64) × (b ≡ k + 64) × RowsHave hs a k)
 found {n} {ls} {hs} {R} m a b r =
     elim (cases_lt b 64) [
       | inl lt ↦ inl (lt, (m.low.bits a b lt).1 r)

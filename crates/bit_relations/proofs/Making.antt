@@ -15,11 +15,18 @@ pub record IsEnd (n end : ℕ) : Type 0 where
   pub all : 64 < n → end ≡ n
 
 -- both columns are written over as far as they are in use
-pub changed : {n end : ℕ} {ls hs ls' hs' : List ℕ} {R QL QH : ℕ → ℕ → Type 0} (P : ℕ → ℕ → Type 0) → IsMade n ls hs R → IsEnd n end → Within P n → AreWritten ls ls' n QL → AreWritten hs hs' end QH → ((a b : ℕ) → a < n → b < 64 → QL a b ↔ P a b) → ((a b : ℕ) → a < n → b < 64 → QH a b ↔ P a (b + 64)) → IsMade n ls' hs' P
+pub changed : {n end : ℕ} {ls hs ls' hs' : List ℕ} {R QL QH : ℕ → ℕ → Type 0} (P : ℕ → ℕ → Type 0)
+    → IsMade n ls hs R → IsEnd n end → Within P n → AreWritten ls ls' n QL
+    → AreWritten hs hs' end QH → ((a b : ℕ) → a < n → b < 64 → QL a b ↔ P a b)
+    → ((a b : ℕ) → a < n → b < 64 → QH a b ↔ P a (b + 64)) → IsMade n ls' hs' P
 changed {n} {end} P m e within write_low write_high low high = record {
   few = m.few;
-  low = column_written (λ a b p q. p) m.low m.within within (write_low.fits m.low.fits) write_low (λ a b lt inside. low a b inside lt);
-  high = column_written covered m.high m.within within (write_high.fits m.high.fits) write_high (λ a b lt inside. high a b (below inside) lt);
+  low =
+      column_written (λ a b p q. p) m.low m.within within (write_low.fits m.low.fits) write_low
+      (λ a b lt inside. low a b inside lt);
+  high =
+      column_written covered m.high m.within within (write_high.fits m.high.fits) write_high
+      (λ a b lt inside. high a b (below inside) lt);
   within = within;
 }
   where
@@ -32,46 +39,95 @@ changed {n} {end} P m e within write_low write_high low high = record {
       | inr under ↦ let k : end ≡ 0 = e.none under in absurd (omega arith)
     ]
 
-pub nothing_made : (n : ℕ) (ls hs : List ℕ) → n ≤ 128 → length ls ≡ 128 → length hs ≡ 128 → ((a : ℕ) → get_or ls a 0 ≡ 0) → ((a : ℕ) → get_or hs a 0 ≡ 0) → IsMade n ls hs (λ a b. ⊥)
+pub nothing_made : (n : ℕ) (ls hs : List ℕ) → n ≤ 128 → length ls ≡ 128 → length hs ≡ 128
+    → ((a : ℕ) → get_or ls a 0 ≡ 0) → ((a : ℕ) → get_or hs a 0 ≡ 0) → IsMade n ls hs (λ a b. ⊥)
 nothing_made n ls hs few p q low high = record {
   few = few;
-  low = record { height = p; fits = λ a. rw (low a) (omega arith); bits = λ a b lt. rw (low a) ((λ h. Bit-zero b h), (λ h. absurd h)) };
-  high = record { height = q; fits = λ a. rw (high a) (omega arith); bits = λ a b lt. rw (high a) ((λ h. Bit-zero b h), (λ h. absurd h)) };
+  low =
+      record {
+        height = p;
+        fits = λ a. rw (low a) (omega arith);
+        bits = λ a b lt. rw (low a) ((λ h. Bit-zero b h), (λ h. absurd h));
+      };
+  high =
+      record {
+        height = q;
+        fits = λ a. rw (high a) (omega arith);
+        bits = λ a b lt. rw (high a) ((λ h. Bit-zero b h), (λ h. absurd h));
+      };
   within = λ a b h. absurd h;
 }
 
-pub cleared : {n end : ℕ} {ls hs ls' hs' : List ℕ} {R : ℕ → ℕ → Type 0} (k : ℕ) → k ≤ 128 → IsMade n ls hs R → IsEnd n end → AreWritten ls ls' n Nothing → AreWritten hs hs' end Nothing → IsMade k ls' hs' (λ a b. ⊥)
+pub cleared : {n end : ℕ} {ls hs ls' hs' : List ℕ} {R : ℕ → ℕ → Type 0} (k : ℕ) → k ≤ 128
+    → IsMade n ls hs R → IsEnd n end → AreWritten ls ls' n Nothing → AreWritten hs hs' end Nothing
+    → IsMade k ls' hs' (λ a b. ⊥)
 cleared k few m e low high =
     let c = changed (λ a b. ⊥) m e (λ a b h. absurd h) low high (λ a b p q. ((λ h. h), (λ h. h))) (λ a b p q. ((λ h. h), (λ h. h))) in
     record { few = few; low = c.low; high = c.high; within = λ a b h. absurd h }
 
 -- written over by others, as far as either is in use
-pub copied : {n k most end : ℕ} {ls hs ls' hs' ls'' hs'' : List ℕ} {R S : ℕ → ℕ → Type 0} → most ≤ 128 → IsMade n ls hs R → IsMade k ls' hs' S → n ≤ most → k ≤ most → IsEnd most end → AreWritten ls ls'' most (RowsHave ls') → AreWritten hs hs'' end (RowsHave hs') → IsMade k ls'' hs'' S
+pub copied : {n k most end : ℕ} {ls hs ls' hs' ls'' hs'' : List ℕ} {R S : ℕ → ℕ → Type 0}
+    → most ≤ 128 → IsMade n ls hs R → IsMade k ls' hs' S → n ≤ most → k ≤ most → IsEnd most end
+    → AreWritten ls ls'' most (RowsHave ls') → AreWritten hs hs'' end (RowsHave hs')
+    → IsMade k ls'' hs'' S
 copied {n} {k} {most} {R = R} {S = S} few r s n_le k_le e low high =
     let wide_r : Within R most = λ a b h. let w = r.within a b h in (omega (arith, w.0), omega (arith, w.1)) in
     let wide_s : Within S most = λ a b h. let w = s.within a b h in (omega (arith, w.0), omega (arith, w.1)) in
     let c = changed S (record { few = few; low = r.low; high = r.high; within = wide_r }) e wide_s low high (λ a b p lt. s.low.bits a b lt) (λ a b p lt. s.high.bits a b lt) in
     record { few = s.few; low = c.low; high = c.high; within = s.within }
 
-pub united : {n k end : ℕ} {ls hs ls' hs' ls'' hs'' : List ℕ} {R S : ℕ → ℕ → Type 0} → IsMade n ls hs R → IsMade k ls' hs' S → k ≡ n → IsEnd n end → AreWritten ls ls'' n (Union (RowsHave ls) (RowsHave ls')) → AreWritten hs hs'' end (Union (RowsHave hs) (RowsHave hs')) → IsMade n ls'' hs'' (Union R S)
+pub united : {n k end : ℕ} {ls hs ls' hs' ls'' hs'' : List ℕ} {R S : ℕ → ℕ → Type 0}
+    → IsMade n ls hs R → IsMade k ls' hs' S → k ≡ n → IsEnd n end
+    → AreWritten ls ls'' n (Union (RowsHave ls) (RowsHave ls'))
+    → AreWritten hs hs'' end (Union (RowsHave hs) (RowsHave hs')) → IsMade n ls'' hs'' (Union R S)
 united {n} {R = R} {S = S} r s same e low high =
-    changed (Union R S) r e (λ a b h. elim h [ inl x ↦ r.within a b x | inr y ↦ rw same at (s.within a b y) ]) low high
-    (λ a b p lt. let x = r.low.bits a b lt in let y = s.low.bits a b lt in ((λ h. elim h [ inl u ↦ inl (x.0 u) | inr v ↦ inr (y.0 v) ]), (λ h. elim h [ inl u ↦ inl (x.1 u) | inr v ↦ inr (y.1 v) ])))
-    (λ a b p lt. let x = r.high.bits a b lt in let y = s.high.bits a b lt in ((λ h. elim h [ inl u ↦ inl (x.0 u) | inr v ↦ inr (y.0 v) ]), (λ h. elim h [ inl u ↦ inl (x.1 u) | inr v ↦ inr (y.1 v) ])))
+    changed (Union R S) r e
+    (λ a b h. elim h [ inl x ↦ r.within a b x | inr y ↦ rw same at (s.within a b y) ]) low high
+    (λ a b p lt.
+    let x = r.low.bits a b lt in
+    let y = s.low.bits a b lt in (
+      (λ h. elim h [ inl u ↦ inl (x.0 u) | inr v ↦ inr (y.0 v) ]),
+      (λ h. elim h [ inl u ↦ inl (x.1 u) | inr v ↦ inr (y.1 v) ]),
+    ))
+    (λ a b p lt.
+    let x = r.high.bits a b lt in
+    let y = s.high.bits a b lt in (
+      (λ h. elim h [ inl u ↦ inl (x.0 u) | inr v ↦ inr (y.0 v) ]),
+      (λ h. elim h [ inl u ↦ inl (x.1 u) | inr v ↦ inr (y.1 v) ]),
+    ))
 
-pub met : {n k end : ℕ} {ls hs ls' hs' ls'' hs'' : List ℕ} {R S : ℕ → ℕ → Type 0} → IsMade n ls hs R → IsMade k ls' hs' S → IsEnd n end → AreWritten ls ls'' n (Inter (RowsHave ls) (RowsHave ls')) → AreWritten hs hs'' end (Inter (RowsHave hs) (RowsHave hs')) → IsMade n ls'' hs'' (Inter R S)
+pub met : {n k end : ℕ} {ls hs ls' hs' ls'' hs'' : List ℕ} {R S : ℕ → ℕ → Type 0} → IsMade n ls hs R
+    → IsMade k ls' hs' S → IsEnd n end → AreWritten ls ls'' n (Inter (RowsHave ls) (RowsHave ls'))
+    → AreWritten hs hs'' end (Inter (RowsHave hs) (RowsHave hs')) → IsMade n ls'' hs'' (Inter R S)
 met {n} {R = R} {S = S} r s e low high =
     changed (Inter R S) r e (λ a b h. r.within a b h.0) low high
-    (λ a b p lt. let x = r.low.bits a b lt in let y = s.low.bits a b lt in ((λ h. (x.0 h.0, y.0 h.1)), (λ h. (x.1 h.0, y.1 h.1))))
-    (λ a b p lt. let x = r.high.bits a b lt in let y = s.high.bits a b lt in ((λ h. (x.0 h.0, y.0 h.1)), (λ h. (x.1 h.0, y.1 h.1))))
+    (λ a b p lt.
+    let x = r.low.bits a b lt in
+    let y = s.low.bits a b lt in ((λ h. (x.0 h.0, y.0 h.1)), (λ h. (x.1 h.0, y.1 h.1))))
+    (λ a b p lt.
+    let x = r.high.bits a b lt in
+    let y = s.high.bits a b lt in ((λ h. (x.0 h.0, y.0 h.1)), (λ h. (x.1 h.0, y.1 h.1))))
 
-pub reduced : {n k end : ℕ} {ls hs ls' hs' ls'' hs'' : List ℕ} {R S : ℕ → ℕ → Type 0} → IsMade n ls hs R → IsMade k ls' hs' S → IsEnd n end → AreWritten ls ls'' n (Minus (RowsHave ls) (RowsHave ls')) → AreWritten hs hs'' end (Minus (RowsHave hs) (RowsHave hs')) → IsMade n ls'' hs'' (Minus R S)
+pub reduced : {n k end : ℕ} {ls hs ls' hs' ls'' hs'' : List ℕ} {R S : ℕ → ℕ → Type 0}
+    → IsMade n ls hs R → IsMade k ls' hs' S → IsEnd n end
+    → AreWritten ls ls'' n (Minus (RowsHave ls) (RowsHave ls'))
+    → AreWritten hs hs'' end (Minus (RowsHave hs) (RowsHave hs')) → IsMade n ls'' hs'' (Minus R S)
 reduced {n} {R = R} {S = S} r s e low high =
     changed (Minus R S) r e (λ a b h. r.within a b h.0) low high
-    (λ a b p lt. let x = r.low.bits a b lt in let y = s.low.bits a b lt in ((λ h. (x.0 h.0, (λ z. h.1 (y.1 z)))), (λ h. (x.1 h.0, (λ z. h.1 (y.0 z))))))
-    (λ a b p lt. let x = r.high.bits a b lt in let y = s.high.bits a b lt in ((λ h. (x.0 h.0, (λ z. h.1 (y.1 z)))), (λ h. (x.1 h.0, (λ z. h.1 (y.0 z))))))
+    (λ a b p lt.
+    let x = r.low.bits a b lt in
+    let y = s.low.bits a b lt in
+    ((λ h. (x.0 h.0, (λ z. h.1 (y.1 z)))), (λ h. (x.1 h.0, (λ z. h.1 (y.0 z))))))
+    (λ a b p lt.
+    let x = r.high.bits a b lt in
+    let y = s.high.bits a b lt in
+    ((λ h. (x.0 h.0, (λ z. h.1 (y.1 z)))), (λ h. (x.1 h.0, (λ z. h.1 (y.0 z))))))
 
-pub turned : {n m k end : ℕ} (all_low all_high : ℕ) {ls hs ls' hs' : List ℕ} {R : ℕ → ℕ → Type 0} → IsMade n ls hs R → IsEnd n end → ((b : ℕ) → b < 64 → (b < m ↔ (b < n))) → ((b : ℕ) → b < k ↔ (b + 64 < n)) → ((b : ℕ) → Bit all_low b ↔ (b < m)) → ((b : ℕ) → Bit all_high b ↔ (b < k)) → AreWritten ls ls' n (Turned all_low (RowsHave ls)) → AreWritten hs hs' end (Turned all_high (RowsHave hs)) → IsMade n ls' hs' (Complement n R)
+pub turned : {n m k end : ℕ} (all_low all_high : ℕ) {ls hs ls' hs' : List ℕ} {R : ℕ → ℕ → Type 0}
+    → IsMade n ls hs R → IsEnd n end → ((b : ℕ) → b < 64 → (b < m ↔ (b < n)))
+    → ((b : ℕ) → b < k ↔ (b + 64 < n)) → ((b : ℕ) → Bit all_low b ↔ (b < m))
+    → ((b : ℕ) → Bit all_high b ↔ (b < k)) → AreWritten ls ls' n (Turned all_low (RowsHave ls))
+    → AreWritten hs hs' end (Turned all_high (RowsHave hs)) → IsMade n ls' hs' (Complement n R)
 turned {n} all_low all_high {R = R} r e cut_low cut_high is_low is_high low high =
     changed (Complement n R) r e (λ a b h. (h.0, h.1)) low high
     (λ a b p lt. let x = r.low.bits a b lt in (
@@ -83,9 +139,14 @@ turned {n} all_low all_high {R = R} r e cut_low cut_high is_low is_high low high
       (λ h. ((is_high b).1 ((cut_high b).1 h.1), (λ z. h.2 (x.0 z)))),
     ))
 
-pub with_identity : {n end : ℕ} {ls hs ls' hs' : List ℕ} {R : ℕ → ℕ → Type 0} → IsMade n ls hs R → IsEnd n end → AreWritten ls ls' n (WithOwn 0 (RowsHave ls)) → AreWritten hs hs' end (WithOwn 64 (RowsHave hs)) → IsMade n ls' hs' (Opt n R)
+pub with_identity : {n end : ℕ} {ls hs ls' hs' : List ℕ} {R : ℕ → ℕ → Type 0} → IsMade n ls hs R
+    → IsEnd n end → AreWritten ls ls' n (WithOwn 0 (RowsHave ls))
+    → AreWritten hs hs' end (WithOwn 64 (RowsHave hs)) → IsMade n ls' hs' (Opt n R)
 with_identity {n} {R = R} r e low high =
-    changed (Opt n R) r e (λ a b h. elim h [ inl d ↦ (d.0, subst (λ (y : ℕ). y < n) d.1 d.0) | inr x ↦ r.within a b x ]) low high
+    changed (Opt n R) r e
+    (λ a b h.
+    elim h [ inl d ↦ (d.0, subst (λ (y : ℕ). y < n) d.1 d.0) | inr x ↦ r.within a b x ]) low
+    high
     (λ a b p lt. let x = r.low.bits a b lt in (
       (λ h. elim h [ inl u ↦ inr (x.0 u) | inr d ↦ inl (p, omega (arith, d.1)) ]),
       (λ h. elim h [ inl d ↦ inr (lt, omega (arith, d.1)) | inr u ↦ inl (x.1 u) ]),
@@ -97,7 +158,8 @@ with_identity {n} {R = R} r e low high =
 
 -- the bits of two words, as those of one
 low_member : (l h word b : ℕ) → joined l h ≡ word → b < 64 → Bit l b ↔ Bit word b
-low_member l h word b e lt = let w = Bit-low h l b lt in ((λ x. rw e at (w.1 x)), (λ x. w.0 (rw (← e) at x)))
+low_member l h word b e lt =
+    let w = Bit-low h l b lt in ((λ x. rw e at (w.1 x)), (λ x. w.0 (rw (← e) at x)))
 
 high_member : (l h word b : ℕ) → joined l h ≡ word → l < 2 ^ 64 → Bit h b ↔ Bit word (b + 64)
 high_member l h word b e fits =
@@ -107,7 +169,11 @@ high_member l h word b e fits =
     less : b + 64 - 64 ≡ b
     less = omega arith
 
-pub kept : {n end : ℕ} (l h word : ℕ) {ls hs ls' hs' : List ℕ} {R : ℕ → ℕ → Type 0} → IsMade n ls hs R → IsEnd n end → joined l h ≡ word → l < 2 ^ 64 → AreWritten ls ls' n (Kept (joined l h) l (RowsHave ls)) → AreWritten hs hs' end (Kept (joined l h) h (RowsHave hs)) → IsMade n ls' hs' (Restricted R (Bit word))
+pub kept : {n end : ℕ} (l h word : ℕ) {ls hs ls' hs' : List ℕ} {R : ℕ → ℕ → Type 0}
+    → IsMade n ls hs R → IsEnd n end → joined l h ≡ word → l < 2 ^ 64
+    → AreWritten ls ls' n (Kept (joined l h) l (RowsHave ls))
+    → AreWritten hs hs' end (Kept (joined l h) h (RowsHave hs))
+    → IsMade n ls' hs' (Restricted R (Bit word))
 kept {n} {end} l h word {R = R} r e same fits low high =
     changed (Restricted R (Bit word)) r e (λ a b x. r.within a b x.0) low high
     (λ a b p lt. let x = r.low.bits a b lt in let y = low_member l h word b same lt in (
@@ -119,31 +185,60 @@ kept {n} {end} l h word {R = R} r e same fits low high =
       (λ t. (rw (← same) at t.1, x.1 t.0, y.1 t.2)),
     ))
 
-pub filled : {n end : ℕ} (l h word l' h' word' : ℕ) {ls hs ls' hs' : List ℕ} → IsMade n ls hs (λ a b. ⊥) → IsEnd n end → joined l h ≡ word → joined l' h' ≡ word' → l' < 2 ^ 64 → ((a : ℕ) → Bit word a → a < n) → ((a : ℕ) → Bit word' a → a < n) → AreWritten ls ls' n (Filled (joined l h) l') → AreWritten hs hs' end (Filled (joined l h) h') → IsMade n ls' hs' (Product (Bit word) (Bit word'))
+pub filled : {n end : ℕ} (l h word l' h' word' : ℕ) {ls hs ls' hs' : List ℕ}
+    → IsMade n ls hs (λ a b. ⊥) → IsEnd n end → joined l h ≡ word → joined l' h' ≡ word'
+    → l' < 2 ^ 64 → ((a : ℕ) → Bit word a → a < n) → ((a : ℕ) → Bit word' a → a < n)
+    → AreWritten ls ls' n (Filled (joined l h) l') → AreWritten hs hs' end (Filled (joined l h) h')
+    → IsMade n ls' hs' (Product (Bit word) (Bit word'))
 filled {n} {end} l h word l' h' word' r e same same' fits within within' low high =
     changed (Product (Bit word) (Bit word')) r e (λ a b x. (within a x.0, within' b x.1)) low high
-    (λ a b p lt. let y = low_member l' h' word' b same' lt in ((λ t. (rw same at t.0, y.0 t.1)), (λ t. (rw (← same) at t.0, y.1 t.1))))
-    (λ a b p lt. let y = high_member l' h' word' b same' fits in ((λ t. (rw same at t.0, y.0 t.1)), (λ t. (rw (← same) at t.0, y.1 t.1))))
+    (λ a b p lt.
+    let y = low_member l' h' word' b same' lt in
+    ((λ t. (rw same at t.0, y.0 t.1)), (λ t. (rw (← same) at t.0, y.1 t.1))))
+    (λ a b p lt.
+    let y = high_member l' h' word' b same' fits in
+    ((λ t. (rw same at t.0, y.0 t.1)), (λ t. (rw (← same) at t.0, y.1 t.1))))
 
-pub composed : {n m k low_end high_end : ℕ} {ls hs ls' hs' rl rh ll lh : List ℕ} {R S : ℕ → ℕ → Type 0} → IsMade n ls hs (λ a b. ⊥) → IsMade m ll lh R → IsMade k rl rh S → m ≡ n → k ≡ n → n ≤ low_end → (64 < n → n ≤ high_end) → AreWritten ls ls' low_end (JoinedBelow n (RowsHave ls) (RowsHave (wide ll lh)) (RowsHave rl)) → AreWritten hs hs' high_end (JoinedBelow n (RowsHave hs) (RowsHave (wide ll lh)) (RowsHave rh)) → IsMade n ls' hs' (Composed R S)
-composed {n} {m} {k} {low_end} {high_end} {ll = ll} {lh = lh} {R = R} {S = S} none r s same_r same_s enough_low enough_high low high = record {
-  few = none.few;
-  low = column_written (λ a b p q. covered_low p) none.low none.within within (low.fits none.low.fits) low (λ a b lt inside. (
-    (λ h. elim h [
-      | inl z ↦ absurd ((none.low.bits a b lt).0 z)
-      | inr t ↦ (t.0, (made_pairs m ll lh R r a t.0).0 t.2, (s.low.bits t.0 b lt).0 t.3)
-    ]),
-    (λ t. inr (t.0, (rw same_r at (r.within a t.0 t.1)).1, (made_pairs m ll lh R r a t.0).1 t.1, (s.low.bits t.0 b lt).1 t.2)),
-  ));
-  high = column_written (λ a b p q. covered_high b p q) none.high none.within within (high.fits none.high.fits) high (λ a b lt inside. (
-    (λ h. elim h [
-      | inl z ↦ absurd ((none.high.bits a b lt).0 z)
-      | inr t ↦ (t.0, (made_pairs m ll lh R r a t.0).0 t.2, (s.high.bits t.0 b lt).0 t.3)
-    ]),
-    (λ t. inr (t.0, (rw same_r at (r.within a t.0 t.1)).1, (made_pairs m ll lh R r a t.0).1 t.1, (s.high.bits t.0 b lt).1 t.2)),
-  ));
-  within = within;
-}
+pub composed : {n m k low_end high_end : ℕ} {ls hs ls' hs' rl rh ll lh : List ℕ}
+    {R S : ℕ → ℕ → Type 0} → IsMade n ls hs (λ a b. ⊥) → IsMade m ll lh R → IsMade k rl rh S
+    → m ≡ n → k ≡ n → n ≤ low_end → (64 < n → n ≤ high_end)
+    → AreWritten ls ls' low_end (JoinedBelow n (RowsHave ls) (RowsHave (wide ll lh)) (RowsHave rl))
+    → AreWritten hs hs' high_end (JoinedBelow n (RowsHave hs) (RowsHave (wide ll lh)) (RowsHave rh))
+    → IsMade n ls' hs' (Composed R S)
+composed {n} {m} {k} {low_end} {high_end} {ll = ll} {lh = lh} {R = R} {S = S} none r s same_r same_s
+    enough_low enough_high low high = record {
+      few = none.few;
+      low =
+          column_written (λ a b p q. covered_low p) none.low none.within within
+          (low.fits none.low.fits)
+          low (λ a b lt inside. (
+            (λ h. elim h [
+              | inl z ↦ absurd ((none.low.bits a b lt).0 z)
+              | inr t ↦ (t.0, (made_pairs m ll lh R r a t.0).0 t.2, (s.low.bits t.0 b lt).0 t.3)
+            ]),
+            (λ t. inr (
+              t.0,
+              (rw same_r at (r.within a t.0 t.1)).1,
+              (made_pairs m ll lh R r a t.0).1 t.1,
+              (s.low.bits t.0 b lt).1 t.2,
+            )),
+          ));
+      high =
+          column_written (λ a b p q. covered_high b p q) none.high none.within within
+          (high.fits none.high.fits) high (λ a b lt inside. (
+            (λ h. elim h [
+              | inl z ↦ absurd ((none.high.bits a b lt).0 z)
+              | inr t ↦ (t.0, (made_pairs m ll lh R r a t.0).0 t.2, (s.high.bits t.0 b lt).0 t.3)
+            ]),
+            (λ t. inr (
+              t.0,
+              (rw same_r at (r.within a t.0 t.1)).1,
+              (made_pairs m ll lh R r a t.0).1 t.1,
+              (s.high.bits t.0 b lt).1 t.2,
+            )),
+          ));
+      within = within;
+    }
   where
     within : Within (Composed R S) n
     within a b t = ((rw same_r at (r.within a t.0 t.1)).0, (rw same_s at (s.within t.0 b t.2)).1)
@@ -154,12 +249,20 @@ composed {n} {m} {k} {low_end} {high_end} {ll = ll} {lh = lh} {R = R} {S = S} no
     covered_high : {a : ℕ} (b : ℕ) → a < n → far b < n → a < high_end
     covered_high b p q = let enough : n ≤ high_end = enough_high (omega arith) in omega arith
 
-pub inverted : {n m part_low part_high end : ℕ} {ls hs ls' hs' ol oh : List ℕ} {R : ℕ → ℕ → Type 0} → IsMade n ls hs (λ a b. ⊥) → IsMade m ol oh R → m ≡ n → IsEnd n end → ((b : ℕ) → b < 64 → (b < part_low ↔ (b < n))) → ((b : ℕ) → b < part_high ↔ (b + 64 < n)) → AreWritten ls ls' n (Inverted 0 part_low (RowsHave (wide ol oh))) → AreWritten hs hs' end (Inverted 64 part_high (RowsHave (wide ol oh))) → IsMade n ls' hs' (Inverse R)
+pub inverted : {n m part_low part_high end : ℕ} {ls hs ls' hs' ol oh : List ℕ} {R : ℕ → ℕ → Type 0}
+    → IsMade n ls hs (λ a b. ⊥) → IsMade m ol oh R → m ≡ n → IsEnd n end
+    → ((b : ℕ) → b < 64 → (b < part_low ↔ (b < n))) → ((b : ℕ) → b < part_high ↔ (b + 64 < n))
+    → AreWritten ls ls' n (Inverted 0 part_low (RowsHave (wide ol oh)))
+    → AreWritten hs hs' end (Inverted 64 part_high (RowsHave (wide ol oh)))
+    → IsMade n ls' hs' (Inverse R)
 inverted {n} {m} {ol = ol} {oh = oh} {R = R} none r same e cut_low cut_high low high =
     changed (Inverse R) none e (λ a b t. let w = rw same at (r.within b a t) in (w.1, w.0)) low high
     (λ a b p lt. let x = made_pairs m ol oh R r b a in (
       (λ t. x.0 (subst (λ (y : ℕ). RowsHave (wide ol oh) y a) (zero_more b) t.1)),
-      (λ t. ((cut_low b lt).1 (rw same at (r.within b a t)).0, subst (λ (y : ℕ). RowsHave (wide ol oh) y a) (sym (zero_more b)) (x.1 t))),
+      (λ t. (
+        (cut_low b lt).1 (rw same at (r.within b a t)).0,
+        subst (λ (y : ℕ). RowsHave (wide ol oh) y a) (sym (zero_more b)) (x.1 t),
+      )),
     ))
     (λ a b p lt. let x = made_pairs m ol oh R r (b + 64) a in (
       (λ t. x.0 t.1),
@@ -169,12 +272,16 @@ inverted {n} {m} {ol = ol} {oh = oh} {R = R} none r same e cut_low cut_high low 
     zero_more : (x : ℕ) → x + 0 ≡ x
     zero_more x = omega arith
 
-added_within : (R : ℕ → ℕ → Type 0) (n from to : ℕ) → Within R n → from < n → to < n → Within (Added R from to) n
+added_within : (R : ℕ → ℕ → Type 0) (n from to : ℕ) → Within R n → from < n → to < n
+    → Within (Added R from to) n
 added_within R n from to within p q a b (inl r) = within a b r
 added_within R n from to within p q a b (inr e) = rw (e.0, e.1) (p, q)
 
 -- one pair more, in a low word and in a high one
-pub added_low : {n : ℕ} {ls hs ls' : List ℕ} {R : ℕ → ℕ → Type 0} (from to : ℕ) → IsMade n ls hs R → from < n → to < n → to < 64 → length ls' ≡ 128 → AllFit ls' → ((a b : ℕ) → RowsHave ls' a b ↔ Added (RowsHave ls) from to a b) → IsMade n ls' hs (Added R from to)
+pub added_low : {n : ℕ} {ls hs ls' : List ℕ} {R : ℕ → ℕ → Type 0} (from to : ℕ) → IsMade n ls hs R
+    → from < n → to < n → to < 64 → length ls' ≡ 128 → AllFit ls'
+    → ((a b : ℕ) → RowsHave ls' a b ↔ Added (RowsHave ls) from to a b)
+    → IsMade n ls' hs (Added R from to)
 added_low {n} {R = R} from to m below_from below_to lt height fits bits = record {
   few = m.few;
   low = record {
@@ -196,7 +303,10 @@ added_low {n} {R = R} from to m below_from below_to lt height fits bits = record
   within = added_within R n from to m.within below_from below_to;
 }
 
-pub added_high : {n : ℕ} {ls hs hs' : List ℕ} {R : ℕ → ℕ → Type 0} (from to k : ℕ) → IsMade n ls hs R → from < n → to < n → 64 ≤ to → k + 64 ≡ to → length hs' ≡ 128 → AllFit hs' → ((a b : ℕ) → RowsHave hs' a b ↔ Added (RowsHave hs) from k a b) → IsMade n ls hs' (Added R from to)
+pub added_high : {n : ℕ} {ls hs hs' : List ℕ} {R : ℕ → ℕ → Type 0} (from to k : ℕ)
+    → IsMade n ls hs R → from < n → to < n → 64 ≤ to → k + 64 ≡ to → length hs' ≡ 128 → AllFit hs'
+    → ((a b : ℕ) → RowsHave hs' a b ↔ Added (RowsHave hs) from k a b)
+    → IsMade n ls hs' (Added R from to)
 added_high {n} {R = R} from to k m below_from below_to ge is height fits bits = record {
   few = m.few;
   low = record {
@@ -211,15 +321,28 @@ added_high {n} {R = R} from to k m below_from below_to ge is height fits bits = 
     height = height;
     fits = fits;
     bits = λ a b small. let x = m.high.bits a b small in (
-      (λ h. elim ((bits a b).0 h) [ inl o ↦ inl (x.0 o) | inr e ↦ inr (e.0, omega (arith, e.1, is)) ]),
-      (λ h. (bits a b).1 (elim h [ inl o ↦ inl (x.1 o) | inr e ↦ inr (e.0, omega (arith, e.1, is)) ])),
+      (λ h. elim ((bits a b).0 h) [
+        | inl o ↦ inl (x.0 o)
+        | inr e ↦ inr
+            (e.0, omega (arith, e.1, is))
+      ]),
+      (λ h. (bits a b).1 (elim h [
+        | inl o ↦ inl (x.1 o)
+        | inr e ↦ inr
+            (e.0, omega (arith, e.1, is))
+      ])),
     );
   };
   within = added_within R n from to m.within below_from below_to;
 }
 
 -- words that are read from a list
-pub stored : {n m k end : ℕ} (all_low all_high : ℕ) (list : List ℕ) (at : ℕ) {ls hs ls' hs' : List ℕ} → IsMade n ls hs (λ a b. ⊥) → IsEnd n end → ((b : ℕ) → b < 64 → (b < m ↔ (b < n))) → ((b : ℕ) → b < k ↔ (b + 64 < n)) → ((b : ℕ) → Bit all_low b ↔ (b < m)) → ((b : ℕ) → Bit all_high b ↔ (b < k)) → AreWritten ls ls' n (Read list at all_low) → AreWritten hs hs' end (Read list (at + n) all_high) → IsMade n ls' hs' (Stored list at n)
+pub stored : {n m k end : ℕ} (all_low all_high : ℕ) (list : List ℕ) (at : ℕ)
+    {ls hs ls' hs' : List ℕ} → IsMade n ls hs (λ a b. ⊥) → IsEnd n end
+    → ((b : ℕ) → b < 64 → (b < m ↔ (b < n))) → ((b : ℕ) → b < k ↔ (b + 64 < n))
+    → ((b : ℕ) → Bit all_low b ↔ (b < m)) → ((b : ℕ) → Bit all_high b ↔ (b < k))
+    → AreWritten ls ls' n (Read list at all_low)
+    → AreWritten hs hs' end (Read list (at + n) all_high) → IsMade n ls' hs' (Stored list at n)
 stored {n} all_low all_high list at r e cut_low cut_high is_low is_high low high =
     changed (Stored list at n) r e (λ a b t. (t.0, t.1)) low high
     (λ a b p lt. (
@@ -234,7 +357,9 @@ stored {n} all_low all_high list at r e cut_low cut_high is_low is_high low high
       (λ t. elim t.2 [
         | inl x ↦ absurd (omega (arith, x.0))
         | inr y ↦
-            let same : y.0 ≡ b = omega (arith, y.1) in
-            (subst (λ (x : ℕ). Bit (get_or list (at + n + a) 0) x) same y.2, (is_high b).1 ((cut_high b).1 t.1))
+            let same : y.0 ≡ b = omega (arith, y.1) in (
+              subst (λ (x : ℕ). Bit (get_or list (at + n + a) 0) x) same y.2,
+              (is_high b).1 ((cut_high b).1 t.1),
+            )
       ]),
     ))

@@ -38,43 +38,63 @@ pub record Fits (rows : List RowContent) (columns : List ColumnContent) (h : Hel
 
 -- ---- a cell with one slice before and after
 
-both_there : (s : Slice) (t : Option Test) (m : Option NamedModel) → Some s ≡ cell_slice t m → (test : Test) × (model : NamedModel) × (t ≡ Some test) × (m ≡ Some model) × (s ≡ slice (content_of test) model)
+both_there : (s : Slice) (t : Option Test) (m : Option NamedModel) → Some s ≡ cell_slice t m
+    → (test : Test) × (model : NamedModel) × (t ≡ Some test) × (m ≡ Some model)
+    × (s ≡ slice (content_of test) model)
 both_there s (Some t) (Some m) e = (t, m, refl, refl, (cc))
 both_there s (Some t) None e = absurd (none-some s (sym e))
 both_there s None m e = absurd (none-some s (sym e))
 
-carried : SlicesDecide → (h new : Held) (r : Replacement) (i j : ℕ) (o : Outcome) → AreRead h.models → AreRead new.models → slice_get new.tests i ≡ test_after r h.tests i → slice_get new.models j ≡ model_after r h.models j
+carried : SlicesDecide → (h new : Held) (r : Replacement) (i j : ℕ) (o : Outcome) → AreRead h.models
+    → AreRead new.models → slice_get new.tests i ≡ test_after r h.tests i
+    → slice_get new.models j ≡ model_after r h.models j
     → slice_before h i j ≡ slice_after h r i j → IsRightAt h i j o → IsRightAt new i j o
 carried decide h new r i j o read reads tests models same old =
     let before : cell_slice (slice_get h.tests i) (slice_get h.models j) ≡ Some (slice (content_of old.test) old.model) =
-    ap (λ (t : Option Test). cell_slice t (slice_get h.models j)) old.test_there ∙ ap (λ (m : Option NamedModel). cell_slice (Some old.test) m) old.model_there in
+    ap (λ (t : Option Test). cell_slice t (slice_get h.models j)) old.test_there
+    ∙ ap (λ (m : Option NamedModel). cell_slice (Some old.test) m) old.model_there in
     let there = both_there (slice (content_of old.test) old.model) (test_after r h.tests i) (model_after r h.models j) (sym before ∙ same) in
     record {
       test = there.0;
       model = there.1;
       test_there = tests ∙ there.2;
       model_there = models ∙ there.3;
-      right = decide old.test there.0 old.model there.1 o (read j old.model old.model_there) (reads j there.1 (models ∙ there.3)) there.4 old.right;
+      right =
+          decide old.test there.0 old.model there.1 o (read j old.model old.model_there)
+          (reads j there.1 (models ∙ there.3)) there.4 old.right;
     }
 
 -- ---- edits
 
-read_at : (b : Bool) (model m : NamedModel) (o : Option NamedModel) → IsRead model → (o ≡ Some m → IsRead m) → (if b then Some model else o) ≡ Some m → IsRead m
-read_at true model m o read reads e = let same : model ≡ m = (cc) in subst (λ (n : NamedModel). IsRead n) same read
+read_at : (b : Bool) (model m : NamedModel) (o : Option NamedModel) → IsRead model
+    → (o ≡ Some m → IsRead m) → (if b then Some model else o) ≡ Some m → IsRead m
+read_at true model m o read reads e =
+    let same : model ≡ m = (cc) in subst (λ (n : NamedModel). IsRead n) same read
 read_at false model m o read reads e = reads e
 
-put_read : (model : NamedModel) (at : ℕ) (models : List NamedModel) → at ≤ length models → IsRead model → AreRead models → AreRead (put_at at model models)
-put_read model at models le read reads j m e = read_at (j == at) model m (slice_get models j) read (reads j m) (sym (placed model at models j le) ∙ e)
+put_read : (model : NamedModel) (at : ℕ) (models : List NamedModel) → at ≤ length models
+    → IsRead model → AreRead models → AreRead (put_at at model models)
+put_read model at models le read reads j m e =
+    read_at (j == at) model m (slice_get models j) read (reads j m)
+    (sym (placed model at models j le) ∙ e)
 
 remove_read : (at : ℕ) (models : List NamedModel) → AreRead models → AreRead (remove models at)
 remove_read at models reads j m e = reads (skip at j) m (sym (get_removed models at j) ∙ e)
 
 abbrev IsKept : Held → Replacement → List CellIndex → Type 0
-IsKept h r cells = (c : CellIndex) → (Contains cells c → ⊥) → slice_before h c.test c.model ≡ slice_after h r c.test c.model
+IsKept h r cells =
+    (c : CellIndex) → (Contains cells c → ⊥)
+    → slice_before h c.test c.model ≡ slice_after h r c.test c.model
 
-module _ (decide : SlicesDecide) (h : Held) (rows : List RowContent) (columns : List ColumnContent) (fits : Fits rows columns h) (cells : List CellIndex) where
-  put_test_fits : (index : ℕ) (name : List ℕ) (test : Test) → index ≤ length h.tests → IsKept h (made.PutTest index test) cells
-      → Fits (fold open_cell (if nat_lt index (length rows) then changed_at index (with_name name) rows else rows ++ open_row name columns ∷ []) cells) columns (held_with (made.PutTest index test) h)
+module _ (decide : SlicesDecide) (h : Held) (rows : List RowContent) (columns : List ColumnContent)
+    (fits : Fits rows columns h) (cells : List CellIndex) where
+  put_test_fits : (index : ℕ) (name : List ℕ) (test : Test) → index ≤ length h.tests
+      → IsKept h (made.PutTest index test) cells
+      → Fits
+      (fold open_cell
+      (if nat_lt index (length rows) then changed_at index (with_name name) rows
+      else rows ++ open_row name columns ∷ []) cells) columns
+      (held_with (made.PutTest index test) h)
   put_test_fits index name test le kept =
       let named = changed_at index (with_name name) rows in
       let wide = if nat_lt index (length rows) then named else rows ++ open_row name columns ∷ [] in
@@ -87,31 +107,50 @@ module _ (decide : SlicesDecide) (h : Held) (rows : List RowContent) (columns : 
             let at : CellIndex = record { test = i; model = j } in
             let q = opened_cell cells wide at o e in
             let old = fits.right i j o (longer_cell (nat_lt index (length rows)) name index columns rows i j o q.0) in
-            carried decide h (held_with (made.PutTest index test) h) (made.PutTest index test) i j o fits.read fits.read (placed test index h.tests i le) refl (kept at q.1) old;
+            carried decide h (held_with (made.PutTest index test) h) (made.PutTest index test) i j o
+            fits.read fits.read (placed test index h.tests i le) refl (kept at q.1) old;
       }
 
-  put_model_fits : (index next : ℕ) (new : ColumnContent) (model : NamedModel) → index ≤ length h.models → IsRead model → IsKept h (made.PutModel index model next) cells
-      → Fits (fold open_cell (if nat_lt index (length columns) then rows else map wider_row rows) cells) (if nat_lt index (length columns) then changed_at index (λ _. new) columns else columns ++ new ∷ []) (held_with (made.PutModel index model next) h)
+  put_model_fits : (index next : ℕ) (new : ColumnContent) (model : NamedModel)
+      → index ≤ length h.models → IsRead model → IsKept h (made.PutModel index model next) cells
+      → Fits
+      (fold open_cell (if nat_lt index (length columns) then rows else map wider_row rows)
+      cells)
+      (if nat_lt index (length columns) then changed_at index (λ _. new) columns
+      else columns ++ new ∷ [])
+      (held_with (made.PutModel index model next) h)
   put_model_fits index next new model le read kept =
       let wide = if nat_lt index (length columns) then rows else map wider_row rows in
       let reads = put_read model index h.models le read fits.read in
       let count = count_put columns (changed_at index (λ _. new) columns) new index (length-changed_at (λ _. new) columns index) (omega (arith, fits.columns_are)) in
       record {
-        rows_are = opened_count cells wide ∙ (wider_count (nat_lt index (length columns)) rows ∙ fits.rows_are);
+        rows_are =
+            opened_count cells wide
+            ∙ (wider_count (nat_lt index (length columns)) rows ∙ fits.rows_are);
         columns_are = omega (arith, count, fits.columns_are, length-put_at h.models index model le);
         read = reads;
         right = λ i j o e.
             let at : CellIndex = record { test = i; model = j } in
             let q = opened_cell cells wide at o e in
             let old = fits.right i j o (wider_cell (nat_lt index (length columns)) rows i j o q.0) in
-            carried decide h (held_with (made.PutModel index model next) h) (made.PutModel index model next) i j o fits.read reads refl (placed model index h.models j le) (kept at q.1) old;
+            carried decide h (held_with (made.PutModel index model next) h)
+            (made.PutModel index model next) i j o fits.read reads refl
+            (placed model index h.models j le) (kept at q.1) old;
       }
 
-  drop_test_fits : (index : ℕ) → index < length h.tests → Fits (fold open_cell (remove rows index) cells) columns (held_with (made.DropTest index) h)
+  drop_test_fits : (index : ℕ) → index < length h.tests
+      → Fits (fold open_cell (remove rows index) cells) columns (held_with (made.DropTest index) h)
   drop_test_fits index lt =
       let small : index < length rows = omega (arith, fits.rows_are) in
       record {
-        rows_are = omega (arith, opened_count cells (remove rows index), fits.rows_are, length-remove rows index small, length-remove h.tests index lt);
+        rows_are =
+            omega (
+              arith,
+              opened_count cells (remove rows index),
+              fits.rows_are,
+              length-remove rows index small,
+              length-remove h.tests index lt,
+            );
         columns_are = fits.columns_are;
         read = fits.read;
         right = λ i j o e.
@@ -121,12 +160,22 @@ module _ (decide : SlicesDecide) (h : Held) (rows : List RowContent) (columns : 
             record { test = old.test; model = old.model; test_there = get_removed h.tests index i ∙ old.test_there; model_there = old.model_there; right = old.right };
       }
 
-  drop_model_fits : (index : ℕ) → index < length h.models → Fits (fold open_cell (map (narrower_row index) rows) cells) (remove columns index) (held_with (made.DropModel index) h)
+  drop_model_fits : (index : ℕ) → index < length h.models
+      → Fits (fold open_cell (map (narrower_row index) rows) cells) (remove columns index)
+      (held_with (made.DropModel index) h)
   drop_model_fits index lt =
       let small : index < length columns = omega (arith, fits.columns_are) in
       record {
-        rows_are = opened_count cells (map (narrower_row index) rows) ∙ (narrow_count index rows ∙ fits.rows_are);
-        columns_are = omega (arith, fits.columns_are, length-remove columns index small, length-remove h.models index lt);
+        rows_are =
+            opened_count cells (map (narrower_row index) rows)
+            ∙ (narrow_count index rows ∙ fits.rows_are);
+        columns_are =
+            omega (
+              arith,
+              fits.columns_are,
+              length-remove columns index small,
+              length-remove h.models index lt,
+            );
         read = remove_read index h.models fits.read;
         right = λ i j o e.
             let at : CellIndex = record { test = i; model = j } in
@@ -135,54 +184,99 @@ module _ (decide : SlicesDecide) (h : Held) (rows : List RowContent) (columns : 
             record { test = old.test; model = old.model; test_there = old.test_there; model_there = get_removed h.models index j ∙ old.model_there; right = old.right };
       }
 
-  edit_fits : (whole : Bool) (change : NameChange) (r : Replacement) → Announces h whole change cells r → Fits (fold open_cell (rows_after change columns rows) cells) (columns_after change columns) (held_with r h)
+  edit_fits : (whole : Bool) (change : NameChange) (r : Replacement)
+      → Announces h whole change cells r
+      → Fits (fold open_cell (rows_after change columns rows) cells) (columns_after change columns)
+      (held_with r h)
   edit_fits whole (PutTest at name) (made.PutTest index test) a =
       let le : at ≤ length h.tests = a.1 in
-      subst (λ (n : ℕ). Fits (fold open_cell (rows_after (PutTest n name) columns rows) cells) columns (held_with (made.PutTest index test) h)) (sym a.0)
-      (put_test_fits index (arc_value name) test (subst (λ (n : ℕ). n ≤ length h.tests) a.0 le) a.3.kept)
+      subst
+      (λ (n : ℕ). Fits (fold open_cell (rows_after (PutTest n name) columns rows) cells) columns
+      (held_with (made.PutTest index test) h))
+      (sym a.0)
+      (put_test_fits index (arc_value name) test (subst (λ (n : ℕ). n ≤ length h.tests) a.0 le)
+      a.3.kept)
   edit_fits whole (PutTest at name) (made.DropTest index) a = absurd a
   edit_fits whole (PutTest at name) (made.PutModel index model next) a = absurd a
   edit_fits whole (PutTest at name) (made.DropModel index) a = absurd a
   edit_fits whole (DropTest at) (made.PutTest index test) a = absurd a
   edit_fits whole (DropTest at) (made.DropTest index) a =
-      subst (λ (n : ℕ). Fits (fold open_cell (remove rows n) cells) columns (held_with (made.DropTest index) h)) (sym a.0) (drop_test_fits index (subst (λ (n : ℕ). n < length h.tests) a.0 a.1))
+      subst
+      (λ (n : ℕ). Fits (fold open_cell (remove rows n) cells) columns
+      (held_with (made.DropTest index) h))
+      (sym a.0)
+      (drop_test_fits index (subst (λ (n : ℕ). n < length h.tests) a.0 a.1))
   edit_fits whole (DropTest at) (made.PutModel index model next) a = absurd a
   edit_fits whole (DropTest at) (made.DropModel index) a = absurd a
   edit_fits whole (PutModel at name items) (made.PutTest index test) a = absurd a
   edit_fits whole (PutModel at name items) (made.DropTest index) a = absurd a
   edit_fits whole (PutModel at name items) (made.PutModel index model next) a =
-      subst (λ (n : ℕ). Fits (fold open_cell (rows_after (PutModel n name items) columns rows) cells) (columns_after (PutModel n name items) columns) (held_with (made.PutModel index model next) h)) (sym a.0)
-      (put_model_fits index next (record { name = arc_value name; items = (arc_value items).items }) model (subst (λ (n : ℕ). n ≤ length h.models) a.0 a.1) a.5 a.3.kept)
+      subst
+      (λ (n : ℕ). Fits (fold open_cell (rows_after (PutModel n name items) columns rows) cells)
+      (columns_after (PutModel n name items) columns)
+      (held_with (made.PutModel index model next) h))
+      (sym a.0)
+      (put_model_fits index next (record { name = arc_value name; items = (arc_value items).items })
+      model (subst (λ (n : ℕ). n ≤ length h.models) a.0 a.1) a.5 a.3.kept)
   edit_fits whole (PutModel at name items) (made.DropModel index) a = absurd a
   edit_fits whole (DropModel at) (made.PutTest index test) a = absurd a
   edit_fits whole (DropModel at) (made.DropTest index) a = absurd a
   edit_fits whole (DropModel at) (made.PutModel index model next) a = absurd a
   edit_fits whole (DropModel at) (made.DropModel index) a =
-      subst (λ (n : ℕ). Fits (fold open_cell (map (narrower_row n) rows) cells) (remove columns n) (held_with (made.DropModel index) h)) (sym a.0) (drop_model_fits index (subst (λ (n : ℕ). n < length h.models) a.0 a.1))
+      subst
+      (λ (n : ℕ). Fits (fold open_cell (map (narrower_row n) rows) cells) (remove columns n)
+      (held_with (made.DropModel index) h))
+      (sym a.0)
+      (drop_model_fits index (subst (λ (n : ℕ). n < length h.models) a.0 a.1))
 
 -- ---- lists of operations
 
-settle_right : (h : Held) (at : CellIndex) (outcome : Outcome) (i j : ℕ) (o : Outcome) (P : Type 0) → IsRightAt h at.test at.model outcome → (P → IsRightAt h i j o) → ((i ≡ at.test) × (j ≡ at.model) × (Some o ≡ Some outcome)) ⊎ P → IsRightAt h i j o
+settle_right : (h : Held) (at : CellIndex) (outcome : Outcome) (i j : ℕ) (o : Outcome) (P : Type 0)
+    → IsRightAt h at.test at.model outcome → (P → IsRightAt h i j o)
+    → ((i ≡ at.test) × (j ≡ at.model) × (Some o ≡ Some outcome)) ⊎ P → IsRightAt h i j o
 settle_right h at outcome i j o P new old (inl e) =
     let same : o ≡ outcome = (let f : Some o ≡ Some outcome = e.2 in cc) in
-    subst (λ (k : ℕ). IsRightAt h k j o) (sym e.0) (subst (λ (k : ℕ). IsRightAt h at.test k o) (sym e.1) (subst (λ (x : Outcome). IsRightAt h at.test at.model x) (sym same) new))
+    subst (λ (k : ℕ). IsRightAt h k j o) (sym e.0) (subst (λ (k : ℕ). IsRightAt h at.test k o)
+    (sym e.1) (subst (λ (x : Outcome). IsRightAt h at.test at.model x) (sym same) new))
 settle_right h at outcome i j o P new old (inr p) = old p
 
-step : SlicesDecide → (b : BoardContent) (h : Held) (last : ℕ) (op : BoardOp) → MayFollow h last op → Fits b.rows b.columns h → Fits (after_operation b op).rows (after_operation b op).columns (held_after h op)
-step decide b h last (Edit edit) may fits = edit_fits decide h b.rows b.columns fits edit.reached.items edit.prepared.value.whole edit.change edit.prepared.value.replacement may.1
+step : SlicesDecide → (b : BoardContent) (h : Held) (last : ℕ) (op : BoardOp) → MayFollow h last op
+    → Fits b.rows b.columns h
+    → Fits (after_operation b op).rows (after_operation b op).columns (held_after h op)
+step decide b h last (Edit edit) may fits =
+    edit_fits decide h b.rows b.columns fits edit.reached.items edit.prepared.value.whole
+    edit.change edit.prepared.value.replacement may.1
 step decide b h last (Settle at outcome) may fits = record {
-  rows_are = length-changed_at (with_cell at.model (Some (arc_value outcome))) b.rows at.test ∙ fits.rows_are;
+  rows_are =
+      length-changed_at (with_cell at.model (Some (arc_value outcome))) b.rows at.test
+      ∙ fits.rows_are;
   columns_are = fits.columns_are;
   read = fits.read;
-  right = λ i j o e. settle_right h at (arc_value outcome) i j o (cell_at b.rows i j ≡ Some (Some o)) may (fits.right i j o) (put_cases at.model (Some (arc_value outcome)) at.test b.rows i j (Some o) e);
+  right =
+      λ i j o e. settle_right h at (arc_value outcome) i j o (cell_at b.rows i j ≡ Some (Some o))
+      may (fits.right i j o) (put_cases at.model (Some (arc_value outcome)) at.test b.rows i j
+      (Some o) e);
 }
 
-legal : SlicesDecide → (ops : List BoardOp) (b : BoardContent) (h : Held) (last : ℕ) → LegalFrom h last ops → Fits b.rows b.columns h → Fits (fold after_operation b ops).rows (fold after_operation b ops).columns (fold held_after h ops)
+legal : SlicesDecide → (ops : List BoardOp) (b : BoardContent) (h : Held) (last : ℕ)
+    → LegalFrom h last ops → Fits b.rows b.columns h
+    → Fits (fold after_operation b ops).rows (fold after_operation b ops).columns
+    (fold held_after h ops)
 legal decide [] b h last l fits = fits
-legal decide (op ∷ ops) b h last l fits = legal decide ops (after_operation b op) (held_after h op) (number_after last op) l.1 (step decide b h last op l.0 fits)
+legal decide (op ∷ ops) b h last l fits =
+    legal decide ops (after_operation b op) (held_after h op) (number_after last op) l.1
+    (step decide b h last op l.0 fits)
 
 nothing_fits : Fits [] [] nothing_held
-nothing_fits = record { rows_are = refl; columns_are = refl; read = λ j m e. absurd (none-some m e); right = λ i j o e. absurd (none-some (Some o) e) }
+nothing_fits =
+    record {
+      rows_are = refl;
+      columns_are = refl;
+      read = λ j m e. absurd (none-some m e);
+      right = λ i j o e. absurd (none-some (Some o) e);
+    }
 
-pub legal_is_right : SlicesDecide → (ops : List BoardOp) → LegalFrom nothing_held 0 ops → (i j : ℕ) (o : Outcome) → cell_at (fold after_operation no_board ops).rows i j ≡ Some (Some o) → IsRightAt (fold held_after nothing_held ops) i j o
+pub legal_is_right : SlicesDecide → (ops : List BoardOp) → LegalFrom nothing_held 0 ops
+    → (i j : ℕ) (o : Outcome) → cell_at (fold after_operation no_board ops).rows i j ≡ Some (Some o)
+    → IsRightAt (fold held_after nothing_held ops) i j o
 legal_is_right decide ops l = (legal decide ops no_board nothing_held 0 l nothing_fits).right

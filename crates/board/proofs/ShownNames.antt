@@ -14,7 +14,8 @@ rest_alike : (a b : List ℕ) (us vs : List (List ℕ)) → a ∷ us ≡ b ∷ v
 rest_alike a b us vs e = cc
 
 module _ {A B : Type 0} (f : A → List ℕ) (g : B → List ℕ) where
-  pub found_alike : (wanted : List ℕ) (xs : List A) (ys : List B) → map f xs ≡ map g ys → found f wanted xs ≡ found g wanted ys
+  pub found_alike : (wanted : List ℕ) (xs : List A) (ys : List B) → map f xs ≡ map g ys
+      → found f wanted xs ≡ found g wanted ys
   found_alike wanted [] [] e = refl
   found_alike wanted [] (y ∷ ys) e = cc
   found_alike wanted (x ∷ xs) [] e = cc
@@ -24,33 +25,42 @@ module _ {A B : Type 0} (f : A → List ℕ) (g : B → List ℕ) where
       ap (λ (n : List ℕ). cond (not (bytes_eq n wanted)) (1 + found f wanted xs) 0) first
       ∙ ap (λ (k : ℕ). cond (not (bytes_eq (g y) wanted)) (1 + k) 0) (found_alike wanted xs ys rest)
 
-  pub none_alike : (xs : List A) (ys : List B) (i : ℕ) → map f xs ≡ map g ys → slice_get xs i ≡ None → slice_get ys i ≡ None
+  pub none_alike : (xs : List A) (ys : List B) (i : ℕ) → map f xs ≡ map g ys → slice_get xs i ≡ None
+      → slice_get ys i ≡ None
   none_alike [] [] i e h = refl
   none_alike [] (y ∷ ys) i e h = cc
   none_alike (x ∷ xs) [] i e h = refl
   none_alike (x ∷ xs) (y ∷ ys) zero e h = absurd (none-some x (sym h))
-  none_alike (x ∷ xs) (y ∷ ys) (suc i) e h = none_alike xs ys i (rest_alike (f x) (g y) (map f xs) (map g ys) e) h
+  none_alike (x ∷ xs) (y ∷ ys) (suc i) e h =
+      none_alike xs ys i (rest_alike (f x) (g y) (map f xs) (map g ys) e) h
 
-  pub there_alike : (xs : List A) (ys : List B) (i : ℕ) (x : A) → map f xs ≡ map g ys → slice_get xs i ≡ Some x → (y : B) × (slice_get ys i ≡ Some y)
+  pub there_alike : (xs : List A) (ys : List B) (i : ℕ) (x : A) → map f xs ≡ map g ys
+      → slice_get xs i ≡ Some x → (y : B) × (slice_get ys i ≡ Some y)
   there_alike [] ys i x e h = absurd (none-some x h)
   there_alike (a ∷ xs) [] i x e h = cc
   there_alike (a ∷ xs) (y ∷ ys) zero x e h = (y, refl)
-  there_alike (a ∷ xs) (y ∷ ys) (suc i) x e h = there_alike xs ys i x (rest_alike (f a) (g y) (map f xs) (map g ys) e) h
+  there_alike (a ∷ xs) (y ∷ ys) (suc i) x e h =
+      there_alike xs ys i x (rest_alike (f a) (g y) (map f xs) (map g ys) e) h
 
-  pub same_name : (xs : List A) (ys : List B) (i : ℕ) (x : A) → map f xs ≡ map g ys → slice_get xs i ≡ Some x → (y : B) × (slice_get ys i ≡ Some y) × (g y ≡ f x)
+  pub same_name : (xs : List A) (ys : List B) (i : ℕ) (x : A) → map f xs ≡ map g ys
+      → slice_get xs i ≡ Some x → (y : B) × (slice_get ys i ≡ Some y) × (g y ≡ f x)
   same_name [] ys i x e h = absurd (none-some x h)
   same_name (a ∷ xs) [] i x e h = cc
   same_name (a ∷ xs) (y ∷ ys) zero x e h =
       let same : a ≡ x = (cc) in
       (y, refl, sym (first_alike (f a) (g y) (map f xs) (map g ys) e) ∙ ap f same)
-  same_name (a ∷ xs) (y ∷ ys) (suc i) x e h = same_name xs ys i x (rest_alike (f a) (g y) (map f xs) (map g ys) e) h
+  same_name (a ∷ xs) (y ∷ ys) (suc i) x e h =
+      same_name xs ys i x (rest_alike (f a) (g y) (map f xs) (map g ys) e) h
 
-  pub get_alike : (xs : List A) (ys : List B) (i : ℕ) → map f xs ≡ map g ys → option_map f (slice_get xs i) ≡ option_map g (slice_get ys i)
+  pub get_alike : (xs : List A) (ys : List B) (i : ℕ) → map f xs ≡ map g ys
+      → option_map f (slice_get xs i) ≡ option_map g (slice_get ys i)
   get_alike [] [] i e = refl
   get_alike [] (y ∷ ys) i e = cc
   get_alike (x ∷ xs) [] i e = cc
-  get_alike (x ∷ xs) (y ∷ ys) zero e = ap (λ (n : List ℕ). Some n) (first_alike (f x) (g y) (map f xs) (map g ys) e)
-  get_alike (x ∷ xs) (y ∷ ys) (suc i) e = get_alike xs ys i (rest_alike (f x) (g y) (map f xs) (map g ys) e)
+  get_alike (x ∷ xs) (y ∷ ys) zero e =
+      ap (λ (n : List ℕ). Some n) (first_alike (f x) (g y) (map f xs) (map g ys) e)
+  get_alike (x ∷ xs) (y ∷ ys) (suc i) e =
+      get_alike xs ys i (rest_alike (f x) (g y) (map f xs) (map g ys) e)
 
 -- ---- within a list, or past its end
 

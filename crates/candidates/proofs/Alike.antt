@@ -8,19 +8,34 @@ use Rattle.run_combinations.specs.declared.combination.Event.{Event}
 use Rattle.candidates.specs.declared.execution.Execution.{Execution}
 
 -- what is shown, part by part
-pub shown_one : (d e : Shown) → d.events ≡ e.events → d.dependencies ≡ e.dependencies → d.sources ≡ e.sources → d.order ≡ e.order → d.registers ≡ e.registers → d ≡ e
+pub shown_one : (d e : Shown) → d.events ≡ e.events → d.dependencies ≡ e.dependencies
+    → d.sources ≡ e.sources → d.order ≡ e.order → d.registers ≡ e.registers → d ≡ e
 shown_one d e events dependencies sources order registers =
     ap (λ (x : List Event). record d { events = x }) events
-    ∙ ap (λ (x : DependencyLists). record e { dependencies = x; sources = d.sources; order = d.order; registers = d.registers }) dependencies
-    ∙ ap (λ (x : List ℕ). record e { sources = x; order = d.order; registers = d.registers }) sources
+    ∙ ap
+    (λ (x : DependencyLists). record e {
+      dependencies = x;
+      sources = d.sources;
+      order = d.order;
+      registers = d.registers;
+    }) dependencies
+    ∙ ap (λ (x : List ℕ). record e { sources = x; order = d.order; registers = d.registers })
+    sources
     ∙ ap (λ (x : List ℕ). record e { order = x; registers = d.registers }) order
     ∙ ap (λ (x : List (List Value)). record e { registers = x }) registers
 
 -- an execution shows what its candidate does
-candidate_shown : (threads : List (Vec (List Value) Global)) (u : Candidate) (x : Execution) → IsExecution threads u.0 u.1 x → shown_of threads u ≡ shown_by x
-candidate_shown threads u x h = shown_one (shown_of threads u) (shown_by x) (sym h.events) (sym h.dependencies) (sym h.sources) (sym h.order) (sym h.registers)
+candidate_shown : (threads : List (Vec (List Value) Global)) (u : Candidate) (x : Execution)
+    → IsExecution threads u.0 u.1 x → shown_of threads u ≡ shown_by x
+candidate_shown threads u x h =
+    shown_one (shown_of threads u) (shown_by x) (sym h.events) (sym h.dependencies) (sym h.sources)
+    (sym h.order) (sym h.registers)
 
-pub shown_there : (threads : List (Vec (List Value) Global)) (xs : List Candidate) (index : ℕ) (x : Execution) → index < length xs → HoldsAt (λ u. IsExecution threads u.0 u.1 x) xs index → slice_get (map (shown_of threads) xs) index ≡ Some (shown_by x)
+pub shown_there : (threads : List (Vec (List Value) Global)) (xs : List Candidate) (index : ℕ)
+    (x : Execution) → index < length xs → HoldsAt (λ u. IsExecution threads u.0 u.1 x) xs index
+    → slice_get (map (shown_of threads) xs) index ≡ Some (shown_by x)
 shown_there threads [] index x lt holds = absurd (omega (arith, lt))
-shown_there threads (u ∷ xs) zero x lt holds = ap (λ (y : Shown). Some y) (candidate_shown threads u x (holds u))
-shown_there threads (u ∷ xs) (suc k) x lt holds = shown_there threads xs k x (omega (arith, lt)) (λ d. holds d)
+shown_there threads (u ∷ xs) zero x lt holds =
+    ap (λ (y : Shown). Some y) (candidate_shown threads u x (holds u))
+shown_there threads (u ∷ xs) (suc k) x lt holds =
+    shown_there threads xs k x (omega (arith, lt)) (λ d. holds d)

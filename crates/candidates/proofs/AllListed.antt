@@ -18,7 +18,8 @@ use Rattle.run_combinations.specs.declared.combination.Action.TheVariants.{Write
 use Rattle.run_combinations.specs.declared.combination.Event.{Event}
 
 -- members of a filter
-pub filtered_there : {X : Type 0} (P : X → Type 0) (xs ys : List X) → IsFiltered P xs ys → (x : X) → Contains xs x → P x → Contains ys x
+pub filtered_there : {X : Type 0} (P : X → Type 0) (xs ys : List X) → IsFiltered P xs ys → (x : X)
+    → Contains xs x → P x → Contains ys x
 filtered_there P [] ys none x c p = absurd (no_member x c)
 filtered_there {X} P (z ∷ xs) ys (kept {ys = us} q f) x c p = elim (member_cases z xs x c) [
   | inl e ↦ subst (λ (y : X). Contains (z ∷ us) y) e (member_first z us)
@@ -29,7 +30,8 @@ filtered_there {X} P (z ∷ xs) ys (left fails f) x c p = elim (member_cases z x
   | inr d ↦ filtered_there P xs ys f x d p
 ]
 
-filtered_holds : {X : Type 0} (P : X → Type 0) (xs ys : List X) → IsFiltered P xs ys → (x : X) → Contains ys x → P x
+filtered_holds : {X : Type 0} (P : X → Type 0) (xs ys : List X) → IsFiltered P xs ys → (x : X)
+    → Contains ys x → P x
 filtered_holds P [] ys none x c = absurd (no_member x c)
 filtered_holds {X} P (z ∷ xs) ys (kept {ys = us} q f) x c = elim (member_cases z us x c) [
   | inl e ↦ subst P e q
@@ -38,63 +40,95 @@ filtered_holds {X} P (z ∷ xs) ys (kept {ys = us} q f) x c = elim (member_cases
 filtered_holds P (z ∷ xs) ys (left fails f) x c = filtered_holds P xs ys f x c
 
 -- and of a product: one of each list
-product_there : {X : Type 0} (xss : List (List X)) (ys : List X) → AllZip Contains xss ys → Contains (product xss) ys
+product_there : {X : Type 0} (xss : List (List X)) (ys : List X) → AllZip Contains xss ys
+    → Contains (product xss) ys
 product_there [] [] h = member_first [] []
 product_there [] (y ∷ ys) h = absurd h
 product_there (xs ∷ xss) [] h = absurd h
 product_there {X} (xs ∷ xss) (y ∷ ys) h =
-    joined_there (λ (x : X). map (λ (rest : List X). x ∷ rest) (product xss)) xs y (y ∷ ys) h.0 (mapped_there (λ (rest : List X). y ∷ rest) (product xss) ys (product_there xss ys h.1))
+    joined_there (λ (x : X). map (λ (rest : List X). x ∷ rest) (product xss)) xs y (y ∷ ys) h.0
+    (mapped_there (λ (rest : List X). y ∷ rest) (product xss) ys (product_there xss ys h.1))
 
 -- runs
-runs_there : (V : List Value) (threads : List Thread) (rss : List (List Run)) (rs : List Run) → AllZip (λ t all. AreRuns t (Contains V) all) threads rss → AllZip (λ t r. IsRun t (Contains V) r) threads rs → AllZip Contains rss rs
+runs_there : (V : List Value) (threads : List Thread) (rss : List (List Run)) (rs : List Run)
+    → AllZip (λ t all. AreRuns t (Contains V) all) threads rss
+    → AllZip (λ t r. IsRun t (Contains V) r) threads rs → AllZip Contains rss rs
 runs_there V [] [] [] h k = tt
 runs_there V [] [] (r ∷ rs) h k = absurd k
 runs_there V [] (all ∷ rss) rs h k = absurd h
 runs_there V (t ∷ threads) [] rs h k = absurd h
 runs_there V (t ∷ threads) (all ∷ rss) [] h k = absurd k
-runs_there V (t ∷ threads) (all ∷ rss) (r ∷ rs) h k = ((h.0.exact r).1 k.0, runs_there V threads rss rs h.1 k.1)
+runs_there V (t ∷ threads) (all ∷ rss) (r ∷ rs) h k =
+    ((h.0.exact r).1 k.0, runs_there V threads rss rs h.1 k.1)
 
 -- reads-from
-reads_there : (es : List Event) (ls ss : List ℕ) → AllZip (MayRead es) ls ss → AllZip Contains (map (λ load. stores es) ls) ss
+reads_there : (es : List Event) (ls ss : List ℕ) → AllZip (MayRead es) ls ss
+    → AllZip Contains (map (λ load. stores es) ls) ss
 reads_there es [] [] h = tt
 reads_there es [] (s ∷ ss) h = absurd h
 reads_there es (l ∷ ls) [] h = absurd h
 reads_there es (l ∷ ls) (s ∷ ss) h = (here h.0.3.1 h.0.3.2, reads_there es ls ss h.1)
   where
-    here : slice_get es s ≡ Some h.0.3.0 → h.0.3.0.action ≡ Write h.0.0 h.0.1 → Contains (stores es) s
+    here : slice_get es s ≡ Some h.0.3.0 → h.0.3.0.action ≡ Write h.0.0 h.0.1
+        → Contains (stores es) s
     here there is =
         let z : 0 + s ≡ s = omega arith in
-        subst (λ (k : ℕ). Contains (stores es) k) z (number_there is_store 0 es s h.0.3.0 there (ap writes is))
+        subst (λ (k : ℕ). Contains (stores es) k) z
+        (number_there is_store 0 es s h.0.3.0 there (ap writes is))
 
 -- coherence
-drawn : (ss order : List ℕ) (n : ℕ) → length order ≡ n → All (Contains ss) order → AllZip Contains (replicate n ss) order
+drawn : (ss order : List ℕ) (n : ℕ) → length order ≡ n → All (Contains ss) order
+    → AllZip Contains (replicate n ss) order
 drawn ss [] zero long h = tt
 drawn ss [] (suc n) long h = absurd (omega (arith, long))
 drawn ss (x ∷ order) zero long h = absurd (omega (arith, long))
-drawn ss (x ∷ order) (suc n) long h = (All-head (Contains ss) x order h, drawn ss order n (omega (arith, long)) (All-tail (Contains ss) x order h))
+drawn ss (x ∷ order) (suc n) long h = (
+  All-head (Contains ss) x order h,
+  drawn ss order n (omega (arith, long)) (All-tail (Contains ss) x order h),
+)
 
-orders_there : (es : List Event) (ls : List ℕ) (os : List (List ℕ)) → AllZip (IsOrder es) ls os → AllZip Contains (map (rows es) ls) os
+orders_there : (es : List Event) (ls : List ℕ) (os : List (List ℕ)) → AllZip (IsOrder es) ls os
+    → AllZip Contains (map (rows es) ls) os
 orders_there es [] [] h = tt
 orders_there es [] (o ∷ os) h = absurd h
 orders_there es (l ∷ ls) [] h = absurd h
-orders_there es (l ∷ ls) (o ∷ os) h =
-    (product_there (replicate (length (stores_at es l)) (stores_at es l)) o (drawn (stores_at es l) o (length (stores_at es l)) h.0.each h.0.stores), orders_there es ls os h.1)
+orders_there es (l ∷ ls) (o ∷ os) h = (
+  product_there (replicate (length (stores_at es l)) (stores_at es l)) o
+      (drawn (stores_at es l) o (length (stores_at es l)) h.0.each h.0.stores),
+  orders_there es ls os h.1,
+)
 
 -- so all executions over the values are there
-listed : (initial : List Value) (threads : List Thread) (V : List Value) (rss : List (List Run)) → AllZip (λ t all. AreRuns t (Contains V) all) threads rss → (x : Execution) → IsExecution initial threads (Contains V) x → Contains (flat_map (over_runs initial) (product rss)) x
+listed : (initial : List Value) (threads : List Thread) (V : List Value) (rss : List (List Run))
+    → AllZip (λ t all. AreRuns t (Contains V) all) threads rss → (x : Execution)
+    → IsExecution initial threads (Contains V) x
+    → Contains (flat_map (over_runs initial) (product rss)) x
 listed initial threads V rss are x is =
     let es : List Event = events initial x.runs in
-    joined_there (over_runs initial) (product rss) x.runs x (product_there rss x.runs (runs_there V threads rss x.runs are is.runs))
-    (joined_there (λ reads_from. map (λ coherence. record { runs = x.runs; reads_from = reads_from; coherence = coherence }) (orders es initial)) (maps es) x.reads_from x
-    (product_there (map (λ load. stores es) (loads es)) x.reads_from (reads_there es (loads es) x.reads_from is.reads))
-    (mapped_there (λ coherence. record { runs = x.runs; reads_from = x.reads_from; coherence = coherence }) (orders es initial) x.coherence
-    (product_there (map (rows es) (locations_from 0 initial)) x.coherence (orders_there es (locations_from 0 initial) x.coherence is.orders))))
+    joined_there (over_runs initial) (product rss) x.runs x (product_there rss x.runs
+    (runs_there V threads rss x.runs are is.runs))
+    (joined_there
+    (λ reads_from. map
+    (λ coherence. record { runs = x.runs; reads_from = reads_from; coherence = coherence })
+    (orders es initial))
+    (maps es) x.reads_from x
+    (product_there (map (λ load. stores es) (loads es)) x.reads_from
+    (reads_there es (loads es) x.reads_from is.reads))
+    (mapped_there
+    (λ coherence. record { runs = x.runs; reads_from = x.reads_from; coherence = coherence })
+    (orders es initial) x.coherence
+    (product_there (map (rows es) (locations_from 0 initial)) x.coherence
+    (orders_there es (locations_from 0 initial) x.coherence is.orders))))
 
-weaker_runs : (V : List Value) → All IsOne V → (threads : List Thread) (rs : List Run) → AllZip (λ t r. IsRun t (Contains V) r) threads rs → AllZip (λ t r. IsRun t IsOne r) threads rs
+weaker_runs : (V : List Value) → All IsOne V → (threads : List Thread) (rs : List Run)
+    → AllZip (λ t r. IsRun t (Contains V) r) threads rs → AllZip (λ t r. IsRun t IsOne r) threads rs
 weaker_runs V ones [] [] h = tt
 weaker_runs V ones [] (r ∷ rs) h = absurd h
 weaker_runs V ones (t ∷ threads) [] h = absurd h
-weaker_runs V ones (t ∷ threads) (r ∷ rs) h = ((All-weaker (Contains V) IsOne (λ v c. All-contains IsOne V v ones c) r.values h.0.0, h.0.1), weaker_runs V ones threads rs h.1)
+weaker_runs V ones (t ∷ threads) (r ∷ rs) h = (
+  (All-weaker (Contains V) IsOne (λ v c. All-contains IsOne V v ones c) r.values h.0.0, h.0.1),
+  weaker_runs V ones threads rs h.1,
+)
 
 -- and those whose loads take any values
 pub all_executions : (t : Test) → HasAllExecutions t
@@ -103,13 +137,20 @@ all_executions t initial xs h x = (to, back)
     to : Contains xs x → IsExecution initial (threads_of h.program) IsOne x
     to c =
         let is : IsExecution initial (threads_of h.program) (Contains h.values) x =
-        filtered_holds (IsExecution initial (threads_of h.program) (Contains h.values)) (flat_map (over_runs initial) (product h.executions.runs)) xs h.executions.executions x c in
+        filtered_holds (IsExecution initial (threads_of h.program) (Contains h.values))
+        (flat_map (over_runs initial) (product h.executions.runs)) xs h.executions.executions x
+        c in
         record { runs = weaker_runs h.values h.domain.last.set.proper (threads_of h.program) x.runs is.runs; reads = is.reads; orders = is.orders; acyclic = is.acyclic }
 
     back : IsExecution initial (threads_of h.program) IsOne x → Contains xs x
     back is =
         let over : IsExecution initial (threads_of h.program) (Contains h.values) x =
-        subst (λ (vs : List Value). IsExecution vs (threads_of h.program) (Contains h.values) x) (sym h.starts)
-        (over_any_domain t h.program h.values h.of_test h.domain.last x (subst (λ (vs : List Value). IsExecution vs (threads_of h.program) IsOne x) h.starts is)) in
-        filtered_there (IsExecution initial (threads_of h.program) (Contains h.values)) (flat_map (over_runs initial) (product h.executions.runs)) xs h.executions.executions x
-        (listed initial (threads_of h.program) h.values h.executions.runs h.executions.of_threads x over) over
+        subst (λ (vs : List Value). IsExecution vs (threads_of h.program) (Contains h.values) x)
+        (sym h.starts)
+        (over_any_domain t h.program h.values h.of_test h.domain.last x (subst
+        (λ (vs : List Value). IsExecution vs (threads_of h.program) IsOne x) h.starts
+        is)) in
+        filtered_there (IsExecution initial (threads_of h.program) (Contains h.values))
+        (flat_map (over_runs initial) (product h.executions.runs)) xs h.executions.executions x
+        (listed initial (threads_of h.program) h.values h.executions.runs h.executions.of_threads x
+        over) over

@@ -29,8 +29,10 @@ use Rattle.run_combinations.specs.declared.combination.Event.{Event}
 abbrev StoresBelow : ℕ → List Event → Type 0
 StoresBelow n es = (e : Event) (l : ℕ) (v : Value) → Contains es e → e.action ≡ Write l v → l < n
 
-both_stores : (n : ℕ) (es fs : List Event) → StoresBelow n es → StoresBelow n fs → StoresBelow n (es ++ fs)
-both_stores n es fs h k e l v c w = elim (Contains-append_cases es fs e c) [ inl a ↦ h e l v a w | inr b ↦ k e l v b w ]
+both_stores : (n : ℕ) (es fs : List Event) → StoresBelow n es → StoresBelow n fs
+    → StoresBelow n (es ++ fs)
+both_stores n es fs h k e l v c w =
+    elim (Contains-append_cases es fs e c) [ inl a ↦ h e l v a w | inr b ↦ k e l v b w ]
 
 location_is : {k l : ℕ} {v w : Value} → Write k v ≡ Write l w → k ≡ l
 location_is e = cc
@@ -41,42 +43,58 @@ no_store e = cc
 no_fence : {l : ℕ} {w : Value} {f : _} → Fence f ≡ Write l w → ⊥
 no_fence e = cc
 
-initial_stores_below : (n k : ℕ) (vs : List Value) → k + length vs ≤ n → StoresBelow n (initial_stores k vs)
+initial_stores_below : (n k : ℕ) (vs : List Value) → k + length vs ≤ n
+    → StoresBelow n (initial_stores k vs)
 initial_stores_below n k [] le e l v c w = absurd (no_member e c)
-initial_stores_below n k (x ∷ vs) le e l v c w = elim (member_cases _ (initial_stores (k + 1) vs) e c) [
-  | inl same ↦ let at : k ≡ l = location_is (ap (λ (d : Event). d.action) same ∙ w) in omega (arith, at, le)
-  | inr d ↦ initial_stores_below n (k + 1) vs (omega (arith, le)) e l v d w
-]
+initial_stores_below n k (x ∷ vs) le e l v c w =
+    elim (member_cases _ (initial_stores (k + 1) vs) e c) [
+      | inl same ↦
+          let at : k ≡ l = location_is (ap (λ (d : Event). d.action) same ∙ w) in omega (arith, at, le)
+      | inr d ↦ initial_stores_below n (k + 1) vs (omega (arith, le)) e l v d w
+    ]
 
-action_below : (n thread : ℕ) (x : run.Event) → AllBelow n (x ∷ []) → StoresBelow n (with_action thread (action_in x))
-action_below n thread (Reads (Address k) x) h e l v c w = absurd (no_store (ap (λ (d : Event). d.action) (contains_one _ e c) ∙ w))
+action_below : (n thread : ℕ) (x : run.Event) → AllBelow n (x ∷ [])
+    → StoresBelow n (with_action thread (action_in x))
+action_below n thread (Reads (Address k) x) h e l v c w =
+    absurd (no_store (ap (λ (d : Event). d.action) (contains_one _ e c) ∙ w))
 action_below n thread (Reads (Number k) x) h e l v c w = absurd (no_member e c)
 action_below n thread (Reads NoValue x) h e l v c w = absurd (no_member e c)
-action_below n thread (Writes (Address k) x) h e l v c w = let at : k ≡ l = location_is (ap (λ (d : Event). d.action) (contains_one _ e c) ∙ w) in let lt : k < n = h.0.0 in omega (arith, at, lt)
+action_below n thread (Writes (Address k) x) h e l v c w =
+    let at : k ≡ l = location_is (ap (λ (d : Event). d.action) (contains_one _ e c) ∙ w) in
+    let lt : k < n = h.0.0 in omega (arith, at, lt)
 action_below n thread (Writes (Number k) x) h e l v c w = absurd (no_member e c)
 action_below n thread (Writes NoValue x) h e l v c w = absurd (no_member e c)
-action_below n thread (Orders f) h e l v c w = absurd (no_fence (ap (λ (d : Event). d.action) (contains_one _ e c) ∙ w))
+action_below n thread (Orders f) h e l v c w =
+    absurd (no_fence (ap (λ (d : Event). d.action) (contains_one _ e c) ∙ w))
 
-thread_stores_below : (n thread : ℕ) (es : List run.Event) → AllBelow n es → StoresBelow n (thread_events thread es)
+thread_stores_below : (n thread : ℕ) (es : List run.Event) → AllBelow n es
+    → StoresBelow n (thread_events thread es)
 thread_stores_below n thread es h e l v c w =
     let (x, there, at) = joined (λ x. with_action thread (action_in x)) es e c in
     action_below n thread x (one_below n es x h there, tt) e l v at w
 
-runs_stores_below : (n thread : ℕ) (rs : List Run) → ((its : ℕ) (r : Run) → slice_get rs its ≡ Some r → AllBelow n r.outcome.walk.events) → StoresBelow n (events_from thread rs)
+runs_stores_below : (n thread : ℕ) (rs : List Run)
+    → ((its : ℕ) (r : Run) → slice_get rs its ≡ Some r → AllBelow n r.outcome.walk.events)
+    → StoresBelow n (events_from thread rs)
 runs_stores_below n thread [] each e l v c w = absurd (no_member e c)
 runs_stores_below n thread (r ∷ rs) each e l v c w =
-    both_stores n (thread_events thread r.outcome.walk.events) (events_from (thread + 1) rs) (thread_stores_below n thread r.outcome.walk.events (each 0 r refl)) (runs_stores_below n (thread + 1) rs (λ its q there. each (suc its) q there)) e l v c w
+    both_stores n (thread_events thread r.outcome.walk.events) (events_from (thread + 1) rs)
+    (thread_stores_below n thread r.outcome.walk.events (each 0 r refl))
+    (runs_stores_below n (thread + 1) rs (λ its q there. each (suc its) q there)) e l v c w
 
 -- an order of all stores has each of them
-stands_at : (y k : ℕ) (ys : List ℕ) (b : Bool) → nat_eq y k ≡ b → (has_store ys k ≡ true → Contains ys k) → (b || has_store ys k) ≡ true → Contains (y ∷ ys) k
-stands_at y k ys true at later e = subst (λ (x : ℕ). Contains (y ∷ ys) x) (eqb-true y k at) (member_first y ys)
+stands_at : (y k : ℕ) (ys : List ℕ) (b : Bool) → nat_eq y k ≡ b
+    → (has_store ys k ≡ true → Contains ys k) → (b || has_store ys k) ≡ true → Contains (y ∷ ys) k
+stands_at y k ys true at later e =
+    subst (λ (x : ℕ). Contains (y ∷ ys) x) (eqb-true y k at) (member_first y ys)
 stands_at y k ys false at later e = member_later y ys k (later e)
 
 stands : (order : List ℕ) (k : ℕ) → has_store order k ≡ true → Contains order k
 stands [] k e = absurd cc
 stands (y ∷ ys) k e = stands_at y k ys (nat_eq y k) refl (stands ys k) e
 
-differs : (order : List ℕ) (k : ℕ) → has_store order k ≡ false → (z : ℕ) → Contains order z → k ≡ z → ⊥
+differs : (order : List ℕ) (k : ℕ) → has_store order k ≡ false → (z : ℕ) → Contains order z → k ≡ z
+    → ⊥
 differs [] k e z c same = no_member z c
 differs (y ∷ ys) k e z c same =
     let p : (nat_eq y k ≡ false) × (has_store ys k ≡ false) = or_parts (nat_eq y k) (has_store ys k) e in
@@ -88,14 +106,17 @@ differs (y ∷ ys) k e z c same =
     true_false : true ≡ false → ⊥
     true_false e = cc
 
-no_more_stores : (order ss : List ℕ) → AreDistinct order → ((z : ℕ) → Contains order z → Contains ss z) → length order ≤ length ss
+no_more_stores : (order ss : List ℕ) → AreDistinct order
+    → ((z : ℕ) → Contains order z → Contains ss z) → length order ≤ length ss
 no_more_stores [] ss h there = omega arith
 no_more_stores (x ∷ xs) ss h there =
     let c : Contains ss x = there x (member_first x xs) in
     let k : length xs ≤ length (without ss c.0) = no_more_stores xs (without ss c.0) h.1 (λ z d. still_there ss c.0 x z c.1 c.2 (λ e. differs xs x h.0 z d e) (there z (member_later x xs z d))) in
     omega (arith, k, one_fewer ss c.0 c.1)
 
-all_stand : (order ss : List ℕ) (k : ℕ) → AreDistinct order → ((z : ℕ) → Contains order z → Contains ss z) → length order ≡ length ss → Contains ss k → Contains order k
+all_stand : (order ss : List ℕ) (k : ℕ) → AreDistinct order
+    → ((z : ℕ) → Contains order z → Contains ss z) → length order ≡ length ss → Contains ss k
+    → Contains order k
 all_stand order ss k distinct there many c = go (has_store order k) refl
   where
     go : (b : Bool) → has_store order k ≡ b → Contains order k
@@ -110,10 +131,14 @@ record OrderAt (es : List Event) (coherence : List (List ℕ)) (k l : ℕ) : Typ
   found : slice_get coherence k ≡ Some order
   is : IsOrder es l order
 
-order_at : (es : List Event) (m : ℕ) (vs : List Value) (coherence : List (List ℕ)) (k : ℕ) → AllZip (IsOrder es) (locations_from m vs) coherence → k < length vs → OrderAt es coherence k (m + k)
+order_at : (es : List Event) (m : ℕ) (vs : List Value) (coherence : List (List ℕ)) (k : ℕ)
+    → AllZip (IsOrder es) (locations_from m vs) coherence → k < length vs
+    → OrderAt es coherence k (m + k)
 order_at es m [] coherence k h lt = absurd (omega (arith, lt))
 order_at es m (v ∷ vs) [] k h lt = absurd h
-order_at es m (v ∷ vs) (o ∷ os) zero h lt = let e : m ≡ m + 0 = omega arith in record { order = o; found = refl; is = subst (λ (l : ℕ). IsOrder es l o) e h.0 }
+order_at es m (v ∷ vs) (o ∷ os) zero h lt =
+    let e : m ≡ m + 0 = omega arith in
+    record { order = o; found = refl; is = subst (λ (l : ℕ). IsOrder es l o) e h.0 }
 order_at es m (v ∷ vs) (o ∷ os) (suc k) h lt =
     let rest : OrderAt es os k ((m + 1) + k) = order_at es (m + 1) vs os k h.1 (omega (arith, lt)) in
     let e : (m + 1) + k ≡ m + suc k = omega arith in
@@ -161,7 +186,10 @@ covers t p V x is domain executes store c =
       stores = (found.item, there, s.is);
       order = o.order;
       coherence = o.found;
-      there = all_stand o.order (stores_at es s.location) store i.once (λ z d. All-contains (Contains (stores_at es s.location)) o.order z i.stores d) i.each own;
+      there =
+          all_stand o.order (stores_at es s.location) store i.once
+          (λ z d. All-contains (Contains (stores_at es s.location)) o.order z i.stores d) i.each
+          own;
     }
   where
     es : List Event
@@ -170,12 +198,19 @@ covers t p V x is domain executes store c =
     over : IsExecution p.initial.items (threads_of p) (Contains V) x
     over = over_any_domain t p V is domain x executes
 
-    run_below : (its : ℕ) (r : Run) → slice_get x.runs its ≡ Some r → AllBelow (length p.initial.items) r.outcome.walk.events
+    run_below : (its : ℕ) (r : Run) → slice_get x.runs its ≡ Some r
+        → AllBelow (length p.initial.items) r.outcome.walk.events
     run_below its r there =
         let o : RunOf (Contains V) (threads_of p) r = thread_of_run (Contains V) (threads_of p) x.runs its r over.runs there in
-        (run_kept (length p.initial.items) o.thread.lines (started o.thread.first) r.values r.outcome o.is.1
-        (λ i d lt. domain_below t p is (load_total p) (get_or r.values i d) ((domain.exact (get_or r.values i d)).0 (o.is.0 i d lt)))
+        (run_kept (length p.initial.items) o.thread.lines (started o.thread.first) r.values
+        r.outcome o.is.1
+        (λ i d lt. domain_below t p is (load_total p) (get_or r.values i d)
+        ((domain.exact (get_or r.values i d)).0 (o.is.0 i d lt)))
         (begins_kept t p is o.thread o.there)).events
 
     all_below : StoresBelow (length p.initial.items) (events p.initial.items x.runs)
-    all_below = both_stores (length p.initial.items) (initial_stores 0 p.initial.items) (events_from 0 x.runs) (initial_stores_below (length p.initial.items) 0 p.initial.items (omega arith)) (runs_stores_below (length p.initial.items) 0 x.runs run_below)
+    all_below =
+        both_stores (length p.initial.items) (initial_stores 0 p.initial.items)
+        (events_from 0 x.runs)
+        (initial_stores_below (length p.initial.items) 0 p.initial.items (omega arith))
+        (runs_stores_below (length p.initial.items) 0 x.runs run_below)

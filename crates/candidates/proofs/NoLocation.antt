@@ -39,16 +39,20 @@ HasNoAddress s = (r : ℕ) → is_address (register s r) ≡ false
 true_false : true ≡ false → ⊥
 true_false e = cc
 
-put : (s : State) (d : ℕ) (v : Value) → is_address v ≡ false → HasNoAddress s → HasNoAddress (with_register s d v)
+put : (s : State) (d : ℕ) (v : Value) → is_address v ≡ false → HasNoAddress s
+    → HasNoAddress (with_register s d v)
 put s d v plain h r = elim (cases_eq r d) [
   | inl same ↦ elim (cases_lt r (length s.registers)) [
-    | inl lt ↦ ap is_address (ap (λ (k : ℕ). get_or (slice_set s.registers k v) r (Number 0)) (sym same) ∙ get_or-set_same s.registers r v (Number 0) lt) ∙ plain
-    | inr ge ↦ ap is_address (get_or_past (slice_set s.registers d v) r (Number 0) (omega (arith, ge, length-set {A = Value})))
+    | inl lt ↦ ap is_address (ap (λ (k : ℕ). get_or (slice_set s.registers k v) r (Number 0))
+        (sym same) ∙ get_or-set_same s.registers r v (Number 0) lt) ∙ plain
+    | inr ge ↦ ap is_address (get_or_past (slice_set s.registers d v) r (Number 0)
+        (omega (arith, ge, length-set {A = Value})))
   ]
   | inr other ↦ ap is_address (get_or-set_other s.registers d r v (Number 0) other) ∙ h r
 ]
 
-sum_plain : (v w : Value) → is_address v ≡ false → is_address w ≡ false → is_address (sum_of v w) ≡ false
+sum_plain : (v w : Value) → is_address v ≡ false → is_address w ≡ false
+    → is_address (sum_of v w) ≡ false
 sum_plain (Number m) (Number n) h k = refl
 sum_plain (Number m) (Address l) h k = absurd (true_false k)
 sum_plain (Number m) NoValue h k = refl
@@ -57,7 +61,8 @@ sum_plain NoValue (Number n) h k = refl
 sum_plain NoValue (Address l) h k = refl
 sum_plain NoValue NoValue h k = refl
 
-outcome_plain : (o : Operation) (v w : Value) → is_address v ≡ false → is_address w ≡ false → is_address (outcome_of o v w) ≡ false
+outcome_plain : (o : Operation) (v w : Value) → is_address v ≡ false → is_address w ≡ false
+    → is_address (outcome_of o v w) ≡ false
 outcome_plain o (Address l) w h k = absurd (true_false h)
 outcome_plain o (Number m) (Address l) h k = absurd (true_false k)
 outcome_plain o NoValue (Address l) h k = absurd (true_false k)
@@ -82,10 +87,12 @@ outcome_plain And (Number m) NoValue h k = refl
 outcome_plain And NoValue (Number n) h k = refl
 outcome_plain And NoValue NoValue h k = refl
 
-operated_plain : (o : Operation) (a b : ℕ) (s : State) → HasNoAddress s → is_address (operated o a b s) ≡ false
+operated_plain : (o : Operation) (a b : ℕ) (s : State) → HasNoAddress s
+    → is_address (operated o a b s) ≡ false
 operated_plain o a b s h = go (cancels o a b)
   where
-    go : (c : Bool) → is_address (if c then Number 0 else outcome_of o (register s a) (register s b)) ≡ false
+    go : (c : Bool)
+        → is_address (if c then Number 0 else outcome_of o (register s a) (register s b)) ≡ false
     go true = refl
     go false = outcome_plain o (register s a) (register s b) (h a) (h b)
 
@@ -97,13 +104,21 @@ record IsQuiet (w : Walk) : Type 0 where
   registers : HasNoAddress w.state
   loads : read_in w.events ≡ []
 
-after_quiet : (i : Instruction) (v : Value) (s : State) → is_fault i s ≡ false → HasNoAddress s → (is_load i ≡ false) × HasNoAddress (after i v s)
+after_quiet : (i : Instruction) (v : Value) (s : State) → is_fault i s ≡ false → HasNoAddress s
+    → (is_load i ≡ false) × HasNoAddress (after i v s)
 after_quiet (Immediate d n) v s sound h = (refl, put s d (Number n) refl h)
 after_quiet (Move d a) v s sound h = (refl, put s d (register s a) (h a) h)
-after_quiet (AddImmediate d a n) v s sound h = (refl, put s d (sum_of (register s a) (Number n)) (sum_plain (register s a) (Number n) (h a) refl) h)
-after_quiet (Operate o d a b) v s sound h = (refl, put s d (operated o a b s) (operated_plain o a b s h) h)
+after_quiet (AddImmediate d a n) v s sound h = (
+  refl,
+  put s d (sum_of (register s a) (Number n)) (sum_plain (register s a) (Number n) (h a) refl)
+      h,
+)
+after_quiet (Operate o d a b) v s sound h =
+    (refl, put s d (operated o a b s) (operated_plain o a b s h) h)
 after_quiet (Load d a) v s sound h = absurd (no_fault (register s a) (h a) sound)
-after_quiet (LoadIndexed d a b) v s sound h = absurd (no_fault (sum_of (register s a) (register s b)) (sum_plain (register s a) (register s b) (h a) (h b)) sound)
+after_quiet (LoadIndexed d a b) v s sound h =
+    absurd (no_fault (sum_of (register s a) (register s b))
+    (sum_plain (register s a) (register s b) (h a) (h b)) sound)
 after_quiet (Store d a) v s sound h = (refl, h)
 after_quiet (StoreIndexed d a b) v s sound h = (refl, h)
 after_quiet (Compare a b) v s sound h = (refl, h)
@@ -112,14 +127,19 @@ after_quiet (Branch c l) v s sound h = (refl, h)
 after_quiet (Jump l) v s sound h = (refl, h)
 after_quiet (Barrier f) v s sound h = (refl, h)
 
-quiet_more : (i : Instruction) (b : Bool) (v : Value) (w : Walk) → is_fault i w.state ≡ false → IsQuiet w → IsQuiet (advanced i b v w)
+quiet_more : (i : Instruction) (b : Bool) (v : Value) (w : Walk) → is_fault i w.state ≡ false
+    → IsQuiet w → IsQuiet (advanced i b v w)
 quiet_more i b v w sound q =
     let a : (is_load i ≡ false) × HasNoAddress (after i v w.state) = after_quiet i v w.state sound q.registers in
     record { registers = a.1; loads = read_more w.events i v w.state a.0 ∙ q.loads }
 
-none_loaded : (lines : List Line) (s : State) (vs : List Value) (o : Outcome) → HasNoAddress s → run_of lines s vs ≡ Some o → vs ≡ []
+none_loaded : (lines : List Line) (s : State) (vs : List Value) (o : Outcome) → HasNoAddress s
+    → run_of lines s vs ≡ Some o → vs ≡ []
 none_loaded lines s vs o h e =
-    sym (values_read lines s vs o e) ∙ (along IsQuiet (λ i b v w sound q. quiet_more i b v w sound q) (λ x l w q. record { registers = q.registers; loads = q.loads }) lines (started s) vs o e (record { registers = h; loads = refl })).loads
+    sym (values_read lines s vs o e)
+    ∙ (along IsQuiet (λ i b v w sound q. quiet_more i b v w sound q)
+    (λ x l w q. record { registers = q.registers; loads = q.loads }) lines (started s)
+    vs o e (record { registers = h; loads = refl })).loads
 
 -- the threads of a program without a location begin so
 no_names : (names : List (List ℕ)) → length names ≡ 0 → names ≡ []
@@ -128,25 +148,41 @@ no_names (n ∷ names) e = absurd (omega (arith, e))
 
 module _ (t : Test) (p : Program) (is : IsProgram t p) (none : p.initial.items ≡ []) where
   names : p.locations.items ≡ []
-  names = let l : length p.initial.items ≡ 0 = ap (λ (vs : List Value). length vs) none in no_names p.locations.items (omega (arith, l, is.initial.each_one))
+  names =
+      let l : length p.initial.items ≡ 0 = ap (λ (vs : List Value). length vs) none in
+      no_names p.locations.items (omega (arith, l, is.initial.each_one))
 
-  entry_plain : (e : InitEntry) → Contains t.init.items e → (w : written.Value) → e.value ≡ w → is_address (value_of p.locations.items w) ≡ false
+  entry_plain : (e : InitEntry) → Contains t.init.items e → (w : written.Value) → e.value ≡ w
+      → is_address (value_of p.locations.items w) ≡ false
   entry_plain e there (values.Number n) at = refl
   entry_plain e there (values.Address name) at =
       let own : Contains (entry_names e) name = Contains-append_right (place_names e.place) (value_names e.value) name (subst (λ (w : written.Value). Contains (value_names w) name) (sym at) (member_first name [])) in
       let all : Contains (test_names t) name =
-      Contains-append_left (flat_map entry_names t.init.items ++ formula_names (formula_of t.condition.proposition)) (flat_map place_names t.observed.items) name
-      (Contains-append_left (flat_map entry_names t.init.items) (formula_names (formula_of t.condition.proposition)) name (joined_there entry_names t.init.items e name there own)) in
-      absurd (no_member name (subst (λ (ns : List (List ℕ)). Contains ns name) names ((is.locations.exact name).1 all)))
+      Contains-append_left
+      (flat_map entry_names t.init.items ++ formula_names (formula_of t.condition.proposition))
+      (flat_map place_names t.observed.items) name
+      (Contains-append_left (flat_map entry_names t.init.items)
+      (formula_names (formula_of t.condition.proposition)) name
+      (joined_there entry_names t.init.items e name there own)) in
+      absurd (no_member name (subst (λ (ns : List (List ℕ)). Contains ns name) names
+      ((is.locations.exact name).1 all)))
 
-  starts_plain : (q : Place) (v : Value) → Starts t.init.items q p.locations.items v → is_address v ≡ false
+  starts_plain : (q : Place) (v : Value) → Starts t.init.items q p.locations.items v
+      → is_address v ≡ false
   starts_plain q v (inl h) =
-      ap is_address h.2 ∙ entry_plain h.0 (subst (λ (es : List InitEntry). Contains es h.0) (sym h.1.there) (Contains-append_right h.1.before (h.0 ∷ h.1.behind) h.0 (member_first h.0 h.1.behind))) h.0.value refl
+      ap is_address h.2
+      ∙ entry_plain h.0
+      (subst (λ (es : List InitEntry). Contains es h.0) (sym h.1.there)
+      (Contains-append_right h.1.before (h.0 ∷ h.1.behind) h.0
+      (member_first h.0 h.1.behind))) h.0.value refl
   starts_plain q v (inr h) = ap is_address h.1
 
-  file_plain : (n : ℕ) (file : List Value) → AreRegisters t.init.items p.locations.items n file → (r : ℕ) → is_address (get_or file r (Number 0)) ≡ false
+  file_plain : (n : ℕ) (file : List Value) → AreRegisters t.init.items p.locations.items n file
+      → (r : ℕ) → is_address (get_or file r (Number 0)) ≡ false
   file_plain n file are r = elim (cases_lt r 32) [
-    | inl lt ↦ ap is_address (get_or_default file r (Number 0) NoValue (omega (arith, lt, are.each_one))) ∙ starts_plain _ (get_or file r NoValue) (are.starts r lt)
+    | inl lt ↦ ap is_address (get_or_default file r (Number 0) NoValue
+        (omega (arith, lt, are.each_one)))
+        ∙ starts_plain _ (get_or file r NoValue) (are.starts r lt)
     | inr ge ↦ ap is_address (get_or_past file r (Number 0) (omega (arith, ge, are.each_one)))
   ]
 
@@ -159,9 +195,12 @@ module _ (t : Test) (p : Program) (is : IsProgram t p) (none : p.initial.items �
   first_plain : (n : ℕ) → HasNoAddress (first_of p n)
   first_plain n r = elim (cases_lt n (length p.registers.items)) [
     | inl lt ↦
-        ap (λ (file : List Value). is_address (get_or file r (Number 0))) (get_or_default p.registers.items n (replicate 32 (Number 0)) [] lt)
-        ∙ file_plain n (get_or p.registers.items n []) (is.registers.starts n (omega (arith, lt, is.registers.each_one))) r
-    | inr ge ↦ ap (λ (file : List Value). is_address (get_or file r (Number 0))) (get_or_past p.registers.items n (replicate 32 (Number 0)) ge) ∙ zeros_plain r
+        ap (λ (file : List Value). is_address (get_or file r (Number 0)))
+        (get_or_default p.registers.items n (replicate 32 (Number 0)) [] lt)
+        ∙ file_plain n (get_or p.registers.items n [])
+        (is.registers.starts n (omega (arith, lt, is.registers.each_one))) r
+    | inr ge ↦ ap (λ (file : List Value). is_address (get_or file r (Number 0)))
+        (get_or_past p.registers.items n (replicate 32 (Number 0)) ge) ∙ zeros_plain r
   ]
 
   thread_plain : (n : ℕ) (th : Thread) → Contains (threads_from p n) th → HasNoAddress th.first
@@ -171,9 +210,16 @@ module _ (t : Test) (p : Program) (is : IsProgram t p) (none : p.initial.items �
     | inr e ↦ subst (λ (x : Thread). HasNoAddress x.first) e (first_plain n)
   ]
 
-  no_values : (V : List Value) (x : Execution) → IsExecution p.initial.items (threads_of p) IsOne x → IsExecution p.initial.items (threads_of p) (Contains V) x
+  no_values : (V : List Value) (x : Execution) → IsExecution p.initial.items (threads_of p) IsOne x
+      → IsExecution p.initial.items (threads_of p) (Contains V) x
   no_values V x e = record {
-    runs = zip_as (λ t r. IsRun t IsOne r) (λ t r. IsRun t (Contains V) r) (threads_of p) x.runs (λ its th r there h. (subst (λ (vs : List Value). All (Contains V) vs) (sym (empty its r there)) (All-nil (Contains V)), h.1)) e.runs;
+    runs =
+        zip_as (λ t r. IsRun t IsOne r) (λ t r. IsRun t (Contains V) r) (threads_of p) x.runs
+        (λ its th r there h. (
+          subst (λ (vs : List Value). All (Contains V) vs)
+              (sym (empty its r there)) (All-nil (Contains V)),
+          h.1,
+        )) e.runs;
     reads = e.reads;
     orders = e.orders;
     acyclic = e.acyclic;
@@ -182,12 +228,19 @@ module _ (t : Test) (p : Program) (is : IsProgram t p) (none : p.initial.items �
       empty : (its : ℕ) (r : Run) → slice_get x.runs its ≡ Some r → r.values ≡ []
       empty its r there =
           let o : RunOf IsOne (threads_of p) r = thread_of_run IsOne (threads_of p) x.runs its r e.runs there in
-          none_loaded o.thread.lines o.thread.first r.values r.outcome (thread_plain (vec_len p.threads) o.thread o.there) o.is.1
+          none_loaded o.thread.lines o.thread.first r.values r.outcome
+          (thread_plain (vec_len p.threads) o.thread o.there) o.is.1
 
 -- so the law of the domain holds for each test
-pub over_any_domain : (t : Test) (p : Program) (V : List Value) → IsProgram t p → IsRound p (load_total p) V → (x : Execution) → IsExecution p.initial.items (threads_of p) IsOne x → IsExecution p.initial.items (threads_of p) (Contains V) x
+pub over_any_domain : (t : Test) (p : Program) (V : List Value) → IsProgram t p
+    → IsRound p (load_total p) V → (x : Execution)
+    → IsExecution p.initial.items (threads_of p) IsOne x
+    → IsExecution p.initial.items (threads_of p) (Contains V) x
 over_any_domain t p V is d x e = go p.initial.items refl
   where
-    go : (vs : List Value) → p.initial.items ≡ vs → IsExecution p.initial.items (threads_of p) (Contains V) x
+    go : (vs : List Value) → p.initial.items ≡ vs
+        → IsExecution p.initial.items (threads_of p) (Contains V) x
     go [] none = no_values t p is none V x e
-    go (v ∷ vs) some = over_domain p V v d (subst (λ (ws : List Value). Contains ws v) (sym some) (member_first v vs)) x e
+    go (v ∷ vs) some =
+        over_domain p V v d
+        (subst (λ (ws : List Value). Contains ws v) (sym some) (member_first v vs)) x e

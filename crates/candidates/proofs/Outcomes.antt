@@ -22,33 +22,43 @@ before_apart p q (inl a) (inr b) = omega (arith, a, b.0)
 before_apart p q (inr a) (inl b) = omega (arith, a.0, b)
 before_apart p q (inr a) (inr b) = omega (arith, a.1, b.1)
 
-pairs_one : (R : Executed → ℕ → ℕ → Type 0) (initial : List Value) (x : Execution) (ps qs : List (ℕ × ℕ)) → ArePairs R initial x ps → ArePairs R initial x qs → ps ≡ qs
-pairs_one R initial x ps qs h k = same_rising IsPairBefore before_apart ps qs h.rising k.rising (λ p c. (k.exact p).1 ((h.exact p).0 c)) (λ p c. (h.exact p).1 ((k.exact p).0 c))
+pairs_one : (R : Executed → ℕ → ℕ → Type 0) (initial : List Value) (x : Execution)
+    (ps qs : List (ℕ × ℕ)) → ArePairs R initial x ps → ArePairs R initial x qs → ps ≡ qs
+pairs_one R initial x ps qs h k =
+    same_rising IsPairBefore before_apart ps qs h.rising k.rising
+    (λ p c. (k.exact p).1 ((h.exact p).0 c)) (λ p c. (h.exact p).1 ((k.exact p).0 c))
 
-alike : (initial : List Value) (x : Execution) (d e : Shown) → Shows initial x d → Shows initial x e → d ≡ e
+alike : (initial : List Value) (x : Execution) (d e : Shown) → Shows initial x d → Shows initial x e
+    → d ≡ e
 alike initial x d e h k =
     shown_one d e (h.events ∙ sym k.events)
     (dependencies_one d.dependencies e.dependencies
     (pairs_one _ initial x d.dependencies.addr_pairs e.dependencies.addr_pairs h.addr k.addr)
     (pairs_one _ initial x d.dependencies.data_pairs e.dependencies.data_pairs h.«data» k.«data»)
     (pairs_one _ initial x d.dependencies.ctrl_pairs e.dependencies.ctrl_pairs h.ctrl k.ctrl)
-    (pairs_one _ initial x d.dependencies.ctrlisync_pairs e.dependencies.ctrlisync_pairs h.ctrlisync k.ctrlisync))
-    (h.reads_from ∙ sym k.reads_from) (h.coherence ∙ sym k.coherence) (h.registers ∙ sym k.registers)
+    (pairs_one _ initial x d.dependencies.ctrlisync_pairs e.dependencies.ctrlisync_pairs h.ctrlisync
+    k.ctrlisync))
+    (h.reads_from ∙ sym k.reads_from) (h.coherence ∙ sym k.coherence)
+    (h.registers ∙ sym k.registers)
 
-all_alike : (initial : List Value) (xs : List Execution) (ds es : List Shown) → AllZip (Shows initial) xs ds → AllZip (Shows initial) xs es → ds ≡ es
+all_alike : (initial : List Value) (xs : List Execution) (ds es : List Shown)
+    → AllZip (Shows initial) xs ds → AllZip (Shows initial) xs es → ds ≡ es
 all_alike initial [] [] [] h k = refl
 all_alike initial [] [] (e ∷ es) h k = absurd k
 all_alike initial [] (d ∷ ds) es h k = absurd h
 all_alike initial (x ∷ xs) [] es h k = absurd h
 all_alike initial (x ∷ xs) (d ∷ ds) [] h k = absurd k
 all_alike initial (x ∷ xs) (d ∷ ds) (e ∷ es) h k =
-    ap (λ (z : Shown). z ∷ ds) (alike initial x d e h.0 k.0) ∙ ap (λ (l : List Shown). e ∷ l) (all_alike initial xs ds es h.1 k.1)
+    ap (λ (z : Shown). z ∷ ds) (alike initial x d e h.0 k.0)
+    ∙ ap (λ (l : List Shown). e ∷ l) (all_alike initial xs ds es h.1 k.1)
 
 pub shown_alike : (t : Test) (r s : Space) → ShowOneTest t r s
 shown_alike t r s h k = (
   names_one (test_names t) r.locations.items s.locations.items h.locations k.locations,
   all_alike h.initial h.all (shown_in r) (shown_in s) h.shown
-      (subst (λ (vs : List Value). AllZip (Shows vs) h.all (shown_in s)) (sym same.0) (subst (λ (xs : List Execution). AllZip (Shows k.initial) xs (shown_in s)) (sym same.1) k.shown)),
+      (subst (λ (vs : List Value). AllZip (Shows vs) h.all (shown_in s)) (sym same.0)
+      (subst (λ (xs : List Execution). AllZip (Shows k.initial) xs (shown_in s))
+      (sym same.1) k.shown)),
 )
   where
     same : (h.initial ≡ k.initial) × (h.all ≡ k.all)

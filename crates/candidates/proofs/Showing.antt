@@ -1,4 +1,5 @@
--- What a space shows of the executions that its combinations list: their registers, faults and dependencies.
+-- What a space shows of the executions that its combinations list: their registers, faults and
+-- dependencies.
 use Rattle.std.proofs.Common.{Vec, ℕ, zero, suc, Some, ◌≡◌, ◌≤◌, ◌+◌, ◌⊎◌, ◌↔◌, true, false, List, [], ◌∷◌, ◌++◌, map, length, slice_get, refl, ap, sym, subst, ◌∙◌, inl, inr, arith, append_assoc, append-nil, Contains}
 use Rattle.std.specs.List.{flat_map, AllPairs, AllZip}
 use Rattle.std.specs.declared.alloc.Global.{Global}
@@ -48,7 +49,8 @@ items_of v = v.items
 record Ends (ts : List ThreadParts) (rs : List Run) (before after : List ℕ) : Type 0 where
   places : List ℕ
   added : after ≡ before ++ places
-  found : (vs : List (Vec (List Value) Global)) → map items_of vs ≡ map files ts → registers_at vs places ≡ map final rs
+  found : (vs : List (Vec (List Value) Global)) → map items_of vs ≡ map files ts
+      → registers_at vs places ≡ map final rs
 
 heads : {X : Type 0} {x y : X} {xs ys : List X} → (x ∷ xs) ≡ (y ∷ ys) → x ≡ y
 heads e = cc
@@ -57,13 +59,22 @@ tails : {X : Type 0} {x y : X} {xs ys : List X} → (x ∷ xs) ≡ (y ∷ ys) �
 tails e = cc
 
 -- a part's registers are those at its index
-end_there : (ps : List Part) (k : ℕ) (p : Part) → slice_get ps k ≡ Some p → end_at (map (λ (q : Part). q.registers) ps) k ≡ p.registers
+end_there : (ps : List Part) (k : ℕ) (p : Part) → slice_get ps k ≡ Some p
+    → end_at (map (λ (q : Part). q.registers) ps) k ≡ p.registers
 end_there [] k p e = absurd cc
 end_there (q ∷ ps) zero p e = let same : q ≡ p = cc in ap (λ (x : Part). x.registers) same
 end_there (q ∷ ps) (suc k) p e = end_there ps k p e
 
-run_ends : (V : List Value) (threads : List Thread) (thread : ℕ) (ts : List ThreadParts) (ms : List made.Run) (rs : List Run) (b c : PrefixLists) → AreOne V threads ms rs → GoesOnWith thread b ts ms c → Ends ts rs b.combination.runs c.combination.runs
-run_ends V [] thread [] [] [] b c one g = record { places = []; added = ap (λ (x : PrefixLists). x.combination.runs) g ∙ sym (append-nil b.combination.runs); found = λ vs e. none vs e }
+run_ends : (V : List Value) (threads : List Thread) (thread : ℕ) (ts : List ThreadParts)
+    (ms : List made.Run) (rs : List Run) (b c : PrefixLists) → AreOne V threads ms rs
+    → GoesOnWith thread b ts ms c → Ends ts rs b.combination.runs c.combination.runs
+run_ends V [] thread [] [] [] b c one g =
+    record {
+      places = [];
+      added =
+          ap (λ (x : PrefixLists). x.combination.runs) g ∙ sym (append-nil b.combination.runs);
+      found = λ vs e. none vs e;
+    }
   where
     none : (vs : List (Vec (List Value) Global)) → map items_of vs ≡ [] → registers_at vs [] ≡ []
     none [] e = refl
@@ -85,19 +96,32 @@ run_ends V (q ∷ threads) thread (t ∷ ts) (m ∷ ms) (r ∷ rs) b c one g =
     own : g.1.registers ≡ final r
     own = g.2.1.registers ∙ ap (λ (s : Shown). s.registers) one.0.0.shows
 
-    here : (vs : List (Vec (List Value) Global)) (rest : Ends ts rs (with_run g.0 g.1 b).combination.runs c.combination.runs) → map items_of vs ≡ map files (t ∷ ts) → registers_at vs (g.0 ∷ rest.places) ≡ map final (r ∷ rs)
+    here : (vs : List (Vec (List Value) Global)) (rest : Ends ts rs
+        (with_run g.0 g.1 b).combination.runs c.combination.runs)
+        → map items_of vs ≡ map files (t ∷ ts)
+        → registers_at vs (g.0 ∷ rest.places) ≡ map final (r ∷ rs)
     here [] rest e = absurd cc
     here (v ∷ vs) rest e =
         ap (λ (l : List (List Value)). end_at l g.0 ∷ registers_at vs rest.places) (heads e)
-        ∙ ap (λ (l : List Value). l ∷ registers_at vs rest.places) (end_there t.parts.items g.0 g.1 g.2.0 ∙ own)
+        ∙ ap (λ (l : List Value). l ∷ registers_at vs rest.places)
+        (end_there t.parts.items g.0 g.1 g.2.0 ∙ own)
         ∙ ap (λ (l : List (List Value)). final r ∷ l) (rest.found vs (tails e))
 
 -- whether one of the runs stopped at a fault
 abbrev SomeFault : List Run → Type 0
 SomeFault rs = (r : Run) × Contains rs r × (r.outcome.faulted ≡ true)
 
-run_faults : (V : List Value) (threads : List Thread) (thread : ℕ) (ts : List ThreadParts) (ms : List made.Run) (rs : List Run) (b c : PrefixLists) → AreOne V threads ms rs → GoesOnWith thread b ts ms c → (c.faulted ≡ true) ↔ ((b.faulted ≡ true) ⊎ SomeFault rs)
-run_faults V [] thread [] [] [] b c one g = ((λ f. inl (sym (ap (λ (x : PrefixLists). x.faulted) g) ∙ f)), (λ u. elim u [ inl f ↦ ap (λ (x : PrefixLists). x.faulted) g ∙ f | inr s ↦ absurd (no_member s.0 s.1) ]))
+run_faults : (V : List Value) (threads : List Thread) (thread : ℕ) (ts : List ThreadParts)
+    (ms : List made.Run) (rs : List Run) (b c : PrefixLists) → AreOne V threads ms rs
+    → GoesOnWith thread b ts ms c → (c.faulted ≡ true) ↔ ((b.faulted ≡ true) ⊎ SomeFault rs)
+run_faults V [] thread [] [] [] b c one g = (
+  (λ f. inl (sym (ap (λ (x : PrefixLists). x.faulted) g) ∙ f)),
+  (λ u. elim u [
+    | inl f ↦ ap (λ (x : PrefixLists). x.faulted) g ∙ f
+    | inr s ↦ absurd
+        (no_member s.0 s.1)
+  ]),
+)
 run_faults V [] thread (t ∷ ts) [] [] b c one g = absurd g
 run_faults V [] thread ts [] (r ∷ rs) b c one g = absurd one
 run_faults V [] thread ts (m ∷ ms) rs b c one g = absurd one
@@ -115,28 +139,36 @@ run_faults V (q ∷ threads) thread (t ∷ ts) (m ∷ ms) (r ∷ rs) b c one g =
     split (inl f) = inl f
     split (inr f) = inr (r, member_first r rs, sym own ∙ f)
 
-    to : ((with_run g.0 g.1 b).faulted ≡ true) ⊎ SomeFault rs → (b.faulted ≡ true) ⊎ SomeFault (r ∷ rs)
+    to : ((with_run g.0 g.1 b).faulted ≡ true) ⊎ SomeFault rs
+        → (b.faulted ≡ true) ⊎ SomeFault (r ∷ rs)
     to (inl f) = split (or_cases b.faulted g.1.is_faulted f)
     to (inr s) = inr (s.0, member_later r rs s.0 s.1, s.2)
 
-    back : (b.faulted ≡ true) ⊎ SomeFault (r ∷ rs) → ((with_run g.0 g.1 b).faulted ≡ true) ⊎ SomeFault rs
+    back : (b.faulted ≡ true) ⊎ SomeFault (r ∷ rs)
+        → ((with_run g.0 g.1 b).faulted ≡ true) ⊎ SomeFault rs
     back (inl f) = inl (or_left b.faulted g.1.is_faulted f)
     back (inr s) = elim (member_cases r rs s.0 s.1) [
-      | inl e ↦ inl (or_right b.faulted g.1.is_faulted (own ∙ ap (λ (x : Run). x.outcome.faulted) e ∙ s.2))
+      | inl e ↦ inl (or_right b.faulted g.1.is_faulted
+          (own ∙ ap (λ (x : Run). x.outcome.faulted) e ∙ s.2))
       | inr d ↦ inr (s.0, d, s.2)
     ]
 
-module _ (n : ℕ) (initial : List Value) (threads : List Thread) (V : List Value) (ts : List ThreadParts) where
+module _ (n : ℕ) (initial : List Value) (threads : List Thread) (V : List Value)
+    (ts : List ThreadParts) where
   abbrev orders_of_runs : List Run → List (List (List ℕ))
   orders_of_runs rs = product (orders_at (events initial rs) initial)
 
-  orders_are : n ≡ length initial → (b : PrefixLists) (rs : List Run) → IsListed n initial threads V ts b rs → map flat (orders_of_runs rs) ≡ all_orders b.combination.events n
+  orders_are : n ≡ length initial → (b : PrefixLists) (rs : List Run)
+      → IsListed n initial threads V ts b rs
+      → map flat (orders_of_runs rs) ≡ all_orders b.combination.events n
   orders_are e b rs i =
-      orders_flat (events initial rs) initial (subst (λ (l : List Event). length l ≤ 128) i.events i.few)
+      orders_flat (events initial rs) initial
+      (subst (λ (l : List Event). length l ≤ 128) i.events i.few)
       ∙ ap (λ (k : ℕ). all_orders (events initial rs) k) (sym e)
       ∙ ap (λ (l : List Event). all_orders l n) (sym i.events)
 
-  faulted_is : (b : PrefixLists) (rs : List Run) → IsListed n initial threads V ts b rs → (b.faulted ≡ true) ↔ SomeFault rs
+  faulted_is : (b : PrefixLists) (rs : List Run) → IsListed n initial threads V ts b rs
+      → (b.faulted ≡ true) ↔ SomeFault rs
   faulted_is b rs i =
       let f : (b.faulted ≡ true) ↔ ((false ≡ true) ⊎ SomeFault rs) = run_faults V threads 0 ts i.made rs (start (initial_stores 0 initial)) b i.one i.goes in
       ((λ h. only (f.0 h)), (λ s. f.1 (inr s)))
@@ -145,22 +177,35 @@ module _ (n : ℕ) (initial : List Value) (threads : List Thread) (V : List Valu
       only (inl h) = absurd cc
       only (inr s) = s
 
-  runs_of : (rs : List Run) (ways : List (List ℕ)) (x : Execution) → Contains (flat_map (λ w. map (executed_so initial rs w) (orders_of_runs rs)) ways) x → x.runs ≡ rs
+  runs_of : (rs : List Run) (ways : List (List ℕ)) (x : Execution)
+      → Contains (flat_map (λ w. map (executed_so initial rs w) (orders_of_runs rs)) ways) x
+      → x.runs ≡ rs
   runs_of rs ways x c =
       let (w, there, in_row) = joined (λ w. map (executed_so initial rs w) (orders_of_runs rs)) ways x c in
       let (o, found, is) = mapped (executed_so initial rs w) (orders_of_runs rs) x in_row in
       sym (ap (λ (y : Execution). y.runs) is)
 
-  pub fault_among : (bs : List PrefixLists) (ss : List CombinationLists) (xs : List Execution) → AreListed n initial threads V ts bs ss xs → (x : Execution) → Contains xs x → HasFault x → HasFaultAmong bs
+  pub fault_among : (bs : List PrefixLists) (ss : List CombinationLists) (xs : List Execution)
+      → AreListed n initial threads V ts bs ss xs → (x : Execution) → Contains xs x → HasFault x
+      → HasFaultAmong bs
   fault_among [] ss xs no_more x c f = absurd (no_member x c)
   fault_among (b ∷ bs) ss xs (not_one are h) x c f = inr (fault_among bs ss xs h x c f)
   fault_among (b ∷ bs) (s ∷ ss) xs (one_more {xs = ys} {way = way} {ways = ways} rs i are h) x c f =
-      elim (Contains-append_cases (flat_map (λ w. map (executed_so initial rs w) (orders_of_runs rs)) (way ∷ ways)) ys x c) [
-        | inl own ↦ inl ((faulted_is b rs i).1 (subst SomeFault (runs_of rs (way ∷ ways) x own) f), way, ways, are)
+      elim
+      (Contains-append_cases
+      (flat_map (λ w. map (executed_so initial rs w) (orders_of_runs rs)) (way ∷ ways)) ys x
+      c) [
+        | inl own ↦ inl (
+          (faulted_is b rs i).1 (subst SomeFault (runs_of rs (way ∷ ways) x own) f),
+          way,
+          ways,
+          are,
+        )
         | inr d ↦ inr (fault_among bs ss ys h x d f)
       ]
 
-  some_orders : n ≡ length initial → (b : PrefixLists) (rs : List Run) → IsListed n initial threads V ts b rs → (o : List (List ℕ)) × Contains (orders_of_runs rs) o
+  some_orders : n ≡ length initial → (b : PrefixLists) (rs : List Run)
+      → IsListed n initial threads V ts b rs → (o : List (List ℕ)) × Contains (orders_of_runs rs) o
   unfolding stores_of
   some_orders e b rs i = first (orders_of_runs rs) many
     where
@@ -172,7 +217,9 @@ module _ (n : ℕ) (initial : List Value) (threads : List Thread) (V : List Valu
       few = subst (λ (l : List Event). length l ≤ 128) i.events i.few
 
       are_apart : AreApart (events initial rs) (length initial)
-      are_apart l lt = ap (λ (es : List Event). has_store (others_at es l) l) (take_all 128 (events initial rs) few) ∙ apart initial rs l lt
+      are_apart l lt =
+          ap (λ (es : List Event). has_store (others_at es l) l)
+          (take_all 128 (events initial rs) few) ∙ apart initial rs l lt
 
       many : 1 ≤ length (orders_of_runs rs)
       many =
@@ -180,76 +227,154 @@ module _ (n : ℕ) (initial : List Value) (threads : List Thread) (V : List Valu
           let q : length (map flat (orders_of_runs rs)) ≡ length (all_orders (events initial rs) (length initial)) = ap (λ (l : List (List ℕ)). length l) (orders_flat (events initial rs) initial few) in
           omega (arith, p, q, length-map (orders_of_runs rs) flat)
 
-  pub faulted_execution : n ≡ length initial → (bs : List PrefixLists) (ss : List CombinationLists) (xs : List Execution) → AreListed n initial threads V ts bs ss xs → HasFaultAmong bs → (x : Execution) × Contains xs x × HasFault x
+  pub faulted_execution : n ≡ length initial
+      → (bs : List PrefixLists) (ss : List CombinationLists) (xs : List Execution)
+      → AreListed n initial threads V ts bs ss xs → HasFaultAmong bs
+      → (x : Execution) × Contains xs x × HasFault x
   faulted_execution e [] ss xs no_more f = absurd f
-  faulted_execution e (b ∷ bs) ss xs (not_one are h) (inl f) = absurd (some_none (IsFiltered-unique (IsWay (accesses_in b.combination.events b.needs)) (tuples [] (accesses_in b.combination.events b.needs).sources) (f.1 ∷ f.2) [] f.3 are))
+  faulted_execution e (b ∷ bs) ss xs (not_one are h) (inl f) =
+      absurd (some_none (IsFiltered-unique (IsWay (accesses_in b.combination.events b.needs))
+      (tuples [] (accesses_in b.combination.events b.needs).sources) (f.1 ∷ f.2) [] f.3
+      are))
     where
       some_none : {w : List ℕ} {ws : List (List ℕ)} → (w ∷ ws) ≡ [] → ⊥
       some_none e = cc
   faulted_execution e (b ∷ bs) ss xs (not_one are h) (inr f) = faulted_execution e bs ss xs h f
-  faulted_execution e (b ∷ bs) (s ∷ ss) xs (one_more {xs = ys} {way = way} {ways = ways} rs i are h) (inl f) =
+  faulted_execution e (b ∷ bs) (s ∷ ss) xs (one_more {xs = ys} {way = way} {ways = ways} rs i are h)
+      (inl f) =
       let own : List Execution = flat_map (λ w. map (executed_so initial rs w) (orders_of_runs rs)) (way ∷ ways) in
       let o : (o : List (List ℕ)) × Contains (orders_of_runs rs) o = some_orders e b rs i in
-      let x : Execution = executed_so initial rs way o.0 in
-      (x, Contains-append_left own ys x (joined_there (λ w. map (executed_so initial rs w) (orders_of_runs rs)) (way ∷ ways) way x (member_first way ways) (mapped_there (executed_so initial rs way) (orders_of_runs rs) o.0 o.1)), (faulted_is b rs i).0 f.0)
-  faulted_execution e (b ∷ bs) (s ∷ ss) xs (one_more {xs = ys} {way = way} {ways = ways} rs i are h) (inr f) =
-      let (x, there, fault) = faulted_execution e bs ss ys h f in
-      (x, Contains-append_right (flat_map (λ w. map (executed_so initial rs w) (orders_of_runs rs)) (way ∷ ways)) ys x there, fault)
+      let x : Execution = executed_so initial rs way o.0 in (
+        x,
+        Contains-append_left own ys x (joined_there
+            (λ w. map (executed_so initial rs w) (orders_of_runs rs)) (way ∷ ways) way x
+            (member_first way ways) (mapped_there (executed_so initial rs way)
+            (orders_of_runs rs) o.0 o.1)),
+        (faulted_is b rs i).0 f.0,
+      )
+  faulted_execution e (b ∷ bs) (s ∷ ss) xs (one_more {xs = ys} {way = way} {ways = ways} rs i are h)
+      (inr f) =
+      let (x, there, fault) = faulted_execution e bs ss ys h f in (
+        x,
+        Contains-append_right
+            (flat_map (λ w. map (executed_so initial rs w) (orders_of_runs rs)) (way ∷ ways))
+            ys x there,
+        fault,
+      )
 
 -- an execution, and how it is shown
-abbrev pub AreShown : List Value → List (Vec (List Value) Global) → Execution → Combination × (List ℕ × List ℕ) → Type 0
+abbrev pub AreShown : List Value → List (Vec (List Value) Global) → Execution
+    → Combination × (List ℕ × List ℕ) → Type 0
 AreShown initial registers x c = Shows initial x (shown_of registers c)
 
-module _ (n : ℕ) (initial : List Value) (threads : List Thread) (V : List Value) (ts : List ThreadParts) (registers : List (Vec (List Value) Global)) (files_are : map items_of registers ≡ map files ts) where
-  shown_pairs : (d : dependencies.Listed) (b : PrefixLists) (rs : List Run) → IsListed n initial threads V ts b rs → (x : Execution) → rs ≡ x.runs → (shown : List (ℕ × ℕ)) → shown ≡ d.all b → ArePairs d.Related initial x shown
+module _ (n : ℕ) (initial : List Value) (threads : List Thread) (V : List Value)
+    (ts : List ThreadParts) (registers : List (Vec (List Value) Global))
+    (files_are : map items_of registers ≡ map files ts) where
+  shown_pairs : (d : dependencies.Listed) (b : PrefixLists) (rs : List Run)
+      → IsListed n initial threads V ts b rs → (x : Execution) → rs ≡ x.runs
+      → (shown : List (ℕ × ℕ)) → shown ≡ d.all b → ArePairs d.Related initial x shown
   shown_pairs d b rs i x are shown e = record {
-    rising = subst (λ (l : List (ℕ × ℕ)). AllPairs IsPairBefore l) (sym e) (pairs_rise d V threads ts i.made rs initial b i.one i.goes i.few);
+    rising =
+        subst (λ (l : List (ℕ × ℕ)). AllPairs IsPairBefore l) (sym e) (pairs_rise d V threads ts
+        i.made rs initial b i.one i.goes i.few);
     exact = λ p.
         subst (λ (qs : List Run). Contains shown p ↔ IsDependency d.Related initial qs p.0 p.1) are
-        (subst (λ (l : List (ℕ × ℕ)). Contains l p ↔ IsDependency d.Related initial rs p.0 p.1) (sym e) (dependencies.facts d V threads ts i.made rs initial b i.one i.goes i.few p.0 p.1));
+        (subst (λ (l : List (ℕ × ℕ)). Contains l p ↔ IsDependency d.Related initial rs p.0 p.1)
+        (sym e) (dependencies.facts d V threads ts i.made rs initial b i.one i.goes i.few
+        p.0 p.1));
   }
 
-  one_shown : (b : PrefixLists) (rs : List Run) → IsListed n initial threads V ts b rs → (c : Combination) (ways : List (List ℕ)) → combination_lists c ≡ ordered n (record b.combination { sources = ways }) → (way : List ℕ) (order : List (List ℕ)) → AreShown initial registers (executed_so initial rs way order) (c, (way, flat order))
+  one_shown : (b : PrefixLists) (rs : List Run) → IsListed n initial threads V ts b rs
+      → (c : Combination) (ways : List (List ℕ))
+      → combination_lists c ≡ ordered n (record b.combination { sources = ways })
+      → (way : List ℕ) (order : List (List ℕ))
+      → AreShown initial registers (executed_so initial rs way order) (c, (way, flat order))
   one_shown b rs i c ways eq way order =
       let ends : Ends ts rs [] b.combination.runs = run_ends V threads 0 ts i.made rs (start (initial_stores 0 initial)) b i.one i.goes in
       record {
         events = ap (λ (x : CombinationLists). x.events) eq ∙ i.events;
-        addr = shown_pairs dependencies.addr b rs i (executed_so initial rs way order) refl c.dependencies.addr_pairs.items (ap (λ (x : CombinationLists). x.dependencies.addr_pairs) eq);
-        «data» = shown_pairs dependencies.data_listed b rs i (executed_so initial rs way order) refl c.dependencies.data_pairs.items (ap (λ (x : CombinationLists). x.dependencies.data_pairs) eq);
-        ctrl = shown_pairs dependencies.ctrl b rs i (executed_so initial rs way order) refl c.dependencies.ctrl_pairs.items (ap (λ (x : CombinationLists). x.dependencies.ctrl_pairs) eq);
-        ctrlisync = shown_pairs dependencies.ctrlisync b rs i (executed_so initial rs way order) refl c.dependencies.ctrlisync_pairs.items (ap (λ (x : CombinationLists). x.dependencies.ctrlisync_pairs) eq);
+        addr =
+            shown_pairs dependencies.addr b rs i (executed_so initial rs way order) refl
+            c.dependencies.addr_pairs.items (ap
+            (λ (x : CombinationLists). x.dependencies.addr_pairs) eq);
+        «data» =
+            shown_pairs dependencies.data_listed b rs i (executed_so initial rs way order) refl
+            c.dependencies.data_pairs.items (ap
+            (λ (x : CombinationLists). x.dependencies.data_pairs) eq);
+        ctrl =
+            shown_pairs dependencies.ctrl b rs i (executed_so initial rs way order) refl
+            c.dependencies.ctrl_pairs.items (ap
+            (λ (x : CombinationLists). x.dependencies.ctrl_pairs) eq);
+        ctrlisync =
+            shown_pairs dependencies.ctrlisync b rs i (executed_so initial rs way order) refl
+            c.dependencies.ctrlisync_pairs.items (ap
+            (λ (x : CombinationLists). x.dependencies.ctrlisync_pairs) eq);
         reads_from = refl;
         coherence = refl;
-        registers = ap (λ (l : List ℕ). registers_at registers l) (ap (λ (x : CombinationLists). x.runs) eq ∙ ends.added) ∙ ends.found registers files_are;
+        registers =
+            ap (λ (l : List ℕ). registers_at registers l)
+            (ap (λ (x : CombinationLists). x.runs) eq ∙ ends.added)
+            ∙ ends.found registers files_are;
       }
 
   -- each way with each order
-  row_shown : (b : PrefixLists) (rs : List Run) → IsListed n initial threads V ts b rs → (c : Combination) (ways : List (List ℕ)) → combination_lists c ≡ ordered n (record b.combination { sources = ways }) → (way : List ℕ) (os : List (List (List ℕ))) → AllZip (AreShown initial registers) (map (executed_so initial rs way) os) (map (λ t. (c, t)) (map (λ y. (way, y)) (map flat os)))
+  row_shown : (b : PrefixLists) (rs : List Run) → IsListed n initial threads V ts b rs
+      → (c : Combination) (ways : List (List ℕ))
+      → combination_lists c ≡ ordered n (record b.combination { sources = ways })
+      → (way : List ℕ) (os : List (List (List ℕ)))
+      → AllZip (AreShown initial registers) (map (executed_so initial rs way) os)
+      (map (λ t. (c, t)) (map (λ y. (way, y)) (map flat os)))
   row_shown b rs i c ways eq way [] = tt
-  row_shown b rs i c ways eq way (o ∷ os) = (one_shown b rs i c ways eq way o, row_shown b rs i c ways eq way os)
+  row_shown b rs i c ways eq way (o ∷ os) =
+      (one_shown b rs i c ways eq way o, row_shown b rs i c ways eq way os)
 
-  rows_shown : (b : PrefixLists) (rs : List Run) → IsListed n initial threads V ts b rs → (c : Combination) (ways : List (List ℕ)) → combination_lists c ≡ ordered n (record b.combination { sources = ways }) → (some : List (List ℕ)) (os : List (List (List ℕ))) → AllZip (AreShown initial registers) (flat_map (λ w. map (executed_so initial rs w) os) some) (map (λ t. (c, t)) (pairs some (map flat os)))
+  rows_shown : (b : PrefixLists) (rs : List Run) → IsListed n initial threads V ts b rs
+      → (c : Combination) (ways : List (List ℕ))
+      → combination_lists c ≡ ordered n (record b.combination { sources = ways })
+      → (some : List (List ℕ)) (os : List (List (List ℕ)))
+      → AllZip (AreShown initial registers) (flat_map (λ w. map (executed_so initial rs w) os) some)
+      (map (λ t. (c, t)) (pairs some (map flat os)))
   rows_shown b rs i c ways eq [] os = tt
   rows_shown b rs i c ways eq (w ∷ some) os =
-      subst (λ (l : List (Combination × (List ℕ × List ℕ))). AllZip (AreShown initial registers) (map (executed_so initial rs w) os ++ flat_map (λ w. map (executed_so initial rs w) os) some) l)
+      subst (λ (l : List (Combination × (List ℕ × List ℕ))). AllZip (AreShown initial registers)
+      (map (executed_so initial rs w) os
+      ++ flat_map (λ w. map (executed_so initial rs w) os) some) l)
       (sym (map-append (λ t. (c, t)) (map (λ y. (w, y)) (map flat os)) (pairs some (map flat os))))
-      (zip_both (AreShown initial registers) (map (executed_so initial rs w) os) (flat_map (λ w. map (executed_so initial rs w) os) some) (map (λ t. (c, t)) (map (λ y. (w, y)) (map flat os))) (map (λ t. (c, t)) (pairs some (map flat os)))
+      (zip_both (AreShown initial registers) (map (executed_so initial rs w) os)
+      (flat_map (λ w. map (executed_so initial rs w) os) some)
+      (map (λ t. (c, t)) (map (λ y. (w, y)) (map flat os)))
+      (map (λ t. (c, t)) (pairs some (map flat os)))
       (row_shown b rs i c ways eq w os) (rows_shown b rs i c ways eq some os))
 
-  candidates_are : n ≡ length initial → (b : PrefixLists) (rs : List Run) → IsListed n initial threads V ts b rs → (c : Combination) (ways : List (List ℕ)) → combination_lists c ≡ ordered n (record b.combination { sources = ways }) → candidates_of c ≡ pairs ways (map flat (orders_of_runs n initial threads V ts rs))
+  candidates_are : n ≡ length initial → (b : PrefixLists) (rs : List Run)
+      → IsListed n initial threads V ts b rs → (c : Combination) (ways : List (List ℕ))
+      → combination_lists c ≡ ordered n (record b.combination { sources = ways })
+      → candidates_of c ≡ pairs ways (map flat (orders_of_runs n initial threads V ts rs))
   unfolding candidates_of
   candidates_are e b rs i c ways eq =
       ap (λ (l : List (List ℕ)). pairs l c.orders) (ap (λ (x : CombinationLists). x.sources) eq)
-      ∙ ap (λ (l : List (List ℕ)). pairs ways l) (ap (λ (x : CombinationLists). x.orders) eq ∙ sym (orders_are n initial threads V ts e b rs i))
+      ∙ ap (λ (l : List (List ℕ)). pairs ways l) (ap (λ (x : CombinationLists). x.orders) eq
+      ∙ sym (orders_are n initial threads V ts e b rs i))
 
-  pub all_shown : n ≡ length initial → (bs : List PrefixLists) (ss : List CombinationLists) (xs : List Execution) (cs : List Combination) → map combination_lists cs ≡ ss → AreListed n initial threads V ts bs ss xs → AllZip (AreShown initial registers) xs (candidates_in cs)
+  pub all_shown : n ≡ length initial
+      → (bs : List PrefixLists) (ss : List CombinationLists) (xs : List Execution)
+      (cs : List Combination) → map combination_lists cs ≡ ss
+      → AreListed n initial threads V ts bs ss xs
+      → AllZip (AreShown initial registers) xs (candidates_in cs)
   all_shown e [] [] xs [] eq no_more = tt
   all_shown e [] [] xs (c ∷ cs) eq h = absurd cc
   all_shown e [] (s ∷ ss) xs cs eq h = elim h [ ]
   all_shown e (b ∷ bs) ss xs cs eq (not_one are h) = all_shown e bs ss xs cs eq h
   all_shown e (b ∷ bs) (s ∷ ss) xs [] eq (one_more rs i are h) = absurd cc
-  all_shown e (b ∷ bs) (s ∷ ss) xs (c ∷ cs) eq (one_more {xs = ys} {way = way} {ways = ways} rs i are h) =
+  all_shown e (b ∷ bs) (s ∷ ss) xs (c ∷ cs) eq
+      (one_more {xs = ys} {way = way} {ways = ways} rs i are h) =
       let own : List Execution = flat_map (λ w. map (executed_so initial rs w) (orders_of_runs n initial threads V ts rs)) (way ∷ ways) in
-      zip_both (AreShown initial registers) own ys (map (λ t. (c, t)) (candidates_of c)) (candidates_in cs)
-      (subst (λ (l : List (List ℕ × List ℕ)). AllZip (AreShown initial registers) own (map (λ t. (c, t)) l)) (sym (candidates_are e b rs i c (way ∷ ways) (heads eq))) (rows_shown b rs i c (way ∷ ways) (heads eq) (way ∷ ways) (orders_of_runs n initial threads V ts rs)))
+      zip_both (AreShown initial registers) own ys (map (λ t. (c, t)) (candidates_of c))
+      (candidates_in cs)
+      (subst
+      (λ (l : List (List ℕ × List ℕ)).
+      AllZip (AreShown initial registers) own (map (λ t. (c, t)) l))
+      (sym (candidates_are e b rs i c (way ∷ ways) (heads eq)))
+      (rows_shown b rs i c (way ∷ ways) (heads eq) (way ∷ ways)
+      (orders_of_runs n initial threads V ts rs)))
       (all_shown e bs ss ys cs (tails eq) h)

@@ -1,4 +1,5 @@
--- The value of an event of a run is that of its step: of a load what it was given, of a store what its register holds.
+-- The value of an event of a run is that of its step: of a load what it was given, of a store what
+-- its register holds.
 use Rattle.std.proofs.Common.{ℕ, zero, suc, ◌≡◌, ◌<◌, ◌+◌, ◌-◌, ◌⊎◌, true, List, [], ◌∷◌, length, Some, slice_get, refl, ap, sym, subst, ◌∙◌, inl, inr, arith}
 use Rattle.std.proofs.lemmas.Bool.{cases_eq, cases_lt}
 use Rattle.std.proofs.lemmas.List.{length-append}
@@ -17,11 +18,16 @@ use Rattle.dataflow.proofs.Walks.{IsWalk-advanced, IsWalk-started}
 use Rattle.candidates.proofs.Elements.{behind_first, in_first, within_first}
 use Rattle.candidates.proofs.Places.{along, event_count, one_place_more}
 
-run_is_walk : (lines : List Line) (s : State) (vs : List Value) (o : Outcome) → run_of lines s vs ≡ Some o → IsWalk s o.walk
-run_is_walk lines s vs o e = along (IsWalk s) (λ i b v w sound h. IsWalk-advanced s i b v w h) (λ x l w h. record { state = h.state; events = h.events }) lines (started s) vs o e (IsWalk-started s)
+run_is_walk : (lines : List Line) (s : State) (vs : List Value) (o : Outcome)
+    → run_of lines s vs ≡ Some o → IsWalk s o.walk
+run_is_walk lines s vs o e =
+    along (IsWalk s) (λ i b v w sound h. IsWalk-advanced s i b v w h)
+    (λ x l w h. record { state = h.state; events = h.events }) lines (started s) vs o e
+    (IsWalk-started s)
 
 -- an instruction makes one event or none
-shape : (i : Instruction) (v : Value) (s : State) → (event_of i v s ≡ []) ⊎ ((e : run.Event) × (event_of i v s ≡ e ∷ []))
+shape : (i : Instruction) (v : Value) (s : State)
+    → (event_of i v s ≡ []) ⊎ ((e : run.Event) × (event_of i v s ≡ e ∷ []))
 shape (Immediate d n) v s = inl refl
 shape (Move d a) v s = inl refl
 shape (AddImmediate d a n) v s = inl refl
@@ -36,7 +42,8 @@ shape (Branch c l) v s = inl refl
 shape (Jump l) v s = inl refl
 shape (Barrier f) v s = inr (_, refl)
 
-pub load_of : (i : Instruction) (v : Value) (s : State) → is_load i ≡ true → (a : Value) × (event_of i v s ≡ Reads a v ∷ [])
+pub load_of : (i : Instruction) (v : Value) (s : State) → is_load i ≡ true
+    → (a : Value) × (event_of i v s ≡ Reads a v ∷ [])
 load_of (Load d a) v s e = (_, refl)
 load_of (LoadIndexed d a b) v s e = (_, refl)
 load_of (Immediate d n) v s e = absurd cc
@@ -57,7 +64,8 @@ stored_same e = cc
 abbrev pub StoresValue : Instruction → State → Value → Type 0
 StoresValue i s w = (q : ℕ) × IsStoredRegister i (Register q) × (w ≡ register s q)
 
-store_of : (i : Instruction) (v : Value) (s : State) (a w : Value) → event_of i v s ≡ Writes a w ∷ [] → StoresValue i s w
+store_of : (i : Instruction) (v : Value) (s : State) (a w : Value)
+    → event_of i v s ≡ Writes a w ∷ [] → StoresValue i s w
 store_of (Store d b) v s a w e = (d, refl, sym (stored_same e))
 store_of (StoreIndexed d b c) v s a w e = (d, refl, sym (stored_same e))
 store_of (Load d b) v s a w e = absurd cc
@@ -82,14 +90,19 @@ module _ (f : Executed) (l : ℕ → Value) (s : State) where
       ∙ ap (λ (k : ℕ). event_place f n + k) (event_count (f n) (l n) (state_at f l s n))
       ∙ sym (one_place_more (is_event (f n)) (event_place f n))
 
-  event_there : (n j : ℕ) (e : run.Event) → j < n → event_of (f j) (l j) (state_at f l s j) ≡ e ∷ [] → slice_get (events_before f l s n) (event_place f j) ≡ Some e
+  event_there : (n j : ℕ) (e : run.Event) → j < n → event_of (f j) (l j) (state_at f l s j) ≡ e ∷ []
+      → slice_get (events_before f l s n) (event_place f j) ≡ Some e
   event_there zero j e lt is = absurd (omega (arith, lt))
   event_there (suc n) j e lt is = elim (cases_eq j n) [
-    | inl same ↦ subst (λ (k : ℕ). slice_get (events_before f l s (suc n)) (event_place f k) ≡ Some e) (sym same) (last (sym (ap (λ (k : ℕ). event_of (f k) (l k) (state_at f l s k)) same) ∙ is))
-    | inr other ↦ in_first (events_before f l s n) (event_of (f n) (l n) (state_at f l s n)) (event_place f j) e (event_there n j e (omega (arith, lt, other)) is)
+    | inl same ↦ subst
+        (λ (k : ℕ). slice_get (events_before f l s (suc n)) (event_place f k) ≡ Some e) (sym same)
+        (last (sym (ap (λ (k : ℕ). event_of (f k) (l k) (state_at f l s k)) same) ∙ is))
+    | inr other ↦ in_first (events_before f l s n) (event_of (f n) (l n) (state_at f l s n))
+        (event_place f j) e (event_there n j e (omega (arith, lt, other)) is)
   ]
     where
-      last : event_of (f n) (l n) (state_at f l s n) ≡ e ∷ [] → slice_get (events_before f l s (suc n)) (event_place f n) ≡ Some e
+      last : event_of (f n) (l n) (state_at f l s n) ≡ e ∷ []
+          → slice_get (events_before f l s (suc n)) (event_place f n) ≡ Some e
       last own =
           let z : event_place f n ≡ length (events_before f l s n) + 0 = omega (arith, events_long n) in
           ap (λ (k : ℕ). slice_get (events_before f l s (suc n)) k) z
@@ -102,18 +115,30 @@ module _ (f : Executed) (l : ℕ → Value) (s : State) where
     place : event_place f step ≡ k
     event : event_of (f step) (l step) (state_at f l s step) ≡ e ∷ []
 
-  alone : (n k d : ℕ) (e : run.Event) → k ≡ event_place f n + d → slice_get (event_of (f n) (l n) (state_at f l s n)) d ≡ Some e → (event_of (f n) (l n) (state_at f l s n) ≡ []) ⊎ ((x : run.Event) × (event_of (f n) (l n) (state_at f l s n) ≡ x ∷ [])) → Step (suc n) k e
-  alone n k d e at is (inl none) = absurd (nothing d (sym (ap (λ (es : List run.Event). slice_get es d) none) ∙ is))
+  alone : (n k d : ℕ) (e : run.Event) → k ≡ event_place f n + d
+      → slice_get (event_of (f n) (l n) (state_at f l s n)) d ≡ Some e
+      → (event_of (f n) (l n) (state_at f l s n) ≡ [])
+      ⊎ ((x : run.Event) × (event_of (f n) (l n) (state_at f l s n) ≡ x ∷ []))
+      → Step (suc n) k e
+  alone n k d e at is (inl none) =
+      absurd (nothing d (sym (ap (λ (es : List run.Event). slice_get es d) none) ∙ is))
     where
       nothing : (d : ℕ) → slice_get [] d ≡ Some e → ⊥
       nothing d h = cc
-  alone n k d e at is (inr x) = go d at (sym (ap (λ (es : List run.Event). slice_get es d) x.1) ∙ is)
+  alone n k d e at is (inr x) =
+      go d at (sym (ap (λ (es : List run.Event). slice_get es d) x.1) ∙ is)
     where
       event_is : {y z : run.Event} → Some y ≡ Some z → y ≡ z
       event_is h = cc
 
       go : (d : ℕ) → k ≡ event_place f n + d → slice_get (x.0 ∷ []) d ≡ Some e → Step (suc n) k e
-      go zero at h = record { step = n; within = omega arith; place = omega (arith, at); event = x.1 ∙ ap (λ (y : run.Event). y ∷ []) (event_is h) }
+      go zero at h =
+          record {
+            step = n;
+            within = omega arith;
+            place = omega (arith, at);
+            event = x.1 ∙ ap (λ (y : run.Event). y ∷ []) (event_is h);
+          }
       go (suc d) at h = absurd cc
 
   step_of : (n k : ℕ) (e : run.Event) → slice_get (events_before f l s n) k ≡ Some e → Step n k e
@@ -126,7 +151,8 @@ module _ (f : Executed) (l : ℕ → Value) (s : State) where
         let d : ℕ = k - length (events_before f l s n) in
         let z : k ≡ length (events_before f l s n) + d = omega (arith, ge) in
         alone n k d e (omega (arith, z, events_long n))
-        (sym (behind_first (events_before f l s n) (event_of (f n) (l n) (state_at f l s n)) d) ∙ ap (λ (j : ℕ). slice_get (events_before f l s (suc n)) j) (sym z) ∙ is)
+        (sym (behind_first (events_before f l s n) (event_of (f n) (l n) (state_at f l s n)) d)
+        ∙ ap (λ (j : ℕ). slice_get (events_before f l s (suc n)) j) (sym z) ∙ is)
         (shape (f n) (l n) (state_at f l s n))
   ]
 
@@ -134,9 +160,12 @@ module _ (f : Executed) (l : ℕ → Value) (s : State) where
 pub record StoredAt (s : State) (o : Outcome) (k : ℕ) (w : Value) : Type 0 where
   pub step : ℕ
   pub place : event_place (executed o.walk.steps) step ≡ k
-  pub stores : StoresValue (executed o.walk.steps step) (state_at (executed o.walk.steps) (loaded_at o.walk.steps) s step) w
+  pub stores : StoresValue (executed o.walk.steps step)
+      (state_at (executed o.walk.steps) (loaded_at o.walk.steps) s step) w
 
-pub stored_at : (lines : List Line) (s : State) (vs : List Value) (o : Outcome) → run_of lines s vs ≡ Some o → (k : ℕ) (a w : Value) → slice_get o.walk.events k ≡ Some (Writes a w) → StoredAt s o k w
+pub stored_at : (lines : List Line) (s : State) (vs : List Value) (o : Outcome)
+    → run_of lines s vs ≡ Some o → (k : ℕ) (a w : Value)
+    → slice_get o.walk.events k ≡ Some (Writes a w) → StoredAt s o k w
 stored_at lines s vs o e k a w is =
     let walk : IsWalk s o.walk = run_is_walk lines s vs o e in
     let f : Executed = executed o.walk.steps in
@@ -145,10 +174,18 @@ stored_at lines s vs o e k a w is =
     record { step = r.step; place = r.place; stores = store_of (f r.step) (l r.step) (state_at f l s r.step) a w r.event }
 
 -- and what a load reads
-pub loaded_there : (lines : List Line) (s : State) (vs : List Value) (o : Outcome) → run_of lines s vs ≡ Some o → (j : ℕ) → j < length o.walk.steps → is_load (executed o.walk.steps j) ≡ true → (a : Value) × (slice_get o.walk.events (event_place (executed o.walk.steps) j) ≡ Some (Reads a (loaded_at o.walk.steps j)))
+pub loaded_there : (lines : List Line) (s : State) (vs : List Value) (o : Outcome)
+    → run_of lines s vs ≡ Some o → (j : ℕ) → j < length o.walk.steps
+    → is_load (executed o.walk.steps j) ≡ true
+    → (a : Value)
+    × (slice_get o.walk.events (event_place (executed o.walk.steps) j)
+    ≡ Some (Reads a (loaded_at o.walk.steps j)))
 loaded_there lines s vs o e j lt load =
     let walk : IsWalk s o.walk = run_is_walk lines s vs o e in
     let f : Executed = executed o.walk.steps in
     let l : ℕ → Value = loaded_at o.walk.steps in
-    let own : (a : Value) × (event_of (f j) (l j) (state_at f l s j) ≡ Reads a (l j) ∷ []) = load_of (f j) (l j) (state_at f l s j) load in
-    (own.0, ap (λ (es : List run.Event). slice_get es (event_place f j)) walk.events ∙ event_there f l s (length o.walk.steps) j (Reads own.0 (l j)) lt own.1)
+    let own : (a : Value) × (event_of (f j) (l j) (state_at f l s j) ≡ Reads a (l j) ∷ []) = load_of (f j) (l j) (state_at f l s j) load in (
+      own.0,
+      ap (λ (es : List run.Event). slice_get es (event_place f j)) walk.events
+          ∙ event_there f l s (length o.walk.steps) j (Reads own.0 (l j)) lt own.1,
+    )

@@ -45,12 +45,15 @@ use Rattle.run_combinations.specs.declared.layout.Layout.{Layout}
 use Rattle.run_combinations.specs.declared.layout.ThreadParts.{ThreadParts}
 
 -- the executions of a test, and the combinations that list them
-pub record Told (t : Test) (l : Layout) (cs : List CombinationLists) (h : HasLayout t l) : Type 0 where
+pub record Told (t : Test) (l : Layout) (cs : List CombinationLists) (h : HasLayout t l)
+    : Type 0 where
   pub all : List Execution
   pub executions : AreTestExecutions t h.0.initial.items all
-  pub listed : AreListed (location_count l) h.0.initial.items (threads_of h.0) h.1 l.threads.items (all_combinations l) cs all
+  pub listed : AreListed (location_count l) h.0.initial.items (threads_of h.0) h.1 l.threads.items
+      (all_combinations l) cs all
 
-pub layout_told : (t : Test) (l : Layout) (cs : List CombinationLists) (h : HasLayout t l) → AreCombinations (location_count l) (all_combinations l) cs → Told t l cs h
+pub layout_told : (t : Test) (l : Layout) (cs : List CombinationLists) (h : HasLayout t l)
+    → AreCombinations (location_count l) (all_combinations l) cs → Told t l cs h
 layout_told t l cs h found =
     let p : Program = h.0 in
     let V : List Value = h.1 in
@@ -59,18 +62,37 @@ layout_told t l cs h found =
     let k : (rss : List (List Run)) × AreKept p V (threads_of p) runs rss = all_kept p V runs h.4 h.5 in
     let a : AllRuns p V (threads_of p) k.0 = runs_kept p V (threads_of p) runs k.0 k.1 in
     let choices : AreChoices 0 (start (initial_stores 0 p.initial.items)) l.threads.items (product (runs_in runs)) (all_combinations l) =
-    subst (λ (es : List Event). AreChoices 0 (start es) l.threads.items (product (runs_in runs)) (all_combinations l)) o.initial (layout_choices p runs l o) in
+    subst
+    (λ (es : List Event).
+    AreChoices 0 (start es) l.threads.items (product (runs_in runs)) (all_combinations l))
+    o.initial
+    (layout_choices p runs l o) in
     let all : Listing (location_count l) p.initial.items (threads_of p) V l.threads.items (all_combinations l) cs (product k.0) =
-    all_listed (location_count l) p.initial.items (threads_of p) V l.threads.items (product (runs_in runs)) (product k.0) (all_combinations l) cs
+    all_listed (location_count l) p.initial.items (threads_of p) V l.threads.items
+    (product (runs_in runs)) (product k.0) (all_combinations l) cs
     (product_kept p V (threads_of p) runs k.0 k.1) choices (layout_small t l h) found in
     record {
       all = all.all;
-      executions = record { program = p; values = V; of_test = h.3; starts = refl; domain = h.4; executions = record { runs = a.0; of_threads = a.1; executions = all_executions p V a.0 k.0 all.all a.2 all.executions } };
+      executions =
+          record {
+            program = p;
+            values = V;
+            of_test = h.3;
+            starts = refl;
+            domain = h.4;
+            executions =
+                record {
+                  runs = a.0;
+                  of_threads = a.1;
+                  executions = all_executions p V a.0 k.0 all.all a.2 all.executions;
+                };
+          };
       listed = all.listed;
     }
 
 -- as many executions as there are candidates
-length_rows : {X Y Z : Type 0} (f : X → Y → Z) (ys : List Y) (xs : List X) → length (flat_map (λ x. map (f x) ys) xs) ≡ length xs * length ys
+length_rows : {X Y Z : Type 0} (f : X → Y → Z) (ys : List Y) (xs : List X)
+    → length (flat_map (λ x. map (f x) ys) xs) ≡ length xs * length ys
 length_rows f ys [] = sym (zero-mul (length ys))
 length_rows {Z = Z} f ys (x ∷ xs) =
     let a : length (map (f x) ys ++ flat_map (λ x. map (f x) ys) xs) ≡ length (map (f x) ys) + length (flat_map (λ x. map (f x) ys) xs) = length-append (map (f x) ys) (flat_map (λ x. map (f x) ys) xs) in
@@ -79,28 +101,38 @@ length_rows {Z = Z} f ys (x ∷ xs) =
     let s : suc (length xs) * length ys ≡ length xs * length ys + length ys = suc-mul (length xs) (length ys) in
     omega (arith, a, m, r, s)
 
-pub as_many : (n : ℕ) (initial : List Value) (threads : List Thread) (V : List Value) (ts : List ThreadParts) (bs : List PrefixLists) (cs : List CombinationLists) (xs : List Execution) → n ≡ length initial → AreListed n initial threads V ts bs cs xs → length xs ≡ candidate_total cs
+pub as_many : (n : ℕ) (initial : List Value) (threads : List Thread) (V : List Value)
+    (ts : List ThreadParts) (bs : List PrefixLists) (cs : List CombinationLists)
+    (xs : List Execution) → n ≡ length initial → AreListed n initial threads V ts bs cs xs
+    → length xs ≡ candidate_total cs
 as_many n initial threads V ts [] [] xs e no_more = refl
 as_many n initial threads V ts [] (c ∷ cs) xs e h = elim h [ ]
-as_many n initial threads V ts (b ∷ bs) (c ∷ cs) xs e (one_more {xs = ys} {way = way} {ways = rest} rs i are h) =
+as_many n initial threads V ts (b ∷ bs) (c ∷ cs) xs e
+    (one_more {xs = ys} {way = way} {ways = rest} rs i are h) =
     let ways : List (List ℕ) = way ∷ rest in
     let os : List (List (List ℕ)) = product (orders_at (events initial rs) initial) in
     let f : length (events initial rs) ≤ 128 = subst (λ (l : List Event). length l ≤ 128) i.events i.few in
     let o : length os ≡ length (all_orders b.combination.events n) =
-    sym (length-map os flat) ∙ ap (λ (l : List (List ℕ)). length l) (orders_flat (events initial rs) initial f) ∙ ap (λ (k : ℕ). length (all_orders (events initial rs) k)) (sym e) ∙ ap (λ (l : List Event). length (all_orders l n)) (sym i.events) in
+    sym (length-map os flat)
+    ∙ ap (λ (l : List (List ℕ)). length l) (orders_flat (events initial rs) initial f)
+    ∙ ap (λ (k : ℕ). length (all_orders (events initial rs) k)) (sym e)
+    ∙ ap (λ (l : List Event). length (all_orders l n)) (sym i.events) in
     let a : length (flat_map (λ w. map (executed_so initial rs w) os) ways ++ ys) ≡ length (flat_map (λ w. map (executed_so initial rs w) os) ways) + length ys = length-append (flat_map (λ w. map (executed_so initial rs w) os) ways) ys in
     let r : length (flat_map (λ w. map (executed_so initial rs w) os) ways) ≡ length ways * length os = length_rows (executed_so initial rs) os ways in
     let m : length ways * length os ≡ length ways * length (all_orders b.combination.events n) = ap (λ (k : ℕ). length ways * k) o in
     let later : length ys ≡ candidate_total cs = as_many n initial threads V ts bs cs ys e h in
-    a ∙ ap (λ (k : ℕ). k + length ys) (r ∙ m) ∙ ap (λ (k : ℕ). length ways * length (all_orders b.combination.events n) + k) later
-as_many n initial threads V ts (b ∷ bs) cs xs e (not_one are h) = as_many n initial threads V ts bs cs xs e h
+    a ∙ ap (λ (k : ℕ). k + length ys) (r ∙ m)
+    ∙ ap (λ (k : ℕ). length ways * length (all_orders b.combination.events n) + k) later
+as_many n initial threads V ts (b ∷ bs) cs xs e (not_one are h) =
+    as_many n initial threads V ts bs cs xs e h
 
 initial_long : (at : ℕ) (vs : List Value) → length (initial_stores at vs) ≡ length vs
 initial_long at [] = refl
 initial_long at (v ∷ vs) = ap (λ (n : ℕ). suc n) (initial_long (at + 1) vs)
 
 -- all locations have orders
-pub locations_counted : (t : Test) (l : Layout) (h : HasLayout t l) → location_count l ≡ length h.0.initial.items
+pub locations_counted : (t : Test) (l : Layout) (h : HasLayout t l)
+    → location_count l ≡ length h.0.initial.items
 locations_counted t l h =
     let d : IsDomain h.0 h.1 = h.4 in
     let o : IsLaidOut h.0 h.2 l = h.6 in
@@ -109,7 +141,9 @@ locations_counted t l h =
     omega (arith, a, b, initial_long 0 h.0.initial.items, d.events)
 
 -- what each of some candidates shows
-all_shown_in : (initial : List Value) (registers : List (Vec (List Value) Global)) (xs : List Execution) (cs : List Candidate) → AllZip (AreShown initial registers) xs cs → AllZip (Shows initial) xs (map (shown_of registers) cs)
+all_shown_in : (initial : List Value) (registers : List (Vec (List Value) Global))
+    (xs : List Execution) (cs : List Candidate) → AllZip (AreShown initial registers) xs cs
+    → AllZip (Shows initial) xs (map (shown_of registers) cs)
 all_shown_in initial registers [] [] h = tt
 all_shown_in initial registers [] (c ∷ cs) h = absurd h
 all_shown_in initial registers (x ∷ xs) [] h = absurd h
@@ -125,19 +159,31 @@ space_lists t s h =
     let n : location_count l ≡ length initial = locations_counted t l h.1 in
     let c : length told.all ≡ candidate_total (map combination_lists s.combinations.items) = as_many (location_count l) initial (threads_of h.1.0) h.1.1 l.threads.items (all_combinations l) (map combination_lists s.combinations.items) told.all n told.listed in
     let shown : AllZip (AreShown initial s.registers.items) told.all (candidates_in s.combinations.items) =
-    all_shown (location_count l) initial (threads_of h.1.0) h.1.1 l.threads.items s.registers.items h.2.1.0 n (all_combinations l) (map combination_lists s.combinations.items) told.all s.combinations.items refl told.listed in
+    all_shown (location_count l) initial (threads_of h.1.0) h.1.1 l.threads.items s.registers.items
+    h.2.1.0 n (all_combinations l) (map combination_lists s.combinations.items) told.all
+    s.combinations.items refl told.listed in
     record {
       initial = initial;
       all = told.all;
       executions = told.executions;
-      few = let f : candidate_total (map combination_lists s.combinations.items) ≤ 16384 = are.few in omega (arith, c, f);
-      sound = λ x there f. are.sound (fault_among (location_count l) initial (threads_of h.1.0) h.1.1 l.threads.items (all_combinations l) (map combination_lists s.combinations.items) told.all told.listed x there f);
-      shown = all_shown_in initial s.registers.items told.all (candidates_in s.combinations.items) shown;
-      locations = subst (λ (names : Vec Name Global). AreNames (test_names t) names.items) (sym (h.2.1.1 ∙ h.1.6.locations)) h.1.3.locations;
+      few =
+          let f : candidate_total (map combination_lists s.combinations.items) ≤ 16384 = are.few in
+          omega (arith, c, f);
+      sound =
+          λ x there f. are.sound (fault_among (location_count l) initial (threads_of h.1.0) h.1.1
+          l.threads.items (all_combinations l) (map combination_lists s.combinations.items)
+          told.all told.listed x there f);
+      shown =
+          all_shown_in initial s.registers.items told.all (candidates_in s.combinations.items)
+          shown;
+      locations =
+          subst (λ (names : Vec Name Global). AreNames (test_names t) names.items)
+          (sym (h.2.1.1 ∙ h.1.6.locations)) h.1.3.locations;
     }
 
 -- a refusal is called for by the executions
-many_told : (t : Test) (l : Layout) → HasLayout t l → AreTooMany (location_count l) (all_combinations l) → HasManyExecutions t
+many_told : (t : Test) (l : Layout) → HasLayout t l
+    → AreTooMany (location_count l) (all_combinations l) → HasManyExecutions t
 many_told t l h many =
     let initial : List Value = h.0.initial.items in
     let found : (cs : List CombinationLists) × AreCombinations (location_count l) (all_combinations l) cs = combined (location_count l) (all_combinations l) in
@@ -146,7 +192,8 @@ many_told t l h many =
     let g : 16384 < candidate_total found.0 = many found.0 found.1 in
     record { initial = initial; all = told.all; executions = told.executions; many = omega (arith, c, g) }
 
-fault_told : (t : Test) (l : Layout) → HasLayout t l → AreFaulted (location_count l) (all_combinations l) → HasFaultedExecution t
+fault_told : (t : Test) (l : Layout) → HasLayout t l
+    → AreFaulted (location_count l) (all_combinations l) → HasFaultedExecution t
 fault_told t l h f =
     let initial : List Value = h.0.initial.items in
     let told : Told t l f.all h = layout_told t l f.all h f.combinations in
@@ -156,13 +203,15 @@ fault_told t l h f =
     let x : (x : Execution) × Contains told.all x × HasFault x = faulted_execution (location_count l) initial (threads_of h.0) h.1 l.threads.items n (all_combinations l) f.all told.all told.listed f.fault in
     record { initial = initial; all = told.all; executions = told.executions; few = omega (arith, c, g); execution = x.0; there = x.1; fault = x.2 }
 
-domain_told : (t : Test) (d : DomainRefusal) → IsTestFault t (domain_faults.Refused d) → IsRefusal t (refusal_of d)
+domain_told : (t : Test) (d : DomainRefusal) → IsTestFault t (domain_faults.Refused d)
+    → IsRefusal t (refusal_of d)
 domain_told t no_domain.TooManyEvents h = h
 domain_told t no_domain.TooManyValues h = h
 domain_told t no_domain.TooManyRuns h = h
 domain_told t no_domain.TooManyCombinations h = h
 
-layout_told_refused : (t : Test) (l : Layout) (r : EvalRefusal) → HasLayout t l → IsRefusedAs l r → IsRefusal t r
+layout_told_refused : (t : Test) (l : Layout) (r : EvalRefusal) → HasLayout t l → IsRefusedAs l r
+    → IsRefusal t r
 layout_told_refused t l TooManyCandidates h many = many_told t l h many
 layout_told_refused t l AddressFault h f = fault_told t l h f
 layout_told_refused t l TooManyEvents h impossible = absurd impossible
@@ -172,5 +221,6 @@ layout_told_refused t l TooManyCombinations h impossible = absurd impossible
 
 pub refused_told : (t : Test) (f : SpaceFault) → IsTestRefusal t f → IsRefusedFor t f
 refused_told t (OutOfMemory e) h = tt
-refused_told t (Refused r) (inl h) = subst (λ (x : EvalRefusal). IsRefusal t x) (sym h.1) (domain_told t h.0 h.2)
+refused_told t (Refused r) (inl h) =
+    subst (λ (x : EvalRefusal). IsRefusal t x) (sym h.1) (domain_told t h.0 h.2)
 refused_told t (Refused r) (inr h) = layout_told_refused t h.0 r h.1 h.2

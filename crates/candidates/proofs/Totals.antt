@@ -41,17 +41,23 @@ pub record Sum (n : ℕ) (bs : List PrefixLists) (t u : Tally) : Type 0 where
   pub all : List CombinationLists
   pub are : AreCombinations n bs all
   pub count : u.count ≡ t.count + candidate_total all
-  pub kept : u.faulted ≡ false → (map (ordered n) u.kept ≡ map (ordered n) t.kept ++ all) × (HasFault bs → ⊥) × (t.faulted ≡ false)
+  pub kept : u.faulted ≡ false
+      → (map (ordered n) u.kept ≡ map (ordered n) t.kept ++ all) × (HasFault bs → ⊥)
+      × (t.faulted ≡ false)
   pub fault : u.faulted ≡ true → (t.faulted ≡ true) ⊎ HasFault bs
 
-same_ways : (b : PrefixLists) (xs ys : List (List ℕ)) → AreWays b.combination.events b.needs xs → AreWays b.combination.events b.needs ys → xs ≡ ys
-same_ways b xs ys h k = IsFiltered-unique (IsWay (accesses_in b.combination.events b.needs)) (tuples [] (accesses_in b.combination.events b.needs).sources) xs ys h k
+same_ways : (b : PrefixLists) (xs ys : List (List ℕ)) → AreWays b.combination.events b.needs xs
+    → AreWays b.combination.events b.needs ys → xs ≡ ys
+same_ways b xs ys h k =
+    IsFiltered-unique (IsWay (accesses_in b.combination.events b.needs))
+    (tuples [] (accesses_in b.combination.events b.needs).sources) xs ys h k
 
 seens_nil : (xs : List CombinationLists) → xs ≡ xs ++ []
 seens_nil [] = refl
 seens_nil (x ∷ xs) = ap (λ (l : List CombinationLists). x ∷ l) (seens_nil xs)
 
-map_pushed : (n : ℕ) (xs : List CombinationLists) (x : CombinationLists) → map (ordered n) (xs ++ x ∷ []) ≡ map (ordered n) xs ++ ordered n x ∷ []
+map_pushed : (n : ℕ) (xs : List CombinationLists) (x : CombinationLists)
+    → map (ordered n) (xs ++ x ∷ []) ≡ map (ordered n) xs ++ ordered n x ∷ []
 map_pushed n [] x = refl
 map_pushed n (y ∷ xs) x = ap (λ (l : List CombinationLists). ordered n y ∷ l) (map_pushed n xs x)
 
@@ -63,18 +69,40 @@ wayless : {x : List ℕ} {xs : List (List ℕ)} → (x ∷ xs) ≡ [] → ⊥
 wayless e = cc
 
 pub summed : (n : ℕ) (bs : List PrefixLists) (t u : Tally) → Searched n bs t u → Sum n bs t u
-summed n [] t u none = record { all = []; are = nothing_left; count = omega arith; kept = λ f. (seens_nil (map (ordered n) t.kept), (λ h. h), f); fault = λ f. inl f }
+summed n [] t u none =
+    record {
+      all = [];
+      are = nothing_left;
+      count = omega arith;
+      kept = λ f. (seens_nil (map (ordered n) t.kept), (λ h. h), f);
+      fault = λ f. inl f;
+    }
 summed n (b ∷ bs) t v (more {u = w} j h) = step j.0 j.1 j.2 (summed n bs w v h)
   where
-    step : (ways : List (List ℕ)) → AreWays b.combination.events b.needs ways → w ≡ tally_with n b ways t → Sum n bs w v → Sum n (b ∷ bs) t v
+    step : (ways : List (List ℕ)) → AreWays b.combination.events b.needs ways
+        → w ≡ tally_with n b ways t → Sum n bs w v → Sum n (b ∷ bs) t v
     step [] are e s = record {
       all = s.all;
       are = without are s.are;
-      count = let c : w.count ≡ t.count = ap (λ (x : Tally). x.count) e in let d : v.count ≡ w.count + candidate_total s.all = s.count in omega (arith, c, d);
+      count =
+          let c : w.count ≡ t.count = ap (λ (x : Tally). x.count) e in
+          let d : v.count ≡ w.count + candidate_total s.all = s.count in omega (arith, c, d);
       kept = λ f.
-          let k : (map (ordered n) v.kept ≡ map (ordered n) w.kept ++ s.all) × (HasFault bs → ⊥) × (w.faulted ≡ false) = s.kept f in
-          (k.0 ∙ ap (λ (x : Tally). map (ordered n) x.kept ++ s.all) e, (λ x. elim x [ inl y ↦ wayless (same_ways b (y.1 ∷ y.2) [] y.3 are) | inr y ↦ k.1 y ]), sym (ap (λ (x : Tally). x.faulted) e) ∙ k.2);
-      fault = λ f. elim (s.fault f) [ inl y ↦ inl (sym (ap (λ (x : Tally). x.faulted) e) ∙ y) | inr y ↦ inr (inr y) ];
+          let k : (map (ordered n) v.kept ≡ map (ordered n) w.kept ++ s.all) × (HasFault bs → ⊥) × (w.faulted ≡ false) = s.kept f in (
+            k.0 ∙ ap (λ (x : Tally). map (ordered n) x.kept ++ s.all) e,
+            (λ x. elim x [
+              | inl y ↦ wayless (same_ways b (y.1 ∷ y.2) [] y.3 are)
+              | inr y ↦ k.1
+                  y
+            ]),
+            sym (ap (λ (x : Tally). x.faulted) e) ∙ k.2,
+          );
+      fault =
+          λ f. elim (s.fault f) [
+            | inl y ↦ inl (sym (ap (λ (x : Tally). x.faulted) e) ∙ y)
+            | inr y ↦ inr
+                (inr y)
+          ];
     }
     step (way ∷ ways) are e s = record {
       all = ordered n (record b.combination { sources = way ∷ ways }) ∷ s.all;
@@ -88,17 +116,23 @@ summed n (b ∷ bs) t v (more {u = w} j h) = step j.0 j.1 j.2 (summed n bs w v h
           let o : (t.faulted || b.faulted) ≡ false = sym (ap (λ (x : Tally). x.faulted) e) ∙ k.2 in
           let p : (t.faulted ≡ false) × (b.faulted ≡ false) = or_parts t.faulted b.faulted o in
           let q : w.kept ≡ t.kept ++ record b.combination { sources = way ∷ ways } ∷ [] = ap (λ (x : Tally). x.kept) e ∙ ap (λ (x : Bool). if x then t.kept else t.kept ++ record b.combination { sources = way ∷ ways } ∷ []) o in (
-            k.0 ∙ ap (λ (l : List CombinationLists). map (ordered n) l ++ s.all) q ∙ ap (λ (l : List CombinationLists). l ++ s.all) (map_pushed n t.kept (record b.combination { sources = way ∷ ways })) ∙ append_assoc (map (ordered n) t.kept) (ordered n (record b.combination { sources = way ∷ ways }) ∷ []) s.all,
+            k.0 ∙ ap (λ (l : List CombinationLists). map (ordered n) l ++ s.all) q
+                ∙ ap (λ (l : List CombinationLists). l ++ s.all) (map_pushed n t.kept
+                (record b.combination { sources = way ∷ ways }))
+                ∙ append_assoc (map (ordered n) t.kept)
+                (ordered n (record b.combination { sources = way ∷ ways }) ∷ []) s.all,
             (λ x. elim x [ inl y ↦ true_not_false b.faulted y.0 p.1 | inr y ↦ k.1 y ]),
             p.0,
           );
       fault = λ f. elim (s.fault f) [
-        | inl y ↦ elim (or_cases t.faulted b.faulted (sym (ap (λ (x : Tally). x.faulted) e) ∙ y)) [ inl a ↦ inl a | inr a ↦ inr (inl (a, way, ways, are)) ]
+        | inl y ↦ elim (or_cases t.faulted b.faulted (sym (ap (λ (x : Tally). x.faulted) e) ∙ y))
+            [ inl a ↦ inl a | inr a ↦ inr (inl (a, way, ways, are)) ]
         | inr y ↦ inr (inr y)
       ];
     }
 
-pub over_all : (n : ℕ) (bs : List PrefixLists) (t : Tally) → AreTooMuch n bs t → (cs : List CombinationLists) → AreCombinations n bs cs → 16384 < t.count + candidate_total cs
+pub over_all : (n : ℕ) (bs : List PrefixLists) (t : Tally) → AreTooMuch n bs t
+    → (cs : List CombinationLists) → AreCombinations n bs cs → 16384 < t.count + candidate_total cs
 over_all n [] t h cs k = elim h [ ]
 over_all n (b ∷ bs) t (now h) cs (with_ways {cs = ds} {way = w} {ways = ws} are rest) =
     let g : 16384 < t.count + length (w ∷ ws) * length (all_orders b.combination.events n) = h (w ∷ ws) are in omega (arith, g)
@@ -115,9 +149,11 @@ over_all n (b ∷ bs) t (later {u = u} j h) cs (without are rest) =
 
 -- nothing was found before
 pub too_many : (n : ℕ) (bs : List PrefixLists) → AreTooMuch n bs nothing → AreTooMany n bs
-too_many n bs h cs k = let g : 16384 < 0 + candidate_total cs = over_all n bs nothing h cs k in omega (arith, g)
+too_many n bs h cs k =
+    let g : 16384 < 0 + candidate_total cs = over_all n bs nothing h cs k in omega (arith, g)
 
-pub faulted : (n : ℕ) (bs : List PrefixLists) (t : Tally) → Searched n bs nothing t → t.count ≤ 16384 → t.faulted ≡ true → AreFaulted n bs
+pub faulted : (n : ℕ) (bs : List PrefixLists) (t : Tally) → Searched n bs nothing t
+    → t.count ≤ 16384 → t.faulted ≡ true → AreFaulted n bs
 faulted n bs t h few f =
     let s : Sum n bs nothing t = summed n bs nothing t h in
     let c : t.count ≡ 0 + candidate_total s.all = s.count in
@@ -126,11 +162,14 @@ faulted n bs t h few f =
     never : false ≡ true → ⊥
     never e = cc
 
-pub all_candidates : (n : ℕ) (bs : List PrefixLists) (t : Tally) (cs : List CombinationLists) → Searched n bs nothing t → t.count ≤ 16384 → t.faulted ≡ false → cs ≡ map (ordered n) t.kept → AreCandidates n bs cs
+pub all_candidates : (n : ℕ) (bs : List PrefixLists) (t : Tally) (cs : List CombinationLists)
+    → Searched n bs nothing t → t.count ≤ 16384 → t.faulted ≡ false → cs ≡ map (ordered n) t.kept
+    → AreCandidates n bs cs
 all_candidates n bs t cs h few f e =
     let s : Sum n bs nothing t = summed n bs nothing t h in
     let c : t.count ≡ 0 + candidate_total s.all = s.count in
-    subst (λ (l : List CombinationLists). AreCandidates n bs l) (sym (e ∙ (s.kept f).0)) (record { combinations = s.are; few = omega (arith, c, few); sound = (s.kept f).1 })
+    subst (λ (l : List CombinationLists). AreCandidates n bs l) (sym (e ∙ (s.kept f).0))
+    (record { combinations = s.are; few = omega (arith, c, few); sound = (s.kept f).1 })
 
 -- the initial stores are no stores of threads
 abbrev pub AreInitial : List Event → Type 0
@@ -141,93 +180,155 @@ pub all_initial : (at : ℕ) (vs : List Value) → AreInitial (initial_stores at
 all_initial at [] = tt
 all_initial at (v ∷ vs) = (refl, all_initial (at + 1) vs)
 
-none_before : (l m at : ℕ) (init rest : List Event) (k : ℕ) → AreInitial init → k < at + length init → k < at + m → has_store (numbers (is_thread_store l) at (take m (init ++ rest))) k ≡ false
+none_before : (l m at : ℕ) (init rest : List Event) (k : ℕ) → AreInitial init → k < at + length init
+    → k < at + m → has_store (numbers (is_thread_store l) at (take m (init ++ rest))) k ≡ false
 none_before l zero at init rest k i lt lm = refl
-none_before l (suc m) at [] rest k i lt lm = numbers_above (is_thread_store l) at (take (suc m) rest) k (omega (arith, lt))
+none_before l (suc m) at [] rest k i lt lm =
+    numbers_above (is_thread_store l) at (take (suc m) rest) k (omega (arith, lt))
 none_before l (suc m) at (e ∷ init) rest k i lt lm =
-    ap (λ (t : Option ℕ). has_store (cond (is_some t && writes_to l e.action) (at ∷ numbers (is_thread_store l) (at + 1) (take m (init ++ rest))) (numbers (is_thread_store l) (at + 1) (take m (init ++ rest)))) k) i.0
+    ap
+    (λ (t : Option ℕ). has_store
+    (cond (is_some t && writes_to l e.action)
+    (at ∷ numbers (is_thread_store l) (at + 1) (take m (init ++ rest)))
+    (numbers (is_thread_store l) (at + 1) (take m (init ++ rest)))) k) i.0
     ∙ none_before l m (at + 1) init rest k i.1 (omega (arith, lt)) (omega (arith, lm))
 
 -- combinations that begin with the initial stores
 abbrev pub Begins : List Event → PrefixLists → Type 0
 Begins init b = (rest : List Event) × (b.combination.events ≡ init ++ rest)
 
-begun_fits : (n : ℕ) (init : List Event) (b : PrefixLists) → AreInitial init → n ≡ min (length init) 128 → Begins init b → length b.combination.events ≤ 128 → Fits n b
+begun_fits : (n : ℕ) (init : List Event) (b : PrefixLists) → AreInitial init
+    → n ≡ min (length init) 128 → Begins init b → length b.combination.events ≤ 128 → Fits n b
 unfolding stores_of
 begun_fits n init b i e s few = record {
   few = few;
-  apart = λ location lt. subst (λ (es : List Event). has_store (numbers (is_thread_store location) 0 (take 128 es)) location ≡ false) (sym s.1) (none_before location 128 0 init s.0 location i (omega (arith, lt, e)) (omega (arith, lt, e)));
+  apart =
+      λ location lt. subst
+      (λ (es : List Event). has_store (numbers (is_thread_store location) 0 (take 128 es)) location
+      ≡ false)
+      (sym s.1)
+      (none_before location 128 0 init s.0 location i (omega (arith, lt, e))
+      (omega (arith, lt, e)));
 }
 
 fit_both : (n : ℕ) (xs ys : List PrefixLists) → AllFit n xs → AllFit n ys → AllFit n (xs ++ ys)
 fit_both n [] ys h k = k
 fit_both n (x ∷ xs) ys h k = (h.0, fit_both n xs ys h.1 k)
 
-runs_fit : (n : ℕ) (init : List Event) (b : PrefixLists) (ts : List ThreadParts) → ((c : PrefixLists) → Begins init c → AreSmall (combinations c ts) → AllFit n (combinations c ts)) → Begins init b → (at : ℕ) (ps : List Part) → AreSmall (going_on b ts at ps) → AllFit n (going_on b ts at ps)
+runs_fit : (n : ℕ) (init : List Event) (b : PrefixLists) (ts : List ThreadParts)
+    → ((c : PrefixLists) → Begins init c → AreSmall (combinations c ts)
+    → AllFit n (combinations c ts)) → Begins init b → (at : ℕ) (ps : List Part)
+    → AreSmall (going_on b ts at ps) → AllFit n (going_on b ts at ps)
 runs_fit n init b ts each s at [] small = tt
 runs_fit n init b ts each s at (p ∷ ps) small =
     fit_both n (combinations (with_run at p b) ts) (going_on b ts (at + 1) ps)
-    (each (with_run at p b) (s.0 ++ p.events.items, ap (λ (l : List Event). l ++ p.events.items) s.1 ∙ append_assoc init s.0 p.events.items) (small_front (combinations (with_run at p b) ts) (going_on b ts (at + 1) ps) small))
-    (runs_fit n init b ts each s (at + 1) ps (small_rest (combinations (with_run at p b) ts) (going_on b ts (at + 1) ps) small))
+    (each (with_run at p b) (
+      s.0 ++ p.events.items,
+      ap (λ (l : List Event). l ++ p.events.items) s.1
+          ∙ append_assoc init s.0 p.events.items,
+    )
+    (small_front (combinations (with_run at p b) ts) (going_on b ts (at + 1) ps) small))
+    (runs_fit n init b ts each s (at + 1) ps (small_rest (combinations (with_run at p b) ts)
+    (going_on b ts (at + 1) ps) small))
 
-all_fit : (n : ℕ) (init : List Event) → AreInitial init → n ≡ min (length init) 128 → (ts : List ThreadParts) (b : PrefixLists) → Begins init b → AreSmall (combinations b ts) → AllFit n (combinations b ts)
+all_fit : (n : ℕ) (init : List Event) → AreInitial init → n ≡ min (length init) 128
+    → (ts : List ThreadParts) (b : PrefixLists) → Begins init b → AreSmall (combinations b ts)
+    → AllFit n (combinations b ts)
 all_fit n init i e [] b s small = (begun_fits n init b i e s small.0, tt)
-all_fit n init i e (t ∷ ts) b s small = runs_fit n init b ts (λ c d k. all_fit n init i e ts c d k) s 0 t.parts.items small
+all_fit n init i e (t ∷ ts) b s small =
+    runs_fit n init b ts (λ c d k. all_fit n init i e ts c d k) s 0 t.parts.items small
 
 events_nil : (xs : List Event) → xs ≡ xs ++ []
 events_nil [] = refl
 events_nil (x ∷ xs) = ap (λ (l : List Event). x ∷ l) (events_nil xs)
 
-pub layout_fits : (init : List Event) (ts : List ThreadParts) → AreInitial init → AreSmall (combinations (start init) ts) → AllFit (min (length init) 128) (combinations (start init) ts)
-layout_fits init ts i small = all_fit (min (length init) 128) init i refl ts (start init) ([], events_nil init) small
+pub layout_fits : (init : List Event) (ts : List ThreadParts) → AreInitial init
+    → AreSmall (combinations (start init) ts)
+    → AllFit (min (length init) 128) (combinations (start init) ts)
+layout_fits init ts i small =
+    all_fit (min (length init) 128) init i refl ts (start init) ([], events_nil init) small
 
 -- the answers
-pub seen_ordered : (n : ℕ) (cs : List Combination) → map (λ c. ordered n (combination_lists c)) cs ≡ map (ordered n) (map combination_lists cs)
+pub seen_ordered : (n : ℕ) (cs : List Combination)
+    → map (λ c. ordered n (combination_lists c)) cs ≡ map (ordered n) (map combination_lists cs)
 seen_ordered n [] = refl
-seen_ordered n (c ∷ cs) = ap (λ (l : List CombinationLists). ordered n (combination_lists c) ∷ l) (seen_ordered n cs)
+seen_ordered n (c ∷ cs) =
+    ap (λ (l : List CombinationLists). ordered n (combination_lists c) ∷ l) (seen_ordered n cs)
 
-pub fits_layout : (l : Layout) (vs : List Value) → l.initial.items ≡ initial_stores 0 vs → AreSmall (all_combinations l) → AllFit (location_count l) (all_combinations l)
-fits_layout l vs e small = layout_fits l.initial.items l.threads.items (subst (λ (es : List Event). AreInitial es) (sym e) (all_initial 0 vs)) small
+pub fits_layout : (l : Layout) (vs : List Value) → l.initial.items ≡ initial_stores 0 vs
+    → AreSmall (all_combinations l) → AllFit (location_count l) (all_combinations l)
+fits_layout l vs e small =
+    layout_fits l.initial.items l.threads.items
+    (subst (λ (es : List Event). AreInitial es) (sym e) (all_initial 0 vs)) small
 
 -- what the search says
 abbrev pub IsSearched : Layout → Option Found → Type 0
-IsSearched l o = MatchOption o (AreTooMuch (location_count l) (all_combinations l) nothing) (λ f. Searched (location_count l) (all_combinations l) nothing (tally f) × (f.count ≤ 16384))
+IsSearched l o =
+    MatchOption o (AreTooMuch (location_count l) (all_combinations l) nothing)
+    (λ f. Searched (location_count l) (all_combinations l) nothing (tally f) × (f.count ≤ 16384))
 
-pub none_searched : (l : Layout) (o : Option Found) → o ≡ None → IsSearched l o → AreTooMany (location_count l) (all_combinations l)
-none_searched l o e h = too_many (location_count l) (all_combinations l) (subst (λ (x : Option Found). IsSearched l x) e h)
+pub none_searched : (l : Layout) (o : Option Found) → o ≡ None → IsSearched l o
+    → AreTooMany (location_count l) (all_combinations l)
+none_searched l o e h =
+    too_many (location_count l) (all_combinations l)
+    (subst (λ (x : Option Found). IsSearched l x) e h)
 
-pub some_searched : (l : Layout) (o : Option Found) (f : Found) → o ≡ Some f → IsSearched l o → Searched (location_count l) (all_combinations l) nothing (tally f) × (f.count ≤ 16384)
+pub some_searched : (l : Layout) (o : Option Found) (f : Found) → o ≡ Some f → IsSearched l o
+    → Searched (location_count l) (all_combinations l) nothing (tally f) × (f.count ≤ 16384)
 some_searched l o f e h = subst (λ (x : Option Found). IsSearched l x) e h
 
-pub fault_searched : (l : Layout) (o : Option Found) (f : Found) → o ≡ Some f → f.is_faulted ≡ true → IsSearched l o → AreFaulted (location_count l) (all_combinations l)
-fault_searched l o f e b h = let s : Searched (location_count l) (all_combinations l) nothing (tally f) × (f.count ≤ 16384) = some_searched l o f e h in faulted (location_count l) (all_combinations l) (tally f) s.0 s.1 b
+pub fault_searched : (l : Layout) (o : Option Found) (f : Found) → o ≡ Some f → f.is_faulted ≡ true
+    → IsSearched l o → AreFaulted (location_count l) (all_combinations l)
+fault_searched l o f e b h =
+    let s : Searched (location_count l) (all_combinations l) nothing (tally f) × (f.count ≤ 16384) =
+    some_searched l o f e h in
+    faulted (location_count l) (all_combinations l) (tally f) s.0 s.1 b
 
-pub all_searched : (l : Layout) (o : Option Found) (f : Found) (cs : List Combination) → o ≡ Some f → f.is_faulted ≡ false → IsSearched l o → map combination_lists cs ≡ map (λ c. ordered (location_count l) (combination_lists c)) f.combinations.items → AreCandidates (location_count l) (all_combinations l) (map combination_lists cs)
+pub all_searched : (l : Layout) (o : Option Found) (f : Found) (cs : List Combination) → o ≡ Some f
+    → f.is_faulted ≡ false → IsSearched l o
+    → map combination_lists cs
+    ≡ map (λ c. ordered (location_count l) (combination_lists c)) f.combinations.items
+    → AreCandidates (location_count l) (all_combinations l) (map combination_lists cs)
 all_searched l o f cs e b h m =
     let s : Searched (location_count l) (all_combinations l) nothing (tally f) × (f.count ≤ 16384) = some_searched l o f e h in
-    all_candidates (location_count l) (all_combinations l) (tally f) (map combination_lists cs) s.0 s.1 b (m ∙ seen_ordered (location_count l) f.combinations.items)
+    all_candidates (location_count l) (all_combinations l) (tally f) (map combination_lists cs) s.0
+    s.1 b (m ∙ seen_ordered (location_count l) f.combinations.items)
 
 -- what the test says
-pub test_fault : (t : Test) (p : Program) (e : DomainFault) (f : SpaceFault) → f ≡ fault_of e → IsProgram t p → IsFault p e → IsLayoutFault t f
-test_fault t p (domain_faults.Refused r) f is h k = subst (λ (x : SpaceFault). IsLayoutFault t x) (sym is) (r, refl, (p, h, k))
-test_fault t p (domain_faults.OutOfMemory x) f is h k = subst (λ (x : SpaceFault). IsLayoutFault t x) (sym is) tt
+pub test_fault : (t : Test) (p : Program) (e : DomainFault) (f : SpaceFault) → f ≡ fault_of e
+    → IsProgram t p → IsFault p e → IsLayoutFault t f
+test_fault t p (domain_faults.Refused r) f is h k =
+    subst (λ (x : SpaceFault). IsLayoutFault t x) (sym is) (r, refl, (p, h, k))
+test_fault t p (domain_faults.OutOfMemory x) f is h k =
+    subst (λ (x : SpaceFault). IsLayoutFault t x) (sym is) tt
 
 pub fault_told : (t : Test) (e : SpaceFault) → IsLayoutFault t e → IsTestRefusal t e
 fault_told t (Refused r) h = inl h
 fault_told t (OutOfMemory x) h = tt
 
-pub ready : (t : Test) (p : Program) (values : List Value) (l : Layout) → IsProgram t p → IsDomain p values → (runs : List (Vec Run Global)) × AreServedRuns p values runs × IsLaidOut p runs l × IsKeyed (bit_of values) l → IsReady t l
-ready t p values l h d r = ((p, values, r.0, h, d, r.1, r.2), bit_of values, p.initial.items, r.3, r.2.initial)
+pub ready : (t : Test) (p : Program) (values : List Value) (l : Layout) → IsProgram t p
+    → IsDomain p values
+    → (runs : List (Vec Run Global)) × AreServedRuns p values runs × IsLaidOut p runs l
+    × IsKeyed (bit_of values) l → IsReady t l
+ready t p values l h d r =
+    ((p, values, r.0, h, d, r.1, r.2), bit_of values, p.initial.items, r.3, r.2.initial)
 
 -- what the space of a layout says of the test
 abbrev pub Answers : Layout → Result (Result Space EvalRefusal) AllocError → Type 0
-Answers l r = (key : ℕ → Value → Option (ℕ × ℕ)) (initial : List Value) → IsKeyed key l → l.initial.items ≡ initial_stores 0 initial → IfOk r (λ a. IsAnswer l a)
+Answers l r =
+    (key : ℕ → Value → Option (ℕ × ℕ)) (initial : List Value) → IsKeyed key l
+    → l.initial.items ≡ initial_stores 0 initial → IfOk r (λ a. IsAnswer l a)
 
-told : (t : Test) (l : Layout) (r : Result (Result Space EvalRefusal) AllocError) (a : Result Space EvalRefusal) → r ≡ Ok a → IsReady t l → Answers l r → IsAnswer l a
-told t l r a e h f = subst (λ (x : Result (Result Space EvalRefusal) AllocError). IfOk x (λ b. IsAnswer l b)) e (f h.1 h.2 h.3 h.4)
+told : (t : Test) (l : Layout) (r : Result (Result Space EvalRefusal) AllocError)
+    (a : Result Space EvalRefusal) → r ≡ Ok a → IsReady t l → Answers l r → IsAnswer l a
+told t l r a e h f =
+    subst (λ (x : Result (Result Space EvalRefusal) AllocError). IfOk x (λ b. IsAnswer l b)) e
+    (f h.1 h.2 h.3 h.4)
 
-pub space_told : (t : Test) (l : Layout) (r : Result (Result Space EvalRefusal) AllocError) (s : Space) → r ≡ Ok (Ok s) → IsReady t l → Answers l r → IsTestSpace t s
+pub space_told : (t : Test) (l : Layout) (r : Result (Result Space EvalRefusal) AllocError)
+    (s : Space) → r ≡ Ok (Ok s) → IsReady t l → Answers l r → IsTestSpace t s
 space_told t l r s e h f = (l, h.0, told t l r (Ok s) e h f)
 
-pub refusal_told : (t : Test) (l : Layout) (r : Result (Result Space EvalRefusal) AllocError) (x : EvalRefusal) → r ≡ Ok (Err x) → IsReady t l → Answers l r → IsTestRefusal t (Refused x)
+pub refusal_told : (t : Test) (l : Layout) (r : Result (Result Space EvalRefusal) AllocError)
+    (x : EvalRefusal) → r ≡ Ok (Err x) → IsReady t l → Answers l r → IsTestRefusal t (Refused x)
 refusal_told t l r x e h f = inr (l, h.0, told t l r (Err x) e h f)

@@ -36,7 +36,8 @@ write_located (Number n) v h = absurd cc
 write_located (Address l) v h = ((Write l v, refl), tt)
 write_located NoValue v h = absurd cc
 
-pub event_located : (i : Instruction) (v : Value) (s : State) → is_fault i s ≡ false → AreLocated (event_of i v s)
+pub event_located : (i : Instruction) (v : Value) (s : State) → is_fault i s ≡ false
+    → AreLocated (event_of i v s)
 event_located (Immediate d n) v s h = tt
 event_located (Move d a) v s h = tt
 event_located (AddImmediate d a n) v s h = tt
@@ -44,7 +45,8 @@ event_located (Operate o d a b) v s h = tt
 event_located (Load d a) v s h = read_located (register s a) v h
 event_located (LoadIndexed d a b) v s h = read_located (sum_of (register s a) (register s b)) v h
 event_located (Store d a) v s h = write_located (register s a) (register s d) h
-event_located (StoreIndexed d a b) v s h = write_located (sum_of (register s a) (register s b)) (register s d) h
+event_located (StoreIndexed d a b) v s h =
+    write_located (sum_of (register s a) (register s b)) (register s d) h
 event_located (Compare a b) v s h = tt
 event_located (CompareImmediate a n) v s h = tt
 event_located (Branch c l) v s h = tt
@@ -53,26 +55,39 @@ event_located (Barrier f) v s h = ((Fence f, refl), tt)
 
 -- what is left of the text keeps it so
 abbrev Keeps : List Line → Type 0
-Keeps xs = (w : Walk) (vs : List Value) (o : Outcome) → run_from xs w vs ≡ Some o → AreLocated w.events → AreLocated o.walk.events
+Keeps xs =
+    (w : Walk) (vs : List Value) (o : Outcome) → run_from xs w vs ≡ Some o → AreLocated w.events
+    → AreLocated o.walk.events
 
-ends_located : (f : Bool) (w : Walk) (vs : List Value) (o : Outcome) → ends f w vs ≡ Some o → AreLocated w.events → AreLocated o.walk.events
+ends_located : (f : Bool) (w : Walk) (vs : List Value) (o : Outcome) → ends f w vs ≡ Some o
+    → AreLocated w.events → AreLocated o.walk.events
 ends_located f w [] o e h = subst (λ (q : Outcome). AreLocated q.walk.events) (same_Some _ _ e) h
 ends_located f w (v ∷ vs) o e h = absurd cc
 
 module _ (xs : List Line) (rest : Keeps xs) where
-  advanced_located : (i : Instruction) (b : Bool) (v : Value) (w : Walk) (vs : List Value) (o : Outcome) → is_fault i w.state ≡ false → run_from xs (advanced i b v w) vs ≡ Some o → AreLocated w.events → AreLocated o.walk.events
-  advanced_located i b v w vs o sound e h = rest (advanced i b v w) vs o e (located_both w.events (event_of i v w.state) h (event_located i v w.state sound))
+  advanced_located : (i : Instruction) (b : Bool) (v : Value) (w : Walk) (vs : List Value)
+      (o : Outcome) → is_fault i w.state ≡ false → run_from xs (advanced i b v w) vs ≡ Some o
+      → AreLocated w.events → AreLocated o.walk.events
+  advanced_located i b v w vs o sound e h =
+      rest (advanced i b v w) vs o e (located_both w.events (event_of i v w.state) h
+      (event_located i v w.state sound))
 
-  supplied_located : (l : Bool) (i : Instruction) (b : Bool) (w : Walk) (vs : List Value) (o : Outcome) → is_fault i w.state ≡ false → supplied l i b (run_from xs) w vs ≡ Some o → AreLocated w.events → AreLocated o.walk.events
+  supplied_located : (l : Bool) (i : Instruction) (b : Bool) (w : Walk) (vs : List Value)
+      (o : Outcome) → is_fault i w.state ≡ false → supplied l i b (run_from xs) w vs ≡ Some o
+      → AreLocated w.events → AreLocated o.walk.events
   supplied_located true i b w [] o sound e h = absurd cc
   supplied_located true i b w (v ∷ vs) o sound e h = advanced_located i b v w vs o sound e h
   supplied_located false i b w vs o sound e h = advanced_located i b NoValue w vs o sound e h
 
-  obeyed_located : (f : Bool) (i : Instruction) (w : Walk) (vs : List Value) (o : Outcome) → is_fault i w.state ≡ f → obeyed f i (run_from xs) w vs ≡ Some o → AreLocated w.events → AreLocated o.walk.events
+  obeyed_located : (f : Bool) (i : Instruction) (w : Walk) (vs : List Value) (o : Outcome)
+      → is_fault i w.state ≡ f → obeyed f i (run_from xs) w vs ≡ Some o → AreLocated w.events
+      → AreLocated o.walk.events
   obeyed_located true i w vs o is e h = ends_located true w vs o e h
-  obeyed_located false i w vs o is e h = supplied_located (is_load i) i (goes i w.state) w vs o is e h
+  obeyed_located false i w vs o is e h =
+      supplied_located (is_load i) i (goes i w.state) w vs o is e h
 
-  one_located : (s : Option ℕ) (x : Line) (w : Walk) (vs : List Value) (o : Outcome) → one s x (run_from xs) w vs ≡ Some o → AreLocated w.events → AreLocated o.walk.events
+  one_located : (s : Option ℕ) (x : Line) (w : Walk) (vs : List Value) (o : Outcome)
+      → one s x (run_from xs) w vs ≡ Some o → AreLocated w.events → AreLocated o.walk.events
   one_located (Some l) x w vs o e h = rest (passed x l w) vs o e h
   one_located None (Label m) w vs o e h = rest w vs o e h
   one_located None (Does i) w vs o e h = obeyed_located (is_fault i w.state) i w vs o refl e h
@@ -81,10 +96,12 @@ pub run_located : (xs : List Line) → Keeps xs
 run_located [] w vs o e h = ends_located false w vs o e h
 run_located (x ∷ xs) w vs o e h = one_located xs (run_located xs) w.seeking x w vs o e h
 
-one_each : (thread : ℕ) (e : run.Event) (a : Action) → action_in e ≡ Some a → length (with_action thread (action_in e)) ≡ 1
+one_each : (thread : ℕ) (e : run.Event) (a : Action) → action_in e ≡ Some a
+    → length (with_action thread (action_in e)) ≡ 1
 one_each thread e a is = ap (λ (o : Option Action). length (with_action thread o)) is
 
-pub located_all : (thread : ℕ) (es : List run.Event) → AreLocated es → length (thread_events thread es) ≡ length es
+pub located_all : (thread : ℕ) (es : List run.Event) → AreLocated es
+    → length (thread_events thread es) ≡ length es
 located_all thread [] h = refl
 located_all thread (e ∷ es) h =
     let a : length (with_action thread (action_in e) ++ thread_events thread es) ≡ length (with_action thread (action_in e)) + length (thread_events thread es) = length-append (with_action thread (action_in e)) (thread_events thread es) in
@@ -93,5 +110,8 @@ located_all thread (e ∷ es) h =
     omega (arith, a, b, c)
 
 -- no event of a run is left out
-pub none_left_out : (thread : ℕ) (lines : List Line) (s : State) (vs : List Value) (o : Outcome) → run_of lines s vs ≡ Some o → length (thread_events thread o.walk.events) ≡ length o.walk.events
-none_left_out thread lines s vs o e = located_all thread o.walk.events (run_located lines (started s) vs o e tt)
+pub none_left_out : (thread : ℕ) (lines : List Line) (s : State) (vs : List Value) (o : Outcome)
+    → run_of lines s vs ≡ Some o
+    → length (thread_events thread o.walk.events) ≡ length o.walk.events
+none_left_out thread lines s vs o e =
+    located_all thread o.walk.events (run_located lines (started s) vs o e tt)

@@ -1,4 +1,5 @@
--- Where the names of an expression stand for the same events and pairs, the expression means the same.
+-- Where the names of an expression stand for the same events and pairs, the expression means the
+-- same.
 use Rattle.std.proofs.Common.{ℕ, ◌≡◌, ◌<◌, List, [], ◌∷◌, length, get_or, Contains, zero, suc, IsTrue, arith, refl}
 use Rattle.std.proofs.lemmas.List.Elements.{Contains-append_left, Contains-append_right}
 use Rattle.bit_relations.specs.Relation.{Relation}
@@ -55,7 +56,8 @@ module _ (P : Source → Type 0) where
   OfSteps [] = Unit {0}
   OfSteps (x ∷ xs) = OfStep x × OfSteps xs
 
-  pub set_parts : (t : SetTree) (rest : List Step) → OfSteps (set_code t rest) → OfSet t × OfSteps rest
+  pub set_parts : (t : SetTree) (rest : List Step) → OfSteps (set_code t rest)
+      → OfSet t × OfSteps rest
   set_parts (SetName source) rest h = h
   set_parts AllEvents rest h = h
   set_parts NoEvent rest h = h
@@ -67,7 +69,8 @@ module _ (P : Source → Type 0) where
       let one = set_parts s (steps.ComplementSet ∷ rest) h in
       (one.0, one.1.1)
 
-  pub relation_parts : (e : RelTree) (rest : List Step) → OfSteps (rel_code e rest) → OfRelation e × OfSteps rest
+  pub relation_parts : (e : RelTree) (rest : List Step) → OfSteps (rel_code e rest)
+      → OfRelation e × OfSteps rest
   relation_parts (RelName source) rest h = h
   relation_parts NoPair rest h = h
   relation_parts (RelBlend how e f) rest h =
@@ -92,13 +95,18 @@ module _ (P : Source → Type 0) where
       let one = relation_parts e (steps.ComplementRelation ∷ rest) h in
       (one.0, one.1.1)
 
-  module _ (input : (index : ℕ) → P (sources.Input index)) (own : (position : ℕ) → P (sources.Own position)) where
-    of_source : (source : Source) → ((name : Predefined) → Contains (source_names source) name → P (sources.Predefined name)) → P source
+  module _ (input : (index : ℕ) → P (sources.Input index))
+      (own : (position : ℕ) → P (sources.Own position)) where
+    of_source : (source : Source)
+        → ((name : Predefined) → Contains (source_names source) name → P (sources.Predefined name))
+        → P source
     of_source (sources.Predefined name) named = named name (0, omega arith, refl)
     of_source (sources.Input index) named = input index
     of_source (sources.Own position) named = own position
 
-    of_step : (x : Step) → ((name : Predefined) → Contains (step_names x) name → P (sources.Predefined name)) → OfStep x
+    of_step : (x : Step)
+        → ((name : Predefined) → Contains (step_names x) name → P (sources.Predefined name))
+        → OfStep x
     of_step (steps.PushSet source) named = of_source source named
     of_step steps.PushAllEvents named = tt
     of_step steps.PushNoEvents named = tt
@@ -113,27 +121,49 @@ module _ (P : Source → Type 0) where
     of_step (steps.Close how) named = tt
     of_step steps.ComplementRelation named = tt
 
-    pub of_steps : (xs : List Step) → ((name : Predefined) → Contains (names_in xs) name → P (sources.Predefined name)) → OfSteps xs
+    pub of_steps : (xs : List Step)
+        → ((name : Predefined) → Contains (names_in xs) name → P (sources.Predefined name))
+        → OfSteps xs
     of_steps [] named = tt
     of_steps (x ∷ xs) named = (
-      of_step x (λ name inside. named name (Contains-append_left (step_names x) (names_in xs) name inside)),
-      of_steps xs (λ name inside. named name (Contains-append_right (step_names x) (names_in xs) name inside)),
+      of_step x (λ name inside.
+          named name (Contains-append_left (step_names x) (names_in xs) name inside)),
+      of_steps xs (λ name inside.
+          named name (Contains-append_right (step_names x) (names_in xs) name inside)),
     )
 
 -- the names of one body are among those of the group
-pub body_named : (bodies : List Body) (j : ℕ) → j < length bodies → (b : Body) (name : Predefined) → Contains (names_in (get_or bodies j b).code.steps.items) name → Contains (bodies_names bodies) name
+pub body_named : (bodies : List Body) (j : ℕ) → j < length bodies → (b : Body) (name : Predefined)
+    → Contains (names_in (get_or bodies j b).code.steps.items) name
+    → Contains (bodies_names bodies) name
 body_named [] j lt b name inside = absurd (omega (arith, lt))
-body_named (c ∷ cs) zero lt b name inside = Contains-append_left (names_in c.code.steps.items) (bodies_names cs) name inside
-body_named (c ∷ cs) (suc j) lt b name inside = Contains-append_right (names_in c.code.steps.items) (bodies_names cs) name (body_named cs j (omega (arith, lt)) b name inside)
+body_named (c ∷ cs) zero lt b name inside =
+    Contains-append_left (names_in c.code.steps.items) (bodies_names cs) name inside
+body_named (c ∷ cs) (suc j) lt b name inside =
+    Contains-append_right (names_in c.code.steps.items) (bodies_names cs) name
+    (body_named cs j (omega (arith, lt)) b name inside)
 
 -- a tree of the group is that of a body, whose names are among those of the group
-pub code_at : (trees : List RelTree) (bodies : List Body) → AreCodes trees bodies → (x : ℕ) → x < length trees → (b : Body) × (b.code.steps.items ≡ rel_code (body trees x) []) × ((name : Predefined) → Contains (names_in b.code.steps.items) name → Contains (bodies_names bodies) name)
+pub code_at : (trees : List RelTree) (bodies : List Body) → AreCodes trees bodies → (x : ℕ)
+    → x < length trees
+    → (b : Body) × (b.code.steps.items ≡ rel_code (body trees x) [])
+    × ((name : Predefined) → Contains (names_in b.code.steps.items) name
+    → Contains (bodies_names bodies) name)
 code_at [] bodies codes x lt = absurd (omega (arith, lt))
 code_at (t ∷ ts) [] codes x lt = absurd codes
-code_at (t ∷ ts) (c ∷ cs) codes zero lt = (c, codes.0, (λ name inside. Contains-append_left (names_in c.code.steps.items) (bodies_names cs) name inside))
+code_at (t ∷ ts) (c ∷ cs) codes zero lt = (
+  c,
+  codes.0,
+  (λ name inside.
+      Contains-append_left (names_in c.code.steps.items) (bodies_names cs) name inside),
+)
 code_at (t ∷ ts) (c ∷ cs) codes (suc x) lt =
-    let (b, is, within) = code_at ts cs codes.1 x (omega (arith, lt)) in
-    (b, is, (λ name inside. Contains-append_right (names_in c.code.steps.items) (bodies_names cs) name (within name inside)))
+    let (b, is, within) = code_at ts cs codes.1 x (omega (arith, lt)) in (
+      b,
+      is,
+      (λ name inside. Contains-append_right (names_in c.code.steps.items) (bodies_names cs)
+          name (within name inside)),
+    )
 
 -- ---- two ways for names to stand for events and pairs
 
@@ -148,10 +178,12 @@ module _ (n : ℕ) (sets others : Source → ℕ → Type 0) (rels further : Sou
   set_agrees (SetBlend how s t) h = same_sets how _ _ _ _ (set_agrees s h.0) (set_agrees t h.1)
   set_agrees (SetNot s) h = same_others n _ _ (set_agrees s h)
 
-  pub relation_agrees : (e : RelTree) → OfRelation Agree e → Same (Means n sets rels e) (Means n others further e)
+  pub relation_agrees : (e : RelTree) → OfRelation Agree e
+      → Same (Means n sets rels e) (Means n others further e)
   relation_agrees (RelName source) h = h.1
   relation_agrees NoPair h = λ a b. ((λ x. x), (λ x. x))
-  relation_agrees (RelBlend how e f) h = same_blend how _ _ _ _ (relation_agrees e h.0) (relation_agrees f h.1)
+  relation_agrees (RelBlend how e f) h =
+      same_blend how _ _ _ _ (relation_agrees e h.0) (relation_agrees f h.1)
   relation_agrees (Then e f) h = same_then _ _ _ _ (relation_agrees e h.0) (relation_agrees f h.1)
   relation_agrees (Cross s t) h = same_cross _ _ _ _ (set_agrees s h.0) (set_agrees t h.1)
   relation_agrees (OnSet s) h = same_on _ _ (set_agrees s h)
@@ -159,8 +191,11 @@ module _ (n : ℕ) (sets others : Source → ℕ → Type 0) (rels further : Sou
   relation_agrees (RelNot e) h = same_turn n _ _ (relation_agrees e h)
 
 -- the least solution is the same
-pub least_agrees : (n : ℕ) (sets others : Source → ℕ → Type 0) (outer further : Source → ℕ → ℕ → Type 0) (trees : List RelTree) (values : List Relation)
-    → ((x : ℕ) → x < length trees → (own : ℕ → ℕ → ℕ → Type 0) → Same (Means n sets (WithOwn outer own) (body trees x)) (Means n others (WithOwn further own) (body trees x)))
+pub least_agrees : (n : ℕ) (sets others : Source → ℕ → Type 0)
+    (outer further : Source → ℕ → ℕ → Type 0) (trees : List RelTree) (values : List Relation)
+    → ((x : ℕ) → x < length trees → (own : ℕ → ℕ → ℕ → Type 0)
+    → Same (Means n sets (WithOwn outer own) (body trees x))
+    (Means n others (WithOwn further own) (body trees x)))
     → IsLeast n sets outer trees values → IsLeast n others further trees values
 least_agrees n sets others outer further trees values same h = record {
   as_many = h.as_many;
@@ -169,5 +204,8 @@ least_agrees n sets others outer further trees values same h = record {
       let meant = same x lt (Of n values) a b in
       let solved = h.solves x lt a b in
       ((λ p. meant.0 (solved.0 p)), (λ q. solved.1 (meant.1 q)));
-  inside = λ test closed x lt a b of. h.inside test (λ y less c d m. closed y less c d ((same y less (λ z e f. IsTrue (test z e f)) c d).0 m)) x lt a b of;
+  inside =
+      λ test closed x lt a b of. h.inside test
+      (λ y less c d m. closed y less c d ((same y less (λ z e f. IsTrue (test z e f)) c d).0 m)) x
+      lt a b of;
 }

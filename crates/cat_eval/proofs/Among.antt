@@ -21,7 +21,8 @@ unfolding IsAmong
 among_all k = bit_at_ones 64 (min k 63) (least_bit k)
 
 -- `x | 1 << a`
-pub among_set : (x a k : ℕ) → a < 64 → IsAmong (bit_or x (1 * 2 ^ a % 2 ^ 64)) k ↔ (IsAmong x k ⊎ (a ≡ min k 63))
+pub among_set : (x a k : ℕ) → a < 64
+    → IsAmong (bit_or x (1 * 2 ^ a % 2 ^ 64)) k ↔ (IsAmong x k ⊎ (a ≡ min k 63))
 unfolding IsAmong
 among_set x a k lt =
     let i = min k 63 in
@@ -29,11 +30,15 @@ among_set x a k lt =
       | inl same ↦ ((λ h. inr (sym same)), (λ h. rw same (bit_at_set_same w64 x a lt)))
       | inr other ↦
           let e : bit_at (bit_or x (1 * 2 ^ a % 2 ^ 64)) i ≡ bit_at x i = bit_at_set_other w64 x a lt i other in
-          rw e ((λ h. inl h), (λ h. elim h [ inl old ↦ old | inr same ↦ absurd (other (sym same)) ]))
+          rw e (
+            (λ h. inl h),
+            (λ h. elim h [ inl old ↦ old | inr same ↦ absurd (other (sym same)) ]),
+          )
     ]
 
 -- the body that stands at a position
-pub uses_at_read : (names : ℕ) (bodies : List Body) (k : ℕ) (body : Body) → k < length bodies → body ≡ get_or bodies k body → UsesAny names body.code.steps.items ↔ UsesAt names bodies k
+pub uses_at_read : (names : ℕ) (bodies : List Body) (k : ℕ) (body : Body) → k < length bodies
+    → body ≡ get_or bodies k body → UsesAny names body.code.steps.items ↔ UsesAt names bodies k
 uses_at_read names bodies k body lt is = (
   (λ uses. (body, lt, sym is, uses)),
   (λ at. let same : body ≡ at.0 = get_or_read bodies k body lt is at.0 ∙ at.2 in rw same at.3),
@@ -41,15 +46,25 @@ uses_at_read names bodies k body lt is = (
 
 -- of the bodies before a position
 abbrev pub UsesBefore : ℕ → List Body → ℕ → ℕ → Type 0
-UsesBefore grew bodies position k = (other : ℕ) × (other < position) × ShareBit other k × UsesAt grew bodies other
+UsesBefore grew bodies position k =
+    (other : ℕ) × (other < position) × ShareBit other k × UsesAt grew bodies other
 
 -- one position further, where the body uses a name that grew
-pub next_used : (grew names new position : ℕ) (bodies : List Body) (body : Body) → position < length bodies → body ≡ get_or bodies position body → UsesAny grew body.code.steps.items → ((k : ℕ) → IsAmong new k ↔ (IsAmong names k ⊎ ShareBit position k)) → ((k : ℕ) → IsAmong names k ↔ UsesBefore grew bodies position k)
+pub next_used : (grew names new position : ℕ) (bodies : List Body) (body : Body)
+    → position < length bodies → body ≡ get_or bodies position body
+    → UsesAny grew body.code.steps.items
+    → ((k : ℕ) → IsAmong new k ↔ (IsAmong names k ⊎ ShareBit position k))
+    → ((k : ℕ) → IsAmong names k ↔ UsesBefore grew bodies position k)
     → (k : ℕ) → IsAmong new k ↔ UsesBefore grew bodies (position + 1) k
 next_used grew names new position bodies body lt is uses gains before k = (
   (λ h. elim ((gains k).0 h) [
     | inl old ↦ let was = (before k).0 old in (was.0, omega (arith, was.1), was.2, was.3)
-    | inr same ↦ (position, omega arith, same, (uses_at_read grew bodies position body lt is).0 uses)
+    | inr same ↦ (
+      position,
+      omega arith,
+      same,
+      (uses_at_read grew bodies position body lt is).0 uses,
+    )
   ]),
   (λ h. elim (cases_eq h.0 position) [
     | inl same ↦ (gains k).1 (inr (rw same at h.2))
@@ -58,7 +73,11 @@ next_used grew names new position bodies body lt is uses gains before k = (
 )
 
 -- one position further, where the body uses no name that grew
-pub next_unused : (grew names position : ℕ) (bodies : List Body) (body : Body) → position < length bodies → body ≡ get_or bodies position body → (UsesAny grew body.code.steps.items → ⊥) → ((k : ℕ) → IsAmong names k ↔ UsesBefore grew bodies position k) → (k : ℕ) → IsAmong names k ↔ UsesBefore grew bodies (position + 1) k
+pub next_unused : (grew names position : ℕ) (bodies : List Body) (body : Body)
+    → position < length bodies → body ≡ get_or bodies position body
+    → (UsesAny grew body.code.steps.items → ⊥)
+    → ((k : ℕ) → IsAmong names k ↔ UsesBefore grew bodies position k) → (k : ℕ)
+    → IsAmong names k ↔ UsesBefore grew bodies (position + 1) k
 next_unused grew names position bodies body lt is unused before k = (
   (λ h. let was = (before k).0 h in (was.0, omega (arith, was.1), was.2, was.3)),
   (λ h. elim (cases_eq h.0 position) [

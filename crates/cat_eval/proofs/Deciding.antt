@@ -81,7 +81,8 @@ told_below P told (suc n) = elim (told n) [
   ]
 ]
 
--- ---- sets and relations of which it can be told what is in them, and beyond which number nothing is
+-- ---- sets and relations of which it can be told what is in them, and beyond which number nothing
+-- is
 
 pub record IsToldSet (S : ℕ → Type 0) : Type 0 where
   pub end : ℕ
@@ -102,10 +103,12 @@ no_pairs = record { end = 0; within = λ a b h. absurd h; told = λ a b. inr (λ
 first_events : (n : ℕ) → IsToldSet (λ a. a < n)
 first_events n = record { end = n; within = λ a h. h; told = λ a. told_less a n }
 
-blended_sets : (how : Blend) (S T : ℕ → Type 0) → IsToldSet S → IsToldSet T → IsToldSet (BlendedSets how S T)
+blended_sets : (how : Blend) (S T : ℕ → Type 0) → IsToldSet S → IsToldSet T
+    → IsToldSet (BlendedSets how S T)
 blended_sets blends.Union S T s t = record {
   end = s.end + t.end;
-  within = λ a h. elim h [ inl x ↦ omega (arith, s.within a x) | inr y ↦ omega (arith, t.within a y) ];
+  within =
+      λ a h. elim h [ inl x ↦ omega (arith, s.within a x) | inr y ↦ omega (arith, t.within a y) ];
   told = λ a. told_either (S a) (T a) (s.told a) (t.told a);
 }
 blended_sets blends.Intersection S T s t = record {
@@ -155,7 +158,8 @@ composed R S r s = record {
   within = λ a b h. (omega (arith, (r.within a h.0 h.1).0), omega (arith, (s.within h.0 b h.2).1));
   told = λ a b. told_same (Below (λ c. R a c × S c b) r.end) (Composed R S a b)
       ((λ h. (h.0, h.2.0, h.2.1)), (λ h. (h.0, (r.within a h.0 h.1).1, (h.1, h.2))))
-      (told_below (λ c. R a c × S c b) (λ c. told_both (R a c) (S c b) (r.told a c) (s.told c b)) r.end);
+      (told_below (λ c. R a c × S c b) (λ c. told_both (R a c) (S c b) (r.told a c) (s.told c b))
+      r.end);
 }
 
 products : (S T : ℕ → Type 0) → IsToldSet S → IsToldSet T → IsTold (Product S T)
@@ -176,8 +180,11 @@ others : (n : ℕ) (R : ℕ → ℕ → Type 0) → IsTold R → IsTold (Complem
 others n R r = record {
   end = n;
   within = λ a b h. (h.0, h.1);
-  told = λ a b. told_same ((a < n) × ((b < n) × (R a b → ⊥))) (Complement n R a b) ((λ h. (h.0, h.1.0, h.1.1)), (λ h. (h.0, (h.1, h.2))))
-      (told_both (a < n) ((b < n) × (R a b → ⊥)) (told_less a n) (told_both (b < n) (R a b → ⊥) (told_less b n) (told_not (R a b) (r.told a b))));
+  told =
+      λ a b. told_same ((a < n) × ((b < n) × (R a b → ⊥))) (Complement n R a b)
+      ((λ h. (h.0, h.1.0, h.1.1)), (λ h. (h.0, (h.1, h.2))))
+      (told_both (a < n) ((b < n) × (R a b → ⊥)) (told_less a n) (told_both (b < n) (R a b → ⊥)
+      (told_less b n) (told_not (R a b) (r.told a b))));
 }
 
 identity : (n : ℕ) → IsTold (Identity n)
@@ -191,15 +198,20 @@ paths_below : (R : ℕ → ℕ → Type 0) → IsTold R → (k a b : ℕ) → To
 paths_below R r zero a b = told_same (R a b) (PlusBelow R 0 a b) (PlusBelow-zero R a b) (r.told a b)
 paths_below R r (suc k) a b =
     let more : Told (PlusBelow R (k + 1) a b) =
-    told_same (PlusBelow R k a b ⊎ (PlusBelow R k a k × PlusBelow R k k b)) (PlusBelow R (k + 1) a b) ((PlusBelow-suc R k a b).1, (PlusBelow-suc R k a b).0)
-    (told_either (PlusBelow R k a b) (PlusBelow R k a k × PlusBelow R k k b) (paths_below R r k a b) (told_both (PlusBelow R k a k) (PlusBelow R k k b) (paths_below R r k a k) (paths_below R r k k b))) in
+    told_same (PlusBelow R k a b ⊎ (PlusBelow R k a k × PlusBelow R k k b))
+    (PlusBelow R (k + 1) a b) ((PlusBelow-suc R k a b).1, (PlusBelow-suc R k a b).0)
+    (told_either (PlusBelow R k a b) (PlusBelow R k a k × PlusBelow R k k b) (paths_below R r k a b)
+    (told_both (PlusBelow R k a k) (PlusBelow R k k b) (paths_below R r k a k)
+    (paths_below R r k k b))) in
     subst (λ (n : ℕ). Told (PlusBelow R n a b)) (omega arith) more
 
 plus : (R : ℕ → ℕ → Type 0) → IsTold R → IsTold (Plus R)
 plus R r = record {
   end = r.end;
   within = Plus-within R r.end r.within;
-  told = λ a b. told_same (PlusBelow R r.end a b) (Plus R a b) (PlusBelow-all R r.end a b r.within) (paths_below R r r.end a b);
+  told =
+      λ a b. told_same (PlusBelow R r.end a b) (Plus R a b) (PlusBelow-all R r.end a b r.within)
+      (paths_below R r r.end a b);
 }
 
 closed : (how : Postfix) (n : ℕ) (R : ℕ → ℕ → Type 0) → IsTold R → IsTold (Closed how n R)
@@ -212,7 +224,9 @@ closed postfix.Inverse n R r = record {
 }
 closed postfix.Closure n R r = either_of (Identity n) (Plus R) (identity n) (plus R r)
 
-module _ (n : ℕ) (sets : Source → ℕ → Type 0) (rels : Source → ℕ → ℕ → Type 0) (told_sets : (source : Source) → IsToldSet (sets source)) (told_rels : (source : Source) → IsTold (rels source)) where
+module _ (n : ℕ) (sets : Source → ℕ → Type 0) (rels : Source → ℕ → ℕ → Type 0)
+    (told_sets : (source : Source) → IsToldSet (sets source))
+    (told_rels : (source : Source) → IsTold (rels source)) where
   told_set : (t : SetTree) → IsToldSet (MeansSet n sets t)
   told_set (SetName source) = told_sets source
   told_set AllEvents = first_events n
@@ -244,24 +258,35 @@ bit_below w k h = elim (cases_lt k w) [
       where
         above : (k : ℕ) → k < 2 ^ k
         above zero = pow_pos zero
-        above (suc k) = let p = above k in let q : 2 ^ k < 2 ^ suc k = pow-lt {i = k} {j = suc k} (omega arith) in omega (arith, p, q)
+        above (suc k) =
+            let p = above k in
+            let q : 2 ^ k < 2 ^ suc k = pow-lt {i = k} {j = suc k} (omega arith) in
+            omega (arith, p, q)
 
 member : (s : Events) → IsToldSet (IsMember s)
-member s = record { end = s.word; within = λ a h. bit_below s.word a h; told = λ a. Bit_cases s.word a }
+member s =
+    record { end = s.word; within = λ a h. bit_below s.word a h; told = λ a. Bit_cases s.word a }
 
-one_row : (w : ℕ) (ws : List ℕ) → IsTold (λ a b. Bit (slice_index ws a) b) → IsTold (λ a b. Bit (slice_index (w ∷ ws) a) b)
+one_row : (w : ℕ) (ws : List ℕ) → IsTold (λ a b. Bit (slice_index ws a) b)
+    → IsTold (λ a b. Bit (slice_index (w ∷ ws) a) b)
 one_row w ws rest = record {
   end = suc (rest.end + w);
   within = λ a b h. within a b h;
   told = λ a b. Bit_cases (slice_index (w ∷ ws) a) b;
 }
   where
-    within : (a b : ℕ) → Bit (slice_index (w ∷ ws) a) b → (a < suc (rest.end + w)) × (b < suc (rest.end + w))
+    within : (a b : ℕ) → Bit (slice_index (w ∷ ws) a) b
+        → (a < suc (rest.end + w)) × (b < suc (rest.end + w))
     within zero b h = (omega arith, omega (arith, bit_below w b h))
     within (suc a) b h = let t = rest.within a b h in (omega (arith, t.0), omega (arith, t.1))
 
 rows : (ws : List ℕ) → IsTold (λ a b. Bit (slice_index ws a) b)
-rows [] = record { end = 0; within = λ a b h. absurd (Bit-zero b h); told = λ a b. inr (λ h. Bit-zero b h) }
+rows [] =
+    record {
+      end = 0;
+      within = λ a b h. absurd (Bit-zero b h);
+      told = λ a b. inr (λ h. Bit-zero b h);
+    }
 rows (w ∷ ws) = one_row w ws (rows ws)
 
 events_found : (o : Option Events) (n : ℕ) → IsToldSet (EventsFound o n)
@@ -282,30 +307,42 @@ pairs_found (Some r) n = record {
 
 -- ---- names
 
-where_so : (P : Type 0) (S T : ℕ → Type 0) → Told P → IsToldSet S → IsToldSet T → IsToldSet (λ a. (P × S a) ⊎ ((P → ⊥) × T a))
+where_so : (P : Type 0) (S T : ℕ → Type 0) → Told P → IsToldSet S → IsToldSet T
+    → IsToldSet (λ a. (P × S a) ⊎ ((P → ⊥) × T a))
 where_so P S T p s t = record {
   end = s.end + t.end;
-  within = λ a h. elim h [ inl x ↦ omega (arith, s.within a x.1) | inr y ↦ omega (arith, t.within a y.1) ];
-  told = λ a. told_either (P × S a) ((P → ⊥) × T a) (told_both P (S a) p (s.told a)) (told_both (P → ⊥) (T a) (told_not P p) (t.told a));
+  within =
+      λ a h.
+      elim h [ inl x ↦ omega (arith, s.within a x.1) | inr y ↦ omega (arith, t.within a y.1) ];
+  told =
+      λ a. told_either (P × S a) ((P → ⊥) × T a) (told_both P (S a) p (s.told a))
+      (told_both (P → ⊥) (T a) (told_not P p) (t.told a));
 }
 
-pairs_where_so : (P : Type 0) (R S : ℕ → ℕ → Type 0) → Told P → IsTold R → IsTold S → IsTold (λ a b. (P × R a b) ⊎ ((P → ⊥) × S a b))
+pairs_where_so : (P : Type 0) (R S : ℕ → ℕ → Type 0) → Told P → IsTold R → IsTold S
+    → IsTold (λ a b. (P × R a b) ⊎ ((P → ⊥) × S a b))
 pairs_where_so P R S p r s = record {
   end = r.end + s.end;
   within = λ a b h. elim h [
     | inl x ↦ let w = r.within a b x.1 in (omega (arith, w.0), omega (arith, w.1))
     | inr y ↦ let w = s.within a b y.1 in (omega (arith, w.0), omega (arith, w.1))
   ];
-  told = λ a b. told_either (P × R a b) ((P → ⊥) × S a b) (told_both P (R a b) p (r.told a b)) (told_both (P → ⊥) (S a b) (told_not P p) (s.told a b));
+  told =
+      λ a b. told_either (P × R a b) ((P → ⊥) × S a b) (told_both P (R a b) p (r.told a b))
+      (told_both (P → ⊥) (S a b) (told_not P p) (s.told a b));
 }
 
 events_among : (xs : List Value) (name : Predefined) (n : ℕ) → IsToldSet (EventsAmong xs name n)
 events_among [] name n = no_events
-events_among (x ∷ xs) name n = where_so (x.name ≡ name) (EventsFound x.events n) (EventsAmong xs name n) (same_name x.name name) (events_found x.events n) (events_among xs name n)
+events_among (x ∷ xs) name n =
+    where_so (x.name ≡ name) (EventsFound x.events n) (EventsAmong xs name n)
+    (same_name x.name name) (events_found x.events n) (events_among xs name n)
 
 pairs_among : (xs : List Value) (name : Predefined) (n : ℕ) → IsTold (PairsAmong xs name n)
 pairs_among [] name n = no_pairs
-pairs_among (x ∷ xs) name n = pairs_where_so (x.name ≡ name) (PairsFound x.pairs n) (PairsAmong xs name n) (same_name x.name name) (pairs_found x.pairs n) (pairs_among xs name n)
+pairs_among (x ∷ xs) name n =
+    pairs_where_so (x.name ≡ name) (PairsFound x.pairs n) (PairsAmong xs name n)
+    (same_name x.name name) (pairs_found x.pairs n) (pairs_among xs name n)
 
 column_events : (c : Column) (k n : ℕ) → IsToldSet (ColumnEvents c k n)
 column_events (columns.Sets values) k n = events_found (slice_get values k) n
@@ -329,7 +366,8 @@ module _ (base : Known) (inputs : List (Bor Column)) (k : ℕ) where
   events_in (sources.Input index) = input_events (slice_get inputs index) k base.count
   events_in (sources.Own position) = no_events
 
-  pairs_in : (source : Source) → IsTold (WithOwn (PairsOutside base inputs k) (Of base.count []) source)
+  pairs_in : (source : Source)
+      → IsTold (WithOwn (PairsOutside base inputs k) (Of base.count []) source)
   pairs_in (sources.Predefined name) = pairs_among base.values name base.count
   pairs_in (sources.Input index) = input_pairs (slice_get inputs index) k base.count
   pairs_in (sources.Own position) = pairs_found (slice_get [] position) base.count
@@ -343,7 +381,12 @@ empty_told S s = elim (told_below S s.told s.end) [
 ]
 
 diagonal : (R : ℕ → ℕ → Type 0) → IsTold R → Told ((a : ℕ) → R a a → ⊥)
-diagonal R r = empty_told (λ a. R a a) (record { end = r.end; within = λ a h. (r.within a a h).0; told = λ a. r.told a a })
+diagonal R r =
+    empty_told (λ a. R a a) (record {
+      end = r.end;
+      within = λ a h. (r.within a a h).0;
+      told = λ a. r.told a a;
+    })
 
 holds_told : (word : CheckWord) (R : ℕ → ℕ → Type 0) → IsTold R → Told (Holds word R)
 holds_told words.Acyclic R r = diagonal (Plus R) (plus R r)
@@ -351,9 +394,14 @@ holds_told words.Irreflexive R r = diagonal R r
 holds_told words.Empty R r =
     told_same (IsEmptySet (λ a. Below (R a) r.end)) (Holds words.Empty R)
     ((λ none a b h. none a (b, (r.within a b h).1, h)), (λ none a h. none a h.0 h.2))
-    (empty_told (λ a. Below (R a) r.end) (record { end = r.end; within = λ a h. (r.within a h.0 h.2).0; told = λ a. told_below (R a) (r.told a) r.end }))
+    (empty_told (λ a. Below (R a) r.end) (record {
+      end = r.end;
+      within = λ a h. (r.within a h.0 h.2).0;
+      told = λ a. told_below (R a) (r.told a) r.end;
+    }))
 
-turned : (negated : Bool) (P : Type 0) → Told P → (answer : Bool) × (IsTrue answer ↔ Unless negated P)
+turned : (negated : Bool) (P : Type 0) → Told P
+    → (answer : Bool) × (IsTrue answer ↔ Unless negated P)
 turned false P (inl p) = (true, ((λ _. p), (λ _. refl)))
 turned false P (inr never) = (false, ((λ e. absurd (false≢true e)), (λ p. absurd (never p))))
 turned true P (inl p) = (false, ((λ e. absurd (false≢true e)), (λ never. absurd (never p))))
@@ -364,32 +412,58 @@ ends_of : List Step → List SetTree → List RelTree → List SetTree × List R
 ends_of [] ss rs = (ss, rs)
 ends_of (x ∷ xs) ss rs = ends_of xs (sets_after x ss) (rels_after x ss rs)
 
-ends_at : (xs : List Step) (ss : List SetTree) (rs : List RelTree) (s_end : List SetTree) (r_end : List RelTree) → Leads xs ss rs s_end r_end → (ends_of xs ss rs).0 ≡ s_end × (ends_of xs ss rs).1 ≡ r_end
+ends_at : (xs : List Step) (ss : List SetTree) (rs : List RelTree) (s_end : List SetTree)
+    (r_end : List RelTree) → Leads xs ss rs s_end r_end
+    → (ends_of xs ss rs).0 ≡ s_end × (ends_of xs ss rs).1 ≡ r_end
 unfolding ends_of
 ends_at [] ss rs s_end r_end h = h
-ends_at (x ∷ xs) ss rs s_end r_end h = ends_at xs (sets_after x ss) (rels_after x ss rs) s_end r_end h.1
+ends_at (x ∷ xs) ss rs s_end r_end h =
+    ends_at xs (sets_after x ss) (rels_after x ss rs) s_end r_end h.1
 
-set_answer : (P : SetTree → Type 0) (negated : Bool) (xs : List Step) (ss : List SetTree) → ((t : SetTree) → Told (P t)) → ((t : SetTree) → xs ≡ set_code t [] → ss ≡ t ∷ []) → (answer : Bool) × ((t : SetTree) → xs ≡ set_code t [] → IsTrue answer ↔ Unless negated (P t))
+set_answer : (P : SetTree → Type 0) (negated : Bool) (xs : List Step) (ss : List SetTree)
+    → ((t : SetTree) → Told (P t)) → ((t : SetTree) → xs ≡ set_code t [] → ss ≡ t ∷ [])
+    → (answer : Bool) × ((t : SetTree) → xs ≡ set_code t [] → IsTrue answer ↔ Unless negated (P t))
 set_answer P negated xs [] told is = (true, λ t code. absurd (nil≢cons (is t code)))
 set_answer P negated xs (s ∷ ss) told is =
-    let (answer, same) = turned negated (P s) (told s) in
-    (answer, λ t code. let e : s ≡ t = head-eq_of_cons-eq (is t code) in subst (λ (u : SetTree). IsTrue answer ↔ Unless negated (P u)) e same)
+    let (answer, same) = turned negated (P s) (told s) in (
+      answer,
+      λ t code.
+          let e : s ≡ t = head-eq_of_cons-eq (is t code) in
+          subst (λ (u : SetTree). IsTrue answer ↔ Unless negated (P u)) e same,
+    )
 
-rel_answer : (P : RelTree → Type 0) (negated : Bool) (xs : List Step) (rs : List RelTree) → ((t : RelTree) → Told (P t)) → ((t : RelTree) → xs ≡ rel_code t [] → rs ≡ t ∷ []) → (answer : Bool) × ((t : RelTree) → xs ≡ rel_code t [] → IsTrue answer ↔ Unless negated (P t))
+rel_answer : (P : RelTree → Type 0) (negated : Bool) (xs : List Step) (rs : List RelTree)
+    → ((t : RelTree) → Told (P t)) → ((t : RelTree) → xs ≡ rel_code t [] → rs ≡ t ∷ [])
+    → (answer : Bool) × ((t : RelTree) → xs ≡ rel_code t [] → IsTrue answer ↔ Unless negated (P t))
 rel_answer P negated xs [] told is = (true, λ t code. absurd (nil≢cons (is t code)))
 rel_answer P negated xs (r ∷ rs) told is =
-    let (answer, same) = turned negated (P r) (told r) in
-    (answer, λ t code. let e : r ≡ t = head-eq_of_cons-eq (is t code) in subst (λ (u : RelTree). IsTrue answer ↔ Unless negated (P u)) e same)
+    let (answer, same) = turned negated (P r) (told r) in (
+      answer,
+      λ t code.
+          let e : r ≡ t = head-eq_of_cons-eq (is t code) in
+          subst (λ (u : RelTree). IsTrue answer ↔ Unless negated (P u)) e same,
+    )
 
 module _ (check : CheckCode) (inputs : List (Bor Column)) (base : Known) (k : ℕ) where
   a_set : (answer : Bool) × IsAnswerOver check inputs base k kinds.OfSet answer
-  a_set = set_answer (λ t. IsEmptySet (MeansSet base.count (EventsIn base inputs k) t)) check.negated check.code.steps.items (ends_of check.code.steps.items [] []).0
-      (λ t. empty_told _ (told_set base.count (EventsIn base inputs k) (WithOwn (PairsOutside base inputs k) (Of base.count [])) (events_in base inputs k) (pairs_in base inputs k) t))
+  a_set =
+      set_answer (λ t. IsEmptySet (MeansSet base.count (EventsIn base inputs k) t)) check.negated
+      check.code.steps.items (ends_of check.code.steps.items [] []).0
+      (λ t. empty_told _ (told_set base.count (EventsIn base inputs k)
+      (WithOwn (PairsOutside base inputs k) (Of base.count []))
+      (events_in base inputs k) (pairs_in base inputs k) t))
       (λ t code. (ends_at check.code.steps.items [] [] (t ∷ []) [] (rw code (set_code_leads t))).0)
 
   a_relation : (answer : Bool) × IsAnswerOver check inputs base k kinds.OfRelation answer
-  a_relation = rel_answer (λ t. Holds check.word (Means base.count (EventsIn base inputs k) (WithOwn (PairsOutside base inputs k) (Of base.count [])) t)) check.negated check.code.steps.items (ends_of check.code.steps.items [] []).1
-      (λ t. holds_told check.word _ (told_relation base.count (EventsIn base inputs k) (WithOwn (PairsOutside base inputs k) (Of base.count [])) (events_in base inputs k) (pairs_in base inputs k) t))
+  a_relation =
+      rel_answer
+      (λ t. Holds check.word (Means base.count (EventsIn base inputs k)
+      (WithOwn (PairsOutside base inputs k) (Of base.count [])) t)) check.negated
+      check.code.steps.items
+      (ends_of check.code.steps.items [] []).1
+      (λ t. holds_told check.word _ (told_relation base.count (EventsIn base inputs k)
+      (WithOwn (PairsOutside base inputs k) (Of base.count []))
+      (events_in base inputs k) (pairs_in base inputs k) t))
       (λ t code. (ends_at check.code.steps.items [] [] [] (t ∷ []) (rw code (code_leads t))).1)
 
   pub some_answer : (kind : Kind) → (answer : Bool) × IsAnswerOver check inputs base k kind answer

@@ -19,53 +19,71 @@ use Rattle.text_values.specs.PredefinedNames.{is_set}
 use Rattle.cat_eval.specs.Worlds.{AreHeld, AreWorlds}
 
 -- what holds all sets among the names, and what the relations among them need, holds the names
-pub held_of : (base : Known) (names : List Predefined) → set_names base.sets ≡ filter is_set names → ((name : Predefined) → Contains names name → is_set name ≡ false → Gives base name) → AreHeld names base
+pub held_of : (base : Known) (names : List Predefined) → set_names base.sets ≡ filter is_set names
+    → ((name : Predefined) → Contains names name → is_set name ≡ false → Gives base name)
+    → AreHeld names base
 held_of base names sets relations = record {
   sets = λ name inside set. rw sets (filter_keeps is_set names name inside set);
   relations = relations;
 }
   where
-    filter_keeps : (test : Predefined → Bool) (xs : List Predefined) (x : Predefined) → Contains xs x → IsTrue (test x) → Contains (filter test xs) x
+    filter_keeps : (test : Predefined → Bool) (xs : List Predefined) (x : Predefined)
+        → Contains xs x → IsTrue (test x) → Contains (filter test xs) x
     filter_keeps test [] x inside set = absurd (omega (arith, inside.1))
     filter_keeps test (y ∷ ys) x (zero, lt, is) set =
         let passes : test y ≡ true = rw is set in
         rw passes (0, omega arith, is)
-    filter_keeps test (y ∷ ys) x (suc k, lt, is) set = later (test y) (filter_keeps test ys x (k, omega (arith, lt), is) set)
+    filter_keeps test (y ∷ ys) x (suc k, lt, is) set =
+        later (test y) (filter_keeps test ys x (k, omega (arith, lt), is) set)
       where
-        later : (passes : Bool) → Contains (filter test ys) x → Contains (cond passes (y ∷ filter test ys) (filter test ys)) x
+        later : (passes : Bool) → Contains (filter test ys) x
+            → Contains (cond passes (y ∷ filter test ys) (filter test ys)) x
         later true h = Contains-append_right (y ∷ []) (filter test ys) x h
         later false h = h
 
-pub worlds_more : (names : List Predefined) (reads orders : Bool) (bases more : List Known) (some others : List Candidate) → AreWorlds names reads orders bases some → AreWorlds names reads orders more others → AreWorlds names reads orders (bases ++ more) (some ++ others)
+pub worlds_more : (names : List Predefined) (reads orders : Bool) (bases more : List Known)
+    (some others : List Candidate) → AreWorlds names reads orders bases some
+    → AreWorlds names reads orders more others
+    → AreWorlds names reads orders (bases ++ more) (some ++ others)
 worlds_more names reads orders [] more [] others h k = k
 worlds_more names reads orders [] more (c ∷ cs) others h k = absurd h
 worlds_more names reads orders (b ∷ bs) more [] others h k = absurd h
-worlds_more names reads orders (b ∷ bs) more (c ∷ cs) others h k = (h.0, worlds_more names reads orders bs more cs others h.1 k)
+worlds_more names reads orders (b ∷ bs) more (c ∷ cs) others h k =
+    (h.0, worlds_more names reads orders bs more cs others h.1 k)
 
 -- one item of a list further
-pub map_step : {X Y : Type 0} (f : X → Y) (xs : List X) (i : ℕ) (x d : X) → i < length xs → x ≡ get_or xs i d → map f (take (i + 1) xs) ≡ map f (take i xs) ++ f x ∷ []
+pub map_step : {X Y : Type 0} (f : X → Y) (xs : List X) (i : ℕ) (x d : X) → i < length xs
+    → x ≡ get_or xs i d → map f (take (i + 1) xs) ≡ map f (take i xs) ++ f x ∷ []
 map_step f xs i x d lt is =
     let grown : take (i + 1) xs ≡ take i xs ++ x ∷ [] = rw (add-one i) (take-suc xs i d lt ∙ ap (λ y. take i xs ++ y ∷ []) (sym is)) in
     ap (map f) grown ∙ map-append f (take i xs) (x ∷ [])
 
-pub flat_step : {X Y : Type 0} (f : X → List Y) (xs : List X) (i : ℕ) (x : X) → i < length xs → x ≡ get_or xs i x → flat_map f (take (i + 1) xs) ≡ flat_map f (take i xs) ++ f x
+pub flat_step : {X Y : Type 0} (f : X → List Y) (xs : List X) (i : ℕ) (x : X) → i < length xs
+    → x ≡ get_or xs i x → flat_map f (take (i + 1) xs) ≡ flat_map f (take i xs) ++ f x
 flat_step f xs i x lt is =
     let grown : take (i + 1) xs ≡ take i xs ++ x ∷ [] = rw (add-one i) (take-suc xs i x lt ∙ ap (λ y. take i xs ++ y ∷ []) (sym is)) in
-    ap (flat_map f) grown ∙ flat_map-append f (take i xs) (x ∷ []) ∙ ap (λ ys. flat_map f (take i xs) ++ ys) (one f x)
+    ap (flat_map f) grown ∙ flat_map-append f (take i xs) (x ∷ [])
+    ∙ ap (λ ys. flat_map f (take i xs) ++ ys) (one f x)
   where
     one : {X Y : Type 0} (f : X → List Y) (x : X) → flat_map f (x ∷ []) ≡ f x
     one f x = append-nil (f x)
 
 -- the candidates in the order of the loops are those of the space
-so_listed : (c : Combination) (sources : List ℕ) (orders : List (List ℕ)) → reading_so c sources orders ≡ map (λ t. (c, t)) (map (λ y. (sources, y)) orders)
+so_listed : (c : Combination) (sources : List ℕ) (orders : List (List ℕ))
+    → reading_so c sources orders ≡ map (λ t. (c, t)) (map (λ y. (sources, y)) orders)
 so_listed c sources [] = refl
-so_listed c sources (o ∷ os) = ap (λ (rest : List Candidate). (c, (sources, o)) ∷ rest) (so_listed c sources os)
+so_listed c sources (o ∷ os) =
+    ap (λ (rest : List Candidate). (c, (sources, o)) ∷ rest) (so_listed c sources os)
 
-ways_listed : (c : Combination) (ways : List (Vec ℕ Global)) (orders : List (List ℕ)) → flat_map (λ s. reading_so c s.items orders) ways ≡ map (λ t. (c, t)) (pairs (lists_of ways) orders)
+ways_listed : (c : Combination) (ways : List (Vec ℕ Global)) (orders : List (List ℕ))
+    → flat_map (λ s. reading_so c s.items orders) ways
+    ≡ map (λ t. (c, t)) (pairs (lists_of ways) orders)
 ways_listed c [] orders = refl
 ways_listed c (w ∷ ws) orders =
-    ap (λ (front : List Candidate). front ++ flat_map (λ s. reading_so c s.items orders) ws) (so_listed c w.items orders)
-    ∙ ap (λ (back : List Candidate). map (λ t. (c, t)) (map (λ y. (w.items, y)) orders) ++ back) (ways_listed c ws orders)
+    ap (λ (front : List Candidate). front ++ flat_map (λ s. reading_so c s.items orders) ws)
+    (so_listed c w.items orders)
+    ∙ ap (λ (back : List Candidate). map (λ t. (c, t)) (map (λ y. (w.items, y)) orders) ++ back)
+    (ways_listed c ws orders)
     ∙ sym (map-append (λ t. (c, t)) (map (λ y. (w.items, y)) orders) (pairs (lists_of ws) orders))
 
 in_listed : (c : Combination) → reading_in c c.sources.items ≡ map (λ t. (c, t)) (candidates_of c)

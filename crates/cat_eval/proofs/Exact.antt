@@ -30,80 +30,163 @@ use Rattle.cat_eval.proofs.Agreeing.{Agree, OfSteps, of_steps, set_parts, relati
 use Rattle.cat_eval.proofs.Same.{Same, SameSet, changed, changed_set}
 use Rattle.cat_eval.proofs.Visits.{holds_same, empty_same}
 
-pub unless_same : (negated : Bool) (A P Q : Type 0) → P ↔ Q → A ↔ Unless negated P → A ↔ Unless negated Q
+pub unless_same : (negated : Bool) (A P Q : Type 0) → P ↔ Q → A ↔ Unless negated P
+    → A ↔ Unless negated Q
 unless_same false A P Q s h = ((λ a. s.0 (h.0 a)), (λ q. h.1 (s.1 q)))
 unless_same true A P Q s h = ((λ a q. h.0 a (s.1 q)), (λ f. h.1 (λ p. f (s.0 p))))
 
-module _ (names : List Predefined) (base : Known) (one : Candidate) (world : IsSeen names base one) (inputs : List (Bor Column)) (k : ℕ) where
+module _ (names : List Predefined) (base : Known) (one : Candidate) (world : IsSeen names base one)
+    (inputs : List (Bor Column)) (k : ℕ) where
   abbrev Agreed : (ℕ → ℕ → ℕ → Type 0) → Source → Type 0
-  Agreed own = Agree base.count (EventsIn base inputs k) (EventsAt base.count one inputs k) (WithOwn (PairsOutside base inputs k) own) (WithOwn (PairsAt base.count one inputs k) own)
+  Agreed own =
+      Agree base.count (EventsIn base inputs k) (EventsAt base.count one inputs k)
+      (WithOwn (PairsOutside base inputs k) own) (WithOwn (PairsAt base.count one inputs k) own)
 
-  named : (own : ℕ → ℕ → ℕ → Type 0) (name : Predefined) → Contains names name → Agreed own (sources.Predefined name)
+  named : (own : ℕ → ℕ → ℕ → Type 0) (name : Predefined) → Contains names name
+      → Agreed own (sources.Predefined name)
   named own name inside = (world.events name inside, world.pairs name inside)
 
-  of_code : (own : ℕ → ℕ → ℕ → Type 0) (xs : List Step) → ((name : Predefined) → Contains (names_in xs) name → Contains names name) → OfSteps (Agreed own) xs
+  of_code : (own : ℕ → ℕ → ℕ → Type 0) (xs : List Step)
+      → ((name : Predefined) → Contains (names_in xs) name → Contains names name)
+      → OfSteps (Agreed own) xs
   of_code own xs within =
-      of_steps (Agreed own) (λ index. ((λ a. ((λ x. x), (λ x. x))), (λ a b. ((λ x. x), (λ x. x))))) (λ position. ((λ a. ((λ x. x), (λ x. x))), (λ a b. ((λ x. x), (λ x. x))))) xs
+      of_steps (Agreed own) (λ index. ((λ a. ((λ x. x), (λ x. x))), (λ a b. ((λ x. x), (λ x. x)))))
+      (λ position. ((λ a. ((λ x. x), (λ x. x))), (λ a b. ((λ x. x), (λ x. x))))) xs
       (λ name inside. named own name (within name inside))
 
-  set_same : (t : SetTree) (xs : List Step) → ((name : Predefined) → Contains (names_in xs) name → Contains names name) → xs ≡ set_code t [] → SameSet (MeansSet base.count (EventsIn base inputs k) t) (MeansSet base.count (EventsAt base.count one inputs k) t)
+  set_same : (t : SetTree) (xs : List Step)
+      → ((name : Predefined) → Contains (names_in xs) name → Contains names name)
+      → xs ≡ set_code t []
+      → SameSet (MeansSet base.count (EventsIn base inputs k) t)
+      (MeansSet base.count (EventsAt base.count one inputs k) t)
   set_same t xs within code =
       let own : ℕ → ℕ → ℕ → Type 0 = Of base.count [] in
-      set_agrees base.count (EventsIn base inputs k) (EventsAt base.count one inputs k) (WithOwn (PairsOutside base inputs k) own) (WithOwn (PairsAt base.count one inputs k) own) t
-      (set_parts (Agreed own) t [] (subst (λ (ys : List Step). OfSteps (Agreed own) ys) code (of_code own xs within))).0
+      set_agrees base.count (EventsIn base inputs k) (EventsAt base.count one inputs k)
+      (WithOwn (PairsOutside base inputs k) own) (WithOwn (PairsAt base.count one inputs k) own)
+      t
+      (set_parts (Agreed own) t [] (subst (λ (ys : List Step). OfSteps (Agreed own) ys) code
+      (of_code own xs within))).0
 
-  relation_same : (own : ℕ → ℕ → ℕ → Type 0) (t : RelTree) (xs : List Step) → ((name : Predefined) → Contains (names_in xs) name → Contains names name) → xs ≡ rel_code t [] → Same (Means base.count (EventsIn base inputs k) (WithOwn (PairsOutside base inputs k) own) t) (Means base.count (EventsAt base.count one inputs k) (WithOwn (PairsAt base.count one inputs k) own) t)
+  relation_same : (own : ℕ → ℕ → ℕ → Type 0) (t : RelTree) (xs : List Step)
+      → ((name : Predefined) → Contains (names_in xs) name → Contains names name)
+      → xs ≡ rel_code t []
+      → Same
+      (Means base.count (EventsIn base inputs k) (WithOwn (PairsOutside base inputs k) own) t)
+      (Means base.count (EventsAt base.count one inputs k)
+      (WithOwn (PairsAt base.count one inputs k) own) t)
   relation_same own t xs within code =
-      relation_agrees base.count (EventsIn base inputs k) (EventsAt base.count one inputs k) (WithOwn (PairsOutside base inputs k) own) (WithOwn (PairsAt base.count one inputs k) own) t
-      (relation_parts (Agreed own) t [] (subst (λ (ys : List Step). OfSteps (Agreed own) ys) code (of_code own xs within))).0
+      relation_agrees base.count (EventsIn base inputs k) (EventsAt base.count one inputs k)
+      (WithOwn (PairsOutside base inputs k) own) (WithOwn (PairsAt base.count one inputs k) own)
+      t
+      (relation_parts (Agreed own) t [] (subst (λ (ys : List Step). OfSteps (Agreed own) ys) code
+      (of_code own xs within))).0
 
-  answer_counted : (check : CheckCode) → ((name : Predefined) → Contains (names_in check.code.steps.items) name → Contains names name) → (kind : Kind) (answer : Bool) → IsAnswerOver check inputs base k kind answer → IsAnswer check base.count (EventsAt base.count one inputs k) (PairsAt base.count one inputs k) kind answer
-  answer_counted check within kinds.OfSet answer h = λ t code. unless_same check.negated _ _ _ (empty_same _ _ (set_same t check.code.steps.items within code)) (h t code)
-  answer_counted check within kinds.OfRelation answer h = λ t code. unless_same check.negated _ _ _ (holds_same check.word _ _ (relation_same (Of base.count []) t check.code.steps.items within code)) (h t code)
-  answer_counted check within kinds.OfAny answer h = λ t code. unless_same check.negated _ _ _ (holds_same check.word _ _ (relation_same (Of base.count []) t check.code.steps.items within code)) (h t code)
+  answer_counted : (check : CheckCode)
+      → ((name : Predefined) → Contains (names_in check.code.steps.items) name
+      → Contains names name) → (kind : Kind) (answer : Bool)
+      → IsAnswerOver check inputs base k kind answer
+      → IsAnswer check base.count (EventsAt base.count one inputs k)
+      (PairsAt base.count one inputs k) kind answer
+  answer_counted check within kinds.OfSet answer h =
+      λ t code. unless_same check.negated _ _ _
+      (empty_same _ _ (set_same t check.code.steps.items within code)) (h t code)
+  answer_counted check within kinds.OfRelation answer h =
+      λ t code. unless_same check.negated _ _ _
+      (holds_same check.word _ _ (relation_same (Of base.count []) t check.code.steps.items within
+      code))
+      (h t code)
+  answer_counted check within kinds.OfAny answer h =
+      λ t code. unless_same check.negated _ _ _
+      (holds_same check.word _ _ (relation_same (Of base.count []) t check.code.steps.items within
+      code))
+      (h t code)
 
-  pub answer_exact : (check : CheckCode) → ((name : Predefined) → Contains (names_in check.code.steps.items) name → Contains names name) → (kind : Kind) (answer : Bool) → IsAnswerOver check inputs base k kind answer → IsAnswer check (events_of one) (EventsAt (events_of one) one inputs k) (PairsAt (events_of one) one inputs k) kind answer
+  pub answer_exact : (check : CheckCode)
+      → ((name : Predefined) → Contains (names_in check.code.steps.items) name
+      → Contains names name) → (kind : Kind) (answer : Bool)
+      → IsAnswerOver check inputs base k kind answer
+      → IsAnswer check (events_of one) (EventsAt (events_of one) one inputs k)
+      (PairsAt (events_of one) one inputs k) kind answer
   answer_exact check within kind answer h =
-      subst (λ (n : ℕ). IsAnswer check n (EventsAt n one inputs k) (PairsAt n one inputs k) kind answer) world.count (answer_counted check within kind answer h)
+      subst
+      (λ (n : ℕ).
+      IsAnswer check n (EventsAt n one inputs k) (PairsAt n one inputs k) kind answer)
+      world.count
+      (answer_counted check within kind answer h)
 
-  meaning_counted : (xs : List Step) → ((name : Predefined) → Contains (names_in xs) name → Contains names name) → (kind : Kind) (s : Events) (r : Relation) → IsMeaningOver kind xs inputs base k s r → IsMeant kind xs base.count (EventsAt base.count one inputs k) (PairsAt base.count one inputs k) s r
-  meaning_counted xs within kinds.OfSet s r h = λ t code. changed_set s base.count _ _ (set_same t xs within code) (h t code)
-  meaning_counted xs within kinds.OfRelation s r h = λ t code. changed r base.count _ _ (relation_same (Of base.count []) t xs within code) (h t code)
-  meaning_counted xs within kinds.OfAny s r h = λ t code. changed r base.count _ _ (relation_same (Of base.count []) t xs within code) (h t code)
+  meaning_counted : (xs : List Step)
+      → ((name : Predefined) → Contains (names_in xs) name → Contains names name)
+      → (kind : Kind) (s : Events) (r : Relation) → IsMeaningOver kind xs inputs base k s r
+      → IsMeant kind xs base.count (EventsAt base.count one inputs k)
+      (PairsAt base.count one inputs k) s r
+  meaning_counted xs within kinds.OfSet s r h =
+      λ t code. changed_set s base.count _ _ (set_same t xs within code) (h t code)
+  meaning_counted xs within kinds.OfRelation s r h =
+      λ t code.
+      changed r base.count _ _ (relation_same (Of base.count []) t xs within code) (h t code)
+  meaning_counted xs within kinds.OfAny s r h =
+      λ t code.
+      changed r base.count _ _ (relation_same (Of base.count []) t xs within code) (h t code)
 
-  values_counted : (recursive : Bool) (bodies : List Body) (cs : List Column) → ((name : Predefined) → Contains (bodies_names bodies) name → Contains names name) → HaveValuesOver recursive bodies inputs base k cs → HaveValues recursive bodies base.count (EventsAt base.count one inputs k) (PairsAt base.count one inputs k) k cs
+  values_counted : (recursive : Bool) (bodies : List Body) (cs : List Column)
+      → ((name : Predefined) → Contains (bodies_names bodies) name → Contains names name)
+      → HaveValuesOver recursive bodies inputs base k cs
+      → HaveValues recursive bodies base.count (EventsAt base.count one inputs k)
+      (PairsAt base.count one inputs k) k cs
   values_counted false bodies cs within h = λ j lt c b.
-      let (s, r, has, meant) = h j lt c b in
-      (s, r, has, meaning_counted (get_or bodies j b).code.steps.items (λ name inside. within name (body_named bodies j lt b name inside)) (get_or bodies j b).code.kind s r meant)
+      let (s, r, has, meant) = h j lt c b in (
+        s,
+        r,
+        has,
+        meaning_counted (get_or bodies j b).code.steps.items
+            (λ name inside. within name (body_named bodies j lt b name inside))
+            (get_or bodies j b).code.kind s r meant,
+      )
   values_counted true bodies cs within h = λ trees codes fit.
       let (values, least, each) = h trees codes fit in (
         values,
-        least_agrees base.count (EventsIn base inputs k) (EventsAt base.count one inputs k) (PairsOutside base inputs k) (PairsAt base.count one inputs k) trees values
+        least_agrees base.count (EventsIn base inputs k) (EventsAt base.count one inputs k)
+            (PairsOutside base inputs k) (PairsAt base.count one inputs k) trees values
             (λ x lt own.
             let (b, code, among) = code_at trees bodies codes x lt in
-            relation_same own (body trees x) b.code.steps.items (λ name inside. within name (among name inside)) code)
+            relation_same own (body trees x) b.code.steps.items
+            (λ name inside. within name (among name inside)) code)
             least,
         each,
       )
 
-  pub values_exact : (recursive : Bool) (bodies : List Body) (cs : List Column) → ((name : Predefined) → Contains (bodies_names bodies) name → Contains names name) → HaveValuesOver recursive bodies inputs base k cs → HaveValues recursive bodies (events_of one) (EventsAt (events_of one) one inputs k) (PairsAt (events_of one) one inputs k) k cs
+  pub values_exact : (recursive : Bool) (bodies : List Body) (cs : List Column)
+      → ((name : Predefined) → Contains (bodies_names bodies) name → Contains names name)
+      → HaveValuesOver recursive bodies inputs base k cs
+      → HaveValues recursive bodies (events_of one) (EventsAt (events_of one) one inputs k)
+      (PairsAt (events_of one) one inputs k) k cs
   values_exact recursive bodies cs within h =
-      subst (λ (n : ℕ). HaveValues recursive bodies n (EventsAt n one inputs k) (PairsAt n one inputs k) k cs) world.count (values_counted recursive bodies cs within h)
+      subst
+      (λ (n : ℕ).
+      HaveValues recursive bodies n (EventsAt n one inputs k) (PairsAt n one inputs k) k cs)
+      world.count
+      (values_counted recursive bodies cs within h)
 
 -- the answers of a check
-pub answers_exact : (check : CheckCode) (inputs : List (Bor Column)) (xs : List NamedColumn) (cs : List Candidate) (answers : List Bool)
-    → AreColumnsFor xs cs → AreListed (column_names xs) (names_in check.code.steps.items) → AreAnswersOver check inputs (seen_in xs 0 cs) answers → AreAnswers check inputs cs answers
+pub answers_exact : (check : CheckCode) (inputs : List (Bor Column)) (xs : List NamedColumn)
+    (cs : List Candidate) (answers : List Bool)
+    → AreColumnsFor xs cs → AreListed (column_names xs) (names_in check.code.steps.items)
+    → AreAnswersOver check inputs (seen_in xs 0 cs) answers → AreAnswers check inputs cs answers
 answers_exact check inputs xs cs answers right listed h = (
   h.0 ∙ in_long xs 0 cs,
   (λ k one answer at_c at_a.
       let base = seen xs k (events_of one) in
       let world : IsSeen (column_names xs) base one = seen_right xs cs right k one at_c in
-      answer_exact (column_names xs) base one world inputs k check listed check.code.kind answer (h.1 k base answer (first_at xs cs k one at_c) at_a)),
+      answer_exact (column_names xs) base one world inputs k check listed check.code.kind answer
+      (h.1 k base answer (first_at xs cs k one at_c) at_a)),
 )
 
 -- the columns of a group
-pub columns_exact : (recursive : Bool) (bodies : List Body) (inputs : List (Bor Column)) (xs : List NamedColumn) (cs : List Candidate) (columns : List Column)
-    → AreColumnsFor xs cs → AreListed (column_names xs) (bodies_names bodies) → AreColumnsOver recursive bodies inputs (seen_in xs 0 cs) columns → AreColumns recursive bodies inputs cs columns
+pub columns_exact : (recursive : Bool) (bodies : List Body) (inputs : List (Bor Column))
+    (xs : List NamedColumn) (cs : List Candidate) (columns : List Column)
+    → AreColumnsFor xs cs → AreListed (column_names xs) (bodies_names bodies)
+    → AreColumnsOver recursive bodies inputs (seen_in xs 0 cs) columns
+    → AreColumns recursive bodies inputs cs columns
 columns_exact recursive bodies inputs xs cs columns right listed h = record {
   as_many = h.as_many;
   suited = h.suited;
@@ -111,5 +194,6 @@ columns_exact recursive bodies inputs xs cs columns right listed h = record {
   values = λ k one at.
       let base = seen xs k (events_of one) in
       let world : IsSeen (column_names xs) base one = seen_right xs cs right k one at in
-      values_exact (column_names xs) base one world inputs k recursive bodies columns listed (h.values k base (first_at xs cs k one at));
+      values_exact (column_names xs) base one world inputs k recursive bodies columns listed
+      (h.values k base (first_at xs cs k one at));
 }

@@ -1,5 +1,5 @@
--- Combinations that differ in values alone have the same predefined sets, and the same relations that do not depend on
--- what the loads read or on the order of the stores.
+-- Combinations that differ in values alone have the same predefined sets, and the same relations
+-- that do not depend on what the loads read or on the order of the stores.
 use Rattle.std.proofs.Common.{ℕ, ◌≡◌, ◌<◌, ◌∙◌, Bool, true, false, List, length, get_or, refl, sym, ap, subst}
 use Rattle.std.specs.Prelude.{slice_get, Some}
 use Rattle.std.proofs.lemmas.Bool.{false≢true}
@@ -58,14 +58,16 @@ same_location (Fence f) (Read m w) h = absurd h
 same_location (Fence f) (Write m w) h = absurd h
 same_location (Fence f) (Fence g) h = refl
 
-read_like : (a b : Action) → IsActionLike a b → (l : ℕ) (v : _) → a ≡ Read l v → (m : ℕ) × (w : _) × (b ≡ Read m w)
+read_like : (a b : Action) → IsActionLike a b → (l : ℕ) (v : _) → a ≡ Read l v
+    → (m : ℕ) × (w : _) × (b ≡ Read m w)
 read_like (Read l v) (Read m w) h k u e = (m, w, refl)
 read_like (Read l v) (Write m w) h k u e = absurd h
 read_like (Read l v) (Fence g) h k u e = absurd h
 read_like (Write l v) b h k u e = absurd (false≢true (ap is_read e))
 read_like (Fence f) b h k u e = absurd (false≢true (ap is_read e))
 
-write_like : (a b : Action) → IsActionLike a b → (l : ℕ) (v : _) → a ≡ Write l v → (m : ℕ) × (w : _) × (b ≡ Write m w)
+write_like : (a b : Action) → IsActionLike a b → (l : ℕ) (v : _) → a ≡ Write l v
+    → (m : ℕ) × (w : _) × (b ≡ Write m w)
 write_like (Write l v) (Write m w) h k u e = (m, w, refl)
 write_like (Write l v) (Read m w) h k u e = absurd h
 write_like (Write l v) (Fence g) h k u e = absurd h
@@ -100,26 +102,39 @@ in_like _ e f h at = absurd at
 thread_like : (e g f k : Event) → IsLike e f → IsLike g k → IsSameThread e g → IsSameThread f k
 thread_like e g f k h j (t, p, q) = (t, sym h.0 ∙ p, sym j.0 ∙ q)
 
-location_like : (e g f k : Event) → IsLike e f → IsLike g k → IsSameLocation e g → IsSameLocation f k
-location_like e g f k h j (l, p, q) = (l, sym (same_location e.action f.action h.1) ∙ p, sym (same_location g.action k.action j.1) ∙ q)
+location_like : (e g f k : Event) → IsLike e f → IsLike g k → IsSameLocation e g
+    → IsSameLocation f k
+location_like e g f k h j (l, p, q) = (
+  l,
+  sym (same_location e.action f.action h.1) ∙ p,
+  sym (same_location g.action k.action j.1) ∙ q,
+)
 
 events_back : (es fs : List Event) → AreEventsLike es fs → AreEventsLike fs es
 events_back es fs like = (sym like.0, (λ i lt d. like_back _ _ (like.1 i (rw like.0 lt) d)))
 
 -- the event at an index has one like it there
-event_at : (es fs : List Event) → AreEventsLike es fs → (a : ℕ) (e : Event) → slice_get es a ≡ Some e → (f : Event) × (slice_get fs a ≡ Some f) × IsLike e f
+event_at : (es fs : List Event) → AreEventsLike es fs → (a : ℕ) (e : Event)
+    → slice_get es a ≡ Some e → (f : Event) × (slice_get fs a ≡ Some f) × IsLike e f
 event_at es fs like a e at =
     let lt : a < length es = get_within es e a at in
-    let inside : a < length fs = rw (← like.0) lt in
-    (get_or fs a e, slice_get-get_or fs a e inside, subst (λ (x : Event). IsLike x (get_or fs a e)) (get_or_from_slice_get es a e e at) (like.1 a lt e))
+    let inside : a < length fs = rw (← like.0) lt in (
+      get_or fs a e,
+      slice_get-get_or fs a e inside,
+      subst (λ (x : Event). IsLike x (get_or fs a e)) (get_or_from_slice_get es a e e at)
+          (like.1 a lt e),
+    )
 
 module _ (es fs : List Event) (like : AreEventsLike es fs) where
-  at_like : (S : Event → Type 0) → ((e f : Event) → IsLike e f → S e → S f) → (a : ℕ) → At es S a → At fs S a
+  at_like : (S : Event → Type 0) → ((e f : Event) → IsLike e f → S e → S f) → (a : ℕ) → At es S a
+      → At fs S a
   at_like S moves a (e, at, h) =
       let t = event_at es fs like a e at in
       (t.0, t.1, moves e t.0 t.2 h)
 
-  both_like : (R : Event → Event → Type 0) → ((e g f k : Event) → IsLike e f → IsLike g k → R e g → R f k) → (a b : ℕ) → Both es R a b → Both fs R a b
+  both_like : (R : Event → Event → Type 0)
+      → ((e g f k : Event) → IsLike e f → IsLike g k → R e g → R f k) → (a b : ℕ) → Both es R a b
+      → Both fs R a b
   both_like R moves a b (e, g, at_a, at_b, h) =
       let s = event_at es fs like a e at_a in
       let t = event_at es fs like b g at_b in
@@ -135,25 +150,42 @@ module _ (es fs : List Event) (like : AreEventsLike es fs) where
     (c, order_like a c before, at_like (IsFence k) (fence_event k) c at, order_like c b after),
   )
 
-fixed_like : (name : Predefined) (n : ℕ) (c d : Combination) → AreAlike c d → (a b : ℕ) → Fixed name n c a b → Fixed name n d a b
+fixed_like : (name : Predefined) (n : ℕ) (c d : Combination) → AreAlike c d → (a b : ℕ)
+    → Fixed name n c a b → Fixed name n d a b
 fixed_like names.Identity n c d like a b h = h
-fixed_like names.ProgramOrder n c d like a b h = order_like c.events.items d.events.items like.events a b h
-fixed_like names.SameLocation n c d like a b h = both_like c.events.items d.events.items like.events IsSameLocation location_like a b h
+fixed_like names.ProgramOrder n c d like a b h =
+    order_like c.events.items d.events.items like.events a b h
+fixed_like names.SameLocation n c d like a b h =
+    both_like c.events.items d.events.items like.events IsSameLocation location_like a b h
 fixed_like names.ProgramOrderSameLocation n c d like a b h = (
   order_like c.events.items d.events.items like.events a b h.0,
   both_like c.events.items d.events.items like.events IsSameLocation location_like a b h.1,
 )
-fixed_like names.Internal n c d like a b h = both_like c.events.items d.events.items like.events IsSameThread thread_like a b h
-fixed_like names.External n c d like a b h =
-    (h.0, h.1, (λ inside. h.2 (both_like d.events.items c.events.items (events_back c.events.items d.events.items like.events) IsSameThread thread_like a b inside)))
-fixed_like names.AddressDependency n c d like a b h = subst (λ (x : DependencyLists). Listed x.addr_pairs a b) like.dependencies h
-fixed_like names.DataDependency n c d like a b h = subst (λ (x : DependencyLists). Listed x.data_pairs a b) like.dependencies h
-fixed_like names.ControlDependency n c d like a b h = subst (λ (x : DependencyLists). Listed x.ctrl_pairs a b) like.dependencies h
-fixed_like names.ControlIsyncDependency n c d like a b h = subst (λ (x : DependencyLists). Listed x.ctrlisync_pairs a b) like.dependencies h
-fixed_like names.SyncOrder n c d like a b h = fenced_like c.events.items d.events.items like.events _ a b h
-fixed_like names.LwsyncOrder n c d like a b h = fenced_like c.events.items d.events.items like.events _ a b h
-fixed_like names.EieioOrder n c d like a b h = fenced_like c.events.items d.events.items like.events _ a b h
-fixed_like names.IsyncOrder n c d like a b h = fenced_like c.events.items d.events.items like.events _ a b h
+fixed_like names.Internal n c d like a b h =
+    both_like c.events.items d.events.items like.events IsSameThread thread_like a b h
+fixed_like names.External n c d like a b h = (
+  h.0,
+  h.1,
+  (λ inside. h.2 (both_like d.events.items c.events.items
+      (events_back c.events.items d.events.items like.events) IsSameThread
+      thread_like a b inside)),
+)
+fixed_like names.AddressDependency n c d like a b h =
+    subst (λ (x : DependencyLists). Listed x.addr_pairs a b) like.dependencies h
+fixed_like names.DataDependency n c d like a b h =
+    subst (λ (x : DependencyLists). Listed x.data_pairs a b) like.dependencies h
+fixed_like names.ControlDependency n c d like a b h =
+    subst (λ (x : DependencyLists). Listed x.ctrl_pairs a b) like.dependencies h
+fixed_like names.ControlIsyncDependency n c d like a b h =
+    subst (λ (x : DependencyLists). Listed x.ctrlisync_pairs a b) like.dependencies h
+fixed_like names.SyncOrder n c d like a b h =
+    fenced_like c.events.items d.events.items like.events _ a b h
+fixed_like names.LwsyncOrder n c d like a b h =
+    fenced_like c.events.items d.events.items like.events _ a b h
+fixed_like names.EieioOrder n c d like a b h =
+    fenced_like c.events.items d.events.items like.events _ a b h
+fixed_like names.IsyncOrder n c d like a b h =
+    fenced_like c.events.items d.events.items like.events _ a b h
 fixed_like _ n c d like a b h = absurd h
 
 pub alike_back : (c d : Combination) → AreAlike c d → AreAlike d c
@@ -162,14 +194,18 @@ alike_back c d like = record {
   dependencies = sym like.dependencies;
 }
 
-set_like : (n : ℕ) (name : Predefined) (c d : Combination) → AreAlike c d → (a : ℕ) → SetIn c n name a → SetIn d n name a
-set_like n name c d like a h = (h.0, at_like c.events.items d.events.items like.events (IsIn name) (in_like name) a h.1)
+set_like : (n : ℕ) (name : Predefined) (c d : Combination) → AreAlike c d → (a : ℕ)
+    → SetIn c n name a → SetIn d n name a
+set_like n name c d like a h =
+    (h.0, at_like c.events.items d.events.items like.events (IsIn name) (in_like name) a h.1)
 
-shared_like : (n : ℕ) (name : Predefined) (c d : Combination) → AreAlike c d → (a b : ℕ) → SharedIn c n name a b → SharedIn d n name a b
+shared_like : (n : ℕ) (name : Predefined) (c d : Combination) → AreAlike c d → (a b : ℕ)
+    → SharedIn c n name a b → SharedIn d n name a b
 shared_like n name c d like a b h = (h.0, h.1, fixed_like name n c d like a b h.2)
 
 -- what was made for one of them stands for the other
-pub alike_entered : (base : Known) (c d : Combination) → AreAlike c d → IsEntered base c → IsEntered base d
+pub alike_entered : (base : Known) (c d : Combination) → AreAlike c d → IsEntered base c
+    → IsEntered base d
 alike_entered base c d like h = record {
   count = h.count ∙ like.events.0;
   sets = λ name held a. (

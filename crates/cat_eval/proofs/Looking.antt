@@ -15,10 +15,14 @@ use Rattle.cat_eval.proofs.Seeing.{events_found, pairs_found}
 -- what is seen under these names is what they stand for in the candidate
 pub record IsSeen (names : List Predefined) (base : Known) (one : Candidate) : Type 0 where
   pub count : base.count ≡ events_of one
-  pub events : (name : Predefined) → Contains names name → SameSet (EventsOf base name) (SetIn one.0 base.count name)
-  pub pairs : (name : Predefined) → Contains names name → Same (PairsOf base name) (RelationIn name base.count one.0 one.1.0 one.1.1)
+  pub events : (name : Predefined) → Contains names name
+      → SameSet (EventsOf base name) (SetIn one.0 base.count name)
+  pub pairs : (name : Predefined) → Contains names name
+      → Same (PairsOf base name) (RelationIn name base.count one.0 one.1.0 one.1.1)
 
-later : (x : NamedColumn) (xs : List NamedColumn) (name : Predefined) → Contains (x.name ∷ column_names xs) name → (x.name ≡ name → ⊥) → Contains (column_names xs) name
+later : (x : NamedColumn) (xs : List NamedColumn) (name : Predefined)
+    → Contains (x.name ∷ column_names xs) name → (x.name ≡ name → ⊥)
+    → Contains (column_names xs) name
 later x xs name (zero, lt, e) ne = absurd (ne e)
 later x xs name (suc k, lt, e) ne = (k, omega (arith, lt), e)
 
@@ -28,7 +32,10 @@ module _ (k : ℕ) (one : Candidate) where
   AreRight [] = Unit {0}
   AreRight (x ∷ xs) = StandsFor x.column.now k x.name one × AreRight xs
 
-  events_right : (xs : List NamedColumn) (name : Predefined) → AreRight xs → Contains (column_names xs) name → (a : ℕ) → EventsAmong (map (value_at k) xs) name (events_of one) a ↔ SetIn one.0 (events_of one) name a
+  events_right : (xs : List NamedColumn) (name : Predefined) → AreRight xs
+      → Contains (column_names xs) name → (a : ℕ)
+      → EventsAmong (map (value_at k) xs) name (events_of one) a
+      ↔ SetIn one.0 (events_of one) name a
   events_right [] name right inside a = absurd (omega (arith, inside.1))
   events_right (x ∷ xs) name right inside a = elim (same_or_not x.name name) [
     | inl same ↦
@@ -38,11 +45,16 @@ module _ (k : ℕ) (one : Candidate) where
           (λ s. inl (same, found.0 (here.1 (rw same s)))),
         )
     | inr other ↦
-        let rest = events_right xs name right.1 (later x xs name inside other) a in
-        ((λ h. elim h [ inl f ↦ absurd (other f.0) | inr g ↦ rest.0 g.1 ]), (λ s. inr (other, rest.1 s)))
+        let rest = events_right xs name right.1 (later x xs name inside other) a in (
+          (λ h. elim h [ inl f ↦ absurd (other f.0) | inr g ↦ rest.0 g.1 ]),
+          (λ s. inr (other, rest.1 s)),
+        )
   ]
 
-  pairs_right : (xs : List NamedColumn) (name : Predefined) → AreRight xs → Contains (column_names xs) name → (a b : ℕ) → PairsAmong (map (value_at k) xs) name (events_of one) a b ↔ RelationIn name (events_of one) one.0 one.1.0 one.1.1 a b
+  pairs_right : (xs : List NamedColumn) (name : Predefined) → AreRight xs
+      → Contains (column_names xs) name → (a b : ℕ)
+      → PairsAmong (map (value_at k) xs) name (events_of one) a b
+      ↔ RelationIn name (events_of one) one.0 one.1.0 one.1.1 a b
   pairs_right [] name right inside a b = absurd (omega (arith, inside.1))
   pairs_right (x ∷ xs) name right inside a b = elim (same_or_not x.name name) [
     | inl same ↦
@@ -52,15 +64,23 @@ module _ (k : ℕ) (one : Candidate) where
           (λ s. inl (same, found.0 (here.1 (rw same s)))),
         )
     | inr other ↦
-        let rest = pairs_right xs name right.1 (later x xs name inside other) a b in
-        ((λ h. elim h [ inl f ↦ absurd (other f.0) | inr g ↦ rest.0 g.1 ]), (λ s. inr (other, rest.1 s)))
+        let rest = pairs_right xs name right.1 (later x xs name inside other) a b in (
+          (λ h. elim h [ inl f ↦ absurd (other f.0) | inr g ↦ rest.0 g.1 ]),
+          (λ s. inr (other, rest.1 s)),
+        )
   ]
 
-  all_right : (xs : List NamedColumn) (cs : List Candidate) → AreColumnsFor xs cs → slice_get cs k ≡ Some one → AreRight xs
+  all_right : (xs : List NamedColumn) (cs : List Candidate) → AreColumnsFor xs cs
+      → slice_get cs k ≡ Some one → AreRight xs
   all_right [] cs right at = tt
-  all_right (x ∷ xs) cs right at = (right 0 (omega arith) x k one at, all_right xs cs (λ i lt d. right (suc i) (omega (arith, lt)) d) at)
+  all_right (x ∷ xs) cs right at = (
+    right 0 (omega arith) x k one at,
+    all_right xs cs (λ i lt d. right (suc i) (omega (arith, lt)) d) at,
+  )
 
-pub seen_right : (xs : List NamedColumn) (cs : List Candidate) → AreColumnsFor xs cs → (k : ℕ) (one : Candidate) → slice_get cs k ≡ Some one → IsSeen (column_names xs) (seen xs k (events_of one)) one
+pub seen_right : (xs : List NamedColumn) (cs : List Candidate) → AreColumnsFor xs cs
+    → (k : ℕ) (one : Candidate) → slice_get cs k ≡ Some one
+    → IsSeen (column_names xs) (seen xs k (events_of one)) one
 seen_right xs cs right k one at = record {
   count = refl;
   events = λ name inside. events_right k one xs name (all_right k one xs cs right at) inside;

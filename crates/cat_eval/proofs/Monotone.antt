@@ -12,7 +12,8 @@ use Rattle.cat_eval.specs.Least.{IsFixed, IsMonotone}
 use Rattle.bit_relations.proofs.Closing.{Plus-map}
 
 -- more pairs, more pairs of the closure
-pub closed_wider : (how : Postfix) (n : ℕ) (R S : ℕ → ℕ → Type 0) → ((a b : ℕ) → R a b → S a b) → (a b : ℕ) → Closed how n R a b → Closed how n S a b
+pub closed_wider : (how : Postfix) (n : ℕ) (R S : ℕ → ℕ → Type 0) → ((a b : ℕ) → R a b → S a b)
+    → (a b : ℕ) → Closed how n R a b → Closed how n S a b
 closed_wider postfix.Transitive n R S wider a b m = Plus-map R S wider a b m
 closed_wider postfix.Reflexive n R S wider a b (inl m) = inl m
 closed_wider postfix.Reflexive n R S wider a b (inr m) = inr (wider a b m)
@@ -22,15 +23,18 @@ closed_wider postfix.Closure n R S wider a b (inr m) = inr (Plus-map R S wider a
 
 module _ (n : ℕ) (sets : Source → ℕ → Type 0) (outer : Source → ℕ → ℕ → Type 0) where
   -- an expression without names of the group means the same, whatever these are
-  pub fixed : (R S : ℕ → ℕ → ℕ → Type 0) (e : RelTree) → IsFixed e → (a b : ℕ) → Means n sets (WithOwn outer R) e a b → Means n sets (WithOwn outer S) e a b
+  pub fixed : (R S : ℕ → ℕ → ℕ → Type 0) (e : RelTree) → IsFixed e → (a b : ℕ)
+      → Means n sets (WithOwn outer R) e a b → Means n sets (WithOwn outer S) e a b
   fixed R S (RelName (sources.Predefined x)) f a b m = m
   fixed R S (RelName (sources.Input x)) f a b m = m
   fixed R S (RelName (sources.Own x)) f a b m = absurd f
   fixed R S NoPair f a b m = m
   fixed R S (RelBlend blends.Union e g) f a b (inl m) = inl (fixed R S e f.0 a b m)
   fixed R S (RelBlend blends.Union e g) f a b (inr m) = inr (fixed R S g f.1 a b m)
-  fixed R S (RelBlend blends.Intersection e g) f a b m = (fixed R S e f.0 a b m.0, fixed R S g f.1 a b m.1)
-  fixed R S (RelBlend blends.Difference e g) f a b m = (fixed R S e f.0 a b m.0, (λ k. m.1 (fixed S R g f.1 a b k)))
+  fixed R S (RelBlend blends.Intersection e g) f a b m =
+      (fixed R S e f.0 a b m.0, fixed R S g f.1 a b m.1)
+  fixed R S (RelBlend blends.Difference e g) f a b m =
+      (fixed R S e f.0 a b m.0, (λ k. m.1 (fixed S R g f.1 a b k)))
   fixed R S (Then e g) f a b (c, m, k) = (c, fixed R S e f.0 a c m, fixed R S g f.1 c b k)
   fixed R S (Cross s t) f a b m = m
   fixed R S (OnSet s) f a b m = m
@@ -38,16 +42,23 @@ module _ (n : ℕ) (sets : Source → ℕ → Type 0) (outer : Source → ℕ �
   fixed R S (RelNot e) f a b m = (m.0, m.1, (λ k. m.2 (fixed S R e f a b k)))
 
   -- where the names of the group have more pairs, so has a monotone expression
-  pub monotone : (R S : ℕ → ℕ → ℕ → Type 0) → ((x a b : ℕ) → R x a b → S x a b) → (e : RelTree) → IsMonotone e → (a b : ℕ) → Means n sets (WithOwn outer R) e a b → Means n sets (WithOwn outer S) e a b
+  pub monotone : (R S : ℕ → ℕ → ℕ → Type 0) → ((x a b : ℕ) → R x a b → S x a b) → (e : RelTree)
+      → IsMonotone e → (a b : ℕ) → Means n sets (WithOwn outer R) e a b
+      → Means n sets (WithOwn outer S) e a b
   monotone R S wider (RelName (sources.Predefined x)) f a b m = m
   monotone R S wider (RelName (sources.Input x)) f a b m = m
   monotone R S wider (RelName (sources.Own x)) f a b m = wider x a b m
   monotone R S wider NoPair f a b m = m
-  monotone R S wider (RelBlend blends.Union e g) f a b (inl m) = inl (monotone R S wider e f.0 a b m)
-  monotone R S wider (RelBlend blends.Union e g) f a b (inr m) = inr (monotone R S wider g f.1 a b m)
-  monotone R S wider (RelBlend blends.Intersection e g) f a b m = (monotone R S wider e f.0 a b m.0, monotone R S wider g f.1 a b m.1)
-  monotone R S wider (RelBlend blends.Difference e g) f a b m = (monotone R S wider e f.0 a b m.0, (λ k. m.1 (fixed S R g f.1 a b k)))
-  monotone R S wider (Then e g) f a b (c, m, k) = (c, monotone R S wider e f.0 a c m, monotone R S wider g f.1 c b k)
+  monotone R S wider (RelBlend blends.Union e g) f a b (inl m) =
+      inl (monotone R S wider e f.0 a b m)
+  monotone R S wider (RelBlend blends.Union e g) f a b (inr m) =
+      inr (monotone R S wider g f.1 a b m)
+  monotone R S wider (RelBlend blends.Intersection e g) f a b m =
+      (monotone R S wider e f.0 a b m.0, monotone R S wider g f.1 a b m.1)
+  monotone R S wider (RelBlend blends.Difference e g) f a b m =
+      (monotone R S wider e f.0 a b m.0, (λ k. m.1 (fixed S R g f.1 a b k)))
+  monotone R S wider (Then e g) f a b (c, m, k) =
+      (c, monotone R S wider e f.0 a c m, monotone R S wider g f.1 c b k)
   monotone R S wider (Cross s t) f a b m = m
   monotone R S wider (OnSet s) f a b m = m
   monotone R S wider (Close how e) f a b m = closed_wider how n _ _ (monotone R S wider e f) a b m

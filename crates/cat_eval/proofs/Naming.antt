@@ -7,10 +7,12 @@ use denote.Enum.Declared.{tag_of}
 use Rattle.text_values.specs.contracts.predefined.Predefined.{the_type}
 use Rattle.text_values.specs.declared.predefined.Predefined.{Predefined}
 
-pub equal_names : (x y : Predefined) (answer : Bool) → answer ≡ sameb the_type x y → answer ≡ true → x ≡ y
+pub equal_names : (x y : Predefined) (answer : Bool) → answer ≡ sameb the_type x y → answer ≡ true
+    → x ≡ y
 equal_names x y answer is holds = same_true the_type tt x y (sym is ∙ holds)
 
-pub unequal_names : (x y : Predefined) (answer : Bool) → answer ≡ sameb the_type x y → answer ≡ false → x ≡ y → ⊥
+pub unequal_names : (x y : Predefined) (answer : Bool) → answer ≡ sameb the_type x y
+    → answer ≡ false → x ≡ y → ⊥
 unequal_names x y answer is fails = same_false the_type x y (sym is ∙ fails)
 
 pub names_Decides : (x y : Predefined) → Decides (sameb the_type x y) (x ≡ y)

@@ -15,7 +15,8 @@ module _ (first second : Known) (same : IsReordered first second) where
   shared_kept name = rw (same.shared, same.count) refl
 
   -- a name that does not change with the order of the stores has the same pairs
-  pairs_kept : (name : Predefined) → changes_with_orders name ≡ false → PairsOf second name ≡ PairsOf first name
+  pairs_kept : (name : Predefined) → changes_with_orders name ≡ false
+      → PairsOf second name ≡ PairsOf first name
   pairs_kept names.Loads is = shared_kept names.Loads
   pairs_kept names.Stores is = shared_kept names.Stores
   pairs_kept names.Accesses is = shared_kept names.Accesses
@@ -50,9 +51,11 @@ module _ (first second : Known) (same : IsReordered first second) where
   pairs_kept names.EieioOrder is = shared_kept names.EieioOrder
   pairs_kept names.IsyncOrder is = shared_kept names.IsyncOrder
 
-  held_as : (b : Bool) (name : Predefined) → changes_with_orders name ≡ false → (s : Events) (r : Relation) → IsHeld b name first s r → IsHeld b name second s r
+  held_as : (b : Bool) (name : Predefined) → changes_with_orders name ≡ false
+      → (s : Events) (r : Relation) → IsHeld b name first s r → IsHeld b name second s r
   held_as true name is s r held = rw (same.sets, same.count) held
   held_as false name is s r held = rw (pairs_kept name is, same.count) held
 
-  pub holds_same : (name : Predefined) → changes_with_orders name ≡ false → HoldsSame name first second
+  pub holds_same : (name : Predefined) → changes_with_orders name ≡ false
+      → HoldsSame name first second
   holds_same name is = held_as (is_set name) name is

@@ -21,7 +21,8 @@ pub events_found : (c : Column) (k n a : ℕ) → ColumnEvents c k n a ↔ Event
 events_found (columns.Sets values) k n a = ((λ x. x), (λ x. x))
 events_found (columns.Relations values) k n a = ((λ x. x), (λ x. x))
 
-pub pairs_found : (c : Column) (k n a b : ℕ) → ColumnPairs c k n a b ↔ PairsFound (relation_of c k) n a b
+pub pairs_found : (c : Column) (k n a b : ℕ)
+    → ColumnPairs c k n a b ↔ PairsFound (relation_of c k) n a b
 pairs_found (columns.Sets values) k n a b = ((λ x. x), (λ x. x))
 pairs_found (columns.Relations values) k n a b = ((λ x. x), (λ x. x))
 
@@ -35,7 +36,8 @@ relation_same : (c : Column) (j k : ℕ) → HasSame c j k → relation_of c j �
 relation_same (columns.Sets values) j k same = refl
 relation_same (columns.Relations values) j k same = same
 
-values_same : (xs : List NamedColumn) (j k : ℕ) → AreSame (columns_of xs) j k → map (value_at j) xs ≡ map (value_at k) xs
+values_same : (xs : List NamedColumn) (j k : ℕ) → AreSame (columns_of xs) j k
+    → map (value_at j) xs ≡ map (value_at k) xs
 values_same [] j k same = refl
 values_same (x ∷ xs) j k same =
     let e = set_same x.column.now j k (same 0 x.column refl) in
@@ -43,26 +45,37 @@ values_same (x ∷ xs) j k same =
     let rest = values_same xs j k (λ index column at. same (suc index) column at) in
     rw (e, f, rest) refl
 
-pub seen_same : (xs : List NamedColumn) (j k n : ℕ) → AreSame (columns_of xs) j k → seen xs j n ≡ seen xs k n
-seen_same xs j k n same = ap (λ (vs : List Value). record { count = n; values = vs }) (values_same xs j k same)
+pub seen_same : (xs : List NamedColumn) (j k n : ℕ) → AreSame (columns_of xs) j k
+    → seen xs j n ≡ seen xs k n
+seen_same xs j k n same =
+    ap (λ (vs : List Value). record { count = n; values = vs }) (values_same xs j k same)
 
 -- ---- one candidate further
 
--- where the next candidate has as many events as the last one, and the names stand for the same, the same is seen
-pub seen_again : (xs : List NamedColumn) (place : Place) (bases : List Known) (n : ℕ) → IsAt xs place bases → place.before ≡ Some n → place.candidate < place.steady → EndsWith bases (seen xs (length bases) n)
+-- where the next candidate has as many events as the last one, and the names stand for the same,
+-- the same is seen
+pub seen_again : (xs : List NamedColumn) (place : Place) (bases : List Known) (n : ℕ)
+    → IsAt xs place bases → place.before ≡ Some n → place.candidate < place.steady
+    → EndsWith bases (seen xs (length bases) n)
 seen_again xs place bases n at before lt =
     let ends = at.last n before in
     let same : AreSame (columns_of xs) (place.candidate - 1) place.candidate = at.steady place.candidate (omega arith) lt in
-    subst (λ (k : ℕ). EndsWith bases (seen xs k n)) at.number (subst (λ (known : Known). EndsWith bases known) (seen_same xs (place.candidate - 1) place.candidate n same) ends)
+    subst (λ (k : ℕ). EndsWith bases (seen xs k n)) at.number (subst
+    (λ (known : Known). EndsWith bases known)
+    (seen_same xs (place.candidate - 1) place.candidate n same) ends)
 
-pub at_more : (xs : List NamedColumn) (bases : List Known) (place new : Place) (n : ℕ) → IsAt xs place bases → new.candidate ≡ place.candidate + 1 → new.before ≡ Some n → IsSteady (columns_of xs) (place.candidate + 1) new.steady → IsAt xs new (bases ++ seen xs (length bases) n ∷ [])
+pub at_more : (xs : List NamedColumn) (bases : List Known) (place new : Place) (n : ℕ)
+    → IsAt xs place bases → new.candidate ≡ place.candidate + 1 → new.before ≡ Some n
+    → IsSteady (columns_of xs) (place.candidate + 1) new.steady
+    → IsAt xs new (bases ++ seen xs (length bases) n ∷ [])
 at_more xs bases place new n at next before steady = record {
   number = omega (arith, next, at.number, length-append bases (seen xs (length bases) n ∷ []));
   steady = subst (λ (k : ℕ). IsSteady (columns_of xs) k new.steady) (sym next) steady;
   last = λ m is. (bases, ap (λ (known : Known). bases ++ known ∷ []) (is_last m is));
 }
   where
-    is_last : (m : ℕ) → new.before ≡ Some m → seen xs (length bases) n ≡ seen xs (new.candidate - 1) m
+    is_last : (m : ℕ) → new.before ≡ Some m
+        → seen xs (length bases) n ≡ seen xs (new.candidate - 1) m
     is_last m is =
         let same : n ≡ m = cc in
         let here : length bases ≡ new.candidate - 1 = omega (arith, next, at.number) in
@@ -76,10 +89,12 @@ run_long xs k n (suc m) =
     let e : length (seen_run xs k n m) ≡ m = run_long xs k n m in
     omega (arith, e, length-append (seen_run xs k n m) (seen xs (k + m) n ∷ []))
 
-pub run_step : (xs : List NamedColumn) (k n m : ℕ) → seen_run xs k n (m + 1) ≡ seen_run xs k n m ++ seen xs (k + m) n ∷ []
+pub run_step : (xs : List NamedColumn) (k n m : ℕ)
+    → seen_run xs k n (m + 1) ≡ seen_run xs k n m ++ seen xs (k + m) n ∷ []
 run_step xs k n m = let e : m + 1 ≡ suc m = omega arith in rw e refl
 
-pub run_more : (xs : List NamedColumn) (k n a b : ℕ) → seen_run xs k n (a + b) ≡ seen_run xs k n a ++ seen_run xs (k + a) n b
+pub run_more : (xs : List NamedColumn) (k n a b : ℕ)
+    → seen_run xs k n (a + b) ≡ seen_run xs k n a ++ seen_run xs (k + a) n b
 run_more xs k n a zero =
     let e : a + 0 ≡ a = omega arith in
     rw e (sym (append-nil (seen_run xs k n a)))
@@ -90,13 +105,16 @@ run_more xs k n a (suc b) =
     ∙ append_assoc (seen_run xs k n a) (seen_run xs (k + a) n b) (seen xs (k + (a + b)) n ∷ [])
     ∙ ap (λ (j : ℕ). seen_run xs k n a ++ (seen_run xs (k + a) n b ++ seen xs j n ∷ [])) f)
 
-pub in_append : (xs : List NamedColumn) (k : ℕ) (cs ds : List Candidate) → seen_in xs k (cs ++ ds) ≡ seen_in xs k cs ++ seen_in xs (k + length cs) ds
+pub in_append : (xs : List NamedColumn) (k : ℕ) (cs ds : List Candidate)
+    → seen_in xs k (cs ++ ds) ≡ seen_in xs k cs ++ seen_in xs (k + length cs) ds
 in_append xs k [] ds = let e : k + 0 ≡ k = omega arith in rw e refl
 in_append xs k (c ∷ cs) ds =
     let e : k + 1 + length cs ≡ k + length (c ∷ cs) = omega arith in
-    ap (λ (ks : List Known). seen xs k (events_of c) ∷ ks) (in_append xs (k + 1) cs ds ∙ ap (λ (j : ℕ). seen_in xs (k + 1) cs ++ seen_in xs j ds) e)
+    ap (λ (ks : List Known). seen xs k (events_of c) ∷ ks) (in_append xs (k + 1) cs ds
+    ∙ ap (λ (j : ℕ). seen_in xs (k + 1) cs ++ seen_in xs j ds) e)
 
-pub in_run : (xs : List NamedColumn) (k : ℕ) (c : Combination) (ts : List (List ℕ × List ℕ)) → seen_in xs k (map (λ t. (c, t)) ts) ≡ seen_run xs k (length c.events.items) (length ts)
+pub in_run : (xs : List NamedColumn) (k : ℕ) (c : Combination) (ts : List (List ℕ × List ℕ))
+    → seen_in xs k (map (λ t. (c, t)) ts) ≡ seen_run xs k (length c.events.items) (length ts)
 in_run xs k c [] = refl
 in_run xs k c (t ∷ ts) =
     let n = length c.events.items in
@@ -106,11 +124,15 @@ in_run xs k c (t ∷ ts) =
     ∙ ap (λ (j : ℕ). seen xs j n ∷ seen_run xs (k + 1) n (length ts)) (sym f)
     ∙ sym (ap (λ (m : ℕ). seen_run xs k n m) e ∙ run_more xs k n 1 (length ts))
 
-pub in_long : (xs : List NamedColumn) (k : ℕ) (cs : List Candidate) → length (seen_in xs k cs) ≡ length cs
+pub in_long : (xs : List NamedColumn) (k : ℕ) (cs : List Candidate)
+    → length (seen_in xs k cs) ≡ length cs
 in_long xs k [] = refl
-in_long xs k (c ∷ cs) = let e : length (seen_in xs (k + 1) cs) ≡ length cs = in_long xs (k + 1) cs in omega (arith, e)
+in_long xs k (c ∷ cs) =
+    let e : length (seen_in xs (k + 1) cs) ≡ length cs = in_long xs (k + 1) cs in omega (arith, e)
 
-pub in_at : (xs : List NamedColumn) (k : ℕ) (cs : List Candidate) (j : ℕ) (one : Candidate) → slice_get cs j ≡ Some one → slice_get (seen_in xs k cs) j ≡ Some (seen xs (k + j) (events_of one))
+pub in_at : (xs : List NamedColumn) (k : ℕ) (cs : List Candidate) (j : ℕ) (one : Candidate)
+    → slice_get cs j ≡ Some one
+    → slice_get (seen_in xs k cs) j ≡ Some (seen xs (k + j) (events_of one))
 in_at xs k [] j one at = absurd (none-some one at)
 in_at xs k (c ∷ cs) zero one at =
     let same : c ≡ one = same_Some c one at in
@@ -121,12 +143,14 @@ in_at xs k (c ∷ cs) (suc j) one at =
     rw (← e) (in_at xs (k + 1) cs j one at)
 
 -- likewise from the first candidate on
-pub first_append : (xs : List NamedColumn) (cs ds : List Candidate) → seen_in xs 0 (cs ++ ds) ≡ seen_in xs 0 cs ++ seen_in xs (length cs) ds
+pub first_append : (xs : List NamedColumn) (cs ds : List Candidate)
+    → seen_in xs 0 (cs ++ ds) ≡ seen_in xs 0 cs ++ seen_in xs (length cs) ds
 first_append xs cs ds =
     let e : 0 + length cs ≡ length cs = omega arith in
     in_append xs 0 cs ds ∙ ap (λ (j : ℕ). seen_in xs 0 cs ++ seen_in xs j ds) e
 
-pub first_at : (xs : List NamedColumn) (cs : List Candidate) (j : ℕ) (one : Candidate) → slice_get cs j ≡ Some one → slice_get (seen_in xs 0 cs) j ≡ Some (seen xs j (events_of one))
+pub first_at : (xs : List NamedColumn) (cs : List Candidate) (j : ℕ) (one : Candidate)
+    → slice_get cs j ≡ Some one → slice_get (seen_in xs 0 cs) j ≡ Some (seen xs j (events_of one))
 first_at xs cs j one at =
     let e : 0 + j ≡ j = omega arith in
     in_at xs 0 cs j one at ∙ ap (λ (k : ℕ). Some (seen xs k (events_of one))) e

@@ -31,11 +31,16 @@ use Rattle.cat_eval.proofs.Repeating.{columns_again, ends_long, value_there}
 
 -- ---- a list that is chosen element by element
 
-chosen_at : {X : Type 0} (P : ℕ → X → X → Type 0) (x y : X) (xs ys : List X) → P 0 x y → ((j : ℕ) → j < length xs → (d : X) → P (suc j) (get_or xs j d) (get_or ys j d)) → (j : ℕ) → j < length (x ∷ xs) → (d : X) → P j (get_or (x ∷ xs) j d) (get_or (y ∷ ys) j d)
+chosen_at : {X : Type 0} (P : ℕ → X → X → Type 0) (x y : X) (xs ys : List X) → P 0 x y
+    → ((j : ℕ) → j < length xs → (d : X) → P (suc j) (get_or xs j d) (get_or ys j d)) → (j : ℕ)
+    → j < length (x ∷ xs) → (d : X) → P j (get_or (x ∷ xs) j d) (get_or (y ∷ ys) j d)
 chosen_at P x y xs ys first rest zero lt d = first
 chosen_at P x y xs ys first rest (suc j) lt d = rest j (omega (arith, lt)) d
 
-chosen : {X : Type 0} (P : ℕ → X → X → Type 0) (xs : List X) → ((j : ℕ) → j < length xs → (d : X) → (y : X) × P j (get_or xs j d) y) → (ys : List X) × (length ys ≡ length xs) × ((j : ℕ) → j < length xs → (d : X) → P j (get_or xs j d) (get_or ys j d))
+chosen : {X : Type 0} (P : ℕ → X → X → Type 0) (xs : List X)
+    → ((j : ℕ) → j < length xs → (d : X) → (y : X) × P j (get_or xs j d) y)
+    → (ys : List X) × (length ys ≡ length xs)
+    × ((j : ℕ) → j < length xs → (d : X) → P j (get_or xs j d) (get_or ys j d))
 chosen P [] each = ([], refl, λ j lt d. absurd (omega (arith, lt)))
 chosen P (x ∷ xs) each =
     let (y, first) = each 0 (omega arith) x in
@@ -59,27 +64,41 @@ is_grown (columns.Relations xs) (columns.Sets ys) s r adds = absurd adds
 is_grown (columns.Relations xs) (columns.Relations ys) s r adds = ap columns.Relations adds
 
 -- the next column of a name that is wanted is the old one, grown
-one_next : (b : Bool) (before old new : Column) (s : Events) (r : Relation) → b ≡ true → old ≡ before → AddsIf b old new s r → new ≡ grown before s r
-one_next true before old new s r is same adds = is_grown old new s r adds ∙ ap (λ (x : Column). grown x s r) same
+one_next : (b : Bool) (before old new : Column) (s : Events) (r : Relation) → b ≡ true
+    → old ≡ before → AddsIf b old new s r → new ≡ grown before s r
+one_next true before old new s r is same adds =
+    is_grown old new s r adds ∙ ap (λ (x : Column). grown x s r) same
 one_next false before old new s r is same adds = absurd (false≢true is)
 
 -- where the old columns are shown and those that are wanted get a value more, so do all columns
-module _ (wanted : List Bool) (V : ℕ → Events → Relation → Type 0) (whole olds news : List Column) (shown : AreShown wanted whole olds) (many : length news ≡ length olds) (more : (j : ℕ) → j < length olds → (c : Column) → (s : Events) × (r : Relation) × AddsIf (is_wanted wanted j) (get_or olds j c) (get_or news j c) s r × V j s r) where
+module _ (wanted : List Bool) (V : ℕ → Events → Relation → Type 0) (whole olds news : List Column)
+    (shown : AreShown wanted whole olds) (many : length news ≡ length olds)
+    (more : (j : ℕ) → j < length olds → (c : Column)
+    → (s : Events) × (r : Relation)
+    × AddsIf (is_wanted wanted j) (get_or olds j c) (get_or news j c) s r × V j s r) where
   abbrev IsNext : ℕ → Column → Column → Type 0
-  IsNext j x y = (s : Events) × (r : Relation) × Adds x y s r × V j s r × (is_wanted wanted j ≡ true → (c : Column) → get_or news j c ≡ y)
+  IsNext j x y =
+      (s : Events) × (r : Relation) × Adds x y s r × V j s r
+      × (is_wanted wanted j ≡ true → (c : Column) → get_or news j c ≡ y)
 
   next_at : (j : ℕ) → j < length whole → (d : Column) → (y : Column) × IsNext j (get_or whole j d) y
   next_at j lt d =
       let inside : j < length olds = omega (arith, lt, shown.long) in
       let (s, r, adds, v) = more j inside d in
       let same : is_wanted wanted j ≡ true → (c : Column) → get_or news j c ≡ grown (get_or whole j d) s r =
-      λ is c. get_or_default news j c d (omega (arith, many, inside)) ∙ one_next (is_wanted wanted j) (get_or whole j d) (get_or olds j d) (get_or news j d) s r is (shown.same j inside is d) adds in
+      λ is c. get_or_default news j c d (omega (arith, many, inside))
+      ∙ one_next (is_wanted wanted j) (get_or whole j d) (get_or olds j d) (get_or news j d) s r
+      is (shown.same j inside is d) adds in
       (grown (get_or whole j d) s r, (s, r, adds_grown (get_or whole j d) s r, v, same))
 
-  all_next : (ys : List Column) × (length ys ≡ length whole) × ((j : ℕ) → j < length whole → (d : Column) → IsNext j (get_or whole j d) (get_or ys j d))
+  all_next : (ys : List Column) × (length ys ≡ length whole)
+      × ((j : ℕ) → j < length whole → (d : Column) → IsNext j (get_or whole j d) (get_or ys j d))
   all_next = chosen IsNext whole next_at
 
-  pub whole_more : (next : List Column) × AreShown wanted next news × (length next ≡ length whole) × ((j : ℕ) → j < length whole → (c : Column) → (s : Events) × (r : Relation) × Adds (get_or whole j c) (get_or next j c) s r × V j s r)
+  pub whole_more : (next : List Column) × AreShown wanted next news × (length next ≡ length whole)
+      × ((j : ℕ) → j < length whole → (c : Column)
+      → (s : Events) × (r : Relation) × Adds (get_or whole j c) (get_or next j c) s r
+      × V j s r)
   whole_more = (
     all_next.0,
     record {
@@ -98,20 +117,39 @@ module _ (wanted : List Bool) (V : ℕ → Events → Relation → Type 0) (whol
 
 -- ---- one candidate more
 
-module _ (wanted : List Bool) (bodies : List Body) (inputs : List (Bor Column)) (bases : List Known) (base : Known) (olds news : List Column) (k : ℕ) (many : length news ≡ length olds) (at : k ≡ length bases) where
+module _ (wanted : List Bool) (bodies : List Body) (inputs : List (Bor Column)) (bases : List Known)
+    (base : Known) (olds news : List Column) (k : ℕ) (many : length news ≡ length olds)
+    (at : k ≡ length bases) where
   -- each body was evaluated once
-  pub evaluated_shown : (recursive : Bool) → recursive ≡ false → AreWantedOver wanted recursive bodies inputs bases olds
-      → ((j : ℕ) → j < length bodies → j < length olds → (c : Column) → (s : Events) × (r : Relation) × AddsIf (is_wanted wanted j) (get_or olds j c) (get_or news j c) s r × ((b : Body) → IsMeaningOver (get_or bodies j b).code.kind (get_or bodies j b).code.steps.items inputs base k s r))
+  pub evaluated_shown : (recursive : Bool) → recursive ≡ false
+      → AreWantedOver wanted recursive bodies inputs bases olds
+      → ((j : ℕ) → j < length bodies → j < length olds → (c : Column)
+      → (s : Events) × (r : Relation)
+      × AddsIf (is_wanted wanted j) (get_or olds j c) (get_or news j c) s r
+      × ((b : Body)
+      → IsMeaningOver (get_or bodies j b).code.kind
+      (get_or bodies j b).code.steps.items inputs base k s r))
       → AreWantedOver wanted recursive bodies inputs (bases ++ base ∷ []) news
   evaluated_shown recursive is h added =
       let (whole, over, shown) = h in
-      let (next, still, long, each) = whole_more wanted (λ j s r. (b : Body) → IsMeaningOver (get_or bodies j b).code.kind (get_or bodies j b).code.steps.items inputs base k s r) whole olds news shown many (λ j lt c. added j (omega (arith, lt, shown.long, over.as_many)) lt c) in
-      (next, evaluated_more bodies inputs bases base whole next k long at recursive is over (λ j lt inside c. each j inside c), still)
+      let (next, still, long, each) = whole_more wanted (λ j s r. (b : Body) → IsMeaningOver (get_or bodies j b).code.kind (get_or bodies j b).code.steps.items inputs base k s r) whole olds news shown many (λ j lt c. added j (omega (arith, lt, shown.long, over.as_many)) lt c) in (
+        next,
+        evaluated_more bodies inputs bases base whole next k long at recursive is over
+            (λ j lt inside c. each j inside c),
+        still,
+      )
 
   -- the equations were solved
-  pub solved_shown : (recursive : Bool) (own values : List Relation) → recursive ≡ true → HasOwn recursive bodies own → AreWantedOver wanted recursive bodies inputs bases olds
-      → ((j : ℕ) → j < length own → j < length olds → (c : Column) → (s : Events) × AddsIf (is_wanted wanted j) (get_or olds j c) (get_or news j c) s (get_or values j no_slot))
-      → (length own ≡ length bodies → (trees : List RelTree) → AreCodes trees bodies → AreMonotone trees → IsLeast base.count (EventsIn base inputs k) (PairsOutside base inputs k) trees values)
+  pub solved_shown : (recursive : Bool) (own values : List Relation) → recursive ≡ true
+      → HasOwn recursive bodies own → AreWantedOver wanted recursive bodies inputs bases olds
+      → ((j : ℕ) → j < length own → j < length olds → (c : Column)
+      → (s : Events)
+      × AddsIf (is_wanted wanted j) (get_or olds j c) (get_or news j c) s
+      (get_or values j no_slot))
+      → (length own ≡ length bodies → (trees : List RelTree) → AreCodes trees bodies
+      → AreMonotone trees
+      → IsLeast base.count (EventsIn base inputs k) (PairsOutside base inputs k) trees
+      values)
       → AreWantedOver wanted recursive bodies inputs (bases ++ base ∷ []) news
   solved_shown false own values is held h added least = absurd (false≢true is)
   solved_shown true own values is held h added least =
@@ -132,49 +170,86 @@ module _ (wanted : List Bool) (bodies : List Body) (inputs : List (Bor Column)) 
 
 -- ---- the last value once more
 
-repeats_adds : (b : Bool) (old new whole : Column) (s : Events) (r : Relation) → (b ≡ true → old ≡ whole) → RepeatsIf b old new → HasValue whole (column_len whole - 1) s r → AddsIf b old new s r
-repeats_adds true old new whole s r same repeats has = repeats s r (subst (λ (c : Column). HasValue c (column_len c - 1) s r) (sym (same refl)) has)
+repeats_adds : (b : Bool) (old new whole : Column) (s : Events) (r : Relation)
+    → (b ≡ true → old ≡ whole) → RepeatsIf b old new → HasValue whole (column_len whole - 1) s r
+    → AddsIf b old new s r
+repeats_adds true old new whole s r same repeats has =
+    repeats s r (subst (λ (c : Column). HasValue c (column_len c - 1) s r) (sym (same refl)) has)
 repeats_adds false old new whole s r same repeats has = repeats
 
-adds_other : (a b : Column) (k : ℕ) (s t : Events) (r q : Relation) → Adds a b s r → HasValue a k s r → HasValue a k t q → Adds a b t q
-adds_other (columns.Sets xs) (columns.Sets ys) k s t r q adds has other = subst (λ (z : Events). ys ≡ xs ++ z ∷ []) (same_Some s t (sym has ∙ other)) adds
+adds_other : (a b : Column) (k : ℕ) (s t : Events) (r q : Relation) → Adds a b s r
+    → HasValue a k s r → HasValue a k t q → Adds a b t q
+adds_other (columns.Sets xs) (columns.Sets ys) k s t r q adds has other =
+    subst (λ (z : Events). ys ≡ xs ++ z ∷ []) (same_Some s t (sym has ∙ other)) adds
 adds_other (columns.Sets xs) (columns.Relations ys) k s t r q adds has other = absurd adds
 adds_other (columns.Relations xs) (columns.Sets ys) k s t r q adds has other = absurd adds
-adds_other (columns.Relations xs) (columns.Relations ys) k s t r q adds has other = subst (λ (z : Relation). ys ≡ xs ++ z ∷ []) (same_Some r q (sym has ∙ other)) adds
+adds_other (columns.Relations xs) (columns.Relations ys) k s t r q adds has other =
+    subst (λ (z : Relation). ys ≡ xs ++ z ∷ []) (same_Some r q (sym has ∙ other)) adds
 
 -- the values that the last of the candidates has there
 abbrev HasLast : List Column → ℕ → Events → Relation → Type 0
-HasLast whole j s r = (c : Column) → HasValue (get_or whole j c) (column_len (get_or whole j c) - 1) s r
+HasLast whole j s r =
+    (c : Column) → HasValue (get_or whole j c) (column_len (get_or whole j c) - 1) s r
 
-module _ (wanted : List Bool) (recursive : Bool) (bodies : List Body) (inputs : List (Bor Column)) (bases : List Known) (base : Known) (olds news whole : List Column) (ends : EndsWith bases base) (over : AreColumnsOver recursive bodies inputs bases whole) (shown : AreShown wanted whole olds) (many : length news ≡ length olds) (repeats : (x : ℕ) → x < length olds → (c : Column) → RepeatsIf (is_wanted wanted x) (get_or olds x c) (get_or news x c)) where
-  last_more : (j : ℕ) → j < length olds → (c : Column) → (s : Events) × (r : Relation) × AddsIf (is_wanted wanted j) (get_or olds j c) (get_or news j c) s r × HasLast whole j s r
+module _ (wanted : List Bool) (recursive : Bool) (bodies : List Body) (inputs : List (Bor Column))
+    (bases : List Known) (base : Known) (olds news whole : List Column) (ends : EndsWith bases base)
+    (over : AreColumnsOver recursive bodies inputs bases whole) (shown : AreShown wanted whole olds)
+    (many : length news ≡ length olds)
+    (repeats : (x : ℕ) → x < length olds → (c : Column)
+    → RepeatsIf (is_wanted wanted x) (get_or olds x c) (get_or news x c)) where
+  last_more : (j : ℕ) → j < length olds → (c : Column)
+      → (s : Events) × (r : Relation)
+      × AddsIf (is_wanted wanted j) (get_or olds j c) (get_or news j c) s r
+      × HasLast whole j s r
   last_more j less c =
       let inside : j < length whole = omega (arith, less, shown.long) in
       let long = over.long j (omega (arith, inside, over.as_many)) c in
       let (s, r, has) = value_there (get_or whole j c) (column_len (get_or whole j c) - 1) (omega (arith, long, (ends_long bases base ends).0)) in (
         s,
         r,
-        repeats_adds (is_wanted wanted j) (get_or olds j c) (get_or news j c) (get_or whole j c) s r (λ is. shown.same j less is c) (repeats j less c) has,
-        (λ d. subst (λ (x : Column). HasValue x (column_len x - 1) s r) (get_or_default whole j c d inside) has),
+        repeats_adds (is_wanted wanted j) (get_or olds j c) (get_or news j c) (get_or whole j c) s r
+            (λ is. shown.same j less is c) (repeats j less c) has,
+        (λ d. subst (λ (x : Column). HasValue x (column_len x - 1) s r)
+            (get_or_default whole j c d inside) has),
       )
 
-  repeats_whole : (next : List Column) → ((j : ℕ) → j < length whole → (c : Column) → (s : Events) × (r : Relation) × Adds (get_or whole j c) (get_or next j c) s r × HasLast whole j s r) → (j : ℕ) → j < length whole → (c : Column) → Repeats (get_or whole j c) (get_or next j c)
+  repeats_whole : (next : List Column)
+      → ((j : ℕ) → j < length whole → (c : Column)
+      → (s : Events) × (r : Relation) × Adds (get_or whole j c) (get_or next j c) s r
+      × HasLast whole j s r) → (j : ℕ) → j < length whole → (c : Column)
+      → Repeats (get_or whole j c) (get_or next j c)
   repeats_whole next each j inside c = λ t q other.
       let (s, r, adds, has) = each j inside c in
-      adds_other (get_or whole j c) (get_or next j c) (column_len (get_or whole j c) - 1) s t r q adds (has c) other
+      adds_other (get_or whole j c) (get_or next j c) (column_len (get_or whole j c) - 1) s t r q
+      adds (has c) other
 
-pub repeated_shown : (wanted : List Bool) (recursive : Bool) (bodies : List Body) (inputs : List (Bor Column)) (bases : List Known) (base : Known) (olds news : List Column) (k steady : ℕ) → EndsWith bases base → AreWantedOver wanted recursive bodies inputs bases olds
+pub repeated_shown : (wanted : List Bool) (recursive : Bool) (bodies : List Body)
+    (inputs : List (Bor Column)) (bases : List Known) (base : Known) (olds news : List Column)
+    (k steady : ℕ) → EndsWith bases base
+    → AreWantedOver wanted recursive bodies inputs bases olds
     → k ≡ length bases → IsSteady inputs (length bases) steady → k < steady
-    → length news ≡ length olds → ((x : ℕ) → x < length olds → (c : Column) → RepeatsIf (is_wanted wanted x) (get_or olds x c) (get_or news x c)) → AreWantedOver wanted recursive bodies inputs (bases ++ base ∷ []) news
-repeated_shown wanted recursive bodies inputs bases base olds news k steady ends h at held lt many repeats =
+    → length news ≡ length olds
+    → ((x : ℕ) → x < length olds → (c : Column)
+    → RepeatsIf (is_wanted wanted x) (get_or olds x c) (get_or news x c))
+    → AreWantedOver wanted recursive bodies inputs (bases ++ base ∷ []) news
+repeated_shown wanted recursive bodies inputs bases base olds news k steady ends h at held lt many
+    repeats =
     let (whole, over, shown) = h in
-    let (next, still, long, each) = whole_more wanted (HasLast whole) whole olds news shown many (last_more wanted recursive bodies inputs bases base olds news whole ends over shown many repeats) in
-    (next, columns_again recursive bodies inputs bases base whole next k steady ends over at held lt long (repeats_whole wanted recursive bodies inputs bases base olds news whole ends over shown many repeats next each), still)
+    let (next, still, long, each) = whole_more wanted (HasLast whole) whole olds news shown many (last_more wanted recursive bodies inputs bases base olds news whole ends over shown many repeats) in (
+      next,
+      columns_again recursive bodies inputs bases base whole next k steady ends over at held
+          lt long (repeats_whole wanted recursive bodies inputs bases base olds news whole
+          ends over shown many repeats next each),
+      still,
+    )
 
 -- ---- before the first candidate
 
-pub shown_none : (wanted : List Bool) (recursive : Bool) (bodies : List Body) (inputs : List (Bor Column)) (cs : List Column) → length cs ≡ length bodies
-    → ((j : ℕ) → j < length bodies → (b : Body) (c : Column) → IsFor (get_or bodies j b).code.kind (get_or cs j c) × (column_len (get_or cs j c) ≡ 0))
+pub shown_none : (wanted : List Bool) (recursive : Bool) (bodies : List Body)
+    (inputs : List (Bor Column)) (cs : List Column) → length cs ≡ length bodies
+    → ((j : ℕ) → j < length bodies → (b : Body) (c : Column)
+    → IsFor (get_or bodies j b).code.kind (get_or cs j c)
+    × (column_len (get_or cs j c) ≡ 0))
     → AreWantedOver wanted recursive bodies inputs [] cs
 shown_none wanted recursive bodies inputs cs many fits =
     let over = columns_none recursive bodies inputs cs many fits in (
@@ -185,18 +260,30 @@ shown_none wanted recursive bodies inputs cs many fits =
 
 -- ---- the same group, inputs and wishes, by another name
 
-pub shown_moved : (p q : Bool) (b d : Bor (List Body)) (x y : Bor (List (Bor Column))) (w v : Bor (List Bool)) → p ≡ q → b ≡ d → x ≡ y → w ≡ v → (bases : List Known) (cs : List Column) → AreWantedOver w.now p b.now x.now bases cs → AreWantedOver v.now q d.now y.now bases cs
+pub shown_moved : (p q : Bool) (b d : Bor (List Body)) (x y : Bor (List (Bor Column)))
+    (w v : Bor (List Bool)) → p ≡ q → b ≡ d → x ≡ y → w ≡ v
+    → (bases : List Known) (cs : List Column) → AreWantedOver w.now p b.now x.now bases cs
+    → AreWantedOver v.now q d.now y.now bases cs
 shown_moved p q b d x y w v e f g same bases cs h =
-    let (whole, over, shown) = h in
-    (whole, columns_moved p q b d x y e f g bases whole over, subst (λ (z : Bor (List Bool)). AreShown z.now whole cs) same shown)
+    let (whole, over, shown) = h in (
+      whole,
+      columns_moved p q b d x y e f g bases whole over,
+      subst (λ (z : Bor (List Bool)). AreShown z.now whole cs) same shown,
+    )
 
 -- ---- body after body
 
 -- each of the first bodies has its column, of which those that are wanted are shown
-abbrev pub AreBodiesShown : List Bool → List Body → List (Bor Column) → List Known → ℕ → List Column → Type 0
-AreBodiesShown wanted bodies inputs bases end cs = (whole : List Column) × (length whole ≡ end) × AreBodyColumns bodies inputs bases whole end × AreShown wanted whole cs
+abbrev pub AreBodiesShown : List Bool → List Body → List (Bor Column) → List Known → ℕ → List Column
+    → Type 0
+AreBodiesShown wanted bodies inputs bases end cs =
+    (whole : List Column) × (length whole ≡ end) × AreBodyColumns bodies inputs bases whole end
+    × AreShown wanted whole cs
 
-shown_push : (wanted : List Bool) (whole cs : List Column) (column one : Column) → AreShown wanted whole cs → (is_wanted wanted (length cs) ≡ true → one ≡ column) → (is_wanted wanted (length cs) ≡ false → column_len one ≡ 0) → AreShown wanted (whole ++ column ∷ []) (cs ++ one ∷ [])
+shown_push : (wanted : List Bool) (whole cs : List Column) (column one : Column)
+    → AreShown wanted whole cs → (is_wanted wanted (length cs) ≡ true → one ≡ column)
+    → (is_wanted wanted (length cs) ≡ false → column_len one ≡ 0)
+    → AreShown wanted (whole ++ column ∷ []) (cs ++ one ∷ [])
 shown_push wanted whole cs column one shown same empty = record {
   long = length_push cs one ∙ ap (λ n. n + 1) shown.long ∙ sym (length_push whole column);
   same = λ j lt is c. elim (cases_eq j (length cs)) [
@@ -206,17 +293,20 @@ shown_push wanted whole cs column one shown same empty = record {
         here ∙ same (subst (λ (n : ℕ). is_wanted wanted n ≡ true) last is) ∙ sym there
     | inr other ↦
         let inside : j < length cs = omega (arith, lt, length_push cs one, other) in
-        get_or_append_left cs (one ∷ []) c j inside ∙ shown.same j inside is c ∙ sym (get_or_append_left whole (column ∷ []) c j (omega (arith, inside, shown.long)))
+        get_or_append_left cs (one ∷ []) c j inside ∙ shown.same j inside is c
+        ∙ sym (get_or_append_left whole (column ∷ []) c j (omega (arith, inside, shown.long)))
   ];
   empty = λ j lt is c. elim (cases_eq j (length cs)) [
-    | inl last ↦ ap column_len (get_or_push cs one c j (sym last)) ∙ empty (subst (λ (n : ℕ). is_wanted wanted n ≡ false) last is)
+    | inl last ↦ ap column_len (get_or_push cs one c j (sym last))
+        ∙ empty (subst (λ (n : ℕ). is_wanted wanted n ≡ false) last is)
     | inr other ↦
         let inside : j < length cs = omega (arith, lt, length_push cs one, other) in
         ap column_len (get_or_append_left cs (one ∷ []) c j inside) ∙ shown.empty j inside is c
   ];
 }
 
-pub bodies_shown_none : (wanted : List Bool) (bodies : List Body) (inputs : List (Bor Column)) (bases : List Known) → AreBodiesShown wanted bodies inputs bases 0 []
+pub bodies_shown_none : (wanted : List Bool) (bodies : List Body) (inputs : List (Bor Column))
+    (bases : List Known) → AreBodiesShown wanted bodies inputs bases 0 []
 bodies_shown_none wanted bodies inputs bases = (
   [],
   refl,
@@ -224,35 +314,58 @@ bodies_shown_none wanted bodies inputs bases = (
   record { long = refl; same = λ j lt. absurd (omega (arith, lt)); empty = λ j lt. absurd (omega (arith, lt)) },
 )
 
-pub bodies_shown_more : (wanted : List Bool) (bodies : List Body) (inputs : List (Bor Column)) (bases : List Known) (cs : List Column) (i : ℕ) (body : Body) (one : Column) → i < length bodies → body ≡ get_or bodies i body → AreBodiesShown wanted bodies inputs bases i cs → IsWantedColumn (is_wanted wanted (length cs)) body inputs bases one → AreBodiesShown wanted bodies inputs bases (i + 1) (cs ++ one ∷ [])
+pub bodies_shown_more : (wanted : List Bool) (bodies : List Body) (inputs : List (Bor Column))
+    (bases : List Known) (cs : List Column) (i : ℕ) (body : Body) (one : Column)
+    → i < length bodies → body ≡ get_or bodies i body
+    → AreBodiesShown wanted bodies inputs bases i cs
+    → IsWantedColumn (is_wanted wanted (length cs)) body inputs bases one
+    → AreBodiesShown wanted bodies inputs bases (i + 1) (cs ++ one ∷ [])
 bodies_shown_more wanted bodies inputs bases cs i body one lt here h is =
     let (whole, long, each, shown) = h in
-    let (column, good, same, empty) = is in
-    (whole ++ column ∷ [], length_push whole column ∙ ap (λ n. n + 1) long, bodies_more bodies inputs bases whole i body column long lt here good each, shown_push wanted whole cs column one shown same empty)
+    let (column, good, same, empty) = is in (
+      whole ++ column ∷ [],
+      length_push whole column ∙ ap (λ n. n + 1) long,
+      bodies_more bodies inputs bases whole i body column long lt here good each,
+      shown_push wanted whole cs column one shown same empty,
+    )
 
-pub bodies_shown_all : (wanted : List Bool) (bodies : List Body) (inputs : List (Bor Column)) (bases : List Known) (cs : List Column) (i : ℕ) → i ≡ length bodies → AreBodiesShown wanted bodies inputs bases i cs → AreWantedOver wanted false bodies inputs bases cs
+pub bodies_shown_all : (wanted : List Bool) (bodies : List Body) (inputs : List (Bor Column))
+    (bases : List Known) (cs : List Column) (i : ℕ) → i ≡ length bodies
+    → AreBodiesShown wanted bodies inputs bases i cs
+    → AreWantedOver wanted false bodies inputs bases cs
 bodies_shown_all wanted bodies inputs bases cs i end h =
     let (whole, long, each, shown) = subst (λ (n : ℕ). AreBodiesShown wanted bodies inputs bases n cs) end h in
     (whole, bodies_all bodies inputs bases whole long each, shown)
 
 -- ---- all names are wanted
 
-same_lists : (xs ys : List Column) → length xs ≡ length ys → ((j : ℕ) → j < length xs → (c : Column) → get_or xs j c ≡ get_or ys j c) → xs ≡ ys
+same_lists : (xs ys : List Column) → length xs ≡ length ys
+    → ((j : ℕ) → j < length xs → (c : Column) → get_or xs j c ≡ get_or ys j c) → xs ≡ ys
 same_lists [] [] long same = refl
 same_lists [] (y ∷ ys) long same = absurd (omega (arith, long))
 same_lists (x ∷ xs) [] long same = absurd (omega (arith, long))
-same_lists (x ∷ xs) (y ∷ ys) long same = ap (λ (z : Column). z ∷ xs) (same 0 (omega arith) x) ∙ ap (λ (zs : List Column). y ∷ zs) (same_lists xs ys (omega (arith, long)) (λ j lt c. same (suc j) (omega (arith, lt)) c))
+same_lists (x ∷ xs) (y ∷ ys) long same =
+    ap (λ (z : Column). z ∷ xs) (same 0 (omega arith) x)
+    ∙ ap (λ (zs : List Column). y ∷ zs) (same_lists xs ys (omega (arith, long))
+    (λ j lt c. same (suc j) (omega (arith, lt)) c))
 
 pub all_shown : (whole shown : List Column) → AreShown [] whole shown → whole ≡ shown
 all_shown whole shown h = sym (same_lists shown whole h.long (λ j lt c. h.same j lt refl c))
 
-pub all_wanted : (role : Role) (inputs : List (Bor Column)) (space : Space) (cs : List Column) → WantedColumnsOf [] role inputs space cs → ColumnsOf role inputs space cs
-all_wanted role inputs space cs h = subst (λ (xs : List Column). ColumnsOf role inputs space xs) (all_shown h.0 cs h.2) h.1
+pub all_wanted : (role : Role) (inputs : List (Bor Column)) (space : Space) (cs : List Column)
+    → WantedColumnsOf [] role inputs space cs → ColumnsOf role inputs space cs
+all_wanted role inputs space cs h =
+    subst (λ (xs : List Column). ColumnsOf role inputs space xs) (all_shown h.0 cs h.2) h.1
 
 -- ---- over the candidates of a space
 
-pub shown_exact : (wanted : List Bool) (recursive : Bool) (bodies : List Body) (inputs : List (Bor Column)) (xs : List NamedColumn) (cs : List Candidate) (columns : List Column)
-    → AreColumnsFor xs cs → AreListed (column_names xs) (bodies_names bodies) → AreWantedOver wanted recursive bodies inputs (seen_in xs 0 cs) columns → (whole : List Column) × AreColumns recursive bodies inputs cs whole × AreShown wanted whole columns
+pub shown_exact : (wanted : List Bool) (recursive : Bool) (bodies : List Body)
+    (inputs : List (Bor Column)) (xs : List NamedColumn) (cs : List Candidate)
+    (columns : List Column)
+    → AreColumnsFor xs cs → AreListed (column_names xs) (bodies_names bodies)
+    → AreWantedOver wanted recursive bodies inputs (seen_in xs 0 cs) columns
+    → (whole : List Column) × AreColumns recursive bodies inputs cs whole
+    × AreShown wanted whole columns
 shown_exact wanted recursive bodies inputs xs cs columns right listed h =
     let (whole, over, shown) = h in
     (whole, columns_exact recursive bodies inputs xs cs whole right listed over, shown)

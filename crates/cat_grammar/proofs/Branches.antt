@@ -71,7 +71,8 @@ abbrev pub before : List Branch → List Token → List Token
 before [] rest = rest
 before (BGroup ∷ bs) rest = before bs (tokens.Open ∷ rest)
 before (BSquare ∷ bs) rest = before bs (tokens.OpenSquare ∷ rest)
-before (BArguments n args ∷ bs) rest = before bs (tokens.Name n ∷ tokens.Open ∷ before_arguments args rest)
+before (BArguments n args ∷ bs) rest =
+    before bs (tokens.Name n ∷ tokens.Open ∷ before_arguments args rest)
 before (BPrefix ∷ bs) rest = before bs (tokens.Tilde ∷ rest)
 before (BLeft op a ∷ bs) rest = before bs (spelled a (infix_token op ∷ rest))
 
@@ -103,16 +104,19 @@ count (BLeft op a ∷ bs) = count bs + operators a + 1
 -- arguments that stand under this many open brackets
 abbrev pub ArgumentsFine : Limits → ℕ → List Tree → Type 0
 ArgumentsFine most d [] = Unit {0}
-ArgumentsFine most d (a ∷ args) = IsGrouped a × (d + depth a ≤ most.nesting) × ArgumentsFine most d args
+ArgumentsFine most d (a ∷ args) =
+    IsGrouped a × (d + depth a ≤ most.nesting) × ArgumentsFine most d args
 
 abbrev pub Fine : Limits → List Branch → Type 0
 Fine most [] = Unit {0}
 Fine most (BGroup ∷ bs) = (opens bs < most.nesting) × Fine most bs
 Fine most (BSquare ∷ bs) = (opens bs < most.nesting) × Fine most bs
-Fine most (BArguments n args ∷ bs) = (opens bs < most.nesting) × ArgumentsFine most (opens bs + 1) args × Fine most bs
+Fine most (BArguments n args ∷ bs) =
+    (opens bs < most.nesting) × ArgumentsFine most (opens bs + 1) args × Fine most bs
 Fine most (BPrefix ∷ bs) = (opens bs < most.nesting) × Fine most bs
 Fine most (BLeft op a ∷ bs) =
-    IsGrouped a × (left_level op ≤ tightness a) × (need bs ≤ level op) × (opens bs + depth a ≤ most.nesting) × Fine most bs
+    IsGrouped a × (left_level op ≤ tightness a) × (need bs ≤ level op)
+    × (opens bs + depth a ≤ most.nesting) × Fine most bs
 
 abbrev pub Stops : ℕ → List Branch → Type 0
 Stops l [] = Unit {0}
@@ -189,7 +193,8 @@ meets Product Intersection h = omega arith
 meets Product Product h = omega arith
 
 -- what is still open once everything that binds this tightly is joined
-pub record Folded (most : Limits) (l : ℕ) (whole rest : List Token) (p : List Frame × Term) (used : ℕ) : Type 0 where
+pub record Folded (most : Limits) (l : ℕ) (whole rest : List Token) (p : List Frame × Term)
+    (used : ℕ) : Type 0 where
   pub bs : List Branch
   pub t : Tree
   pub is : p ≡ (frames bs, meaning t)
@@ -208,7 +213,10 @@ test_true l n h = grind (arith, nat_tests)
 test_false : (l n : ℕ) → nat_le l n ≡ false → n < l
 test_false l n h = grind (arith, nat_tests)
 
-pub folded : (most : Limits) (l : ℕ) (whole rest : List Token) (used : ℕ) (bs : List Branch) (t : Tree) → l ≤ 6 → l ≤ tightness t → Fine most bs → IsGrouped t → need bs ≤ tightness t → opens bs + depth t ≤ most.nesting → count bs + operators t ≡ used → whole ≡ before bs (spelled t rest)
+pub folded : (most : Limits) (l : ℕ) (whole rest : List Token) (used : ℕ) (bs : List Branch)
+    (t : Tree) → l ≤ 6 → l ≤ tightness t → Fine most bs → IsGrouped t → need bs ≤ tightness t
+    → opens bs + depth t ≤ most.nesting → count bs + operators t ≡ used
+    → whole ≡ before bs (spelled t rest)
     → Folded most l whole rest (fold_to l (frames bs) (meaning t)) used
 folded most l whole rest used [] t low tight fine grouped needed shallow counted is =
     record { bs = []; t = t; is = refl; fine = tt; grouped = grouped; needed = needed; tight = tight; shallow = shallow; counted = counted; whole_is = is; stops = tt }
@@ -216,15 +224,24 @@ folded most l whole rest used (BGroup ∷ bs) t low tight fine grouped needed sh
     record { bs = BGroup ∷ bs; t = t; is = refl; fine = fine; grouped = grouped; needed = needed; tight = tight; shallow = shallow; counted = counted; whole_is = is; stops = tt }
 folded most l whole rest used (BSquare ∷ bs) t low tight fine grouped needed shallow counted is =
     record { bs = BSquare ∷ bs; t = t; is = refl; fine = fine; grouped = grouped; needed = needed; tight = tight; shallow = shallow; counted = counted; whole_is = is; stops = tt }
-folded most l whole rest used (BArguments n args ∷ bs) t low tight fine grouped needed shallow counted is =
+folded most l whole rest used (BArguments n args ∷ bs) t low tight fine grouped needed shallow
+    counted is =
     record { bs = BArguments n args ∷ bs; t = t; is = refl; fine = fine; grouped = grouped; needed = needed; tight = tight; shallow = shallow; counted = counted; whole_is = is; stops = tt }
 folded most l whole rest used (BPrefix ∷ bs) t low tight fine grouped needed shallow counted is =
-    folded most l whole rest used bs (Prefix t) low low fine.1 (needed, grouped) (need-le bs) (omega arith) (omega arith) is
+    folded most l whole rest used bs (Prefix t) low low fine.1 (needed, grouped) (need-le bs)
+    (omega arith) (omega arith) is
 folded most l whole rest used (BLeft op a ∷ bs) t low tight fine grouped needed shallow counted is =
-    choose (nat_le l (level op)) refl (λ le. folded most l whole rest used bs (Pair op a t) low le fine.4 (fine.1, needed, fine.0, grouped) fine.2 (omega (arith, fine.3)) (omega arith) is)
+    choose (nat_le l (level op)) refl (λ le. folded most l whole rest used bs (Pair op a t) low le
+    fine.4 (fine.1, needed, fine.0, grouped) fine.2 (omega (arith, fine.3)) (omega arith)
+    is)
   where
-    choose : (b : Bool) → nat_le l (level op) ≡ b → (l ≤ level op → Folded most l whole rest (fold_to l (frames bs) (Join op (meaning a) (meaning t))) used)
-        → Folded most l whole rest (if b then fold_to l (frames bs) (Join op (meaning a) (meaning t)) else (LeftOf op (meaning a) ∷ frames bs, meaning t)) used
+    choose : (b : Bool) → nat_le l (level op) ≡ b
+        → (l ≤ level op
+        → Folded most l whole rest (fold_to l (frames bs) (Join op (meaning a) (meaning t)))
+        used)
+        → Folded most l whole rest
+        (if b then fold_to l (frames bs) (Join op (meaning a) (meaning t))
+        else (LeftOf op (meaning a) ∷ frames bs, meaning t)) used
     choose true e joined = joined (test_true l (level op) e)
     choose false e joined =
         record { bs = BLeft op a ∷ bs; t = t; is = refl; fine = fine; grouped = grouped; needed = needed; tight = tight; shallow = shallow; counted = counted; whole_is = is; stops = test_false l (level op) e }
@@ -235,38 +252,55 @@ abbrev pub arguments_of : List Tree → Tree → Trees
 arguments_of [] t = Last t
 arguments_of (a ∷ args) t = More a (arguments_of args t)
 
-pub spelled-arguments_of : (args : List Tree) (t : Tree) (rest : List Token) → spelled_arguments (arguments_of args t) rest ≡ before_arguments args (spelled t (tokens.Close ∷ rest))
+pub spelled-arguments_of : (args : List Tree) (t : Tree) (rest : List Token)
+    → spelled_arguments (arguments_of args t) rest
+    ≡ before_arguments args (spelled t (tokens.Close ∷ rest))
 spelled-arguments_of [] t rest = refl
-spelled-arguments_of (a ∷ args) t rest = ap (λ (ts : List Token). spelled a (tokens.Comma ∷ ts)) (spelled-arguments_of args t rest)
+spelled-arguments_of (a ∷ args) t rest =
+    ap (λ (ts : List Token). spelled a (tokens.Comma ∷ ts)) (spelled-arguments_of args t rest)
 
-pub meanings-arguments_of : (args : List Tree) (t : Tree) → meanings (arguments_of args t) ≡ gathered (values args ++ meaning t ∷ [])
+pub meanings-arguments_of : (args : List Tree) (t : Tree)
+    → meanings (arguments_of args t) ≡ gathered (values args ++ meaning t ∷ [])
 meanings-arguments_of [] t = refl
 meanings-arguments_of (a ∷ args) t = ap (OneMore (meaning a)) (meanings-arguments_of args t)
 
-pub grouped-arguments_of : (most : Limits) (d : ℕ) (args : List Tree) (t : Tree) → ArgumentsFine most d args → IsGrouped t → AreGrouped (arguments_of args t)
+pub grouped-arguments_of : (most : Limits) (d : ℕ) (args : List Tree) (t : Tree)
+    → ArgumentsFine most d args → IsGrouped t → AreGrouped (arguments_of args t)
 grouped-arguments_of most d [] t h g = g
 grouped-arguments_of most d (a ∷ args) t h g = (h.0, grouped-arguments_of most d args t h.2 g)
 
-pub depths-arguments_of : (most : Limits) (d : ℕ) (args : List Tree) (t : Tree) → ArgumentsFine most d args → d + depth t ≤ most.nesting → d + depths (arguments_of args t) ≤ most.nesting
+pub depths-arguments_of : (most : Limits) (d : ℕ) (args : List Tree) (t : Tree)
+    → ArgumentsFine most d args → d + depth t ≤ most.nesting
+    → d + depths (arguments_of args t) ≤ most.nesting
 depths-arguments_of most d [] t h g = g
-depths-arguments_of most d (a ∷ args) t h g = let i = depths-arguments_of most d args t h.2 g in omega (arith, h.1)
+depths-arguments_of most d (a ∷ args) t h g =
+    let i = depths-arguments_of most d args t h.2 g in omega (arith, h.1)
 
-pub operators-arguments_of : (args : List Tree) (t : Tree) → operators_of (arguments_of args t) ≡ sum_operators args + operators t
+pub operators-arguments_of : (args : List Tree) (t : Tree)
+    → operators_of (arguments_of args t) ≡ sum_operators args + operators t
 operators-arguments_of [] t = omega arith
 operators-arguments_of (a ∷ args) t = let i = operators-arguments_of args t in omega arith
 
-pub before_arguments-push : (args : List Tree) (t : Tree) (rest : List Token) → before_arguments (args ++ t ∷ []) rest ≡ before_arguments args (spelled t (tokens.Comma ∷ rest))
+pub before_arguments-push : (args : List Tree) (t : Tree) (rest : List Token)
+    → before_arguments (args ++ t ∷ []) rest
+    ≡ before_arguments args (spelled t (tokens.Comma ∷ rest))
 before_arguments-push [] t rest = refl
-before_arguments-push (a ∷ args) t rest = ap (λ (ts : List Token). spelled a (tokens.Comma ∷ ts)) (before_arguments-push args t rest)
+before_arguments-push (a ∷ args) t rest =
+    ap (λ (ts : List Token). spelled a (tokens.Comma ∷ ts)) (before_arguments-push args t rest)
 
-pub values-push : (args : List Tree) (t : Tree) → values (args ++ t ∷ []) ≡ values args ++ meaning t ∷ []
+pub values-push : (args : List Tree) (t : Tree)
+    → values (args ++ t ∷ []) ≡ values args ++ meaning t ∷ []
 values-push [] t = refl
 values-push (a ∷ args) t = ap (λ (vs : List Term). meaning a ∷ vs) (values-push args t)
 
-pub sum_operators-push : (args : List Tree) (t : Tree) → sum_operators (args ++ t ∷ []) ≡ sum_operators args + operators t
+pub sum_operators-push : (args : List Tree) (t : Tree)
+    → sum_operators (args ++ t ∷ []) ≡ sum_operators args + operators t
 sum_operators-push [] t = omega arith
 sum_operators-push (a ∷ args) t = let i = sum_operators-push args t in omega arith
 
-pub arguments_fine-push : (most : Limits) (d : ℕ) (args : List Tree) (t : Tree) → ArgumentsFine most d args → IsGrouped t → d + depth t ≤ most.nesting → ArgumentsFine most d (args ++ t ∷ [])
+pub arguments_fine-push : (most : Limits) (d : ℕ) (args : List Tree) (t : Tree)
+    → ArgumentsFine most d args → IsGrouped t → d + depth t ≤ most.nesting
+    → ArgumentsFine most d (args ++ t ∷ [])
 arguments_fine-push most d [] t h g s = (g, s, tt)
-arguments_fine-push most d (a ∷ args) t h g s = (h.0, h.1, arguments_fine-push most d args t h.2 g s)
+arguments_fine-push most d (a ∷ args) t h g s =
+    (h.0, h.1, arguments_fine-push most d args t h.2 g s)

@@ -45,20 +45,46 @@ gated b s e = if b then Ok s else Err e
 
 -- limits that hold what both hold
 abbrev joined : Limits → Limits → Limits
-joined a b = record { nesting = a.nesting + b.nesting; operators = a.operators + b.operators; items = a.items + b.items; names = a.names + b.names; parameters = a.parameters + b.parameters }
+joined a b =
+    record {
+      nesting = a.nesting + b.nesting;
+      operators = a.operators + b.operators;
+      items = a.items + b.items;
+      names = a.names + b.names;
+      parameters = a.parameters + b.parameters;
+    }
 
 wider_left : (a b : Limits) → Wider a (joined a b)
-wider_left a b = record { nesting = omega arith; operators = omega arith; items = omega arith; names = omega arith; parameters = omega arith }
+wider_left a b =
+    record {
+      nesting = omega arith;
+      operators = omega arith;
+      items = omega arith;
+      names = omega arith;
+      parameters = omega arith;
+    }
 
 wider_right : (a b : Limits) → Wider b (joined a b)
-wider_right a b = record { nesting = omega arith; operators = omega arith; items = omega arith; names = omega arith; parameters = omega arith }
+wider_right a b =
+    record {
+      nesting = omega arith;
+      operators = omega arith;
+      items = omega arith;
+      names = omega arith;
+      parameters = omega arith;
+    }
 
 abbrev gate_limits : Gate → Limits
-gate_limits (Nest n) = record { nesting = n + 1; operators = 0; items = 0; names = 0; parameters = 0 }
-gate_limits (Operate n) = record { nesting = 0; operators = n + 1; items = 0; names = 0; parameters = 0 }
-gate_limits (Count n) = record { nesting = 0; operators = 0; items = n + 1; names = 0; parameters = 0 }
-gate_limits (Names n) = record { nesting = 0; operators = 0; items = 0; names = n + 1; parameters = 0 }
-gate_limits (Takes n) = record { nesting = 0; operators = 0; items = 0; names = 0; parameters = n + 1 }
+gate_limits (Nest n) =
+    record { nesting = n + 1; operators = 0; items = 0; names = 0; parameters = 0 }
+gate_limits (Operate n) =
+    record { nesting = 0; operators = n + 1; items = 0; names = 0; parameters = 0 }
+gate_limits (Count n) =
+    record { nesting = 0; operators = 0; items = n + 1; names = 0; parameters = 0 }
+gate_limits (Names n) =
+    record { nesting = 0; operators = 0; items = 0; names = n + 1; parameters = 0 }
+gate_limits (Takes n) =
+    record { nesting = 0; operators = 0; items = 0; names = 0; parameters = n + 1 }
 
 gate_passes : (most : Limits) (g : Gate) → passes g (joined most (gate_limits g)) ≡ true
 gate_passes most (Nest n) = lt-ltb _ _ (omega arith)
@@ -69,8 +95,10 @@ gate_passes most (Takes n) = lt-ltb _ _ (omega arith)
 
 -- the limits under which the name that is wanted here may stand
 abbrev wide_part : Part → Limits
-wide_part (InLet (And g)) = record { nesting = 0; operators = 0; items = 0; names = length g.bindings + 1; parameters = 0 }
-wide_part (InLet (Parameter n ps)) = record { nesting = 0; operators = 0; items = 0; names = 0; parameters = length ps + 1 }
+wide_part (InLet (And g)) =
+    record { nesting = 0; operators = 0; items = 0; names = length g.bindings + 1; parameters = 0 }
+wide_part (InLet (Parameter n ps)) =
+    record { nesting = 0; operators = 0; items = 0; names = 0; parameters = length ps + 1 }
 wide_part _ = record { nesting = 0; operators = 0; items = 0; names = 0; parameters = 0 }
 
 wide_has_offset : (most : Limits) (p : Part) → has_offset (joined most (wide_part p)) p ≡ true
@@ -84,23 +112,31 @@ wide_depths most (InLet (Parameter n ps)) = (omega arith, omega arith)
 wide_depths most _ = (omega arith, omega arith)
 
 -- a state without a place for its name takes no token
-offset_before : (most : Limits) (form : Form) (cs : List Clause) (p : Part) (t : Token) (s : State) → items.step_part most form cs p t ≡ Ok s → has_offset most p ≡ true
-offset_before most form cs (InLet (And g)) (tokens.Name n) s e = choose (nat_lt (length g.bindings) most.names) e
+offset_before : (most : Limits) (form : Form) (cs : List Clause) (p : Part) (t : Token) (s : State)
+    → items.step_part most form cs p t ≡ Ok s → has_offset most p ≡ true
+offset_before most form cs (InLet (And g)) (tokens.Name n) s e =
+    choose (nat_lt (length g.bindings) most.names) e
   where
-    choose : (b : Bool) → items.at cs (if b then Ok (InLet (items.Bound g n)) else Err (Here rules.TooMany)) ≡ Ok s → b ≡ true
+    choose : (b : Bool)
+        → items.at cs (if b then Ok (InLet (items.Bound g n)) else Err (Here rules.TooMany)) ≡ Ok s
+        → b ≡ true
     choose true e = refl
     choose false e = absurd cc
 offset_before most form cs (InLet (And g)) _ s e = absurd cc
-offset_before most form cs (InLet (Parameter n ps)) (tokens.Name m) s e = choose (nat_lt (length ps) most.parameters) e
+offset_before most form cs (InLet (Parameter n ps)) (tokens.Name m) s e =
+    choose (nat_lt (length ps) most.parameters) e
   where
-    choose : (b : Bool) → items.at cs (if b then Ok (InLet (items.AfterParameter n (ps ++ m ∷ []))) else Err (Here rules.TooMany)) ≡ Ok s → b ≡ true
+    choose : (b : Bool)
+        → items.at cs (if b then Ok (InLet (items.AfterParameter n (ps ++ m ∷ [])))
+        else Err (Here rules.TooMany)) ≡ Ok s → b ≡ true
     choose true e = refl
     choose false e = absurd cc
 offset_before most form cs (InLet (Parameter n ps)) _ s e = absurd cc
 offset_before most form cs _ t s e = refl
 
 -- what such a state comes after
-separated : (most : Limits) (p : Token × Token) (q : Part) → 0 < most.names → 0 < most.parameters → KnowsPart p q → has_offset most q ≡ false → IsSeparator p.1
+separated : (most : Limits) (p : Token × Token) (q : Part) → 0 < most.names → 0 < most.parameters
+    → KnowsPart p q → has_offset most q ≡ false → IsSeparator p.1
 separated most p (InLet (And g)) one two k e = choose k.2
   where
     choose : IsSeparator p.1 ⊎ (length g.bindings ≡ 0) → IsSeparator p.1
@@ -113,11 +149,13 @@ separated most p (InLet (Parameter n ps)) one two k e = choose k.1
     choose (inr h) = let low = ltb-false _ _ e in absurd (omega arith)
 separated most p _ one two k e = absurd cc
 
-last_two-push : (a b : Token) (ts : List Token) (t : Token) → last_two a b (ts ++ t ∷ []) ≡ ((last_two a b ts).1, t)
+last_two-push : (a b : Token) (ts : List Token) (t : Token)
+    → last_two a b (ts ++ t ∷ []) ≡ ((last_two a b ts).1, t)
 last_two-push a b [] t = refl
 last_two-push a b (u ∷ ts) t = last_two-push b u ts t
 
-last_offset-push : (n : ℕ) (ps : List TokenAt) (p : TokenAt) → last_offset n (ps ++ p ∷ []) ≡ p.offset
+last_offset-push : (n : ℕ) (ps : List TokenAt) (p : TokenAt)
+    → last_offset n (ps ++ p ∷ []) ≡ p.offset
 last_offset-push n [] p = refl
 last_offset-push n (q ∷ ps) p = last_offset-push q.offset ps p
 
@@ -153,28 +191,52 @@ module _ (form : Form) where
       by_form forms.Item = refl
 
   -- a step under wider limits, and what is known after it
-  step_wider : (a b : Limits) (p : Token × Token) (s : State) (t : Token) (s' : State) → KnowsPart p s.part → Wider a b → step a form s t ≡ Ok s' → (step b form s t ≡ Ok s') × KnowsPart (p.1, t) s'.part
+  step_wider : (a b : Limits) (p : Token × Token) (s : State) (t : Token) (s' : State)
+      → KnowsPart p s.part → Wider a b → step a form s t ≡ Ok s'
+      → (step b form s t ≡ Ok s') × KnowsPart (p.1, t) s'.part
   step_wider a b p s t s' k w e = by_shape (step_shape form p s t k)
     where
-      by_result : (r : Result State Fault) → ((x : Limits) → step x form s t ≡ r) → ((x : State) → r ≡ Ok x → KnowsPart (p.1, t) x.part) → (step b form s t ≡ Ok s') × KnowsPart (p.1, t) s'.part
+      by_result : (r : Result State Fault) → ((x : Limits) → step x form s t ≡ r)
+          → ((x : State) → r ≡ Ok x → KnowsPart (p.1, t) x.part)
+          → (step b form s t ≡ Ok s') × KnowsPart (p.1, t) s'.part
       by_result r q known = (q b ∙ sym (q a) ∙ e, known s' (sym (q a) ∙ e))
 
-      by_shape : StepShape p t (λ x. step x form s t) → (step b form s t ≡ Ok s') × KnowsPart (p.1, t) s'.part
-      by_shape (Always (Ok x) q known) = by_result (Ok x) q (λ y h. subst (λ (z : State). KnowsPart (p.1, t) z.part) (kept_is x y h) known)
+      by_shape : StepShape p t (λ x. step x form s t)
+          → (step b form s t ≡ Ok s') × KnowsPart (p.1, t) s'.part
+      by_shape (Always (Ok x) q known) =
+          by_result (Ok x) q (λ y h.
+          subst (λ (z : State). KnowsPart (p.1, t) z.part) (kept_is x y h) known)
       by_shape (Always (Err d) q known) = by_result (Err d) q (λ y h. absurd (not_both d y h))
       by_shape (Where g x q own known offset) = by_test (passes g a) refl
         where
-          by_test : (y : Bool) → passes g a ≡ y → (step b form s t ≡ Ok s') × KnowsPart (p.1, t) s'.part
+          by_test : (y : Bool) → passes g a ≡ y
+              → (step b form s t ≡ Ok s') × KnowsPart (p.1, t) s'.part
           by_test true h =
-              let same : kept x ≡ kept s' = sym (ap (λ (z : Bool). gated z x (gate_fault g (is_check t && is_tilde p.1))) h) ∙ sym (q a) ∙ e in
-              (q b ∙ ap (λ (z : Bool). gated z x (gate_fault g (is_check t && is_tilde p.1))) (passes_wider g a b w h) ∙ same, subst (λ (z : State). KnowsPart (p.1, t) z.part) (kept_is x s' same) known)
-          by_test false h = absurd (not_both (gate_fault g (is_check t && is_tilde p.1)) s' (sym (ap (λ (z : Bool). gated z x (gate_fault g (is_check t && is_tilde p.1))) h) ∙ sym (q a) ∙ e))
+              let same : kept x ≡ kept s' = sym (ap (λ (z : Bool). gated z x (gate_fault g (is_check t && is_tilde p.1))) h) ∙ sym (q a) ∙ e in (
+                q b
+                    ∙ ap (λ (z : Bool). gated z x (gate_fault g (is_check t && is_tilde p.1)))
+                    (passes_wider g a b w h) ∙ same,
+                subst (λ (z : State). KnowsPart (p.1, t) z.part) (kept_is x s' same) known,
+              )
+          by_test false h =
+              absurd (not_both (gate_fault g (is_check t && is_tilde p.1)) s' (sym
+              (ap (λ (z : Bool). gated z x (gate_fault g (is_check t && is_tilde p.1)))
+              h) ∙ sym (q a) ∙ e))
 
-  taken_wider : (a b : Limits) (p : Token × Token) (s : State) (ts : List Token) (s' : State) → KnowsPart p s.part → Wider a b → run_over a form s ts ≡ Ok s' → (run_over b form s ts ≡ Ok s') × KnowsPart (last_two p.0 p.1 ts) s'.part
-  taken_wider a b p s [] s' k w e = (e, subst (λ (z : State). KnowsPart p z.part) (kept_is s s' e) k)
-  taken_wider a b p s (t ∷ ts) s' k w e = by_step (step a form s t) refl e (λ x j h. taken_wider a b (p.1, t) x ts s' j w h)
+  taken_wider : (a b : Limits) (p : Token × Token) (s : State) (ts : List Token) (s' : State)
+      → KnowsPart p s.part → Wider a b → run_over a form s ts ≡ Ok s'
+      → (run_over b form s ts ≡ Ok s') × KnowsPart (last_two p.0 p.1 ts) s'.part
+  taken_wider a b p s [] s' k w e =
+      (e, subst (λ (z : State). KnowsPart p z.part) (kept_is s s' e) k)
+  taken_wider a b p s (t ∷ ts) s' k w e =
+      by_step (step a form s t) refl e (λ x j h. taken_wider a b (p.1, t) x ts s' j w h)
     where
-      by_step : (r : Result State Fault) → step a form s t ≡ r → (r >>= λ x. run_over a form x ts) ≡ Ok s' → ((x : State) → KnowsPart (p.1, t) x.part → run_over a form x ts ≡ Ok s' → (run_over b form x ts ≡ Ok s') × KnowsPart (last_two p.1 t ts) s'.part) → ((step b form s t >>= λ x. run_over b form x ts) ≡ Ok s') × KnowsPart (last_two p.1 t ts) s'.part
+      by_step : (r : Result State Fault) → step a form s t ≡ r
+          → (r >>= λ x. run_over a form x ts) ≡ Ok s'
+          → ((x : State) → KnowsPart (p.1, t) x.part → run_over a form x ts ≡ Ok s'
+          → (run_over b form x ts ≡ Ok s') × KnowsPart (last_two p.1 t ts) s'.part)
+          → ((step b form s t >>= λ x. run_over b form x ts) ≡ Ok s')
+          × KnowsPart (last_two p.1 t ts) s'.part
       by_step (Ok x) q h f =
           let n = step_wider a b p s t x k w q in
           let r = f x n.1 h in
@@ -182,25 +244,46 @@ module _ (form : Form) where
       by_step (Err d) q h f = absurd (not_both d s' h)
 
   -- tokens that were taken
-  module _ (most : Limits) (ts : List Token) (s : State) (reached : run_over most form (start form) ts ≡ Ok s) where
+  module _ (most : Limits) (ts : List Token) (s : State)
+      (reached : run_over most form (start form) ts ≡ Ok s) where
     abbrev ends : Token × Token
     ends = last_two tokens.End tokens.End ts
 
     under : (b : Limits) → Wider most b → run_over b form (start form) ts ≡ Ok s
-    under b w = (taken_wider most b (tokens.End, tokens.End) (start form) ts s start_knows w reached).0
+    under b w =
+        (taken_wider most b (tokens.End, tokens.End) (start form) ts s start_knows w reached).0
 
     known : KnowsPart ends s.part
-    known = (taken_wider most most (tokens.End, tokens.End) (start form) ts s start_knows (record { nesting = omega arith; operators = omega arith; items = omega arith; names = omega arith; parameters = omega arith }) reached).1
+    known =
+        (taken_wider most most (tokens.End, tokens.End) (start form) ts s start_knows
+        (record {
+          nesting = omega arith;
+          operators = omega arith;
+          items = omega arith;
+          names = omega arith;
+          parameters = omega arith;
+        }) reached).1
 
-    pushed : (b : Limits) (t : Token) → Wider most b → run_over b form (start form) (ts ++ t ∷ []) ≡ (step b form s t >>= λ x. Ok x)
+    pushed : (b : Limits) (t : Token) → Wider most b
+        → run_over b form (start form) (ts ++ t ∷ []) ≡ (step b form s t >>= λ x. Ok x)
     pushed b t w = run_over-append b form (start form) s ts (t ∷ []) (under b w)
 
     same_limits : Wider most most
-    same_limits = record { nesting = omega arith; operators = omega arith; items = omega arith; names = omega arith; parameters = omega arith }
+    same_limits =
+        record {
+          nesting = omega arith;
+          operators = omega arith;
+          items = omega arith;
+          names = omega arith;
+          parameters = omega arith;
+        }
 
-    module _ (some : 0 < most.nesting) (one : 0 < most.names) (two : 0 < most.parameters) (t : Token) where
+    module _ (some : 0 < most.nesting) (one : 0 < most.names) (two : 0 < most.parameters)
+        (t : Token) where
       -- a token that is taken can stand
-      stands : (s' : State) → step most form s t ≡ Ok s' → (run_over most form (start form) (ts ++ t ∷ []) ≡ Ok s') × CanStand most form (ts ++ t ∷ [])
+      stands : (s' : State) → step most form s t ≡ Ok s'
+          → (run_over most form (start form) (ts ++ t ∷ []) ≡ Ok s')
+          × CanStand most form (ts ++ t ∷ [])
       stands s' e = (all, choose (has_offset most s'.part) refl)
         where
           all : run_over most form (start form) (ts ++ t ∷ []) ≡ Ok s'
@@ -220,14 +303,19 @@ module _ (form : Form) where
                 separator = t;
                 is_one = separated most (ends.1, t) s'.part one two after offset;
                 split = refl;
-                begins = begins most form ts s some one reached (offset_before most form s.items s.part t s' e);
+                begins =
+                    begins most form ts s some one reached
+                    (offset_before most form s.items s.part t s' e);
                 wider = wide;
                 same = wide_depths most s'.part;
-                more = begins wide form (ts ++ t ∷ []) s' (let h = w.nesting in omega arith) (let h = w.names in omega arith) now (wide_has_offset most s'.part);
+                more =
+                    begins wide form (ts ++ t ∷ []) s' (let h = w.nesting in omega arith)
+                    (let h = w.names in omega arith) now (wide_has_offset most s'.part);
               })
 
       -- where no limits help, no text begins so
-      no_wider : (d : Fault) → ((b : Limits) → step b form s t ≡ Err d) → (wider : Limits) → Begins wider form (ts ++ t ∷ []) → ⊥
+      no_wider : (d : Fault) → ((b : Limits) → step b form s t ≡ Err d) → (wider : Limits)
+          → Begins wider form (ts ++ t ∷ []) → ⊥
       no_wider d e wider b =
           let c = joined most wider in
           let r = takes wider form (ts ++ t ∷ []) b in
@@ -242,90 +330,164 @@ module _ (form : Form) where
           not_both d r.0 (ap (λ (y : Result State Fault). y >>= λ x. Ok x) (sym e) ∙ q)
 
       -- wider limits help where a limit refused
-      wider_text : (g : Gate) (x : State) (d : Fault) → ((b : Limits) → step b form s t ≡ gated (passes g b) x d) → ((b : Limits) → has_offset b x.part ≡ true) → Begins (joined most (gate_limits g)) form (ts ++ t ∷ [])
+      wider_text : (g : Gate) (x : State) (d : Fault)
+          → ((b : Limits) → step b form s t ≡ gated (passes g b) x d)
+          → ((b : Limits) → has_offset b x.part ≡ true)
+          → Begins (joined most (gate_limits g)) form (ts ++ t ∷ [])
       wider_text g x d q offset =
           let c = joined most (gate_limits g) in
           let w = wider_left most (gate_limits g) in
           let e : run_over c form (start form) (ts ++ t ∷ []) ≡ Ok x = pushed c t w ∙ ap (λ (y : Result State Fault). y >>= λ z. Ok z) (q c ∙ ap (λ (y : Bool). gated y x d) (gate_passes most g)) in
-          begins c form (ts ++ t ∷ []) x (let h = w.nesting in omega arith) (let h = w.names in omega arith) e (offset c)
+          begins c form (ts ++ t ∷ []) x (let h = w.nesting in omega arith)
+          (let h = w.names in omega arith) e (offset c)
 
       -- a token that is refused cannot stand
-      cannot_stand : (d : Fault) → step most form s t ≡ Err d → CanStand most form (ts ++ t ∷ []) → ⊥
+      cannot_stand : (d : Fault) → step most form s t ≡ Err d → CanStand most form (ts ++ t ∷ [])
+          → ⊥
       cannot_stand d e (BeginsText b) = no_text d e b
       cannot_stand d e (BeforeAName a) = by_shape (step_shape form ends s t known)
         where
           same : t ≡ a.separator
-          same = sym (ap (λ (p : Token × Token). p.1) (last_two-push tokens.End tokens.End ts t)) ∙ ap (λ (us : List Token). (last_two tokens.End tokens.End us).1) a.split ∙ ap (λ (p : Token × Token). p.1) (last_two-push tokens.End tokens.End a.earlier a.separator)
+          same =
+              sym (ap (λ (p : Token × Token). p.1) (last_two-push tokens.End tokens.End ts t))
+              ∙ ap (λ (us : List Token). (last_two tokens.End tokens.End us).1) a.split
+              ∙ ap (λ (p : Token × Token). p.1)
+              (last_two-push tokens.End tokens.End a.earlier a.separator)
 
           by_shape : StepShape ends t (λ b. step b form s t) → ⊥
           by_shape (Always (Ok x) q k) = not_both d x (sym e ∙ q most)
           by_shape (Always (Err f) q k) = no_wider f q a.wider a.more
-          by_shape (Where g x q own k offset) = own.no_separator (subst IsSeparator (sym same) a.is_one)
+          by_shape (Where g x q own k offset) =
+              own.no_separator (subst IsSeparator (sym same) a.is_one)
 
 -- ---- the first fault
 
 -- what a step's fault says of the token at an offset, after these
 abbrev pub RefusedAs : Limits → Form → List TokenAt → TokenAt → Fault → Type 0
 RefusedAs most form before here (Here r) = IsRefusal most form before here r here.offset
-RefusedAs most form before here (Before r) = IsRefusal most form before here r (last_offset 0 before)
+RefusedAs most form before here (Before r) =
+    IsRefusal most form before here r (last_offset 0 before)
 
-module _ (most : Limits) (form : Form) (some : 0 < most.nesting) (one : 0 < most.names) (two : 0 < most.parameters) (before : List TokenAt) (s : State) (reached : run_over most form (start form) (tokens_of before) ≡ Ok s) (here : TokenAt) where
+module _ (most : Limits) (form : Form) (some : 0 < most.nesting) (one : 0 < most.names)
+    (two : 0 < most.parameters) (before : List TokenAt) (s : State)
+    (reached : run_over most form (start form) (tokens_of before) ≡ Ok s) (here : TokenAt) where
   abbrev two_before : Token × Token
   two_before = last_two tokens.End tokens.End (tokens_of before)
 
-  too_many : (wider : Limits) → SameDepths most wider → Begins wider form (tokens_of before ++ here.token ∷ []) → (b : Bool) → (is_check here.token && is_tilde two_before.1) ≡ b → RefusedAs most form before here (many_fault b)
-  too_many wider same text true e = TooMany wider same text refl (sym (ap (λ (b : Bool). if b then last_offset 0 before else here.offset) e))
-  too_many wider same text false e = TooMany wider same text refl (sym (ap (λ (b : Bool). if b then last_offset 0 before else here.offset) e))
+  too_many : (wider : Limits) → SameDepths most wider
+      → Begins wider form (tokens_of before ++ here.token ∷ []) → (b : Bool)
+      → (is_check here.token && is_tilde two_before.1) ≡ b
+      → RefusedAs most form before here (many_fault b)
+  too_many wider same text true e =
+      TooMany wider same text refl (sym (ap
+      (λ (b : Bool). if b then last_offset 0 before else here.offset) e))
+  too_many wider same text false e =
+      TooMany wider same text refl (sym (ap
+      (λ (b : Bool). if b then last_offset 0 before else here.offset) e))
 
-  too_deep : (wider : Limits) → SameCounts most wider → Begins wider form (tokens_of before ++ here.token ∷ []) → RefusedAs most form before here (Here rules.TooDeep)
+  too_deep : (wider : Limits) → SameCounts most wider
+      → Begins wider form (tokens_of before ++ here.token ∷ [])
+      → RefusedAs most form before here (Here rules.TooDeep)
   too_deep wider same text = TooDeep wider same text refl refl
 
-  gate_refusal : (g : Gate) → Begins (joined most (gate_limits g)) form (tokens_of before ++ here.token ∷ []) → RefusedAs most form before here (gate_fault g (is_check here.token && is_tilde two_before.1))
-  gate_refusal (Nest n) text = too_deep (joined most (gate_limits (Nest n))) (omega arith, omega arith, omega arith) text
-  gate_refusal (Operate n) text = too_deep (joined most (gate_limits (Operate n))) (omega arith, omega arith, omega arith) text
-  gate_refusal (Count n) text = too_many (joined most (gate_limits (Count n))) (omega arith, omega arith) text (is_check here.token && is_tilde two_before.1) refl
-  gate_refusal (Names n) text = too_many (joined most (gate_limits (Names n))) (omega arith, omega arith) text (is_check here.token && is_tilde two_before.1) refl
-  gate_refusal (Takes n) text = too_many (joined most (gate_limits (Takes n))) (omega arith, omega arith) text (is_check here.token && is_tilde two_before.1) refl
+  gate_refusal : (g : Gate)
+      → Begins (joined most (gate_limits g)) form (tokens_of before ++ here.token ∷ [])
+      → RefusedAs most form before here (gate_fault g
+      (is_check here.token && is_tilde two_before.1))
+  gate_refusal (Nest n) text =
+      too_deep (joined most (gate_limits (Nest n))) (omega arith, omega arith, omega arith) text
+  gate_refusal (Operate n) text =
+      too_deep (joined most (gate_limits (Operate n))) (omega arith, omega arith, omega arith) text
+  gate_refusal (Count n) text =
+      too_many (joined most (gate_limits (Count n))) (omega arith, omega arith) text
+      (is_check here.token && is_tilde two_before.1) refl
+  gate_refusal (Names n) text =
+      too_many (joined most (gate_limits (Names n))) (omega arith, omega arith) text
+      (is_check here.token && is_tilde two_before.1) refl
+  gate_refusal (Takes n) text =
+      too_many (joined most (gate_limits (Takes n))) (omega arith, omega arith) text
+      (is_check here.token && is_tilde two_before.1) refl
 
   refusal : (d : Fault) → step most form s here.token ≡ Err d → RefusedAs most form before here d
-  refusal d e = by_shape (step_shape form two_before s here.token (known form most (tokens_of before) s reached))
+  refusal d e =
+      by_shape (step_shape form two_before s here.token
+      (known form most (tokens_of before) s reached))
     where
       same_fault : (a b : Fault) → fails a ≡ fails b → a ≡ b
       same_fault a b h = cc
 
-      by_shape : StepShape two_before here.token (λ b. step b form s here.token) → RefusedAs most form before here d
+      by_shape : StepShape two_before here.token (λ b. step b form s here.token)
+          → RefusedAs most form before here d
       by_shape (Always (Ok x) q k) = absurd (not_both d x (sym e ∙ q most))
       by_shape (Always (Err (Before r)) q k) = absurd k
-      by_shape (Always (Err (Here r)) q (Broke b)) = subst (RefusedAs most form before here) (same_fault (Here r) d (sym (q most) ∙ e)) (Nowhere b refl)
+      by_shape (Always (Err (Here r)) q (Broke b)) =
+          subst (RefusedAs most form before here) (same_fault (Here r) d (sym (q most) ∙ e))
+          (Nowhere b refl)
       by_shape (Always (Err (Here r)) q (Plainly own b)) =
-          subst (RefusedAs most form before here) (same_fault (Here r) d (sym (q most) ∙ e)) (Plain (no_wider form most (tokens_of before) s reached some one two here.token (Here r) q) own b refl)
+          subst (RefusedAs most form before here) (same_fault (Here r) d (sym (q most) ∙ e))
+          (Plain
+          (no_wider form most (tokens_of before) s reached some one two here.token (Here r)
+          q) own b refl)
       by_shape (Where g x q own k offset) = by_test (passes g most) refl
         where
           by_test : (y : Bool) → passes g most ≡ y → RefusedAs most form before here d
-          by_test true h = absurd (not_both d x (sym e ∙ q most ∙ ap (λ (z : Bool). gated z x (gate_fault g (is_check here.token && is_tilde two_before.1))) h))
+          by_test true h =
+              absurd (not_both d x (sym e ∙ q most
+              ∙ ap
+              (λ (z : Bool). gated z x (gate_fault g
+              (is_check here.token && is_tilde two_before.1))) h))
           by_test false h =
-              subst (RefusedAs most form before here) (same_fault (gate_fault g (is_check here.token && is_tilde two_before.1)) d (sym (ap (λ (z : Bool). gated z x (gate_fault g (is_check here.token && is_tilde two_before.1))) h) ∙ sym (q most) ∙ e))
-              (gate_refusal g (wider_text form most (tokens_of before) s reached some one two here.token g x (gate_fault g (is_check here.token && is_tilde two_before.1)) q offset))
+              subst (RefusedAs most form before here) (same_fault
+              (gate_fault g (is_check here.token && is_tilde two_before.1)) d
+              (sym (ap
+              (λ (z : Bool). gated z x (gate_fault g
+              (is_check here.token && is_tilde two_before.1))) h)
+              ∙ sym (q most) ∙ e))
+              (gate_refusal g (wider_text form most (tokens_of before) s reached some one two
+              here.token g x
+              (gate_fault g (is_check here.token && is_tilde two_before.1)) q offset))
 
 -- the text that was taken, or the fault
 abbrev pub Outcome : Limits → Form → List TokenAt → Ran → Type 0
 Outcome most form ps (Ok s) = run_over most form (start form) (tokens_of ps) ≡ Ok s
 Outcome most form ps (Err e) = IsFault most form ps e.0 e.1
 
-pub outcome : (most : Limits) (form : Form) (ps : List TokenAt) → 0 < most.nesting → 0 < most.names → 0 < most.parameters → Outcome most form ps (run most form 0 (start form) ps)
-outcome most form ps some one two = go [] 0 refl (start form) ps refl (BeginsText (begins most form [] (start form) some one refl (start_has_offset form most)))
+pub outcome : (most : Limits) (form : Form) (ps : List TokenAt) → 0 < most.nesting → 0 < most.names
+    → 0 < most.parameters → Outcome most form ps (run most form 0 (start form) ps)
+outcome most form ps some one two =
+    go [] 0 refl (start form) ps refl (BeginsText (begins most form [] (start form) some one refl
+    (start_has_offset form most)))
   where
-    go : (before : List TokenAt) (n : ℕ) → last_offset 0 before ≡ n → (s : State) (rest : List TokenAt) → run_over most form (start form) (tokens_of before) ≡ Ok s → CanStand most form (tokens_of before) → Outcome most form (before ++ rest) (run most form n s rest)
+    go : (before : List TokenAt) (n : ℕ) → last_offset 0 before ≡ n
+        → (s : State) (rest : List TokenAt)
+        → run_over most form (start form) (tokens_of before) ≡ Ok s
+        → CanStand most form (tokens_of before)
+        → Outcome most form (before ++ rest) (run most form n s rest)
     go before n at_n s [] reached stand = rw append-nil reached
     go before n at_n s (p ∷ rest) reached stand =
         by_step (step most form s p.token) refl
-        (λ x h. rw (← append_assoc before (p ∷ []) rest) (go (before ++ p ∷ []) p.offset (last_offset-push 0 before p) x rest (rw (tokens_of-append before (p ∷ [])) h.0) (rw (tokens_of-append before (p ∷ [])) h.1)))
+        (λ x h. rw (← append_assoc before (p ∷ []) rest) (go (before ++ p ∷ []) p.offset
+        (last_offset-push 0 before p) x rest (rw (tokens_of-append before (p ∷ [])) h.0)
+        (rw (tokens_of-append before (p ∷ [])) h.1)))
       where
-        fault : (r : CatRule) (offset : ℕ) → (d : Fault) → step most form s p.token ≡ Err d → IsRefusal most form before p r offset → IsFault most form (before ++ p ∷ rest) r offset
+        fault : (r : CatRule) (offset : ℕ) → (d : Fault) → step most form s p.token ≡ Err d
+            → IsRefusal most form before p r offset
+            → IsFault most form (before ++ p ∷ rest) r offset
         fault r offset d e h =
             record { before = before; here = p; after = rest; split = refl; stand = stand; ends = cannot_stand form most (tokens_of before) s reached some one two p.token d e; refusal = h }
 
-        by_step : (r : Result State Fault) → step most form s p.token ≡ r → ((x : State) → (run_over most form (start form) (tokens_of before ++ p.token ∷ []) ≡ Ok x) × CanStand most form (tokens_of before ++ p.token ∷ []) → Outcome most form (before ++ p ∷ rest) (run most form p.offset x rest)) → Outcome most form (before ++ p ∷ rest) (and_then (with_offset n p.offset r) (λ x. run most form p.offset x rest))
-        by_step (Ok x) e f = f x (stands form most (tokens_of before) s reached some one two p.token x e)
-        by_step (Err (Here r)) e f = fault r p.offset (Here r) e (refusal most form some one two before s reached p (Here r) e)
-        by_step (Err (Before r)) e f = fault r n (Before r) e (subst (IsRefusal most form before p r) at_n (refusal most form some one two before s reached p (Before r) e))
+        by_step : (r : Result State Fault) → step most form s p.token ≡ r
+            → ((x : State)
+            → (run_over most form (start form) (tokens_of before ++ p.token ∷ []) ≡ Ok x)
+            × CanStand most form (tokens_of before ++ p.token ∷ [])
+            → Outcome most form (before ++ p ∷ rest) (run most form p.offset x rest))
+            → Outcome most form (before ++ p ∷ rest) (and_then (with_offset n p.offset r)
+            (λ x. run most form p.offset x rest))
+        by_step (Ok x) e f =
+            f x (stands form most (tokens_of before) s reached some one two p.token x e)
+        by_step (Err (Here r)) e f =
+            fault r p.offset (Here r) e (refusal most form some one two before s reached p (Here r)
+            e)
+        by_step (Err (Before r)) e f =
+            fault r n (Before r) e (subst (IsRefusal most form before p r) at_n
+            (refusal most form some one two before s reached p (Before r) e))

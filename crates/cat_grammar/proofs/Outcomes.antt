@@ -34,26 +34,33 @@ end_done forms.Item cs n = choose (n == 0)
     choose true = tt
     choose false = refl
 
-added_done : (most : Limits) (form : Form) (cs : List Clause) (x : Result Clause Fault) → IsDone (added cs x (λ n. item_or_end most form n tokens.End))
+added_done : (most : Limits) (form : Form) (cs : List Clause) (x : Result Clause Fault)
+    → IsDone (added cs x (λ n. item_or_end most form n tokens.End))
 added_done most form cs (Ok c) = end_done form (cs ++ c ∷ []) (length cs + 1)
 added_done most form cs (Err e) = tt
 
-ended_done : (most : Limits) (form : Form) (cs : List Clause) (h : Head) (fs : List Frame) (v : Term) → IsDone (goes_on most form cs h tokens.End (ended tokens.End (fs, v)))
+ended_done : (most : Limits) (form : Form) (cs : List Clause) (h : Head) (fs : List Frame)
+    (v : Term) → IsDone (goes_on most form cs h tokens.End (ended tokens.End (fs, v)))
 ended_done most form cs h [] v = added_done most form cs (finished h v rules.Syntax)
 ended_done most form cs h (f ∷ fs) v = tt
 
-folded_done : (most : Limits) (form : Form) (cs : List Clause) (h : Head) (p : List Frame × Term) → IsDone (goes_on most form cs h tokens.End (ended tokens.End p))
+folded_done : (most : Limits) (form : Form) (cs : List Clause) (h : Head) (p : List Frame × Term)
+    → IsDone (goes_on most form cs h tokens.End (ended tokens.End p))
 folded_done most form cs h (fs, v) = ended_done most form cs h fs v
 
-body_done : (most : Limits) (form : Form) (cs : List Clause) (h : Head) (fs : List Frame) (used : ℕ) (expected : Expectation) → IsDone (goes_on most form cs h tokens.End (expression_step most fs used expected tokens.End))
+body_done : (most : Limits) (form : Form) (cs : List Clause) (h : Head) (fs : List Frame) (used : ℕ)
+    (expected : Expectation)
+    → IsDone (goes_on most form cs h tokens.End (expression_step most fs used expected tokens.End))
 body_done most form cs h fs used Wants = tt
 body_done most form cs h fs used HasBrace = tt
 body_done most form cs h fs used (HasName n) = folded_done most form cs h (fold_to 0 fs (Atom n))
 body_done most form cs h fs used (Has v) = folded_done most form cs h (fold_to 0 fs v)
-body_done most form cs h fs used (HasStar v) = folded_done most form cs h (fold_to 0 fs (Mark postfix.Closure v))
+body_done most form cs h fs used (HasStar v) =
+    folded_done most form cs h (fold_to 0 fs (Mark postfix.Closure v))
 body_done most form cs h fs used (HasStarTilde v) = tt
 
-let_done : (most : Limits) (cs : List Clause) (q : items.LetPart) → IsDone (at cs (items.after_let most q tokens.End))
+let_done : (most : Limits) (cs : List Clause) (q : items.LetPart)
+    → IsDone (at cs (items.after_let most q tokens.End))
 let_done most cs Keyword = tt
 let_done most cs (Named n) = tt
 let_done most cs (And g) = tt
@@ -62,7 +69,8 @@ let_done most cs (Parameter n ps) = tt
 let_done most cs (AfterParameter n ps) = tt
 let_done most cs (Parameters n ps) = tt
 
-part_done : (most : Limits) (form : Form) (cs : List Clause) (p : Part) → IsDone (step_part most form cs p tokens.End)
+part_done : (most : Limits) (form : Form) (cs : List Clause) (p : Part)
+    → IsDone (step_part most form cs p tokens.End)
 part_done most form cs items.Title = end_done form cs (length cs)
 part_done most form cs Start = end_done form cs (length cs)
 part_done most form cs (InLet q) = let_done most cs q
@@ -79,15 +87,21 @@ abbrev part_in : Result State Fault → Part
 part_in (Ok y) = y.part
 part_in (Err k) = Done
 
-run_over_done : (most : Limits) (form : Form) (s : State) (ts : List Token) (s' : State) → run_over most form s (ts ++ tokens.End ∷ []) ≡ Ok s' → s'.part ≡ Done
-run_over_done most form s [] s' e = by_end (step most form s tokens.End) (part_done most form s.items s.part) e
+run_over_done : (most : Limits) (form : Form) (s : State) (ts : List Token) (s' : State)
+    → run_over most form s (ts ++ tokens.End ∷ []) ≡ Ok s' → s'.part ≡ Done
+run_over_done most form s [] s' e =
+    by_end (step most form s tokens.End) (part_done most form s.items s.part) e
   where
     by_end : (r : Result State Fault) → IsDone r → (r >>= λ x. Ok x) ≡ Ok s' → s'.part ≡ Done
     by_end (Ok x) d h = sym (ap part_in h) ∙ d
     by_end (Err k) d h = absurd cc
-run_over_done most form s (t ∷ ts) s' e = by_step (step most form s t) e (λ x k. run_over_done most form x ts s' k)
+run_over_done most form s (t ∷ ts) s' e =
+    by_step (step most form s t) e (λ x k. run_over_done most form x ts s' k)
   where
-    by_step : (r : Result State Fault) → (r >>= λ x. run_over most form x (ts ++ tokens.End ∷ [])) ≡ Ok s' → ((x : State) → run_over most form x (ts ++ tokens.End ∷ []) ≡ Ok s' → s'.part ≡ Done) → s'.part ≡ Done
+    by_step : (r : Result State Fault)
+        → (r >>= λ x. run_over most form x (ts ++ tokens.End ∷ [])) ≡ Ok s'
+        → ((x : State) → run_over most form x (ts ++ tokens.End ∷ []) ≡ Ok s' → s'.part ≡ Done)
+        → s'.part ≡ Done
     by_step (Ok x) k f = f x k
     by_step (Err d) k f = absurd cc
 
@@ -109,27 +123,37 @@ pub not_both : (e : CatRule × ℕ) (cs : List Clause) → refused e ≡ kept cs
 not_both e cs h = absurd cc
 
 -- a text that means some items has no fault
-pub no_fault : (form : Form) (ps : List TokenAt) (v : List Clause) (r : CatRule) (n : ℕ) → Means limits form (tokens_of ps) v → IsFault limits form ps r n → ⊥
+pub no_fault : (form : Form) (ps : List TokenAt) (v : List Clause) (r : CatRule) (n : ℕ)
+    → Means limits form (tokens_of ps) v → IsFault limits form ps r n → ⊥
 no_fault form ps v r n m f =
     let e : tokens_of ps ≡ (tokens_of f.before ++ f.here.token ∷ []) ++ tokens_of f.after = ap tokens_of f.split ∙ tokens_of-append f.before (f.here ∷ f.after) ∙ sym (append_assoc (tokens_of f.before) (f.here.token ∷ []) (tokens_of f.after)) in
-    f.ends (BeginsText (record { rest = tokens_of f.after; items = v; text = subst (λ ts. Means limits form ts v) e m }))
+    f.ends (BeginsText (record {
+      rest = tokens_of f.after;
+      items = v;
+      text = subst (λ ts. Means limits form ts v) e m;
+    }))
 
 module _ (form : Form) (ps : List TokenAt) where
   abbrev made : Ran
   made = run limits form 0 (start form) ps
 
   is_outcome : (r : Ran) → made ≡ r → Outcome limits form ps r
-  is_outcome r e = subst (Outcome limits form ps) e (outcome limits form ps (omega arith) (omega arith) (omega arith))
+  is_outcome r e =
+      subst (Outcome limits form ps) e (outcome limits form ps (omega arith) (omega arith)
+      (omega arith))
 
   pub fault_found : (r : CatRule) (n : ℕ) → items_of made ≡ Err (r, n) → IsFault limits form ps r n
   fault_found r n e = by_run made refl e
     where
       by_run : (x : Ran) → made ≡ x → items_of x ≡ Err (r, n) → IsFault limits form ps r n
       by_run (Ok s) q h = absurd (not_both (r, n) s.items (sym h))
-      by_run (Err d) q h = subst (λ (x : CatRule × ℕ). IsFault limits form ps x.0 x.1) (refused_is d (r, n) h) (is_outcome (Err d) q)
+      by_run (Err d) q h =
+          subst (λ (x : CatRule × ℕ). IsFault limits form ps x.0 x.1) (refused_is d (r, n) h)
+          (is_outcome (Err d) q)
 
   module _ (ts : List Token) (ends : tokens_of ps ≡ ts ++ tokens.End ∷ []) where
-    pub items_found : (cs : List Clause) → items_of made ≡ Ok cs → Means limits form (tokens_of ps) cs
+    pub items_found : (cs : List Clause) → items_of made ≡ Ok cs
+        → Means limits form (tokens_of ps) cs
     items_found cs e = by_run made refl e
       where
         by_run : (x : Ran) → made ≡ x → items_of x ≡ Ok cs → Means limits form (tokens_of ps) cs
@@ -144,9 +168,12 @@ module _ (form : Form) (ps : List TokenAt) where
   items_in (Ok s) = s.items
   items_in (Err e) = []
 
-  pub items_only : (cs v : List Clause) → items_of made ≡ Ok cs → Means limits form (tokens_of ps) v → cs ≡ v
+  pub items_only : (cs v : List Clause) → items_of made ≡ Ok cs → Means limits form (tokens_of ps) v
+      → cs ≡ v
   items_only cs v e m = by_run made refl e
     where
       by_run : (x : Ran) → made ≡ x → items_of x ≡ Ok cs → cs ≡ v
-      by_run (Ok s) q h = sym (kept_is s.items cs h) ∙ ap items_in (sym (is_outcome (Ok s) q) ∙ complete limits form (tokens_of ps) v m)
+      by_run (Ok s) q h =
+          sym (kept_is s.items cs h)
+          ∙ ap items_in (sym (is_outcome (Ok s) q) ∙ complete limits form (tokens_of ps) v m)
       by_run (Err d) q h = absurd (not_both d cs h)

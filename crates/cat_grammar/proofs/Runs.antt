@@ -15,10 +15,16 @@ abbrev pub run_over : Limits → Form → State → List Token → Result State 
 run_over most form s [] = Ok s
 run_over most form s (t ∷ ts) = step most form s t >>= λ s'. run_over most form s' ts
 
-pub run_over-append : (most : Limits) (form : Form) (s s' : State) (ts us : List Token) → run_over most form s ts ≡ Ok s' → run_over most form s (ts ++ us) ≡ run_over most form s' us
-run_over-append most form s s' [] us e = ap (λ (r : Result State Fault). r >>= λ x. run_over most form x us) e
-run_over-append most form s s' (t ∷ ts) us e = by_step (step most form s t) e (λ x k. run_over-append most form x s' ts us k)
+pub run_over-append : (most : Limits) (form : Form) (s s' : State) (ts us : List Token)
+    → run_over most form s ts ≡ Ok s' → run_over most form s (ts ++ us) ≡ run_over most form s' us
+run_over-append most form s s' [] us e =
+    ap (λ (r : Result State Fault). r >>= λ x. run_over most form x us) e
+run_over-append most form s s' (t ∷ ts) us e =
+    by_step (step most form s t) e (λ x k. run_over-append most form x s' ts us k)
   where
-    by_step : (r : Result State Fault) → (r >>= λ x. run_over most form x ts) ≡ Ok s' → ((x : State) → run_over most form x ts ≡ Ok s' → run_over most form x (ts ++ us) ≡ run_over most form s' us) → (r >>= λ x. run_over most form x (ts ++ us)) ≡ run_over most form s' us
+    by_step : (r : Result State Fault) → (r >>= λ x. run_over most form x ts) ≡ Ok s'
+        → ((x : State) → run_over most form x ts ≡ Ok s'
+        → run_over most form x (ts ++ us) ≡ run_over most form s' us)
+        → (r >>= λ x. run_over most form x (ts ++ us)) ≡ run_over most form s' us
     by_step (Ok x) k f = f x k
     by_step (Err d) k f = absurd cc

@@ -35,7 +35,8 @@ mutual
       let y = all_joins_meant others in
       omega arith
 
-group_joins : (most : Limits) (g : List Bound) → AreBound most g → most_joins (map (λ b. b.1) (group_meaning g)) ≤ most.operators
+group_joins : (most : Limits) (g : List Bound) → AreBound most g
+    → most_joins (map (λ b. b.1) (group_meaning g)) ≤ most.operators
 group_joins most [] h = omega arith
 group_joins most (b ∷ bs) h =
     let x = joins_meant b.body in
@@ -43,7 +44,8 @@ group_joins most (b ∷ bs) h =
     let z = group_joins most bs h.1 in
     omega arith
 
-shown_joins : (most : Limits) (ss : List grammar.Shown) → grammar.AreShown most ss → most_joins (map (λ s. s.0) (shown_meaning ss)) ≤ most.operators
+shown_joins : (most : Limits) (ss : List grammar.Shown) → grammar.AreShown most ss
+    → most_joins (map (λ s. s.0) (shown_meaning ss)) ≤ most.operators
 shown_joins most [] h = omega arith
 shown_joins most (s ∷ ss) h =
     let x = joins_meant s.body in
@@ -52,7 +54,8 @@ shown_joins most (s ∷ ss) h =
     omega arith
 
 -- an item of a text keeps every limit but that of nesting
-item_within : (most : Limits) (i : ItemTree) → IsItem most i → deepest (bodies (item_meaning i)) ≤ most.nesting → IsWithin most (item_meaning i)
+item_within : (most : Limits) (i : ItemTree) → IsItem most i
+    → deepest (bodies (item_meaning i)) ≤ most.nesting → IsWithin most (item_meaning i)
 item_within most (Let recursive group) h deep =
     let n = length-group_meaning group in
     let few = h.1 in
@@ -71,19 +74,23 @@ item_within most (Flag c label) h deep =
     record { shallow = deep; few = omega arith; names = omega arith; parameters = omega arith }
 item_within most (Show hidden shown) h deep =
     record { shallow = deep; few = shown_joins most shown h.1; names = omega arith; parameters = omega arith }
-item_within most (Include path) h deep = record { shallow = deep; few = omega arith; names = omega arith; parameters = omega arith }
+item_within most (Include path) h deep =
+    record { shallow = deep; few = omega arith; names = omega arith; parameters = omega arith }
 
-items_within : (is : List ItemTree) → AreItems limits is → AreShallow (items_meaning is) → AreWithin limits (items_meaning is)
+items_within : (is : List ItemTree) → AreItems limits is → AreShallow (items_meaning is)
+    → AreWithin limits (items_meaning is)
 items_within [] h deep = tt
 items_within (i ∷ is) h deep = (item_within limits i h.0 deep.0, items_within is h.1 deep.1)
 
-pub item_again : (bytes : List ℕ) (c : Clause) → ReadsItem bytes c → ItemStaysWithin c → ReadsItem (printed_item c) c
+pub item_again : (bytes : List ℕ) (c : Clause) → ReadsItem bytes c → ItemStaysWithin c
+    → ReadsItem (printed_item c) c
 item_again bytes c r s =
     let m = r.means in
     let all : AreWithin limits (c ∷ []) = subst (λ (cs : List Clause). AreShallow cs → AreWithin limits cs) m.meant (items_within m.items m.each) s.shallow in
     item_reads c (item_was_written bytes c r) (record { short = s.short; fits = all.0 })
 
-pub model_again : (bytes : List ℕ) (cs : List Clause) → ReadsModel bytes cs → ModelStaysWithin cs → ReadsModel (printed_model cs) cs
+pub model_again : (bytes : List ℕ) (cs : List Clause) → ReadsModel bytes cs → ModelStaysWithin cs
+    → ReadsModel (printed_model cs) cs
 model_again bytes cs r s =
     let m = r.means in
     let n = length-items_meaning m.items in
@@ -92,5 +99,7 @@ model_again bytes cs r s =
     model_reads cs (model_was_written bytes cs r) (record {
       short = s.short;
       few = omega arith;
-      fits = subst (λ (cs : List Clause). AreShallow cs → AreWithin limits cs) m.meant (items_within m.items m.each) s.shallow;
+      fits =
+          subst (λ (cs : List Clause). AreShallow cs → AreWithin limits cs) m.meant
+          (items_within m.items m.each) s.shallow;
     })

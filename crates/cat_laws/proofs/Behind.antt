@@ -52,7 +52,8 @@ mutual
   tree_on Underscore rest h = h
   tree_on Zero rest h = h
   tree_on Braces rest h = h
-  tree_on (Pair op a b) rest h = tree_on a (infix_token op ∷ spelled b rest) (infix_on op (spelled b rest) (tree_on b rest h))
+  tree_on (Pair op a b) rest h =
+      tree_on a (infix_token op ∷ spelled b rest) (infix_on op (spelled b rest) (tree_on b rest h))
   tree_on (Post op a) rest h = tree_on a (postfix_token op ∷ rest) (postfix_on op rest h)
   tree_on (Prefix a) rest h = tree_on a rest h
   tree_on (Group a) rest h = tree_on a (tokens.Close ∷ rest) h
@@ -61,39 +62,48 @@ mutual
 
   trees_on : (ts : Trees) (rest : List Token) → Follows rest → Follows (spelled_arguments ts rest)
   trees_on (Last a) rest h = tree_on a (tokens.Close ∷ rest) h
-  trees_on (More a others) rest h = tree_on a (tokens.Comma ∷ spelled_arguments others rest) (trees_on others rest h)
+  trees_on (More a others) rest h =
+      tree_on a (tokens.Comma ∷ spelled_arguments others rest) (trees_on others rest h)
 
 label_on : (l : Option (List ℕ)) (rest : List Token) → Follows rest → Follows (spelled_label l rest)
 label_on None rest h = h
 label_on (Some n) rest h = h
 
-tilde_on : (negated : Bool) (rest : List Token) → Follows rest → Follows (spelled_tilde negated rest)
+tilde_on : (negated : Bool) (rest : List Token) → Follows rest
+    → Follows (spelled_tilde negated rest)
 tilde_on true rest h = h
 tilde_on false rest h = h
 
 check_on : (c : CheckTree) (rest : List Token) → Follows rest → Follows (spelled_check c rest)
-check_on c rest h = tilde_on c.negated (tokens.Check c.word ∷ spelled c.body rest) (tree_on c.body rest h)
+check_on c rest h =
+    tilde_on c.negated (tokens.Check c.word ∷ spelled c.body rest) (tree_on c.body rest h)
 
-group_begins : (b : Bound) (bs : List Bound) (rest : List Token) → BeginsBinding (spelled_group (b ∷ bs) rest)
+group_begins : (b : Bound) (bs : List Bound) (rest : List Token)
+    → BeginsBinding (spelled_group (b ∷ bs) rest)
 group_begins b [] rest = refl
 group_begins b (c ∷ bs) rest = refl
 
 group_on : (g : List Bound) (rest : List Token) → Follows rest → Follows (spelled_group g rest)
 group_on [] rest h = h
 group_on (b ∷ []) rest h = tree_on b.body rest h
-group_on (b ∷ c ∷ bs) rest h = tree_on b.body (tokens.And ∷ spelled_group (c ∷ bs) rest) (group_begins c bs rest, group_on (c ∷ bs) rest h)
+group_on (b ∷ c ∷ bs) rest h =
+    tree_on b.body (tokens.And ∷ spelled_group (c ∷ bs) rest)
+    (group_begins c bs rest, group_on (c ∷ bs) rest h)
 
-rec_on : (recursive : Bool) (g : List Bound) (rest : List Token) → 0 < length g → Follows rest → Follows (spelled_rec recursive (spelled_group g rest))
+rec_on : (recursive : Bool) (g : List Bound) (rest : List Token) → 0 < length g → Follows rest
+    → Follows (spelled_rec recursive (spelled_group g rest))
 rec_on false g rest some h = group_on g rest h
 rec_on true [] rest some h = absurd (omega arith)
 rec_on true (b ∷ bs) rest some h = (group_begins b bs rest, group_on (b ∷ bs) rest h)
 
-parameters_on : (ps : List (List ℕ)) (rest : List Token) → Follows rest → Follows (spelled_parameters ps rest)
+parameters_on : (ps : List (List ℕ)) (rest : List Token) → Follows rest
+    → Follows (spelled_parameters ps rest)
 parameters_on [] rest h = h
 parameters_on (p ∷ []) rest h = h
 parameters_on (p ∷ q ∷ ps) rest h = parameters_on (q ∷ ps) rest h
 
-shown_on : (ss : List grammar.Shown) (rest : List Token) → Follows rest → Follows (spelled_shown ss rest)
+shown_on : (ss : List grammar.Shown) (rest : List Token) → Follows rest
+    → Follows (spelled_shown ss rest)
 shown_on [] rest h = h
 shown_on (s ∷ []) rest h = tree_on s.body (spelled_label s.label rest) (label_on s.label rest h)
 shown_on (s ∷ u ∷ ss) rest h =
@@ -104,27 +114,36 @@ show_on : (hidden : Bool) (rest : List Token) → Follows rest → Follows (show
 show_on true rest h = h
 show_on false rest h = h
 
-item_on : (most : Limits) (i : ItemTree) (rest : List Token) → IsItem most i → Follows rest → Follows (spelled_item i rest)
+item_on : (most : Limits) (i : ItemTree) (rest : List Token) → IsItem most i → Follows rest
+    → Follows (spelled_item i rest)
 item_on most (Let recursive group) rest is h = rec_on recursive group rest is.0 h
-item_on most (grammar.Function n parameters body) rest is h = parameters_on parameters (tokens.Close ∷ tokens.Equals ∷ spelled body rest) (tree_on body rest h)
-item_on most (Check c label) rest is h = check_on c (spelled_label label rest) (label_on label rest h)
+item_on most (grammar.Function n parameters body) rest is h =
+    parameters_on parameters (tokens.Close ∷ tokens.Equals ∷ spelled body rest)
+    (tree_on body rest h)
+item_on most (Check c label) rest is h =
+    check_on c (spelled_label label rest) (label_on label rest h)
 item_on most (Flag c label) rest is h = check_on c (tokens.As ∷ tokens.Name label ∷ rest) h
-item_on most (Show hidden shown) rest is h = show_on hidden (spelled_shown shown rest) (shown_on shown rest h)
+item_on most (Show hidden shown) rest is h =
+    show_on hidden (spelled_shown shown rest) (shown_on shown rest h)
 item_on most (Include path) rest is h = (is, h)
 
-items_on : (most : Limits) (is : List ItemTree) (rest : List Token) → AreItems most is → Follows rest → Follows (spelled_items is rest)
+items_on : (most : Limits) (is : List ItemTree) (rest : List Token) → AreItems most is
+    → Follows rest → Follows (spelled_items is rest)
 items_on most [] rest each h = h
-items_on most (i ∷ is) rest each h = item_on most i (spelled_items is rest) each.0 (items_on most is rest each.1 h)
+items_on most (i ∷ is) rest each h =
+    item_on most i (spelled_items is rest) each.0 (items_on most is rest each.1 h)
 
 title_on : (t : Title) (rest : List Token) → Follows rest → Follows (spelled_title t rest)
 title_on NoTitle rest h = h
 title_on (NameTitle n) rest h = h
 title_on (StringTitle s) rest h = h
 
-text_on : (most : Limits) (form : Form) (ts : List Token) (v : List Clause) → Means most form ts v → Follows ts
+text_on : (most : Limits) (form : Form) (ts : List Token) (v : List Clause) → Means most form ts v
+    → Follows ts
 text_on most form ts v m =
     let closing = tokens.End ∷ [] in
-    subst Follows (sym m.whole) (title_on m.title (spelled_items m.items closing) (items_on most m.items closing m.each tt))
+    subst Follows (sym m.whole) (title_on m.title (spelled_items m.items closing)
+    (items_on most m.items closing m.each tt))
 
 -- what stands behind some tokens
 behind : (xs ys : List Token) → Follows (xs ++ ys) → Follows ys
@@ -134,15 +153,23 @@ behind (tokens.Rec ∷ xs) ys h = behind xs ys h.1
 behind (tokens.And ∷ xs) ys h = behind xs ys h.1
 behind (t ∷ xs) ys h = behind xs ys h
 
-pub path_behind : (most : Limits) (form : Form) (before : List Token) (here : Token) → GoesOn most form (before ++ tokens.Include ∷ []) here → IsPath here
+pub path_behind : (most : Limits) (form : Form) (before : List Token) (here : Token)
+    → GoesOn most form (before ++ tokens.Include ∷ []) here → IsPath here
 path_behind most form before here g =
-    (behind before (tokens.Include ∷ here ∷ g.rest) (subst Follows (append_assoc before (tokens.Include ∷ []) (here ∷ g.rest)) (text_on most form _ g.items g.text))).0
+    (behind before (tokens.Include ∷ here ∷ g.rest) (subst Follows
+    (append_assoc before (tokens.Include ∷ []) (here ∷ g.rest))
+    (text_on most form _ g.items g.text))).0
 
-equals_of : (a : Token) (n : List ℕ) (here : Token) (rest : List Token) → is_rec_or_and a ≡ true → Follows (a ∷ tokens.Name n ∷ here ∷ rest) → here ≡ tokens.Equals
+equals_of : (a : Token) (n : List ℕ) (here : Token) (rest : List Token) → is_rec_or_and a ≡ true
+    → Follows (a ∷ tokens.Name n ∷ here ∷ rest) → here ≡ tokens.Equals
 equals_of tokens.Rec n here rest e h = h.0
 equals_of tokens.And n here rest e h = h.0
 equals_of a n here rest e h = absurd cc
 
-pub equals_behind : (most : Limits) (form : Form) (before : List Token) (a : Token) (n : List ℕ) (here : Token) → is_rec_or_and a ≡ true → GoesOn most form (before ++ a ∷ tokens.Name n ∷ []) here → here ≡ tokens.Equals
+pub equals_behind : (most : Limits) (form : Form) (before : List Token) (a : Token) (n : List ℕ)
+    (here : Token) → is_rec_or_and a ≡ true
+    → GoesOn most form (before ++ a ∷ tokens.Name n ∷ []) here → here ≡ tokens.Equals
 equals_behind most form before a n here e g =
-    equals_of a n here g.rest e (behind before (a ∷ tokens.Name n ∷ here ∷ g.rest) (subst Follows (append_assoc before (a ∷ tokens.Name n ∷ []) (here ∷ g.rest)) (text_on most form _ g.items g.text)))
+    equals_of a n here g.rest e (behind before (a ∷ tokens.Name n ∷ here ∷ g.rest)
+    (subst Follows (append_assoc before (a ∷ tokens.Name n ∷ []) (here ∷ g.rest))
+    (text_on most form _ g.items g.text)))

@@ -51,28 +51,38 @@ either P false x y p q = q
 sign_named : (b : ℕ) → IsNamed (sign_token b)
 unfolding sign_token
 sign_named b =
-    either IsNamed (b == 124) _ _ tt (either IsNamed (b == 59) _ _ tt (either IsNamed (b == 92) _ _ tt (either IsNamed (b == 38) _ _ tt (
-    either IsNamed (b == 43) _ _ tt (either IsNamed (b == 63) _ _ tt (either IsNamed (b == 42) _ _ tt (either IsNamed (b == 126) _ _ tt (
-    either IsNamed (b == 40) _ _ tt (either IsNamed (b == 41) _ _ tt (either IsNamed (b == 91) _ _ tt (either IsNamed (b == 93) _ _ tt (
-    either IsNamed (b == 123) _ _ tt (either IsNamed (b == 125) _ _ tt (either IsNamed (b == 95) _ _ tt (either IsNamed (b == 48) _ _ tt (
+    either IsNamed (b == 124) _ _ tt (either IsNamed (b == 59) _ _ tt (either IsNamed (b == 92) _ _
+    tt (either IsNamed (b == 38) _ _ tt (
+    either IsNamed (b == 43) _ _ tt (either IsNamed (b == 63) _ _ tt (either IsNamed (b == 42) _ _
+    tt (either IsNamed (b == 126) _ _ tt (
+    either IsNamed (b == 40) _ _ tt (either IsNamed (b == 41) _ _ tt (either IsNamed (b == 91) _ _
+    tt (either IsNamed (b == 93) _ _ tt (
+    either IsNamed (b == 123) _ _ tt (either IsNamed (b == 125) _ _ tt (either IsNamed (b == 95) _ _
+    tt (either IsNamed (b == 48) _ _ tt (
     either IsNamed (b == 44) _ _ tt (either IsNamed (b == 61) _ _ tt tt)))))))))))))))))
 
 item_named : (t : List ℕ) → IsNamedOption (item_word t)
 unfolding item_word
 item_named t =
-    either IsNamedOption (bytes_eq t (codes "let")) _ _ tt (either IsNamedOption (bytes_eq t (codes "acyclic")) _ _ tt (
-    either IsNamedOption (bytes_eq t (codes "irreflexive")) _ _ tt (either IsNamedOption (bytes_eq t (codes "empty")) _ _ tt (
-    either IsNamedOption (bytes_eq t (codes "flag")) _ _ tt (either IsNamedOption (bytes_eq t (codes "show")) _ _ tt (
-    either IsNamedOption (bytes_eq t (codes "unshow")) _ _ tt (either IsNamedOption (bytes_eq t (codes "include")) _ _ tt tt)))))))
+    either IsNamedOption (bytes_eq t (codes "let")) _ _ tt (either IsNamedOption
+    (bytes_eq t (codes "acyclic")) _ _ tt (
+    either IsNamedOption (bytes_eq t (codes "irreflexive")) _ _ tt (either IsNamedOption
+    (bytes_eq t (codes "empty")) _ _ tt (
+    either IsNamedOption (bytes_eq t (codes "flag")) _ _ tt (either IsNamedOption
+    (bytes_eq t (codes "show")) _ _ tt (
+    either IsNamedOption (bytes_eq t (codes "unshow")) _ _ tt (either IsNamedOption
+    (bytes_eq t (codes "include")) _ _ tt tt)))))))
 
 part_named : (t : List ℕ) → IsNamedOption (part_word t)
 unfolding part_word
 part_named t =
-    either IsNamedOption (bytes_eq t (codes "rec")) _ _ tt (either IsNamedOption (bytes_eq t (codes "and")) _ _ tt (
+    either IsNamedOption (bytes_eq t (codes "rec")) _ _ tt (either IsNamedOption
+    (bytes_eq t (codes "and")) _ _ tt (
     either IsNamedOption (bytes_eq t (codes "as")) _ _ tt tt))
 
 -- a word is a name only where it is no word of the language
-module _ (n : List ℕ) (first : is_letter (slice_index n 0) ≡ true) (each : (k : ℕ) → k < length n → is_name_byte (slice_index n k) ≡ true) where
+module _ (n : List ℕ) (first : is_letter (slice_index n 0) ≡ true)
+    (each : (k : ℕ) → k < length n → is_name_byte (slice_index n k) ≡ true) where
   abbrev broken : Bool
   broken = is_definition_word n || is_other_word n
 
@@ -80,11 +90,15 @@ module _ (n : List ℕ) (first : is_letter (slice_index n 0) ≡ true) (each : (
   by_test true e = tt
   by_test false e = record { first = first; each = each; no_word = e }
 
-  by_part : (o : Option Token) → IsNamedOption o → (word_token n ≡ word_or o (name_or_broken broken n)) → IsNamed (word_or o (name_or_broken broken n))
+  by_part : (o : Option Token) → IsNamedOption o
+      → (word_token n ≡ word_or o (name_or_broken broken n))
+      → IsNamed (word_or o (name_or_broken broken n))
   by_part None h e = by_test broken e
   by_part (Some t) h e = h
 
-  by_item : (o : Option Token) → IsNamedOption o → (word_token n ≡ word_or o (word_or (part_word n) (name_or_broken broken n))) → IsNamed (word_or o (word_or (part_word n) (name_or_broken broken n)))
+  by_item : (o : Option Token) → IsNamedOption o
+      → (word_token n ≡ word_or o (word_or (part_word n) (name_or_broken broken n)))
+      → IsNamed (word_or o (word_or (part_word n) (name_or_broken broken n)))
   by_item None h e = by_part (part_word n) (part_named n) e
   by_item (Some t) h e = h
 
@@ -94,7 +108,8 @@ module _ (n : List ℕ) (first : is_letter (slice_index n 0) ≡ true) (each : (
 pub letter_in_name : (b : ℕ) → is_letter b ≡ true → is_name_byte b ≡ true
 letter_in_name b h = grind (arith, nat_tests)
 
-pub first_of : (b : ℕ) (bs : List ℕ) → is_letter b ≡ true → slice_index (take (position_or_len ends_name (b ∷ bs)) (b ∷ bs)) 0 ≡ b
+pub first_of : (b : ℕ) (bs : List ℕ) → is_letter b ≡ true
+    → slice_index (take (position_or_len ends_name (b ∷ bs)) (b ∷ bs)) 0 ≡ b
 first_of b bs h =
     let some : position_or_len ends_name (b ∷ bs) ≡ suc (position_or_len ends_name bs) = ap (λ (x : Bool). if x then 1 + position_or_len ends_name bs else 0) (twice (is_name_byte b) ∙ letter_in_name b h) ∙ one_more (position_or_len ends_name bs) in
     ap (λ (k : ℕ). slice_index (take k (b ∷ bs)) 0) some
@@ -106,14 +121,20 @@ first_of b bs h =
     one_more : (k : ℕ) → 1 + k ≡ suc k
     one_more k = omega arith
 
-pub each_of : (bs : List ℕ) (k : ℕ) → k < length (take (position_or_len ends_name bs) bs) → is_name_byte (slice_index (take (position_or_len ends_name bs) bs) k) ≡ true
+pub each_of : (bs : List ℕ) (k : ℕ) → k < length (take (position_or_len ends_name bs) bs)
+    → is_name_byte (slice_index (take (position_or_len ends_name bs) bs) k) ≡ true
 each_of bs k lt =
     let n = position_or_len ends_name bs in
     let l = length-take n bs in
-    ap is_name_byte (get_or-take n bs k 0 (omega arith)) ∙ not-false (is_name_byte (get_or bs k 0)) (fails_before_first ends_name bs k 0 (omega arith))
+    ap is_name_byte (get_or-take n bs k 0 (omega arith))
+    ∙ not-false (is_name_byte (get_or bs k 0))
+    (fails_before_first ends_name bs k 0 (omega arith))
 
-word_front_named : (b : ℕ) (bs : List ℕ) → is_letter b ≡ true → IsNamedFront (word_front (b ∷ bs) (position_or_len ends_name (b ∷ bs)))
-word_front_named b bs h = word_named (take (position_or_len ends_name (b ∷ bs)) (b ∷ bs)) (ap is_letter (first_of b bs h) ∙ h) (each_of (b ∷ bs))
+word_front_named : (b : ℕ) (bs : List ℕ) → is_letter b ≡ true
+    → IsNamedFront (word_front (b ∷ bs) (position_or_len ends_name (b ∷ bs)))
+word_front_named b bs h =
+    word_named (take (position_or_len ends_name (b ∷ bs)) (b ∷ bs))
+    (ap is_letter (first_of b bs h) ∙ h) (each_of (b ∷ bs))
 
 comment_named : (n : ℕ) (o : Option ℕ) → IsNamedFront (comment_front n o)
 comment_named n None = tt
@@ -128,12 +149,16 @@ unfolding front
 front_named b bs =
     let x = slice_index (b ∷ bs) 1 in
     let y = slice_index (b ∷ bs) 2 in
-    either IsNamedFront (is_layout b) _ _ tt (tested IsNamedFront (is_letter b) _ _ (word_front_named b bs) (λ _.
-    either IsNamedFront (b == 47 && x == 47) _ _ tt (either IsNamedFront (b == 40 && x == 42) _ _ (comment_named (length (b ∷ bs)) (comment_of (b ∷ bs))) (
+    either IsNamedFront (is_layout b) _ _ tt (tested IsNamedFront (is_letter b) _ _
+    (word_front_named b bs) (λ _.
+    either IsNamedFront (b == 47 && x == 47) _ _ tt (either IsNamedFront (b == 40 && x == 42) _ _
+    (comment_named (length (b ∷ bs)) (comment_of (b ∷ bs))) (
     either IsNamedFront (b == 34) _ _ (quoted_named (b ∷ bs) (quoted_from (b ∷ bs))) (
-    either IsNamedFront (b == 43 && x == 43) _ _ tt (either IsNamedFront (b == 94 && x == 45 && y == 49) _ _ tt (sign_named b)))))))
+    either IsNamedFront (b == 43 && x == 43) _ _ tt (either IsNamedFront
+    (b == 94 && x == 45 && y == 49) _ _ tt (sign_named b)))))))
 
-after_named : (offset : ℕ) (f : Front) (later : ℕ → List TokenAt) → IsNamedFront f → ((k : ℕ) → AreNamed (tokens_of (later k))) → AreNamed (tokens_of (after_front offset f later))
+after_named : (offset : ℕ) (f : Front) (later : ℕ → List TokenAt) → IsNamedFront f
+    → ((k : ℕ) → AreNamed (tokens_of (later k))) → AreNamed (tokens_of (after_front offset f later))
 after_named offset (Layout n) later h more = more (n - 1)
 after_named offset (Lexeme t n) later h more = (h, more (n - 1))
 
@@ -142,7 +167,9 @@ unfolding tokens_from
 tokens_named zero offset [] = (tt, tt)
 tokens_named (suc k) offset [] = (tt, tt)
 tokens_named (suc k) offset (b ∷ bs) = tokens_named k (offset + 1) bs
-tokens_named zero offset (b ∷ bs) = after_named offset (front (b ∷ bs)) (λ k. tokens_from k (offset + 1) bs) (front_named b bs) (λ k. tokens_named k (offset + 1) bs)
+tokens_named zero offset (b ∷ bs) =
+    after_named offset (front (b ∷ bs)) (λ k. tokens_from k (offset + 1) bs) (front_named b bs)
+    (λ k. tokens_named k (offset + 1) bs)
 
 -- ---- trees
 
@@ -151,7 +178,8 @@ others NoTerm h = tt
 others (OneMore a more) h = h
 
 mutual
-  tree_named : (t : Tree) (rest : List Token) → AreNamed (spelled t rest) → IsTerm (meaning t) × AreNamed rest
+  tree_named : (t : Tree) (rest : List Token) → AreNamed (spelled t rest)
+      → IsTerm (meaning t) × AreNamed rest
   tree_named (Word n) rest h = h
   tree_named Underscore rest h = h
   tree_named Zero rest h = h
@@ -174,7 +202,8 @@ mutual
       let x = trees_named arguments rest h.1.1 in
       ((h.0, x.0), x.1)
 
-  trees_named : (ts : Trees) (rest : List Token) → AreNamed (spelled_arguments ts rest) → AreTerms (meanings ts) × AreNamed rest
+  trees_named : (ts : Trees) (rest : List Token) → AreNamed (spelled_arguments ts rest)
+      → AreTerms (meanings ts) × AreNamed rest
   trees_named (Last a) rest h =
       let x = tree_named a (tokens.Close ∷ rest) h in
       ((x.0, tt), x.1.1)
@@ -185,22 +214,28 @@ mutual
 
 -- ---- items
 
-label_named : (l : Option (List ℕ)) (rest : List Token) → AreNamed (spelled_label l rest) → IsLabel l × AreNamed rest
+label_named : (l : Option (List ℕ)) (rest : List Token) → AreNamed (spelled_label l rest)
+    → IsLabel l × AreNamed rest
 label_named None rest h = (tt, h)
 label_named (Some n) rest h = h.1
 
-rec_named : (recursive : Bool) (rest : List Token) → AreNamed (spelled_rec recursive rest) → AreNamed rest
+rec_named : (recursive : Bool) (rest : List Token) → AreNamed (spelled_rec recursive rest)
+    → AreNamed rest
 rec_named true rest h = h.1
 rec_named false rest h = h
 
-tilde_named : (negated : Bool) (rest : List Token) → AreNamed (spelled_tilde negated rest) → AreNamed rest
+tilde_named : (negated : Bool) (rest : List Token) → AreNamed (spelled_tilde negated rest)
+    → AreNamed rest
 tilde_named true rest h = h.1
 tilde_named false rest h = h
 
-check_named : (c : CheckTree) (rest : List Token) → AreNamed (spelled_check c rest) → IsTerm (meaning c.body) × AreNamed rest
-check_named c rest h = tree_named c.body rest (tilde_named c.negated (tokens.Check c.word ∷ spelled c.body rest) h).1
+check_named : (c : CheckTree) (rest : List Token) → AreNamed (spelled_check c rest)
+    → IsTerm (meaning c.body) × AreNamed rest
+check_named c rest h =
+    tree_named c.body rest (tilde_named c.negated (tokens.Check c.word ∷ spelled c.body rest) h).1
 
-group_named : (g : List Bound) (rest : List Token) → AreNamed (spelled_group g rest) → AreBindings (group_meaning g) × AreNamed rest
+group_named : (g : List Bound) (rest : List Token) → AreNamed (spelled_group g rest)
+    → AreBindings (group_meaning g) × AreNamed rest
 group_named [] rest h = (tt, h)
 group_named (b ∷ []) rest h =
     let x = tree_named b.body rest h.1.1 in
@@ -210,14 +245,16 @@ group_named (b ∷ c ∷ bs) rest h =
     let y = group_named (c ∷ bs) rest x.1.1 in
     ((h.0, x.0, y.0), y.1)
 
-parameters_named : (ps : List (List ℕ)) (rest : List Token) → AreNamed (spelled_parameters ps rest) → AreNames ps × AreNamed rest
+parameters_named : (ps : List (List ℕ)) (rest : List Token) → AreNamed (spelled_parameters ps rest)
+    → AreNames ps × AreNamed rest
 parameters_named [] rest h = (tt, h)
 parameters_named (p ∷ []) rest h = ((h.0, tt), h.1)
 parameters_named (p ∷ q ∷ ps) rest h =
     let x = parameters_named (q ∷ ps) rest h.1.1 in
     ((h.0, x.0), x.1)
 
-shown_named : (ss : List grammar.Shown) (rest : List Token) → AreNamed (spelled_shown ss rest) → written.AreShown (shown_meaning ss) × AreNamed rest
+shown_named : (ss : List grammar.Shown) (rest : List Token) → AreNamed (spelled_shown ss rest)
+    → written.AreShown (shown_meaning ss) × AreNamed rest
 shown_named [] rest h = (tt, h)
 shown_named (s ∷ []) rest h =
     let x = tree_named s.body (spelled_label s.label rest) h in
@@ -234,7 +271,8 @@ shown_length : (ss : List grammar.Shown) → length (shown_meaning ss) ≡ lengt
 shown_length [] = refl
 shown_length (s ∷ ss) = ap suc (shown_length ss)
 
-item_named_of : (most : Limits) (i : ItemTree) (rest : List Token) → IsItem most i → AreNamed (spelled_item i rest) → IsWritten (item_meaning i) × AreNamed rest
+item_named_of : (most : Limits) (i : ItemTree) (rest : List Token) → IsItem most i
+    → AreNamed (spelled_item i rest) → IsWritten (item_meaning i) × AreNamed rest
 item_named_of most (Let recursive group) rest is h =
     let x = group_named group rest (rec_named recursive (spelled_group group rest) h.1) in
     let l = length-group_meaning group in
@@ -258,7 +296,8 @@ item_named_of most (Show hidden shown) rest is h =
     ((omega arith, x.0), x.1)
 item_named_of most (Include path) rest is h = (is, h.1.1)
 
-items_named : (most : Limits) (is : List ItemTree) (rest : List Token) → AreItems most is → AreNamed (spelled_items is rest) → AreWritten (items_meaning is)
+items_named : (most : Limits) (is : List ItemTree) (rest : List Token) → AreItems most is
+    → AreNamed (spelled_items is rest) → AreWritten (items_meaning is)
 items_named most [] rest each h = tt
 items_named most (i ∷ is) rest each h =
     let x = item_named_of most i (spelled_items is rest) each.0 h in
@@ -270,10 +309,12 @@ title_named (NameTitle n) rest h = h.1
 title_named (StringTitle s) rest h = h.1
 
 -- what a text means is a value that a text can have
-meant_is_written : (bytes : List ℕ) (most : Limits) (form : Form) (v : List Clause) → Means most form (tokens_of (lexed bytes)) v → AreWritten v
+meant_is_written : (bytes : List ℕ) (most : Limits) (form : Form) (v : List Clause)
+    → Means most form (tokens_of (lexed bytes)) v → AreWritten v
 meant_is_written bytes most form v m =
     let closing = tokens.End ∷ [] in
-    subst AreWritten m.meant (items_named most m.items closing m.each (title_named m.title (spelled_items m.items closing) (subst AreNamed m.whole (tokens_named 0 0 bytes))))
+    subst AreWritten m.meant (items_named most m.items closing m.each (title_named m.title
+    (spelled_items m.items closing) (subst AreNamed m.whole (tokens_named 0 0 bytes))))
 
 pub item_is_written : (bytes : List ℕ) (c : Clause) → IsTextOfItem bytes c → IsWritten c
 item_is_written bytes c h = (meant_is_written bytes h.0 forms.Item (c ∷ []) h.1).0

@@ -41,17 +41,22 @@ use Rattle.cat_tokens.proofs.Lexed.{tokens_skip}
 abbrev pub read : List ℕ → List Token
 read bs = tokens_of (tokens_from 0 0 bs)
 
-after_free : (p q : ℕ) (f : Front) (later other : ℕ → List TokenAt) → ((k : ℕ) → tokens_of (later k) ≡ tokens_of (other k)) → tokens_of (after_front p f later) ≡ tokens_of (after_front q f other)
+after_free : (p q : ℕ) (f : Front) (later other : ℕ → List TokenAt)
+    → ((k : ℕ) → tokens_of (later k) ≡ tokens_of (other k))
+    → tokens_of (after_front p f later) ≡ tokens_of (after_front q f other)
 after_free p q (Layout n) later other h = h (n - 1)
 after_free p q (Lexeme t n) later other h = ap (λ (ts : List Token). t ∷ ts) (h (n - 1))
 
 -- the places do not bear on the tokens
-place_free : (s p q : ℕ) (bs : List ℕ) → tokens_of (tokens_from s p bs) ≡ tokens_of (tokens_from s q bs)
+place_free : (s p q : ℕ) (bs : List ℕ)
+    → tokens_of (tokens_from s p bs) ≡ tokens_of (tokens_from s q bs)
 unfolding tokens_from
 place_free zero p q [] = refl
 place_free (suc s) p q [] = refl
 place_free (suc s) p q (b ∷ bs) = place_free s (p + 1) (q + 1) bs
-place_free zero p q (b ∷ bs) = after_free p q (front (b ∷ bs)) (λ k. tokens_from k (p + 1) bs) (λ k. tokens_from k (q + 1) bs) (λ k. place_free k (p + 1) (q + 1) bs)
+place_free zero p q (b ∷ bs) =
+    after_free p q (front (b ∷ bs)) (λ k. tokens_from k (p + 1) bs) (λ k. tokens_from k (q + 1) bs)
+    (λ k. place_free k (p + 1) (q + 1) bs)
 
 -- ---- signs
 
@@ -85,7 +90,8 @@ close_square bs = ap (λ (ts : List Token). tokens.CloseSquare ∷ ts) (place_fr
 
 braces : (bs : List ℕ) → read (123 ∷ 125 ∷ bs) ≡ tokens.OpenBrace ∷ tokens.CloseBrace ∷ read bs
 unfolding tokens_from front sign_token
-braces bs = ap (λ (ts : List Token). tokens.OpenBrace ∷ tokens.CloseBrace ∷ ts) (place_free 0 2 0 bs)
+braces bs =
+    ap (λ (ts : List Token). tokens.OpenBrace ∷ tokens.CloseBrace ∷ ts) (place_free 0 2 0 bs)
 
 underscore : (bs : List ℕ) → read (95 ∷ bs) ≡ tokens.Underscore ∷ read bs
 unfolding tokens_from front sign_token
@@ -113,21 +119,29 @@ other b c h = grind (arith, nat_tests)
 
 front_plus : (bs : List ℕ) → slice_index bs 0 ≢ 43 → front (43 ∷ bs) ≡ Lexeme (tokens.Mark Plus) 1
 unfolding front sign_token
-front_plus bs h = ap (λ (x : Bool). if x then Lexeme (tokens.Broken Unsupported) 2 else Lexeme (tokens.Mark Plus) 1) (other (slice_index bs 0) 43 h)
+front_plus bs h =
+    ap
+    (λ (x : Bool). if x then Lexeme (tokens.Broken Unsupported) 2 else Lexeme (tokens.Mark Plus) 1)
+    (other (slice_index bs 0) 43 h)
 
 plus : (bs : List ℕ) → slice_index bs 0 ≢ 43 → read (43 ∷ bs) ≡ tokens.Mark Plus ∷ read bs
 unfolding tokens_from
 plus bs h =
-    ap (λ (f : Front). tokens_of (after_front 0 f (λ k. tokens_from k 1 bs))) (front_plus bs h) ∙ ap (λ (ts : List Token). tokens.Mark Plus ∷ ts) (place_free 0 1 0 bs)
+    ap (λ (f : Front). tokens_of (after_front 0 f (λ k. tokens_from k 1 bs))) (front_plus bs h)
+    ∙ ap (λ (ts : List Token). tokens.Mark Plus ∷ ts) (place_free 0 1 0 bs)
 
-other_mark : (op : Postfix) (bs : List ℕ) → op ≢ postfix.Transitive → read (postfix_text op ++ bs) ≡ postfix_token op ∷ read bs
+other_mark : (op : Postfix) (bs : List ℕ) → op ≢ postfix.Transitive
+    → read (postfix_text op ++ bs) ≡ postfix_token op ∷ read bs
 unfolding tokens_from front sign_token
 other_mark postfix.Transitive bs h = absurd (h refl)
-other_mark postfix.Reflexive bs h = ap (λ (ts : List Token). tokens.Mark Question ∷ ts) (place_free 0 1 0 bs)
-other_mark postfix.Inverse bs h = ap (λ (ts : List Token). tokens.Mark Inverse ∷ ts) (place_free 0 3 0 bs)
+other_mark postfix.Reflexive bs h =
+    ap (λ (ts : List Token). tokens.Mark Question ∷ ts) (place_free 0 1 0 bs)
+other_mark postfix.Inverse bs h =
+    ap (λ (ts : List Token). tokens.Mark Inverse ∷ ts) (place_free 0 3 0 bs)
 other_mark postfix.Closure bs h = ap (λ (ts : List Token). tokens.Star ∷ ts) (place_free 0 1 0 bs)
 
-mark : (op : Postfix) (bs : List ℕ) → slice_index bs 0 ≢ 43 → read (postfix_text op ++ bs) ≡ postfix_token op ∷ read bs
+mark : (op : Postfix) (bs : List ℕ) → slice_index bs 0 ≢ 43
+    → read (postfix_text op ++ bs) ≡ postfix_token op ∷ read bs
 mark postfix.Transitive bs h = plus bs h
 mark postfix.Reflexive bs h = other_mark postfix.Reflexive bs (λ e. absurd cc)
 mark postfix.Inverse bs h = other_mark postfix.Inverse bs (λ e. absurd cc)
@@ -135,19 +149,25 @@ mark postfix.Closure bs h = other_mark postfix.Closure bs (λ e. absurd cc)
 
 front_open : (bs : List ℕ) → slice_index bs 0 ≢ 42 → front (40 ∷ bs) ≡ Lexeme tokens.Open 1
 unfolding front sign_token
-front_open bs h = ap (λ (x : Bool). if x then comment_front (length (40 ∷ bs)) (comment_of (40 ∷ bs)) else Lexeme tokens.Open 1) (other (slice_index bs 0) 42 h)
+front_open bs h =
+    ap
+    (λ (x : Bool).
+    if x then comment_front (length (40 ∷ bs)) (comment_of (40 ∷ bs)) else Lexeme tokens.Open 1)
+    (other (slice_index bs 0) 42 h)
 
 open_bracket : (bs : List ℕ) → slice_index bs 0 ≢ 42 → read (40 ∷ bs) ≡ tokens.Open ∷ read bs
 unfolding tokens_from
 open_bracket bs h =
-    ap (λ (f : Front). tokens_of (after_front 0 f (λ k. tokens_from k 1 bs))) (front_open bs h) ∙ ap (λ (ts : List Token). tokens.Open ∷ ts) (place_free 0 1 0 bs)
+    ap (λ (f : Front). tokens_of (after_front 0 f (λ k. tokens_from k 1 bs))) (front_open bs h)
+    ∙ ap (λ (ts : List Token). tokens.Open ∷ ts) (place_free 0 1 0 bs)
 
 -- ---- words
 
 check_word : (w : CheckWord) (bs : List ℕ) → read (word_text w ++ bs) ≡ tokens.Check w ∷ read bs
 unfolding tokens_from front item_word part_word
 check_word Acyclic bs = ap (λ (ts : List Token). tokens.Check Acyclic ∷ ts) (place_free 0 8 0 bs)
-check_word Irreflexive bs = ap (λ (ts : List Token). tokens.Check Irreflexive ∷ ts) (place_free 0 12 0 bs)
+check_word Irreflexive bs =
+    ap (λ (ts : List Token). tokens.Check Irreflexive ∷ ts) (place_free 0 12 0 bs)
 check_word Empty bs = ap (λ (ts : List Token). tokens.Check Empty ∷ ts) (place_free 0 6 0 bs)
 
 let_word : (bs : List ℕ) → read (codes "let " ++ bs) ≡ tokens.Let ∷ read bs
@@ -170,7 +190,8 @@ flag_word : (bs : List ℕ) → read (codes "flag " ++ bs) ≡ tokens.Flag ∷ r
 unfolding tokens_from front item_word part_word
 flag_word bs = ap (λ (ts : List Token). tokens.Flag ∷ ts) (place_free 0 5 0 bs)
 
-show_word : (hidden : Bool) (bs : List ℕ) → read (show_text hidden ++ bs) ≡ show_token hidden ∷ read bs
+show_word : (hidden : Bool) (bs : List ℕ)
+    → read (show_text hidden ++ bs) ≡ show_token hidden ∷ read bs
 unfolding tokens_from front item_word part_word
 show_word true bs = ap (λ (ts : List Token). tokens.Unshow ∷ ts) (place_free 0 7 0 bs)
 show_word false bs = ap (λ (ts : List Token). tokens.Show ∷ ts) (place_free 0 5 0 bs)
@@ -184,69 +205,102 @@ include_word bs = ap (λ (ts : List Token). tokens.Include ∷ ts) (place_free 0
 letter_is : (b : ℕ) → is_letter b ≡ true → (is_layout b ≡ false) × (b ≢ 42)
 letter_is b h = (grind (arith, nat_tests), grind (arith, nat_tests))
 
-name_len : (n bs : List ℕ) → IsName n → ends_name (slice_index bs 0) ≡ true → position_or_len ends_name (n ++ bs) ≡ length n
+name_len : (n bs : List ℕ) → IsName n → ends_name (slice_index bs 0) ≡ true
+    → position_or_len ends_name (n ++ bs) ≡ length n
 name_len n bs h e =
     let l = length-append n bs in
     position_or_len_is ends_name (n ++ bs) (length n) 0 (omega arith)
     (λ k lt. ap ends_name (get_or_append_left n bs 0 k lt) ∙ ap not (h.each k lt))
     (λ _. ap ends_name (seam n bs) ∙ e)
 
-second_test : {A : Type 0} (x y : Bool) (a b z : A) → x ≡ false → y ≡ true → (if x then a else (if y then b else z)) ≡ b
+second_test : {A : Type 0} (x y : Bool) (a b z : A) → x ≡ false → y ≡ true
+    → (if x then a else (if y then b else z)) ≡ b
 second_test x y a b z p q =
-    ap (λ (t : Bool). if t then a else (if y then b else z)) p ∙ ap (λ (t : Bool). if t then b else z) q
+    ap (λ (t : Bool). if t then a else (if y then b else z)) p
+    ∙ ap (λ (t : Bool). if t then b else z) q
 
-word_is : (n bs : List ℕ) → IsName n → ends_name (slice_index bs 0) ≡ true → word_front (n ++ bs) (position_or_len ends_name (n ++ bs)) ≡ Lexeme (tokens.Name n) (length n)
+word_is : (n bs : List ℕ) → IsName n → ends_name (slice_index bs 0) ≡ true
+    → word_front (n ++ bs) (position_or_len ends_name (n ++ bs)) ≡ Lexeme (tokens.Name n) (length n)
 word_is n bs h e =
-    ap (word_front (n ++ bs)) (name_len n bs h e) ∙ ap (λ (t : List ℕ). Lexeme (word_token t) (length n)) (take_at n bs (length n) refl) ∙ ap (λ (t : Token). Lexeme t (length n)) h.no_word
+    ap (word_front (n ++ bs)) (name_len n bs h e)
+    ∙ ap (λ (t : List ℕ). Lexeme (word_token t) (length n)) (take_at n bs (length n) refl)
+    ∙ ap (λ (t : Token). Lexeme t (length n)) h.no_word
 
-front_name : (c : ℕ) (cs bs : List ℕ) → IsName (c ∷ cs) → ends_name (slice_index bs 0) ≡ true → front (c ∷ (cs ++ bs)) ≡ Lexeme (tokens.Name (c ∷ cs)) (length (c ∷ cs))
+front_name : (c : ℕ) (cs bs : List ℕ) → IsName (c ∷ cs) → ends_name (slice_index bs 0) ≡ true
+    → front (c ∷ (cs ++ bs)) ≡ Lexeme (tokens.Name (c ∷ cs)) (length (c ∷ cs))
 unfolding front
 front_name c cs bs h e =
-    second_test (is_layout c) (is_letter c) _ _ _ (letter_is c h.first).0 h.first ∙ word_is (c ∷ cs) bs h e
+    second_test (is_layout c) (is_letter c) _ _ _ (letter_is c h.first).0 h.first
+    ∙ word_is (c ∷ cs) bs h e
 
-name : (n bs : List ℕ) → IsName n → ends_name (slice_index bs 0) ≡ true → read (n ++ bs) ≡ tokens.Name n ∷ read bs
+name : (n bs : List ℕ) → IsName n → ends_name (slice_index bs 0) ≡ true
+    → read (n ++ bs) ≡ tokens.Name n ∷ read bs
 unfolding tokens_from
 name [] bs h e = let bad : false ≡ true = h.first in absurd cc
 name (c ∷ cs) bs h e =
     let l = length-append cs bs in
-    ap (λ (f : Front). tokens_of (after_front 0 f (λ k. tokens_from k 1 (cs ++ bs)))) (front_name c cs bs h e)
+    ap (λ (f : Front). tokens_of (after_front 0 f (λ k. tokens_from k 1 (cs ++ bs))))
+    (front_name c cs bs h e)
     ∙ ap (λ (k : ℕ). tokens.Name (c ∷ cs) ∷ tokens_of (tokens_from k 1 (cs ++ bs))) (omega arith)
-    ∙ ap (λ (ps : List TokenAt). tokens.Name (c ∷ cs) ∷ tokens_of ps) (tokens_skip (length cs) 1 (cs ++ bs) (omega arith))
-    ∙ ap (λ (x : List ℕ). tokens.Name (c ∷ cs) ∷ tokens_of (tokens_from 0 (1 + length cs) x)) (drop_at cs bs (length cs) refl)
+    ∙ ap (λ (ps : List TokenAt). tokens.Name (c ∷ cs) ∷ tokens_of ps)
+    (tokens_skip (length cs) 1 (cs ++ bs) (omega arith))
+    ∙ ap (λ (x : List ℕ). tokens.Name (c ∷ cs) ∷ tokens_of (tokens_from 0 (1 + length cs) x))
+    (drop_at cs bs (length cs) refl)
     ∙ ap (λ (ts : List Token). tokens.Name (c ∷ cs) ∷ ts) (place_free 0 (1 + length cs) 0 bs)
 
 -- a text between quotes that has none
-pub front_quote : (path bs : List ℕ) → position_or_len is_quote (path ++ (34 ∷ bs)) ≡ length path → front (34 ∷ (path ++ (34 ∷ bs))) ≡ Lexeme (tokens.Quoted path) (length path + 2)
+pub front_quote : (path bs : List ℕ) → position_or_len is_quote (path ++ (34 ∷ bs)) ≡ length path
+    → front (34 ∷ (path ++ (34 ∷ bs))) ≡ Lexeme (tokens.Quoted path) (length path + 2)
 unfolding front
 front_quote path bs h =
     let l = length-append path (34 ∷ bs) in
     let ends : (length path == length (path ++ (34 ∷ bs))) ≡ false = other (length path) (length (path ++ (34 ∷ bs))) (λ e. absurd (omega arith)) in
     let two : (length path + 2) - 2 ≡ length path = omega arith in
-    ap (λ (n : ℕ). quoted_front (34 ∷ (path ++ (34 ∷ bs))) (if n == length (path ++ (34 ∷ bs)) then None else Some (n + 2))) h
-    ∙ ap (λ (x : Bool). quoted_front (34 ∷ (path ++ (34 ∷ bs))) (if x then None else Some (length path + 2))) ends
-    ∙ ap (λ (x : List ℕ). Lexeme (tokens.Quoted x) (length path + 2)) (ap (λ (n : ℕ). take n (path ++ (34 ∷ bs))) two ∙ take_at path (34 ∷ bs) (length path) refl)
+    ap
+    (λ (n : ℕ). quoted_front (34 ∷ (path ++ (34 ∷ bs))) (if n == length (path ++ (34 ∷ bs)) then None
+    else Some (n + 2))) h
+    ∙ ap
+    (λ (x : Bool).
+    quoted_front (34 ∷ (path ++ (34 ∷ bs))) (if x then None else Some (length path + 2)))
+    ends
+    ∙ ap (λ (x : List ℕ). Lexeme (tokens.Quoted x) (length path + 2)) (ap
+    (λ (n : ℕ). take n (path ++ (34 ∷ bs))) two
+    ∙ take_at path (34 ∷ bs) (length path) refl)
 
-quoted : (path bs : List ℕ) → position_or_len is_quote (path ++ (34 ∷ bs)) ≡ length path → read (34 ∷ (path ++ (34 ∷ bs))) ≡ tokens.Quoted path ∷ read bs
+quoted : (path bs : List ℕ) → position_or_len is_quote (path ++ (34 ∷ bs)) ≡ length path
+    → read (34 ∷ (path ++ (34 ∷ bs))) ≡ tokens.Quoted path ∷ read bs
 unfolding tokens_from
 quoted path bs h =
     let l = length-append path (34 ∷ bs) in
     let m = length-append path (34 ∷ []) in
     let past : drop (length path + 1) (path ++ (34 ∷ bs)) ≡ bs =
-    ap (drop (length path + 1)) (sym (append_assoc path (34 ∷ []) bs)) ∙ drop_at (path ++ 34 ∷ []) bs (length path + 1) (omega arith) in
-    ap (λ (f : Front). tokens_of (after_front 0 f (λ k. tokens_from k 1 (path ++ (34 ∷ bs))))) (front_quote path bs h)
-    ∙ ap (λ (k : ℕ). tokens.Quoted path ∷ tokens_of (tokens_from k 1 (path ++ (34 ∷ bs)))) (omega arith)
-    ∙ ap (λ (ps : List TokenAt). tokens.Quoted path ∷ tokens_of ps) (tokens_skip (length path + 1) 1 (path ++ (34 ∷ bs)) (omega arith))
-    ∙ ap (λ (x : List ℕ). tokens.Quoted path ∷ tokens_of (tokens_from 0 (1 + (length path + 1)) x)) past
+    ap (drop (length path + 1)) (sym (append_assoc path (34 ∷ []) bs))
+    ∙ drop_at (path ++ 34 ∷ []) bs (length path + 1) (omega arith) in
+    ap (λ (f : Front). tokens_of (after_front 0 f (λ k. tokens_from k 1 (path ++ (34 ∷ bs)))))
+    (front_quote path bs h)
+    ∙ ap (λ (k : ℕ). tokens.Quoted path ∷ tokens_of (tokens_from k 1 (path ++ (34 ∷ bs))))
+    (omega arith)
+    ∙ ap (λ (ps : List TokenAt). tokens.Quoted path ∷ tokens_of ps) (tokens_skip (length path + 1) 1
+    (path ++ (34 ∷ bs)) (omega arith))
+    ∙ ap (λ (x : List ℕ). tokens.Quoted path ∷ tokens_of (tokens_from 0 (1 + (length path + 1)) x))
+    past
     ∙ ap (λ (ts : List Token). tokens.Quoted path ∷ ts) (place_free 0 (1 + (length path + 1)) 0 bs)
 
-path_is : (path : List ℕ) → has_no_effect path ≡ true → (bs : List ℕ) → position_or_len is_quote (path ++ (34 ∷ bs)) ≡ length path
+path_is : (path : List ℕ) → has_no_effect path ≡ true → (bs : List ℕ)
+    → position_or_len is_quote (path ++ (34 ∷ bs)) ≡ length path
 path_is path h bs = by_first (bytes_eq path (codes "cos.cat")) refl
   where
-    by_first : (b : Bool) → bytes_eq path (codes "cos.cat") ≡ b → position_or_len is_quote (path ++ (34 ∷ bs)) ≡ length path
-    by_first true e = ap (λ (x : List ℕ). position_or_len is_quote (x ++ (34 ∷ bs))) ((bytes_eq-Decides path (codes "cos.cat")).0 e) ∙ ap length (sym ((bytes_eq-Decides path (codes "cos.cat")).0 e))
+    by_first : (b : Bool) → bytes_eq path (codes "cos.cat") ≡ b
+        → position_or_len is_quote (path ++ (34 ∷ bs)) ≡ length path
+    by_first true e =
+        ap (λ (x : List ℕ). position_or_len is_quote (x ++ (34 ∷ bs)))
+        ((bytes_eq-Decides path (codes "cos.cat")).0 e)
+        ∙ ap length (sym ((bytes_eq-Decides path (codes "cos.cat")).0 e))
     by_first false e =
         let second : bytes_eq path (codes "stdlib.cat") ≡ true = sym (ap (λ (b : Bool). if b then true else bytes_eq path (codes "stdlib.cat")) e) ∙ h in
-        ap (λ (x : List ℕ). position_or_len is_quote (x ++ (34 ∷ bs))) ((bytes_eq-Decides path (codes "stdlib.cat")).0 second) ∙ ap length (sym ((bytes_eq-Decides path (codes "stdlib.cat")).0 second))
+        ap (λ (x : List ℕ). position_or_len is_quote (x ++ (34 ∷ bs)))
+        ((bytes_eq-Decides path (codes "stdlib.cat")).0 second)
+        ∙ ap length (sym ((bytes_eq-Decides path (codes "stdlib.cat")).0 second))
 
 -- ---- what stands after an expression
 
@@ -281,7 +335,8 @@ any_stops b bs h = record { no_name = h.no_name; no_plus = λ _. h.no_plus refl 
 -- ---- expressions
 
 -- no printed expression begins with a star
-first_operand : (b : Bool) (text bs : List ℕ) → slice_index (text ++ bs) 0 ≢ 42 → slice_index (bracketed b text ++ bs) 0 ≢ 42
+first_operand : (b : Bool) (text bs : List ℕ) → slice_index (text ++ bs) 0 ≢ 42
+    → slice_index (bracketed b text ++ bs) 0 ≢ 42
 first_operand true text bs h = λ e. absurd (omega arith)
 first_operand false text bs h = h
 
@@ -295,28 +350,42 @@ first_byte AllEvents bs h = λ e. absurd (omega arith)
 first_byte EmptyRelation bs h = λ e. absurd (omega arith)
 first_byte EmptySet bs h = λ e. absurd (omega arith)
 first_byte (Join op a b) bs h =
-    rw append_assoc (first_operand (is_binary a) (printed_term a) ((infix_text op ++ bracketed (is_binary b) (printed_term b)) ++ bs) (first_byte a _ h.0))
+    rw append_assoc (first_operand (is_binary a) (printed_term a)
+    ((infix_text op ++ bracketed (is_binary b) (printed_term b)) ++ bs)
+    (first_byte a _ h.0))
 first_byte (Mark op a) bs h =
-    rw append_assoc (first_operand (is_compound a) (printed_term a) (postfix_text op ++ bs) (first_byte a _ h))
+    rw append_assoc (first_operand (is_compound a) (printed_term a) (postfix_text op ++ bs)
+    (first_byte a _ h))
 first_byte (Not a) bs h = λ e. absurd (omega arith)
 first_byte (On a) bs h = λ e. absurd (omega arith)
-first_byte (Apply n arguments) bs h = rw append_assoc (first_name n ((codes "(" ++ (joined (codes ", ") (printed_terms arguments) ++ codes ")")) ++ bs) h.0)
+first_byte (Apply n arguments) bs h =
+    rw append_assoc (first_name n
+    ((codes "(" ++ (joined (codes ", ") (printed_terms arguments) ++ codes ")")) ++ bs) h.0)
 
-first_argument : (vs : Terms) (bs : List ℕ) → AreTerms vs → slice_index (joined (codes ", ") (printed_terms vs) ++ bs) 0 ≢ 42
+first_argument : (vs : Terms) (bs : List ℕ) → AreTerms vs
+    → slice_index (joined (codes ", ") (printed_terms vs) ++ bs) 0 ≢ 42
 first_argument NoTerm bs h = absurd h
 first_argument (OneMore a NoTerm) bs h = first_byte a bs h.0
-first_argument (OneMore a (OneMore b others)) bs h = rw append_assoc (first_byte a ((codes ", " ++ joined (codes ", ") (printed_terms (OneMore b others))) ++ bs) h.0)
+first_argument (OneMore a (OneMore b others)) bs h =
+    rw append_assoc (first_byte a
+    ((codes ", " ++ joined (codes ", ") (printed_terms (OneMore b others))) ++ bs) h.0)
 
 -- an operand, in brackets or not
-operand_back : (operator b : Bool) (text : List ℕ) (t : Tree) (bs : List ℕ) → ((x : List ℕ) → Stops operator x → read (text ++ x) ≡ spelled t (read x)) → slice_index (text ++ (41 ∷ bs)) 0 ≢ 42 → (b ≡ false → Stops operator bs)
+operand_back : (operator b : Bool) (text : List ℕ) (t : Tree) (bs : List ℕ)
+    → ((x : List ℕ) → Stops operator x → read (text ++ x) ≡ spelled t (read x))
+    → slice_index (text ++ (41 ∷ bs)) 0 ≢ 42 → (b ≡ false → Stops operator bs)
     → read (bracketed b text ++ bs) ≡ spelled (grouped b t) (read bs)
 operand_back operator false text t bs back first e = back bs (e refl)
 operand_back operator true text t bs back first e =
-    ap (λ (x : List ℕ). read (40 ∷ x)) (append_assoc text (41 ∷ []) bs) ∙ open_bracket (text ++ (41 ∷ bs)) first
-    ∙ ap (λ (ts : List Token). tokens.Open ∷ ts) (back (41 ∷ bs) (byte_stops operator 41 bs refl (λ n. absurd (omega arith))) ∙ ap (spelled t) (close bs))
+    ap (λ (x : List ℕ). read (40 ∷ x)) (append_assoc text (41 ∷ []) bs)
+    ∙ open_bracket (text ++ (41 ∷ bs)) first
+    ∙ ap (λ (ts : List Token). tokens.Open ∷ ts) (back (41 ∷ bs)
+    (byte_stops operator 41 bs refl (λ n. absurd (omega arith)))
+    ∙ ap (spelled t) (close bs))
 
 mutual
-  read_back : (v : Term) (bs : List ℕ) → IsTerm v → Stops (is_compound v) bs → read (printed_term v ++ bs) ≡ spelled (tree_of v) (read bs)
+  read_back : (v : Term) (bs : List ℕ) → IsTerm v → Stops (is_compound v) bs
+      → read (printed_term v ++ bs) ≡ spelled (tree_of v) (read bs)
   read_back (Atom n) bs h e = name n bs h e.no_name
   read_back AllEvents bs h e = underscore bs
   read_back EmptyRelation bs h e = nought bs
@@ -324,126 +393,195 @@ mutual
   read_back (Join op a b) bs h e =
       let A = bracketed (is_binary a) (printed_term a) in
       let B = bracketed (is_binary b) (printed_term b) in
-      ap read (append_assoc A (infix_text op ++ B) bs ∙ ap (λ (x : List ℕ). A ++ x) (append_assoc (infix_text op) B bs))
-      ∙ operand_back (is_compound a) (is_binary a) (printed_term a) (tree_of a) (infix_text op ++ (B ++ bs)) (λ x k. read_back a x h.0 k) (first_byte a _ h.0) (λ _. sign_stops (is_compound a) op (B ++ bs))
-      ∙ ap (spelled (grouped (is_binary a) (tree_of a))) (sign op (B ++ bs) ∙ ap (λ (ts : List Token). infix_token op ∷ ts) (
-      operand_back (is_compound b) (is_binary b) (printed_term b) (tree_of b) bs (λ x k. read_back b x h.1 k) (first_byte b _ h.1) (λ _. any_stops (is_compound b) bs e)))
+      ap read (append_assoc A (infix_text op ++ B) bs
+      ∙ ap (λ (x : List ℕ). A ++ x) (append_assoc (infix_text op) B bs))
+      ∙ operand_back (is_compound a) (is_binary a) (printed_term a) (tree_of a)
+      (infix_text op ++ (B ++ bs)) (λ x k. read_back a x h.0 k) (first_byte a _ h.0)
+      (λ _. sign_stops (is_compound a) op (B ++ bs))
+      ∙ ap (spelled (grouped (is_binary a) (tree_of a))) (sign op (B ++ bs)
+      ∙ ap (λ (ts : List Token). infix_token op ∷ ts) (
+      operand_back (is_compound b) (is_binary b) (printed_term b) (tree_of b) bs
+      (λ x k. read_back b x h.1 k) (first_byte b _ h.1) (λ _. any_stops (is_compound b) bs e)))
   read_back (Mark op a) bs h e =
       ap read (append_assoc (bracketed (is_compound a) (printed_term a)) (postfix_text op) bs)
-      ∙ operand_back (is_compound a) (is_compound a) (printed_term a) (tree_of a) (postfix_text op ++ bs) (λ x k. read_back a x h k) (first_byte a _ h)
-      (λ plain. subst (λ (x : Bool). Stops x (postfix_text op ++ bs)) (sym plain) (mark_stops op bs))
+      ∙ operand_back (is_compound a) (is_compound a) (printed_term a) (tree_of a)
+      (postfix_text op ++ bs) (λ x k. read_back a x h k) (first_byte a _ h)
+      (λ plain.
+      subst (λ (x : Bool). Stops x (postfix_text op ++ bs)) (sym plain) (mark_stops op bs))
       ∙ ap (spelled (grouped (is_compound a) (tree_of a))) (mark op bs (e.no_plus refl))
   read_back (Not a) bs h e =
       tilde (bracketed (is_binary a) (printed_term a) ++ bs)
-      ∙ ap (λ (ts : List Token). tokens.Tilde ∷ ts) (operand_back (is_compound a) (is_binary a) (printed_term a) (tree_of a) bs (λ x k. read_back a x h k) (first_byte a _ h) (λ _. any_stops (is_compound a) bs e))
+      ∙ ap (λ (ts : List Token). tokens.Tilde ∷ ts) (operand_back (is_compound a) (is_binary a)
+      (printed_term a) (tree_of a) bs (λ x k. read_back a x h k) (first_byte a _ h)
+      (λ _. any_stops (is_compound a) bs e))
   read_back (On a) bs h e =
-      ap (λ (x : List ℕ). read (91 ∷ x)) (append_assoc (printed_term a) (93 ∷ []) bs) ∙ open_square (printed_term a ++ (93 ∷ bs))
-      ∙ ap (λ (ts : List Token). tokens.OpenSquare ∷ ts) (read_back a (93 ∷ bs) h (byte_stops (is_compound a) 93 bs refl (λ n. absurd (omega arith))) ∙ ap (spelled (tree_of a)) (close_square bs))
+      ap (λ (x : List ℕ). read (91 ∷ x)) (append_assoc (printed_term a) (93 ∷ []) bs)
+      ∙ open_square (printed_term a ++ (93 ∷ bs))
+      ∙ ap (λ (ts : List Token). tokens.OpenSquare ∷ ts) (read_back a (93 ∷ bs) h
+      (byte_stops (is_compound a) 93 bs refl (λ n. absurd (omega arith)))
+      ∙ ap (spelled (tree_of a)) (close_square bs))
   read_back (Apply n arguments) bs h e =
       let J = joined (codes ", ") (printed_terms arguments) in
-      ap read (append_assoc n (codes "(" ++ (J ++ codes ")")) bs ∙ ap (λ (x : List ℕ). n ++ (40 ∷ x)) (append_assoc J (codes ")") bs))
+      ap read (append_assoc n (codes "(" ++ (J ++ codes ")")) bs
+      ∙ ap (λ (x : List ℕ). n ++ (40 ∷ x)) (append_assoc J (codes ")") bs))
       ∙ name n (40 ∷ (J ++ (41 ∷ bs))) h.0 refl
-      ∙ ap (λ (ts : List Token). tokens.Name n ∷ ts) (open_bracket (J ++ (41 ∷ bs)) (first_argument arguments (41 ∷ bs) h.1) ∙ ap (λ (ts : List Token). tokens.Open ∷ ts) (arguments_back arguments bs h.1))
+      ∙ ap (λ (ts : List Token). tokens.Name n ∷ ts) (open_bracket (J ++ (41 ∷ bs))
+      (first_argument arguments (41 ∷ bs) h.1)
+      ∙ ap (λ (ts : List Token). tokens.Open ∷ ts) (arguments_back arguments bs h.1))
 
-  arguments_back : (vs : Terms) (bs : List ℕ) → AreTerms vs → read (joined (codes ", ") (printed_terms vs) ++ (41 ∷ bs)) ≡ spelled_arguments (trees_of vs) (read bs)
+  arguments_back : (vs : Terms) (bs : List ℕ) → AreTerms vs
+      → read (joined (codes ", ") (printed_terms vs) ++ (41 ∷ bs))
+      ≡ spelled_arguments (trees_of vs) (read bs)
   arguments_back NoTerm bs h = absurd h
   arguments_back (OneMore a NoTerm) bs h =
-      read_back a (41 ∷ bs) h.0 (byte_stops (is_compound a) 41 bs refl (λ n. absurd (omega arith))) ∙ ap (spelled (tree_of a)) (close bs)
+      read_back a (41 ∷ bs) h.0 (byte_stops (is_compound a) 41 bs refl (λ n. absurd (omega arith)))
+      ∙ ap (spelled (tree_of a)) (close bs)
   arguments_back (OneMore a (OneMore b others)) bs h =
       let J = joined (codes ", ") (printed_terms (OneMore b others)) in
       ap read (append_assoc (printed_term a) (codes ", " ++ J) (41 ∷ bs))
-      ∙ read_back a (codes ", " ++ (J ++ (41 ∷ bs))) h.0 (byte_stops (is_compound a) 44 (32 ∷ (J ++ (41 ∷ bs))) refl (λ n. absurd (omega arith)))
-      ∙ ap (spelled (tree_of a)) (comma (J ++ (41 ∷ bs)) ∙ ap (λ (ts : List Token). tokens.Comma ∷ ts) (arguments_back (OneMore b others) bs h.1))
+      ∙ read_back a (codes ", " ++ (J ++ (41 ∷ bs))) h.0 (byte_stops (is_compound a) 44
+      (32 ∷ (J ++ (41 ∷ bs))) refl (λ n. absurd (omega arith)))
+      ∙ ap (spelled (tree_of a)) (comma (J ++ (41 ∷ bs))
+      ∙ ap (λ (ts : List Token). tokens.Comma ∷ ts)
+      (arguments_back (OneMore b others) bs h.1))
 
 -- ---- items
 
-label_back : (l : Option (List ℕ)) (bs : List ℕ) → IsLabel l → Stops true bs → read (optional_label l ++ bs) ≡ spelled_label l (read bs)
+label_back : (l : Option (List ℕ)) (bs : List ℕ) → IsLabel l → Stops true bs
+    → read (optional_label l ++ bs) ≡ spelled_label l (read bs)
 label_back None bs h e = refl
-label_back (Some n) bs h e = as_word (n ++ bs) ∙ ap (λ (ts : List Token). tokens.As ∷ ts) (name n bs h e.no_name)
+label_back (Some n) bs h e =
+    as_word (n ++ bs) ∙ ap (λ (ts : List Token). tokens.As ∷ ts) (name n bs h e.no_name)
 
-label_stops : (l : Option (List ℕ)) (bs : List ℕ) → Stops true bs → Stops true (optional_label l ++ bs)
+label_stops : (l : Option (List ℕ)) (bs : List ℕ) → Stops true bs
+    → Stops true (optional_label l ++ bs)
 label_stops None bs e = e
 label_stops (Some n) bs e = byte_stops true 32 _ refl (λ k. absurd (omega arith))
 
-tilde_back : (negated : Bool) (bs : List ℕ) (ts : List Token) → read bs ≡ ts → read (tilde_text negated ++ bs) ≡ spelled_tilde negated ts
+tilde_back : (negated : Bool) (bs : List ℕ) (ts : List Token) → read bs ≡ ts
+    → read (tilde_text negated ++ bs) ≡ spelled_tilde negated ts
 tilde_back true bs ts h = tilde bs ∙ ap (λ (us : List Token). tokens.Tilde ∷ us) h
 tilde_back false bs ts h = h
 
-check_back : (c : Checked) (bs : List ℕ) → IsTerm c.body → Stops true bs → read (check_text c ++ bs) ≡ spelled_check (check_of c) (read bs)
+check_back : (c : Checked) (bs : List ℕ) → IsTerm c.body → Stops true bs
+    → read (check_text c ++ bs) ≡ spelled_check (check_of c) (read bs)
 check_back c bs h e =
-    ap read (append_assoc (tilde_text c.negated) (word_text c.word ++ printed_term c.body) bs ∙ ap (λ (x : List ℕ). tilde_text c.negated ++ x) (append_assoc (word_text c.word) (printed_term c.body) bs))
-    ∙ tilde_back c.negated _ _ (check_word c.word (printed_term c.body ++ bs) ∙ ap (λ (ts : List Token). tokens.Check c.word ∷ ts) (read_back c.body bs h (any_stops (is_compound c.body) bs e)))
+    ap read (append_assoc (tilde_text c.negated) (word_text c.word ++ printed_term c.body) bs
+    ∙ ap (λ (x : List ℕ). tilde_text c.negated ++ x)
+    (append_assoc (word_text c.word) (printed_term c.body) bs))
+    ∙ tilde_back c.negated _ _ (check_word c.word (printed_term c.body ++ bs)
+    ∙ ap (λ (ts : List Token). tokens.Check c.word ∷ ts) (read_back c.body bs h
+    (any_stops (is_compound c.body) bs e)))
 
-binding_back : (b : List ℕ × Term) (bs : List ℕ) → IsName b.0 → IsTerm b.1 → Stops true bs → read (binding_text b ++ bs) ≡ spelled_bound (bound_of b) (read bs)
+binding_back : (b : List ℕ × Term) (bs : List ℕ) → IsName b.0 → IsTerm b.1 → Stops true bs
+    → read (binding_text b ++ bs) ≡ spelled_bound (bound_of b) (read bs)
 binding_back b bs n h e =
-    ap read (append_assoc b.0 (codes " = " ++ printed_term b.1) bs) ∙ name b.0 (codes " = " ++ (printed_term b.1 ++ bs)) n refl
-    ∙ ap (λ (ts : List Token). tokens.Name b.0 ∷ ts) (equals (printed_term b.1 ++ bs) ∙ ap (λ (ts : List Token). tokens.Equals ∷ ts) (read_back b.1 bs h (any_stops (is_compound b.1) bs e)))
+    ap read (append_assoc b.0 (codes " = " ++ printed_term b.1) bs)
+    ∙ name b.0 (codes " = " ++ (printed_term b.1 ++ bs)) n refl
+    ∙ ap (λ (ts : List Token). tokens.Name b.0 ∷ ts) (equals (printed_term b.1 ++ bs)
+    ∙ ap (λ (ts : List Token). tokens.Equals ∷ ts)
+    (read_back b.1 bs h (any_stops (is_compound b.1) bs e)))
 
-group_back : (g : List (List ℕ × Term)) (bs : List ℕ) → AreBindings g → Stops true bs → read (joined (codes " and ") (map binding_text g) ++ bs) ≡ spelled_group (map bound_of g) (read bs)
+group_back : (g : List (List ℕ × Term)) (bs : List ℕ) → AreBindings g → Stops true bs
+    → read (joined (codes " and ") (map binding_text g) ++ bs)
+    ≡ spelled_group (map bound_of g) (read bs)
 group_back [] bs h e = refl
 group_back (b ∷ []) bs h e = binding_back b bs h.0 h.1 e
 group_back (b ∷ c ∷ g) bs h e =
     let J = joined (codes " and ") (map binding_text (c ∷ g)) in
     ap read (append_assoc (binding_text b) (codes " and " ++ J) bs)
-    ∙ binding_back b (codes " and " ++ (J ++ bs)) h.0 h.1 (byte_stops true 32 _ refl (λ n. absurd (omega arith)))
-    ∙ ap (spelled_bound (bound_of b)) (and_word (J ++ bs) ∙ ap (λ (ts : List Token). tokens.And ∷ ts) (group_back (c ∷ g) bs h.2 e))
+    ∙ binding_back b (codes " and " ++ (J ++ bs)) h.0 h.1
+    (byte_stops true 32 _ refl (λ n. absurd (omega arith)))
+    ∙ ap (spelled_bound (bound_of b)) (and_word (J ++ bs)
+    ∙ ap (λ (ts : List Token). tokens.And ∷ ts) (group_back (c ∷ g) bs h.2 e))
 
-recursion_back : (recursive : Bool) (bs : List ℕ) (ts : List Token) → read bs ≡ ts → read (recursion_text recursive ++ bs) ≡ spelled_rec recursive ts
+recursion_back : (recursive : Bool) (bs : List ℕ) (ts : List Token) → read bs ≡ ts
+    → read (recursion_text recursive ++ bs) ≡ spelled_rec recursive ts
 recursion_back true bs ts h = rec_word bs ∙ ap (λ (us : List Token). tokens.Rec ∷ us) h
 recursion_back false bs ts h = h
 
-parameters_back : (ps : List (List ℕ)) (bs : List ℕ) → AreNames ps → ends_name (slice_index bs 0) ≡ true → read (joined (codes ", ") ps ++ bs) ≡ spelled_parameters ps (read bs)
+parameters_back : (ps : List (List ℕ)) (bs : List ℕ) → AreNames ps
+    → ends_name (slice_index bs 0) ≡ true
+    → read (joined (codes ", ") ps ++ bs) ≡ spelled_parameters ps (read bs)
 parameters_back [] bs h e = refl
 parameters_back (p ∷ []) bs h e = name p bs h.0 e
 parameters_back (p ∷ q ∷ ps) bs h e =
     let J = joined (codes ", ") (q ∷ ps) in
     ap read (append_assoc p (codes ", " ++ J) bs) ∙ name p (codes ", " ++ (J ++ bs)) h.0 refl
-    ∙ ap (λ (ts : List Token). tokens.Name p ∷ ts) (comma (J ++ bs) ∙ ap (λ (ts : List Token). tokens.Comma ∷ ts) (parameters_back (q ∷ ps) bs h.1 e))
+    ∙ ap (λ (ts : List Token). tokens.Name p ∷ ts) (comma (J ++ bs)
+    ∙ ap (λ (ts : List Token). tokens.Comma ∷ ts) (parameters_back (q ∷ ps) bs h.1 e))
 
-first_parameter : (ps : List (List ℕ)) (bs : List ℕ) → 0 < length ps → AreNames ps → slice_index (joined (codes ", ") ps ++ bs) 0 ≢ 42
+first_parameter : (ps : List (List ℕ)) (bs : List ℕ) → 0 < length ps → AreNames ps
+    → slice_index (joined (codes ", ") ps ++ bs) 0 ≢ 42
 first_parameter [] bs some h = absurd (omega arith)
 first_parameter (p ∷ []) bs some h = first_name p bs h.0
-first_parameter (p ∷ q ∷ ps) bs some h = rw append_assoc (first_name p ((codes ", " ++ joined (codes ", ") (q ∷ ps)) ++ bs) h.0)
+first_parameter (p ∷ q ∷ ps) bs some h =
+    rw append_assoc (first_name p ((codes ", " ++ joined (codes ", ") (q ∷ ps)) ++ bs) h.0)
 
-one_back : (s : Term × Option (List ℕ)) (bs : List ℕ) → IsTerm s.0 → IsLabel s.1 → Stops true bs → read (shown_text s ++ bs) ≡ spelled_one (shown_of s) (read bs)
+one_back : (s : Term × Option (List ℕ)) (bs : List ℕ) → IsTerm s.0 → IsLabel s.1 → Stops true bs
+    → read (shown_text s ++ bs) ≡ spelled_one (shown_of s) (read bs)
 one_back s bs h l e =
     ap read (append_assoc (printed_term s.0) (optional_label s.1) bs)
-    ∙ read_back s.0 (optional_label s.1 ++ bs) h (any_stops (is_compound s.0) _ (label_stops s.1 bs e)) ∙ ap (spelled (tree_of s.0)) (label_back s.1 bs l e)
+    ∙ read_back s.0 (optional_label s.1 ++ bs) h
+    (any_stops (is_compound s.0) _ (label_stops s.1 bs e))
+    ∙ ap (spelled (tree_of s.0)) (label_back s.1 bs l e)
 
-shown_back : (ss : List (Term × Option (List ℕ))) (bs : List ℕ) → written.AreShown ss → Stops true bs → read (joined (codes ", ") (map shown_text ss) ++ bs) ≡ spelled_shown (map shown_of ss) (read bs)
+shown_back : (ss : List (Term × Option (List ℕ))) (bs : List ℕ) → written.AreShown ss
+    → Stops true bs
+    → read (joined (codes ", ") (map shown_text ss) ++ bs)
+    ≡ spelled_shown (map shown_of ss) (read bs)
 shown_back [] bs h e = refl
 shown_back (s ∷ []) bs h e = one_back s bs h.0 h.1 e
 shown_back (s ∷ u ∷ ss) bs h e =
     let J = joined (codes ", ") (map shown_text (u ∷ ss)) in
     ap read (append_assoc (shown_text s) (codes ", " ++ J) bs)
-    ∙ one_back s (codes ", " ++ (J ++ bs)) h.0 h.1 (byte_stops true 44 _ refl (λ n. absurd (omega arith)))
-    ∙ ap (spelled_one (shown_of s)) (comma (J ++ bs) ∙ ap (λ (ts : List Token). tokens.Comma ∷ ts) (shown_back (u ∷ ss) bs h.2 e))
+    ∙ one_back s (codes ", " ++ (J ++ bs)) h.0 h.1
+    (byte_stops true 44 _ refl (λ n. absurd (omega arith)))
+    ∙ ap (spelled_one (shown_of s)) (comma (J ++ bs)
+    ∙ ap (λ (ts : List Token). tokens.Comma ∷ ts) (shown_back (u ∷ ss) bs h.2 e))
 
-item_back : (c : Clause) (bs : List ℕ) → IsWritten c → Stops true bs → read (printed_item c ++ bs) ≡ spelled_item (item_of c) (read bs)
+item_back : (c : Clause) (bs : List ℕ) → IsWritten c → Stops true bs
+    → read (printed_item c ++ bs) ≡ spelled_item (item_of c) (read bs)
 item_back (Binding recursive group) bs h e =
     let J = joined (codes " and ") (map binding_text group) in
-    ap (λ (x : List ℕ). read (codes "let " ++ x)) (append_assoc (recursion_text recursive) J bs) ∙ let_word (recursion_text recursive ++ (J ++ bs))
-    ∙ ap (λ (ts : List Token). tokens.Let ∷ ts) (recursion_back recursive (J ++ bs) _ (group_back group bs h.1 e))
+    ap (λ (x : List ℕ). read (codes "let " ++ x)) (append_assoc (recursion_text recursive) J bs)
+    ∙ let_word (recursion_text recursive ++ (J ++ bs))
+    ∙ ap (λ (ts : List Token). tokens.Let ∷ ts) (recursion_back recursive (J ++ bs) _
+    (group_back group bs h.1 e))
 item_back (value.Function n parameters body) bs h e =
     let J = joined (codes ", ") parameters in
     let P = printed_term body in
-    ap (λ (x : List ℕ). read (codes "let " ++ x)) (append_assoc n (codes "(" ++ (J ++ (codes ") = " ++ P))) bs ∙ ap (λ (x : List ℕ). n ++ (40 ∷ x)) (append_assoc J (codes ") = " ++ P) bs))
+    ap (λ (x : List ℕ). read (codes "let " ++ x)) (append_assoc n
+    (codes "(" ++ (J ++ (codes ") = " ++ P))) bs
+    ∙ ap (λ (x : List ℕ). n ++ (40 ∷ x)) (append_assoc J (codes ") = " ++ P) bs))
     ∙ let_word (n ++ (40 ∷ (J ++ (codes ") = " ++ (P ++ bs)))))
-    ∙ ap (λ (ts : List Token). tokens.Let ∷ ts) (name n (40 ∷ (J ++ (codes ") = " ++ (P ++ bs)))) h.0 refl
-    ∙ ap (λ (ts : List Token). tokens.Name n ∷ ts) (open_bracket (J ++ (codes ") = " ++ (P ++ bs))) (first_parameter parameters _ h.1 h.2)
-    ∙ ap (λ (ts : List Token). tokens.Open ∷ ts) (parameters_back parameters (codes ") = " ++ (P ++ bs)) h.2 refl
-    ∙ ap (spelled_parameters parameters) (close_equals (P ++ bs) ∙ ap (λ (ts : List Token). tokens.Close ∷ tokens.Equals ∷ ts) (read_back body bs h.3 (any_stops (is_compound body) bs e))))))
+    ∙ ap (λ (ts : List Token). tokens.Let ∷ ts) (name n (40 ∷ (J ++ (codes ") = " ++ (P ++ bs))))
+    h.0 refl
+    ∙ ap (λ (ts : List Token). tokens.Name n ∷ ts) (open_bracket (J ++ (codes ") = " ++ (P ++ bs)))
+    (first_parameter parameters _ h.1 h.2)
+    ∙ ap (λ (ts : List Token). tokens.Open ∷ ts) (parameters_back parameters
+    (codes ") = " ++ (P ++ bs)) h.2 refl
+    ∙ ap (spelled_parameters parameters) (close_equals (P ++ bs)
+    ∙ ap (λ (ts : List Token). tokens.Close ∷ tokens.Equals ∷ ts)
+    (read_back body bs h.3 (any_stops (is_compound body) bs e))))))
 item_back (Checking check label) bs h e =
     ap read (append_assoc (check_text check) (optional_label label) bs)
-    ∙ check_back check (optional_label label ++ bs) h.0 (label_stops label bs e) ∙ ap (spelled_check (check_of check)) (label_back label bs h.1 e)
+    ∙ check_back check (optional_label label ++ bs) h.0 (label_stops label bs e)
+    ∙ ap (spelled_check (check_of check)) (label_back label bs h.1 e)
 item_back (Flagging check label) bs h e =
-    ap (λ (x : List ℕ). read (codes "flag " ++ x)) (append_assoc (check_text check) (label_text label) bs) ∙ flag_word (check_text check ++ (label_text label ++ bs))
-    ∙ ap (λ (ts : List Token). tokens.Flag ∷ ts) (check_back check (label_text label ++ bs) h.0 (label_stops (Some label) bs e) ∙ ap (spelled_check (check_of check)) (label_back (Some label) bs h.1 e))
+    ap (λ (x : List ℕ). read (codes "flag " ++ x))
+    (append_assoc (check_text check) (label_text label) bs)
+    ∙ flag_word (check_text check ++ (label_text label ++ bs))
+    ∙ ap (λ (ts : List Token). tokens.Flag ∷ ts) (check_back check (label_text label ++ bs) h.0
+    (label_stops (Some label) bs e)
+    ∙ ap (spelled_check (check_of check)) (label_back (Some label) bs h.1 e))
 item_back (Showing hidden shown) bs h e =
     let J = joined (codes ", ") (map shown_text shown) in
-    ap read (append_assoc (show_text hidden) J bs) ∙ show_word hidden (J ++ bs) ∙ ap (λ (ts : List Token). show_token hidden ∷ ts) (shown_back shown bs h.1 e)
+    ap read (append_assoc (show_text hidden) J bs) ∙ show_word hidden (J ++ bs)
+    ∙ ap (λ (ts : List Token). show_token hidden ∷ ts) (shown_back shown bs h.1 e)
 item_back (Including path) bs h e =
-    ap (λ (x : List ℕ). read (codes "include " ++ (34 ∷ x))) (append_assoc path quote bs) ∙ include_word (34 ∷ (path ++ (34 ∷ bs)))
+    ap (λ (x : List ℕ). read (codes "include " ++ (34 ∷ x))) (append_assoc path quote bs)
+    ∙ include_word (34 ∷ (path ++ (34 ∷ bs)))
     ∙ ap (λ (ts : List Token). tokens.Include ∷ ts) (quoted path bs (path_is path h bs))
 
 -- ---- texts
@@ -452,21 +590,27 @@ no_bytes : read [] ≡ tokens.End ∷ []
 unfolding tokens_from
 no_bytes = refl
 
-model_tokens : (cs : List Clause) → AreWritten cs → read (printed_model cs) ≡ spelled_items (map item_of cs) (tokens.End ∷ [])
+model_tokens : (cs : List Clause) → AreWritten cs
+    → read (printed_model cs) ≡ spelled_items (map item_of cs) (tokens.End ∷ [])
 model_tokens [] h = no_bytes
 model_tokens (c ∷ cs) h =
     item_back c (10 ∷ printed_model cs) h.0 (byte_stops true 10 _ refl (λ n. absurd (omega arith)))
     ∙ ap (spelled_item (item_of c)) (line_end (printed_model cs) ∙ model_tokens cs h.1)
 
-item_tokens : (c : Clause) → IsWritten c → read (printed_item c) ≡ spelled_items (item_of c ∷ []) (tokens.End ∷ [])
-item_tokens c h = ap read (sym (append-nil (printed_item c))) ∙ item_back c [] h (end_stops true) ∙ ap (spelled_item (item_of c)) no_bytes
+item_tokens : (c : Clause) → IsWritten c
+    → read (printed_item c) ≡ spelled_items (item_of c ∷ []) (tokens.End ∷ [])
+item_tokens c h =
+    ap read (sym (append-nil (printed_item c))) ∙ item_back c [] h (end_stops true)
+    ∙ ap (spelled_item (item_of c)) no_bytes
 
 -- a text of these items, where they keep the limits
-item_means : (most : Limits) (c : Clause) → IsWritten c → IsWithin most c → Means most forms.Item (read (printed_item c)) (c ∷ [])
+item_means : (most : Limits) (c : Clause) → IsWritten c → IsWithin most c
+    → Means most forms.Item (read (printed_item c)) (c ∷ [])
 item_means most c h w =
     record { title = NoTitle; items = item_of c ∷ []; form_is = (refl, refl); each = items_fit most (c ∷ []) (h, tt) (w, tt); whole = item_tokens c h; meant = items_back (c ∷ []) (h, tt) }
 
-model_means : (most : Limits) (cs : List Clause) → AreWritten cs → length cs ≤ most.items → AreWithin most cs → Means most forms.Model (read (printed_model cs)) cs
+model_means : (most : Limits) (cs : List Clause) → AreWritten cs → length cs ≤ most.items
+    → AreWithin most cs → Means most forms.Model (read (printed_model cs)) cs
 model_means most cs h few w =
     let l = length-map cs item_of in
     record { title = NoTitle; items = map item_of cs; form_is = omega arith; each = items_fit most cs h w; whole = model_tokens cs h; meant = items_back cs h }
@@ -482,5 +626,6 @@ model_is_read cs h =
 pub item_reads : (c : Clause) → IsWritten c → IsItemWithinLimits c → ReadsItem (printed_item c) c
 item_reads c h w = record { short = w.short; means = item_means limits c h w.fits }
 
-pub model_reads : (cs : List Clause) → AreWritten cs → IsModelWithinLimits cs → ReadsModel (printed_model cs) cs
+pub model_reads : (cs : List Clause) → AreWritten cs → IsModelWithinLimits cs
+    → ReadsModel (printed_model cs) cs
 model_reads cs h w = record { short = w.short; means = model_means limits cs h w.few w.fits }

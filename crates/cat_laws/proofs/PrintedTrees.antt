@@ -23,7 +23,8 @@ abbrev mutual
   tree_of AllEvents = Underscore
   tree_of EmptyRelation = Zero
   tree_of EmptySet = Braces
-  tree_of (Join op a b) = Pair op (grouped (is_binary a) (tree_of a)) (grouped (is_binary b) (tree_of b))
+  tree_of (Join op a b) =
+      Pair op (grouped (is_binary a) (tree_of a)) (grouped (is_binary b) (tree_of b))
   tree_of (Mark op a) = Post op (grouped (is_compound a) (tree_of a))
   tree_of (Not a) = Prefix (grouped (is_binary a) (tree_of a))
   tree_of (On a) = Square (tree_of a)
@@ -45,18 +46,23 @@ mutual
   meaning-tree_of EmptyRelation h = refl
   meaning-tree_of EmptySet h = refl
   meaning-tree_of (Join op a b) h =
-      ap (λ (x : Term). Join op x (meaning (grouped (is_binary b) (tree_of b)))) (meaning-grouped (is_binary a) (tree_of a) ∙ meaning-tree_of a h.0)
+      ap (λ (x : Term). Join op x (meaning (grouped (is_binary b) (tree_of b))))
+      (meaning-grouped (is_binary a) (tree_of a) ∙ meaning-tree_of a h.0)
       ∙ ap (Join op a) (meaning-grouped (is_binary b) (tree_of b) ∙ meaning-tree_of b h.1)
-  meaning-tree_of (Mark op a) h = ap (Mark op) (meaning-grouped (is_compound a) (tree_of a) ∙ meaning-tree_of a h)
-  meaning-tree_of (Not a) h = ap Not (meaning-grouped (is_binary a) (tree_of a) ∙ meaning-tree_of a h)
+  meaning-tree_of (Mark op a) h =
+      ap (Mark op) (meaning-grouped (is_compound a) (tree_of a) ∙ meaning-tree_of a h)
+  meaning-tree_of (Not a) h =
+      ap Not (meaning-grouped (is_binary a) (tree_of a) ∙ meaning-tree_of a h)
   meaning-tree_of (On a) h = ap On (meaning-tree_of a h)
   meaning-tree_of (Apply n arguments) h = ap (Apply n) (meanings-trees_of arguments h.1)
 
   meanings-trees_of : (vs : Terms) → AreTerms vs → meanings (trees_of vs) ≡ vs
   meanings-trees_of NoTerm h = absurd h
-  meanings-trees_of (OneMore a NoTerm) h = ap (λ (x : Term). OneMore x NoTerm) (meaning-tree_of a h.0)
+  meanings-trees_of (OneMore a NoTerm) h =
+      ap (λ (x : Term). OneMore x NoTerm) (meaning-tree_of a h.0)
   meanings-trees_of (OneMore a (OneMore b others)) h =
-      ap (λ (x : Term). OneMore x (meanings (trees_of (OneMore b others)))) (meaning-tree_of a h.0) ∙ ap (OneMore a) (meanings-trees_of (OneMore b others) h.1)
+      ap (λ (x : Term). OneMore x (meanings (trees_of (OneMore b others)))) (meaning-tree_of a h.0)
+      ∙ ap (OneMore a) (meanings-trees_of (OneMore b others) h.1)
 
 IsGrouped-grouped : (b : Bool) (t : Tree) → IsGrouped t → IsGrouped (grouped b t)
 IsGrouped-grouped true t h = h
@@ -101,17 +107,24 @@ mutual
       let l = left_level-le op in
       let r = right_most op in
       let x = tight_operand a in
-      let y = tight_operand b in
-      (omega arith, omega arith, IsGrouped-grouped (is_binary a) (tree_of a) (IsGrouped-tree_of a), IsGrouped-grouped (is_binary b) (tree_of b) (IsGrouped-tree_of b))
-  IsGrouped-tree_of (Mark op a) = (tight_marked a, IsGrouped-grouped (is_compound a) (tree_of a) (IsGrouped-tree_of a))
-  IsGrouped-tree_of (Not a) = (tight_operand a, IsGrouped-grouped (is_binary a) (tree_of a) (IsGrouped-tree_of a))
+      let y = tight_operand b in (
+        omega arith,
+        omega arith,
+        IsGrouped-grouped (is_binary a) (tree_of a) (IsGrouped-tree_of a),
+        IsGrouped-grouped (is_binary b) (tree_of b) (IsGrouped-tree_of b),
+      )
+  IsGrouped-tree_of (Mark op a) =
+      (tight_marked a, IsGrouped-grouped (is_compound a) (tree_of a) (IsGrouped-tree_of a))
+  IsGrouped-tree_of (Not a) =
+      (tight_operand a, IsGrouped-grouped (is_binary a) (tree_of a) (IsGrouped-tree_of a))
   IsGrouped-tree_of (On a) = IsGrouped-tree_of a
   IsGrouped-tree_of (Apply n arguments) = AreGrouped-trees_of arguments
 
   AreGrouped-trees_of : (vs : Terms) → AreGrouped (trees_of vs)
   AreGrouped-trees_of NoTerm = tt
   AreGrouped-trees_of (OneMore a NoTerm) = IsGrouped-tree_of a
-  AreGrouped-trees_of (OneMore a (OneMore b others)) = (IsGrouped-tree_of a, AreGrouped-trees_of (OneMore b others))
+  AreGrouped-trees_of (OneMore a (OneMore b others)) =
+      (IsGrouped-tree_of a, AreGrouped-trees_of (OneMore b others))
 
 -- ---- items
 
@@ -132,15 +145,19 @@ item_of (Flagging check label) = Flag (check_of check) label
 item_of (Showing hidden shown) = Show hidden (map shown_of shown)
 item_of (Including path) = Include path
 
-group_back : (group : List (List ℕ × Term)) → AreBindings group → group_meaning (map bound_of group) ≡ group
+group_back : (group : List (List ℕ × Term)) → AreBindings group
+    → group_meaning (map bound_of group) ≡ group
 group_back [] h = refl
 group_back (b ∷ bs) h =
-    ap (λ (x : Term). (b.0, x) ∷ group_meaning (map bound_of bs)) (meaning-tree_of b.1 h.1) ∙ ap (λ (x : List (List ℕ × Term)). b ∷ x) (group_back bs h.2)
+    ap (λ (x : Term). (b.0, x) ∷ group_meaning (map bound_of bs)) (meaning-tree_of b.1 h.1)
+    ∙ ap (λ (x : List (List ℕ × Term)). b ∷ x) (group_back bs h.2)
 
-shown_back : (shown : List (Term × Option (List ℕ))) → written.AreShown shown → shown_meaning (map shown_of shown) ≡ shown
+shown_back : (shown : List (Term × Option (List ℕ))) → written.AreShown shown
+    → shown_meaning (map shown_of shown) ≡ shown
 shown_back [] h = refl
 shown_back (s ∷ ss) h =
-    ap (λ (x : Term). (x, s.1) ∷ shown_meaning (map shown_of ss)) (meaning-tree_of s.0 h.0) ∙ ap (λ (x : List (Term × Option (List ℕ))). s ∷ x) (shown_back ss h.2)
+    ap (λ (x : Term). (x, s.1) ∷ shown_meaning (map shown_of ss)) (meaning-tree_of s.0 h.0)
+    ∙ ap (λ (x : List (Term × Option (List ℕ))). s ∷ x) (shown_back ss h.2)
 
 abbrev with_body : Checked → Term → Checked
 with_body c v = record { negated = c.negated; word = c.word; body = v }
@@ -150,7 +167,8 @@ check_back c h = ap (with_body c) (meaning-tree_of c.body h)
 
 item_back : (c : Clause) → IsWritten c → item_meaning (item_of c) ≡ c
 item_back (Binding recursive group) h = ap (Binding recursive) (group_back group h.1)
-item_back (value.Function n parameters body) h = ap (value.Function n parameters) (meaning-tree_of body h.3)
+item_back (value.Function n parameters body) h =
+    ap (value.Function n parameters) (meaning-tree_of body h.3)
 item_back (Checking check label) h = ap (λ (x : Checked). Checking x label) (check_back check h.0)
 item_back (Flagging check label) h = ap (λ (x : Checked). Flagging x label) (check_back check h.0)
 item_back (Showing hidden shown) h = ap (Showing hidden) (shown_back shown h.1)
@@ -158,7 +176,9 @@ item_back (Including path) h = refl
 
 pub items_back : (cs : List Clause) → AreWritten cs → items_meaning (map item_of cs) ≡ cs
 items_back [] h = refl
-items_back (c ∷ cs) h = ap (λ (x : Clause). x ∷ items_meaning (map item_of cs)) (item_back c h.0) ∙ ap (λ (x : List Clause). c ∷ x) (items_back cs h.1)
+items_back (c ∷ cs) h =
+    ap (λ (x : Clause). x ∷ items_meaning (map item_of cs)) (item_back c h.0)
+    ∙ ap (λ (x : List Clause). c ∷ x) (items_back cs h.1)
 
 -- ---- limits
 
@@ -237,21 +257,30 @@ mutual
       let v = operators_of_all (OneMore b others) in
       omega arith
 
-fits : (most : Limits) (v : Term) → nesting v ≤ most.nesting → joins v ≤ most.operators → IsExpression most (tree_of v)
+fits : (most : Limits) (v : Term) → nesting v ≤ most.nesting → joins v ≤ most.operators
+    → IsExpression most (tree_of v)
 fits most v deep many =
     let x = depth_is v in
     let y = operators_are v in
     record { grouped = IsGrouped-tree_of v; shallow = omega arith; short = omega arith }
 
-group_fits : (most : Limits) (group : List (List ℕ × Term)) → deepest (map (λ b. b.1) group) ≤ most.nesting → most_joins (map (λ b. b.1) group) ≤ most.operators → AreBound most (map bound_of group)
+group_fits : (most : Limits) (group : List (List ℕ × Term))
+    → deepest (map (λ b. b.1) group) ≤ most.nesting
+    → most_joins (map (λ b. b.1) group) ≤ most.operators → AreBound most (map bound_of group)
 group_fits most [] deep many = tt
-group_fits most (b ∷ bs) deep many = (fits most b.1 (omega arith) (omega arith), group_fits most bs (omega arith) (omega arith))
+group_fits most (b ∷ bs) deep many =
+    (fits most b.1 (omega arith) (omega arith), group_fits most bs (omega arith) (omega arith))
 
-shown_fits : (most : Limits) (shown : List (Term × Option (List ℕ))) → deepest (map (λ s. s.0) shown) ≤ most.nesting → most_joins (map (λ s. s.0) shown) ≤ most.operators → grammar.AreShown most (map shown_of shown)
+shown_fits : (most : Limits) (shown : List (Term × Option (List ℕ)))
+    → deepest (map (λ s. s.0) shown) ≤ most.nesting
+    → most_joins (map (λ s. s.0) shown) ≤ most.operators
+    → grammar.AreShown most (map shown_of shown)
 shown_fits most [] deep many = tt
-shown_fits most (s ∷ ss) deep many = (fits most s.0 (omega arith) (omega arith), shown_fits most ss (omega arith) (omega arith))
+shown_fits most (s ∷ ss) deep many =
+    (fits most s.0 (omega arith) (omega arith), shown_fits most ss (omega arith) (omega arith))
 
-one_fits : (most : Limits) (v : Term) → deepest (v ∷ []) ≤ most.nesting → most_joins (v ∷ []) ≤ most.operators → IsExpression most (tree_of v)
+one_fits : (most : Limits) (v : Term) → deepest (v ∷ []) ≤ most.nesting
+    → most_joins (v ∷ []) ≤ most.operators → IsExpression most (tree_of v)
 one_fits most v deep many = fits most v (omega arith) (omega arith)
 
 item_fits : (most : Limits) (c : Clause) → IsWritten c → IsWithin most c → IsItem most (item_of c)
@@ -260,7 +289,8 @@ item_fits most (Binding recursive group) h w =
     let some = h.0 in
     let few = w.names in
     (omega arith, omega arith, group_fits most group w.shallow w.few)
-item_fits most (value.Function n parameters body) h w = (h.1, w.parameters, one_fits most body w.shallow w.few)
+item_fits most (value.Function n parameters body) h w =
+    (h.1, w.parameters, one_fits most body w.shallow w.few)
 item_fits most (Checking check label) h w = one_fits most check.body w.shallow w.few
 item_fits most (Flagging check label) h w = one_fits most check.body w.shallow w.few
 item_fits most (Showing hidden shown) h w =
@@ -269,7 +299,8 @@ item_fits most (Showing hidden shown) h w =
     (omega arith, shown_fits most shown w.shallow w.few)
 item_fits most (Including path) h w = h
 
-pub items_fit : (most : Limits) (cs : List Clause) → AreWritten cs → AreWithin most cs → AreItems most (map item_of cs)
+pub items_fit : (most : Limits) (cs : List Clause) → AreWritten cs → AreWithin most cs
+    → AreItems most (map item_of cs)
 items_fit most [] h w = tt
 items_fit most (c ∷ cs) h w = (item_fits most c h.0 w.0, items_fit most cs h.1 w.1)
 
@@ -306,14 +337,28 @@ within_wider a b h (c ∷ cs) w =
     let h1 = h.nesting in
     let h2 = h.operators in
     let h3 = h.names in
-    let h4 = h.parameters in
-    (record { shallow = omega arith; few = omega arith; names = omega arith; parameters = omega arith }, within_wider a b h cs w.1)
+    let h4 = h.parameters in (
+      record {
+        shallow = omega arith;
+        few = omega arith;
+        names = omega arith;
+        parameters = omega arith;
+      },
+      within_wider a b h cs w.1,
+    )
 
 pub is_enough : (cs : List Clause) → AreWithin (enough cs) cs
 is_enough [] = tt
 is_enough (c ∷ cs) =
-    let wider : IsWider (enough cs) (widened (enough cs) c) = record { nesting = omega arith; operators = omega arith; names = omega arith; parameters = omega arith } in
-    (record { shallow = omega arith; few = omega arith; names = omega arith; parameters = omega arith }, within_wider (enough cs) (widened (enough cs) c) wider cs (is_enough cs))
+    let wider : IsWider (enough cs) (widened (enough cs) c) = record { nesting = omega arith; operators = omega arith; names = omega arith; parameters = omega arith } in (
+      record {
+        shallow = omega arith;
+        few = omega arith;
+        names = omega arith;
+        parameters = omega arith;
+      },
+      within_wider (enough cs) (widened (enough cs) c) wider cs (is_enough cs),
+    )
 
 pub enough_items : (cs : List Clause) → (enough cs).items ≡ length cs
 enough_items [] = refl

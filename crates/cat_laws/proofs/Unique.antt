@@ -26,30 +26,43 @@ use Rattle.cat_laws.proofs.Cuts.{three_bytes, not_sign, skipped, lexeme_bytes}
 
 -- ---- the reader's front, by its tests
 
-front_word : (b : ℕ) (bs : List ℕ) → is_layout b ≡ false → is_letter b ≡ true → front (b ∷ bs) ≡ word_front (b ∷ bs) (position_or_len ends_name (b ∷ bs))
+front_word : (b : ℕ) (bs : List ℕ) → is_layout b ≡ false → is_letter b ≡ true
+    → front (b ∷ bs) ≡ word_front (b ∷ bs) (position_or_len ends_name (b ∷ bs))
 unfolding front
-front_word b bs layout letter = when_false (is_layout b) _ _ layout ∙ when_true (is_letter b) _ _ letter
+front_word b bs layout letter =
+    when_false (is_layout b) _ _ layout ∙ when_true (is_letter b) _ _ letter
 
-front_sign : (b : ℕ) (bs : List ℕ) → begins_gap (b ∷ bs) ≡ false → is_letter b ≡ false → (b == 34) ≡ false → front (b ∷ bs) ≡ sign_front (b ∷ bs)
+front_sign : (b : ℕ) (bs : List ℕ) → begins_gap (b ∷ bs) ≡ false → is_letter b ≡ false
+    → (b == 34) ≡ false → front (b ∷ bs) ≡ sign_front (b ∷ bs)
 unfolding front
 front_sign b bs gap letter quote =
     let others = or_second (is_layout b) (begins_comment (b ∷ bs) || begins_line_comment (b ∷ bs)) gap in
-    when_false (is_layout b) _ _ (or_first (is_layout b) (begins_comment (b ∷ bs) || begins_line_comment (b ∷ bs)) gap) ∙ when_false (is_letter b) _ _ letter
-    ∙ when_false (b == 47 && slice_index bs 0 == 47) _ _ (or_second (begins_comment (b ∷ bs)) (begins_line_comment (b ∷ bs)) others)
-    ∙ when_false (b == 40 && slice_index bs 0 == 42) _ _ (or_first (begins_comment (b ∷ bs)) (begins_line_comment (b ∷ bs)) others) ∙ when_false (b == 34) _ _ quote
+    when_false (is_layout b) _ _ (or_first (is_layout b)
+    (begins_comment (b ∷ bs) || begins_line_comment (b ∷ bs)) gap)
+    ∙ when_false (is_letter b) _ _ letter
+    ∙ when_false (b == 47 && slice_index bs 0 == 47) _ _ (or_second (begins_comment (b ∷ bs))
+    (begins_line_comment (b ∷ bs)) others)
+    ∙ when_false (b == 40 && slice_index bs 0 == 42) _ _ (or_first (begins_comment (b ∷ bs))
+    (begins_line_comment (b ∷ bs)) others) ∙ when_false (b == 34) _ _ quote
 
-one_byte : (b : ℕ) (bs : List ℕ) → (b == 43 && slice_index bs 0 == 43) ≡ false → (b == 94 && slice_index bs 0 == 45 && slice_index bs 1 == 49) ≡ false → sign_front (b ∷ bs) ≡ fronts.Lexeme (sign_token b) 1
-one_byte b bs plus inverse = when_false (b == 43 && slice_index bs 0 == 43) _ _ plus ∙ when_false (b == 94 && slice_index bs 0 == 45 && slice_index bs 1 == 49) _ _ inverse
+one_byte : (b : ℕ) (bs : List ℕ) → (b == 43 && slice_index bs 0 == 43) ≡ false
+    → (b == 94 && slice_index bs 0 == 45 && slice_index bs 1 == 49) ≡ false
+    → sign_front (b ∷ bs) ≡ fronts.Lexeme (sign_token b) 1
+one_byte b bs plus inverse =
+    when_false (b == 43 && slice_index bs 0 == 43) _ _ plus
+    ∙ when_false (b == 94 && slice_index bs 0 == 45 && slice_index bs 1 == 49) _ _ inverse
 
 front_blank : (b : ℕ) (bs : List ℕ) → is_layout b ≡ true → front (b ∷ bs) ≡ fronts.Layout 1
 unfolding front
 front_blank b bs layout = when_true (is_layout b) _ _ layout
 
-front_comment : (xs : List ℕ) → front (40 ∷ 42 ∷ xs) ≡ comment_front (length (40 ∷ 42 ∷ xs)) (comment_of (40 ∷ 42 ∷ xs))
+front_comment : (xs : List ℕ)
+    → front (40 ∷ 42 ∷ xs) ≡ comment_front (length (40 ∷ 42 ∷ xs)) (comment_of (40 ∷ 42 ∷ xs))
 unfolding front
 front_comment xs = refl
 
-front_line : (xs : List ℕ) → front (47 ∷ 47 ∷ xs) ≡ fronts.Layout (position_or_len is_line_end (47 ∷ 47 ∷ xs))
+front_line : (xs : List ℕ)
+    → front (47 ∷ 47 ∷ xs) ≡ fronts.Layout (position_or_len is_line_end (47 ∷ 47 ∷ xs))
 unfolding front
 front_line xs = refl
 
@@ -61,26 +74,38 @@ front_inversion : (xs : List ℕ) → front (94 ∷ 45 ∷ 49 ∷ xs) ≡ fronts
 unfolding front
 front_inversion xs = refl
 
-front_plusses : (xs : List ℕ) → front (43 ∷ 43 ∷ xs) ≡ fronts.Lexeme (tokens.Broken rules.Unsupported) 2
+front_plusses : (xs : List ℕ)
+    → front (43 ∷ 43 ∷ xs) ≡ fronts.Lexeme (tokens.Broken rules.Unsupported) 2
 unfolding front
 front_plusses xs = refl
 
 -- ---- gaps
 
-line_length_is : (s rest : List ℕ) → ((k : ℕ) → k < length s → is_line_end (slice_index s k) ≡ false) → (0 < length rest → is_line_end (slice_index rest 0) ≡ true) → position_or_len is_line_end (s ++ rest) ≡ length s
+line_length_is : (s rest : List ℕ)
+    → ((k : ℕ) → k < length s → is_line_end (slice_index s k) ≡ false)
+    → (0 < length rest → is_line_end (slice_index rest 0) ≡ true)
+    → position_or_len is_line_end (s ++ rest) ≡ length s
 line_length_is s rest each ends =
     let l = length-append s rest in
-    position_or_len_is is_line_end (s ++ rest) (length s) 0 (omega arith) (λ k lt. ap is_line_end (get_or_append_left s rest 0 k lt) ∙ each k lt) (λ lt. ap is_line_end (seam s rest) ∙ ends (omega arith))
+    position_or_len_is is_line_end (s ++ rest) (length s) 0 (omega arith)
+    (λ k lt. ap is_line_end (get_or_append_left s rest 0 k lt) ∙ each k lt)
+    (λ lt. ap is_line_end (seam s rest) ∙ ends (omega arith))
 
 front_gap : (s rest : List ℕ) → IsGap s rest → front (s ++ rest) ≡ fronts.Layout (length s)
-front_gap s rest (Blank b layout is) = ap (λ (xs : List ℕ). front (xs ++ rest)) is ∙ front_blank b rest layout ∙ ap (λ (xs : List ℕ). fronts.Layout (length xs)) (sym is)
+front_gap s rest (Blank b layout is) =
+    ap (λ (xs : List ℕ). front (xs ++ rest)) is ∙ front_blank b rest layout
+    ∙ ap (λ (xs : List ℕ). fronts.Layout (length xs)) (sym is)
 front_gap s rest (Comment c) =
-    ap front c.whole ∙ front_comment _ ∙ ap (λ (xs : List ℕ). comment_front (length xs) (comment_of xs)) (sym c.whole) ∙ ap (comment_front (length (s ++ rest))) (nesting.only (s ++ rest) (length s) c)
+    ap front c.whole ∙ front_comment _
+    ∙ ap (λ (xs : List ℕ). comment_front (length xs) (comment_of xs)) (sym c.whole)
+    ∙ ap (comment_front (length (s ++ rest))) (nesting.only (s ++ rest) (length s) c)
 front_gap [] rest (Line begins each ends) = absurd cc
 front_gap (b ∷ bs) rest (Line begins each ends) =
     let two = nesting.two_bytes 47 46 b bs begins in
     let are : b ∷ (bs ++ rest) ≡ 47 ∷ 47 ∷ (drop 1 bs ++ rest) = ap (λ (x : ℕ). x ∷ (bs ++ rest)) two.0 ∙ ap (λ (xs : List ℕ). 47 ∷ (xs ++ rest)) two.1 in
-    ap front are ∙ front_line (drop 1 bs ++ rest) ∙ ap (λ (xs : List ℕ). fronts.Layout (position_or_len is_line_end xs)) (sym are) ∙ ap (λ (n : ℕ). fronts.Layout n) (line_length_is (b ∷ bs) rest each ends)
+    ap front are ∙ front_line (drop 1 bs ++ rest)
+    ∙ ap (λ (xs : List ℕ). fronts.Layout (position_or_len is_line_end xs)) (sym are)
+    ∙ ap (λ (n : ℕ). fronts.Layout n) (line_length_is (b ∷ bs) rest each ends)
 
 gap_bytes : (s rest : List ℕ) → IsGap s rest → 0 < length s
 gap_bytes s rest (Blank b layout is) =
@@ -94,16 +119,22 @@ gap_bytes (b ∷ bs) rest (Line begins each ends) = omega arith
 
 longer_word : (s : List ℕ) (c : ℕ) → IsWord s → is_name_byte c ≡ true → IsWord (s ++ c ∷ [])
 longer_word [] c w name = let bad : false ≡ true = w.first in absurd cc
-longer_word (b ∷ bs) c w name = record { first = w.first; each = λ k lt. by_size k lt (cases_lt k (length (b ∷ bs))) }
+longer_word (b ∷ bs) c w name =
+    record { first = w.first; each = λ k lt. by_size k lt (cases_lt k (length (b ∷ bs))) }
   where
-    by_size : (k : ℕ) → k < length ((b ∷ bs) ++ c ∷ []) → (k < length (b ∷ bs)) ⊎ (length (b ∷ bs) ≤ k) → is_name_byte (slice_index ((b ∷ bs) ++ c ∷ []) k) ≡ true
-    by_size k lt (inl less) = ap is_name_byte (get_or_append_left (b ∷ bs) (c ∷ []) 0 k less) ∙ w.each k less
+    by_size : (k : ℕ) → k < length ((b ∷ bs) ++ c ∷ [])
+        → (k < length (b ∷ bs)) ⊎ (length (b ∷ bs) ≤ k)
+        → is_name_byte (slice_index ((b ∷ bs) ++ c ∷ []) k) ≡ true
+    by_size k lt (inl less) =
+        ap is_name_byte (get_or_append_left (b ∷ bs) (c ∷ []) 0 k less) ∙ w.each k less
     by_size k lt (inr le) =
         let l = length-append bs (c ∷ []) in
         let same : length (b ∷ bs) ≡ k = omega arith in
-        subst (λ (j : ℕ). is_name_byte (slice_index ((b ∷ bs) ++ c ∷ []) j) ≡ true) same (ap is_name_byte (seam (b ∷ bs) (c ∷ [])) ∙ name)
+        subst (λ (j : ℕ). is_name_byte (slice_index ((b ∷ bs) ++ c ∷ []) j) ≡ true) same
+        (ap is_name_byte (seam (b ∷ bs) (c ∷ [])) ∙ name)
 
-word_ends : (s rest : List ℕ) → IsWord s → IsLongest s rest → 0 < length rest → ends_name (slice_index rest 0) ≡ true
+word_ends : (s rest : List ℕ) → IsWord s → IsLongest s rest → 0 < length rest
+    → ends_name (slice_index rest 0) ≡ true
 word_ends s [] w longest lt = absurd (omega arith)
 word_ends s (c ∷ cs) w longest lt =
     ap not (false_from_ne_true (is_name_byte c) (λ name.
@@ -111,30 +142,47 @@ word_ends s (c ∷ cs) w longest lt =
     let le = longest (s ++ c ∷ []) cs (word_token (s ++ c ∷ [])) (append_assoc s (c ∷ []) cs) (Word (longer_word s c w name) refl) in
     absurd (omega arith))))
 
-name_size : (s rest : List ℕ) → IsWord s → (0 < length rest → ends_name (slice_index rest 0) ≡ true) → position_or_len ends_name (s ++ rest) ≡ length s
+name_size : (s rest : List ℕ) → IsWord s → (0 < length rest → ends_name (slice_index rest 0) ≡ true)
+    → position_or_len ends_name (s ++ rest) ≡ length s
 name_size s rest w ends =
     let l = length-append s rest in
-    position_or_len_is ends_name (s ++ rest) (length s) 0 (omega arith) (λ k lt. ap ends_name (get_or_append_left s rest 0 k lt) ∙ ap not (w.each k lt)) (λ lt. ap ends_name (seam s rest) ∙ ends (omega arith))
+    position_or_len_is ends_name (s ++ rest) (length s) 0 (omega arith)
+    (λ k lt. ap ends_name (get_or_append_left s rest 0 k lt) ∙ ap not (w.each k lt))
+    (λ lt. ap ends_name (seam s rest) ∙ ends (omega arith))
 
-front_of_word : (s rest : List ℕ) → IsWord s → begins_gap (s ++ rest) ≡ false → IsLongest s rest → front (s ++ rest) ≡ fronts.Lexeme (word_token s) (length s)
+front_of_word : (s rest : List ℕ) → IsWord s → begins_gap (s ++ rest) ≡ false → IsLongest s rest
+    → front (s ++ rest) ≡ fronts.Lexeme (word_token s) (length s)
 front_of_word [] rest w gap longest = let bad : false ≡ true = w.first in absurd cc
 front_of_word (b ∷ bs) rest w gap longest =
-    front_word b (bs ++ rest) (or_first (is_layout b) (begins_comment (b ∷ (bs ++ rest)) || begins_line_comment (b ∷ (bs ++ rest))) gap) w.first
-    ∙ ap (word_front (b ∷ (bs ++ rest))) (name_size (b ∷ bs) rest w (word_ends (b ∷ bs) rest w longest))
-    ∙ ap (λ (xs : List ℕ). fronts.Lexeme (word_token xs) (length (b ∷ bs))) (take_at (b ∷ bs) rest (length (b ∷ bs)) refl)
+    front_word b (bs ++ rest)
+    (or_first (is_layout b)
+    (begins_comment (b ∷ (bs ++ rest)) || begins_line_comment (b ∷ (bs ++ rest))) gap)
+    w.first
+    ∙ ap (word_front (b ∷ (bs ++ rest))) (name_size (b ∷ bs) rest w
+    (word_ends (b ∷ bs) rest w longest))
+    ∙ ap (λ (xs : List ℕ). fronts.Lexeme (word_token xs) (length (b ∷ bs)))
+    (take_at (b ∷ bs) rest (length (b ∷ bs)) refl)
 
 -- ---- strings
 
-front_of_string : (inside s rest : List ℕ) → LacksQuote inside → s ≡ 34 ∷ (inside ++ 34 ∷ []) → front (s ++ rest) ≡ fronts.Lexeme (tokens.Quoted inside) (length s)
+front_of_string : (inside s rest : List ℕ) → LacksQuote inside → s ≡ 34 ∷ (inside ++ 34 ∷ [])
+    → front (s ++ rest) ≡ fronts.Lexeme (tokens.Quoted inside) (length s)
 front_of_string inside s rest lacks is =
     let l = length-append inside (34 ∷ []) in
     let m = ap length is in
     let size : length inside + 2 ≡ length s = omega arith in
-    ap (λ (xs : List ℕ). front (xs ++ rest)) is ∙ ap (λ (xs : List ℕ). front (34 ∷ xs)) (append_assoc inside (34 ∷ []) rest) ∙ front_quote inside rest (quote_size inside rest lacks) ∙ ap (fronts.Lexeme (tokens.Quoted inside)) size
+    ap (λ (xs : List ℕ). front (xs ++ rest)) is
+    ∙ ap (λ (xs : List ℕ). front (34 ∷ xs)) (append_assoc inside (34 ∷ []) rest)
+    ∙ front_quote inside rest (quote_size inside rest lacks)
+    ∙ ap (fronts.Lexeme (tokens.Quoted inside)) size
 
-front_of_open : (inside : List ℕ) → LacksQuote inside → front (34 ∷ inside) ≡ fronts.Lexeme (tokens.Broken rules.Syntax) (length (34 ∷ inside))
+front_of_open : (inside : List ℕ) → LacksQuote inside
+    → front (34 ∷ inside) ≡ fronts.Lexeme (tokens.Broken rules.Syntax) (length (34 ∷ inside))
 front_of_open inside lacks =
-    front_string inside ∙ ap (quoted_front (34 ∷ inside)) (when_true (position_or_len is_quote inside == length inside) None (Some (position_or_len is_quote inside + 2)) (equals _ _ (open_size inside lacks)))
+    front_string inside
+    ∙ ap (quoted_front (34 ∷ inside)) (when_true
+    (position_or_len is_quote inside == length inside) None
+    (Some (position_or_len is_quote inside + 2)) (equals _ _ (open_size inside lacks)))
 
 -- ---- signs
 
@@ -151,75 +199,118 @@ IsPlainByte b = (is_letter b ≡ false) × ((b == 34) ≡ false) × ((b == 94) �
 
 sign_plain : (b : ℕ) → is_sign b ≡ true → IsPlainByte b
 sign_plain b =
-    link IsPlainByte b 124 _ (refl, refl, refl) (link IsPlainByte b 59 _ (refl, refl, refl) (link IsPlainByte b 92 _ (refl, refl, refl) (link IsPlainByte b 38 _ (refl, refl, refl) (
-    link IsPlainByte b 43 _ (refl, refl, refl) (link IsPlainByte b 63 _ (refl, refl, refl) (link IsPlainByte b 42 _ (refl, refl, refl) (link IsPlainByte b 126 _ (refl, refl, refl) (
-    link IsPlainByte b 40 _ (refl, refl, refl) (link IsPlainByte b 41 _ (refl, refl, refl) (link IsPlainByte b 91 _ (refl, refl, refl) (link IsPlainByte b 93 _ (refl, refl, refl) (
-    link IsPlainByte b 123 _ (refl, refl, refl) (link IsPlainByte b 125 _ (refl, refl, refl) (link IsPlainByte b 95 _ (refl, refl, refl) (link IsPlainByte b 48 _ (refl, refl, refl) (
-    link IsPlainByte b 44 _ (refl, refl, refl) (λ h. subst IsPlainByte (sym (nesting.equal b 61 h)) (refl, refl, refl))))))))))))))))))
+    link IsPlainByte b 124 _ (refl, refl, refl) (link IsPlainByte b 59 _ (refl, refl, refl) (link
+    IsPlainByte b 92 _ (refl, refl, refl) (link IsPlainByte b 38 _ (refl, refl, refl) (
+    link IsPlainByte b 43 _ (refl, refl, refl) (link IsPlainByte b 63 _ (refl, refl, refl) (link
+    IsPlainByte b 42 _ (refl, refl, refl) (link IsPlainByte b 126 _ (refl, refl, refl) (
+    link IsPlainByte b 40 _ (refl, refl, refl) (link IsPlainByte b 41 _ (refl, refl, refl) (link
+    IsPlainByte b 91 _ (refl, refl, refl) (link IsPlainByte b 93 _ (refl, refl, refl) (
+    link IsPlainByte b 123 _ (refl, refl, refl) (link IsPlainByte b 125 _ (refl, refl, refl) (link
+    IsPlainByte b 95 _ (refl, refl, refl) (link IsPlainByte b 48 _ (refl, refl, refl) (
+    link IsPlainByte b 44 _ (refl, refl, refl) (λ h.
+    subst IsPlainByte (sym (nesting.equal b 61 h)) (refl, refl, refl))))))))))))))))))
 
-plusses_begin : (b : ℕ) (bs : List ℕ) → (b == 43 && slice_index bs 0 == 43) ≡ true → (43 ∷ 43 ∷ []) ++ drop 1 bs ≡ b ∷ bs
+plusses_begin : (b : ℕ) (bs : List ℕ) → (b == 43 && slice_index bs 0 == 43) ≡ true
+    → (43 ∷ 43 ∷ []) ++ drop 1 bs ≡ b ∷ bs
 plusses_begin b bs h =
     let two = nesting.two_bytes 43 42 b bs h in
     sym (ap (λ (x : ℕ). x ∷ bs) two.0 ∙ ap (λ (xs : List ℕ). 43 ∷ xs) two.1)
 
-front_of_sign : (b : ℕ) (rest : List ℕ) → is_sign b ≡ true → begins_gap (b ∷ rest) ≡ false → IsLongest (b ∷ []) rest → front (b ∷ rest) ≡ fronts.Lexeme (sign_token b) 1
+front_of_sign : (b : ℕ) (rest : List ℕ) → is_sign b ≡ true → begins_gap (b ∷ rest) ≡ false
+    → IsLongest (b ∷ []) rest → front (b ∷ rest) ≡ fronts.Lexeme (sign_token b) 1
 front_of_sign b rest sign gap longest =
     let plain = sign_plain b sign in
     let plus : (b == 43 && slice_index rest 0 == 43) ≡ false = false_from_ne_true (b == 43 && slice_index rest 0 == 43) (λ h.
-    (let le = longest (43 ∷ 43 ∷ []) (drop 1 rest) (tokens.Broken rules.Unsupported) (plusses_begin b rest h) (Plusses refl refl) in absurd (omega arith))) in
-    front_sign b rest gap plain.0 plain.1 ∙ one_byte b rest plus (ap (λ (x : Bool). x && slice_index rest 0 == 45 && slice_index rest 1 == 49) plain.2)
+    (
+    let le =
+    longest (43 ∷ 43 ∷ []) (drop 1 rest) (tokens.Broken rules.Unsupported)
+    (plusses_begin b rest h) (Plusses refl refl) in
+    absurd (omega arith))) in
+    front_sign b rest gap plain.0 plain.1
+    ∙ one_byte b rest plus (ap
+    (λ (x : Bool). x && slice_index rest 0 == 45 && slice_index rest 1 == 49) plain.2)
 
-front_of_none : (b : ℕ) (rest : List ℕ) → (b == 34) ≡ false → begins_gap (b ∷ rest) ≡ false → SpellsNone (b ∷ rest) → front (b ∷ rest) ≡ fronts.Lexeme (tokens.Broken rules.Token) 1
+front_of_none : (b : ℕ) (rest : List ℕ) → (b == 34) ≡ false → begins_gap (b ∷ rest) ≡ false
+    → SpellsNone (b ∷ rest) → front (b ∷ rest) ≡ fronts.Lexeme (tokens.Broken rules.Token) 1
 front_of_none b rest quote gap none =
     let letter : is_letter b ≡ false = false_from_ne_true (is_letter b) (λ h. none (b ∷ []) rest (word_token (b ∷ [])) refl (Word (one_letter h) refl)) in
     let plus : (b == 43 && slice_index rest 0 == 43) ≡ false = false_from_ne_true (b == 43 && slice_index rest 0 == 43) (λ h. none (43 ∷ 43 ∷ []) (drop 1 rest) (tokens.Broken rules.Unsupported) (plusses_begin b rest h) (Plusses refl refl)) in
     let inverse : (b == 94 && slice_index rest 0 == 45 && slice_index rest 1 == 49) ≡ false = false_from_ne_true (b == 94 && slice_index rest 0 == 45 && slice_index rest 1 == 49) (λ h.
-    none (94 ∷ 45 ∷ 49 ∷ []) (drop 1 (drop 1 rest)) (tokens.Mark Inverse) (sym (three_bytes b rest h)) (Inversion refl refl)) in
+    none (94 ∷ 45 ∷ 49 ∷ []) (drop 1 (drop 1 rest)) (tokens.Mark Inverse)
+    (sym (three_bytes b rest h)) (Inversion refl refl)) in
     let sign : is_sign b ≡ false = false_from_ne_true (is_sign b) (λ h. none (b ∷ []) rest (sign_token b) refl (Sign b h refl refl)) in
-    front_sign b rest gap letter quote ∙ one_byte b rest plus inverse ∙ ap (λ (t : Token). fronts.Lexeme t 1) (not_sign b sign)
+    front_sign b rest gap letter quote ∙ one_byte b rest plus inverse
+    ∙ ap (λ (t : Token). fronts.Lexeme t 1) (not_sign b sign)
   where
     one_letter : is_letter b ≡ true → IsWord (b ∷ [])
-    one_letter h = record { first = h; each = λ k lt. subst (λ (j : ℕ). is_name_byte (slice_index (b ∷ []) j) ≡ true) (let same : 0 ≡ k = omega arith in same) (letter_in_name b h) }
+    one_letter h =
+        record {
+          first = h;
+          each =
+              λ k lt. subst (λ (j : ℕ). is_name_byte (slice_index (b ∷ []) j) ≡ true)
+              (let same : 0 ≡ k = omega arith in same) (letter_in_name b h);
+        }
 
 -- ---- lexemes
 
-sized : (t : Token) (b : ℕ) (s : List ℕ) (f : Front) → s ≡ b ∷ [] → f ≡ fronts.Lexeme t 1 → f ≡ fronts.Lexeme t (length s)
+sized : (t : Token) (b : ℕ) (s : List ℕ) (f : Front) → s ≡ b ∷ [] → f ≡ fronts.Lexeme t 1
+    → f ≡ fronts.Lexeme t (length s)
 sized t b s f is e = e ∙ ap (λ (xs : List ℕ). fronts.Lexeme t (length xs)) (sym is)
 
-spelled_front : (t : Token) (s rest : List ℕ) → begins_gap (s ++ rest) ≡ false → IsLongest s rest → Spells s t → front (s ++ rest) ≡ fronts.Lexeme t (length s)
-spelled_front t s rest gap longest (Word w k) = front_of_word s rest w gap longest ∙ ap (λ (u : Token). fronts.Lexeme u (length s)) (sym k)
-spelled_front t s rest gap longest (String inside lacks is k) = front_of_string inside s rest lacks is ∙ ap (λ (u : Token). fronts.Lexeme u (length s)) (sym k)
+spelled_front : (t : Token) (s rest : List ℕ) → begins_gap (s ++ rest) ≡ false → IsLongest s rest
+    → Spells s t → front (s ++ rest) ≡ fronts.Lexeme t (length s)
+spelled_front t s rest gap longest (Word w k) =
+    front_of_word s rest w gap longest ∙ ap (λ (u : Token). fronts.Lexeme u (length s)) (sym k)
+spelled_front t s rest gap longest (String inside lacks is k) =
+    front_of_string inside s rest lacks is ∙ ap (λ (u : Token). fronts.Lexeme u (length s)) (sym k)
 spelled_front t s rest gap longest (Sign b sign is k) =
     sized t b s (front (s ++ rest)) is (ap (λ (xs : List ℕ). front (xs ++ rest)) is
-    ∙ front_of_sign b rest sign (ap (λ (xs : List ℕ). begins_gap (xs ++ rest)) (sym is) ∙ gap) (subst (λ (xs : List ℕ). IsLongest xs rest) is longest) ∙ ap (λ (u : Token). fronts.Lexeme u 1) (sym k))
+    ∙ front_of_sign b rest sign (ap (λ (xs : List ℕ). begins_gap (xs ++ rest)) (sym is) ∙ gap)
+    (subst (λ (xs : List ℕ). IsLongest xs rest) is longest)
+    ∙ ap (λ (u : Token). fronts.Lexeme u 1) (sym k))
 spelled_front t s rest gap longest (Inversion is k) =
-    ap (λ (xs : List ℕ). front (xs ++ rest)) is ∙ front_inversion rest ∙ ap (λ (u : Token). fronts.Lexeme u 3) (sym k) ∙ ap (λ (xs : List ℕ). fronts.Lexeme t (length xs)) (sym is)
+    ap (λ (xs : List ℕ). front (xs ++ rest)) is ∙ front_inversion rest
+    ∙ ap (λ (u : Token). fronts.Lexeme u 3) (sym k)
+    ∙ ap (λ (xs : List ℕ). fronts.Lexeme t (length xs)) (sym is)
 spelled_front t s rest gap longest (Plusses is k) =
-    ap (λ (xs : List ℕ). front (xs ++ rest)) is ∙ front_plusses rest ∙ ap (λ (u : Token). fronts.Lexeme u 2) (sym k) ∙ ap (λ (xs : List ℕ). fronts.Lexeme t (length xs)) (sym is)
+    ap (λ (xs : List ℕ). front (xs ++ rest)) is ∙ front_plusses rest
+    ∙ ap (λ (u : Token). fronts.Lexeme u 2) (sym k)
+    ∙ ap (λ (xs : List ℕ). fronts.Lexeme t (length xs)) (sym is)
 
-no_end : (s : List ℕ) → begins_comment s ≡ true → ((n : ℕ) → BeginsWithComment s n → ⊥) → (o : Option ℕ) → comment_of s ≡ o → comment_of s ≡ None
+no_end : (s : List ℕ) → begins_comment s ≡ true → ((n : ℕ) → BeginsWithComment s n → ⊥)
+    → (o : Option ℕ) → comment_of s ≡ o → comment_of s ≡ None
 no_end s begins none None e = e
 no_end s begins none (Some n) e = absurd (none n (nesting.found s n begins e))
 
-open_comment_front : (s : List ℕ) → begins_comment s ≡ true → ((n : ℕ) → BeginsWithComment s n → ⊥) → front s ≡ fronts.Lexeme (tokens.Broken rules.Syntax) (length s)
+open_comment_front : (s : List ℕ) → begins_comment s ≡ true → ((n : ℕ) → BeginsWithComment s n → ⊥)
+    → front s ≡ fronts.Lexeme (tokens.Broken rules.Syntax) (length s)
 open_comment_front [] begins none = absurd cc
 open_comment_front (b ∷ bs) begins none =
     let two = nesting.two_bytes 40 41 b bs begins in
     let are : b ∷ bs ≡ 40 ∷ 42 ∷ drop 1 bs = ap (λ (x : ℕ). x ∷ bs) two.0 ∙ ap (λ (xs : List ℕ). 40 ∷ xs) two.1 in
-    ap front are ∙ front_comment (drop 1 bs) ∙ ap (λ (xs : List ℕ). comment_front (length xs) (comment_of xs)) (sym are) ∙ ap (comment_front (length (b ∷ bs))) (no_end (b ∷ bs) begins none (comment_of (b ∷ bs)) refl)
+    ap front are ∙ front_comment (drop 1 bs)
+    ∙ ap (λ (xs : List ℕ). comment_front (length xs) (comment_of xs)) (sym are)
+    ∙ ap (comment_front (length (b ∷ bs)))
+    (no_end (b ∷ bs) begins none (comment_of (b ∷ bs)) refl)
 
 at_end : (s rest : List ℕ) → rest ≡ [] → s ++ rest ≡ s
 at_end s rest e = ap (λ (xs : List ℕ). s ++ xs) e ∙ append-nil s
 
-front_lexeme : (t : Token) (s rest : List ℕ) → IsLexeme t s rest → front (s ++ rest) ≡ fronts.Lexeme t (length s)
+front_lexeme : (t : Token) (s rest : List ℕ) → IsLexeme t s rest
+    → front (s ++ rest) ≡ fronts.Lexeme t (length s)
 front_lexeme t s rest (Spelled gap spells longest) = spelled_front t s rest gap longest spells
 front_lexeme t s rest (NoToken b quote is gap none k) =
     sized t b s (front (s ++ rest)) is (ap (λ (xs : List ℕ). front (xs ++ rest)) is
-    ∙ front_of_none b rest quote (ap (λ (xs : List ℕ). begins_gap (xs ++ rest)) (sym is) ∙ gap) (subst (λ (xs : List ℕ). SpellsNone (xs ++ rest)) is none) ∙ ap (λ (u : Token). fronts.Lexeme u 1) (sym k))
+    ∙ front_of_none b rest quote (ap (λ (xs : List ℕ). begins_gap (xs ++ rest)) (sym is) ∙ gap)
+    (subst (λ (xs : List ℕ). SpellsNone (xs ++ rest)) is none)
+    ∙ ap (λ (u : Token). fronts.Lexeme u 1) (sym k))
 front_lexeme t s rest (OpenComment begins none end k) =
-    ap front (at_end s rest end) ∙ open_comment_front s begins none ∙ ap (λ (u : Token). fronts.Lexeme u (length s)) (sym k)
+    ap front (at_end s rest end) ∙ open_comment_front s begins none
+    ∙ ap (λ (u : Token). fronts.Lexeme u (length s)) (sym k)
 front_lexeme t s rest (OpenString inside lacks is end k) =
-    ap front (at_end s rest end ∙ is) ∙ front_of_open inside lacks ∙ ap (λ (xs : List ℕ). fronts.Lexeme (tokens.Broken rules.Syntax) (length xs)) (sym is) ∙ ap (λ (u : Token). fronts.Lexeme u (length s)) (sym k)
+    ap front (at_end s rest end ∙ is) ∙ front_of_open inside lacks
+    ∙ ap (λ (xs : List ℕ). fronts.Lexeme (tokens.Broken rules.Syntax) (length xs)) (sym is)
+    ∙ ap (λ (u : Token). fronts.Lexeme u (length s)) (sym k)
 
 -- ---- all pieces
 
@@ -227,29 +318,45 @@ end_tokens : (n : ℕ) → tokens_from 0 n [] ≡ record { token = tokens.End; o
 unfolding tokens_from
 end_tokens n = refl
 
-turn : (n b : ℕ) (bs : List ℕ) → tokens_from 0 n (b ∷ bs) ≡ after_front n (front (b ∷ bs)) (λ skip. tokens_from skip (n + 1) bs)
+turn : (n b : ℕ) (bs : List ℕ)
+    → tokens_from 0 n (b ∷ bs)
+    ≡ after_front n (front (b ∷ bs)) (λ skip. tokens_from skip (n + 1) bs)
 unfolding tokens_from
 turn n b bs = refl
 
-gap_turn : (n : ℕ) (s rest : List ℕ) → 0 < length s → front (s ++ rest) ≡ fronts.Layout (length s) → tokens_from 0 n (s ++ rest) ≡ tokens_from 0 (n + length s) rest
+gap_turn : (n : ℕ) (s rest : List ℕ) → 0 < length s → front (s ++ rest) ≡ fronts.Layout (length s)
+    → tokens_from 0 n (s ++ rest) ≡ tokens_from 0 (n + length s) rest
 gap_turn n [] rest some e = absurd (omega arith)
 gap_turn n (b ∷ bs) rest some e =
     let l = length-append bs rest in
-    turn n b (bs ++ rest) ∙ ap (λ (f : Front). after_front n f (λ skip. tokens_from skip (n + 1) (bs ++ rest))) e ∙ skipped (length bs) n (bs ++ rest) (omega arith)
+    turn n b (bs ++ rest)
+    ∙ ap (λ (f : Front). after_front n f (λ skip. tokens_from skip (n + 1) (bs ++ rest))) e
+    ∙ skipped (length bs) n (bs ++ rest) (omega arith)
     ∙ ap (tokens_from 0 (n + suc (length bs))) (drop_at bs rest (length bs) refl)
 
-lexeme_turn : (n : ℕ) (t : Token) (s rest : List ℕ) → 0 < length s → front (s ++ rest) ≡ fronts.Lexeme t (length s) → tokens_from 0 n (s ++ rest) ≡ record { token = t; offset = n } ∷ tokens_from 0 (n + length s) rest
+lexeme_turn : (n : ℕ) (t : Token) (s rest : List ℕ) → 0 < length s
+    → front (s ++ rest) ≡ fronts.Lexeme t (length s)
+    → tokens_from 0 n (s ++ rest)
+    ≡ record { token = t; offset = n } ∷ tokens_from 0 (n + length s) rest
 lexeme_turn n t [] rest some e = absurd (omega arith)
 lexeme_turn n t (b ∷ bs) rest some e =
     let l = length-append bs rest in
-    turn n b (bs ++ rest) ∙ ap (λ (f : Front). after_front n f (λ skip. tokens_from skip (n + 1) (bs ++ rest))) e
-    ∙ ap (λ (ps : List TokenAt). record { token = t; offset = n } ∷ ps) (skipped (length bs) n (bs ++ rest) (omega arith) ∙ ap (tokens_from 0 (n + suc (length bs))) (drop_at bs rest (length bs) refl))
+    turn n b (bs ++ rest)
+    ∙ ap (λ (f : Front). after_front n f (λ skip. tokens_from skip (n + 1) (bs ++ rest))) e
+    ∙ ap (λ (ps : List TokenAt). record { token = t; offset = n } ∷ ps) (skipped (length bs) n
+    (bs ++ rest) (omega arith)
+    ∙ ap (tokens_from 0 (n + suc (length bs))) (drop_at bs rest (length bs) refl))
 
 of_pieces : (n : ℕ) (ps : List Piece) → ArePieces ps → tokens_from 0 n (text_of ps) ≡ tokens_at n ps
 of_pieces n [] h = end_tokens n
-of_pieces n (Gap s ∷ ps) h = gap_turn n s (text_of ps) (gap_bytes s (text_of ps) h.0) (front_gap s (text_of ps) h.0) ∙ of_pieces (n + length s) ps h.1
+of_pieces n (Gap s ∷ ps) h =
+    gap_turn n s (text_of ps) (gap_bytes s (text_of ps) h.0) (front_gap s (text_of ps) h.0)
+    ∙ of_pieces (n + length s) ps h.1
 of_pieces n (Lexeme t s ∷ ps) h =
-    lexeme_turn n t s (text_of ps) (lexeme_bytes t s (text_of ps) h.0) (front_lexeme t s (text_of ps) h.0) ∙ ap (λ (qs : List TokenAt). record { token = t; offset = n } ∷ qs) (of_pieces (n + length s) ps h.1)
+    lexeme_turn n t s (text_of ps) (lexeme_bytes t s (text_of ps) h.0)
+    (front_lexeme t s (text_of ps) h.0)
+    ∙ ap (λ (qs : List TokenAt). record { token = t; offset = n } ∷ qs)
+    (of_pieces (n + length s) ps h.1)
 
 pub only_cut : (bytes : List ℕ) (ps : List TokenAt) → IsCut bytes ps → lexed bytes ≡ ps
 only_cut bytes ps c = ap lexed (sym c.whole) ∙ of_pieces 0 c.pieces c.fine ∙ c.tokens

@@ -14,20 +14,31 @@ texts_gathered [] = refl
 texts_gathered (t ∷ ts) = ap (λ l. printed_term t ∷ l) (texts_gathered ts)
 
 pub applied_text : (n : List ℕ) (arguments : Vec Expression Global)
-    → printed_term (term_of (expressions.Applied n arguments)) ≡ n ++ (codes "(" ++ (joined (codes ", ") (map printed_term (map term_of arguments.items)) ++ codes ")"))
+    → printed_term (term_of (expressions.Applied n arguments))
+    ≡ n ++ (codes "("
+    ++ (joined (codes ", ") (map printed_term (map term_of arguments.items)) ++ codes ")"))
 applied_text n arguments =
-    ap printed_term (applied_term n arguments) ∙ ap (λ l. n ++ (codes "(" ++ (joined (codes ", ") l ++ codes ")"))) (texts_gathered (map term_of arguments.items))
+    ap printed_term (applied_term n arguments)
+    ∙ ap (λ l. n ++ (codes "(" ++ (joined (codes ", ") l ++ codes ")")))
+    (texts_gathered (map term_of arguments.items))
 
 -- a name, a parenthesis, the arguments and a parenthesis, one after another
-pub applied_whole : (old one two three bytes n : List ℕ) (e : Expression) (arguments : Vec Expression Global) (xs : List Expression)
-    → e ≡ expressions.Applied n arguments → bytes ≡ n → xs ≡ arguments.items → one ≡ old ++ bytes → two ≡ one ++ codes "(" → three ≡ two ++ joined (codes ", ") (map printed_term (map term_of xs))
+pub applied_whole : (old one two three bytes n : List ℕ) (e : Expression)
+    (arguments : Vec Expression Global) (xs : List Expression)
+    → e ≡ expressions.Applied n arguments → bytes ≡ n → xs ≡ arguments.items → one ≡ old ++ bytes
+    → two ≡ one ++ codes "("
+    → three ≡ two ++ joined (codes ", ") (map printed_term (map term_of xs))
     → three ++ codes ")" ≡ old ++ printed_term (term_of e)
 applied_whole old one two three bytes n e arguments xs is bytes_are items_are first second third =
     let J = joined (codes ", ") (map printed_term (map term_of arguments.items)) in
     ap (λ l. l ++ codes ")") (third
-    ∙ ap (λ l. l ++ joined (codes ", ") (map printed_term (map term_of xs))) (second ∙ ap (λ l. l ++ codes "(") (first ∙ ap (λ l. old ++ l) bytes_are))
-    ∙ ap (λ ys. ((old ++ n) ++ codes "(") ++ joined (codes ", ") (map printed_term (map term_of ys))) items_are)
+    ∙ ap (λ l. l ++ joined (codes ", ") (map printed_term (map term_of xs)))
+    (second ∙ ap (λ l. l ++ codes "(") (first ∙ ap (λ l. old ++ l) bytes_are))
+    ∙ ap
+    (λ ys. ((old ++ n) ++ codes "(") ++ joined (codes ", ") (map printed_term (map term_of ys)))
+    items_are)
     ∙ append_assoc ((old ++ n) ++ codes "(") J (codes ")")
     ∙ append_assoc (old ++ n) (codes "(") (J ++ codes ")")
     ∙ append_assoc old n (codes "(" ++ (J ++ codes ")"))
-    ∙ ap (λ l. old ++ l) (sym (applied_text n arguments) ∙ ap (λ x. printed_term (term_of x)) (sym is))
+    ∙ ap (λ l. old ++ l) (sym (applied_text n arguments)
+    ∙ ap (λ x. printed_term (term_of x)) (sym is))

@@ -27,33 +27,51 @@ use Rattle.cat_grammar.proofs.Groups.{length-items_meaning}
 use Rattle.cat_grammar.proofs.Outcomes.{no_fault, fault_found, items_found, items_only, refused_is, not_both}
 
 -- the last token of a text is its end
-ends_last : (skip offset : ℕ) (bytes : List ℕ) → (ts : List Token) × (tokens_of (tokens_from skip offset bytes) ≡ ts ++ End ∷ [])
+ends_last : (skip offset : ℕ) (bytes : List ℕ)
+    → (ts : List Token) × (tokens_of (tokens_from skip offset bytes) ≡ ts ++ End ∷ [])
 unfolding tokens_from
 ends_last skip offset [] = ([], refl)
 ends_last (suc skip) offset (b ∷ bs) = ends_last skip (offset + 1) bs
 ends_last zero offset (b ∷ bs) = by_front (front (b ∷ bs)) (λ skip. ends_last skip (offset + 1) bs)
   where
-    by_front : (f : Front) → ((skip : ℕ) → (ts : List Token) × (tokens_of (tokens_from skip (offset + 1) bs) ≡ ts ++ End ∷ [])) → (ts : List Token) × (tokens_of (after_front offset f (λ skip. tokens_from skip (offset + 1) bs)) ≡ ts ++ End ∷ [])
+    by_front : (f : Front)
+        → ((skip : ℕ)
+        → (ts : List Token)
+        × (tokens_of (tokens_from skip (offset + 1) bs) ≡ ts ++ End ∷ []))
+        → (ts : List Token)
+        × (tokens_of (after_front offset f (λ skip. tokens_from skip (offset + 1) bs))
+        ≡ ts ++ End ∷ [])
     by_front (Layout n) k = k (n - 1)
     by_front (Lexeme t n) k = let r = k (n - 1) in (t ∷ r.0, ap (λ (us : List Token). t ∷ us) r.1)
 
 module _ (form : Form) (bytes : List ℕ) where
-  pub found : (r : Result (Vec Item Global) CatFault) → ReadsTo r (reading form bytes) → IfOk r (λ v. Reads form bytes (clauses_of v.items))
+  pub found : (r : Result (Vec Item Global) CatFault) → ReadsTo r (reading form bytes)
+      → IfOk r (λ v. Reads form bytes (clauses_of v.items))
   found (Ok v) h = by_length (cases_lt 65536 (length bytes))
     where
-      by_length : (65536 < length bytes) ⊎ (length bytes ≤ 65536) → Reads form bytes (clauses_of v.items)
-      by_length (inl long) = absurd (not_both (TooLong, 65536) (clauses_of v.items) (sym (too_long form bytes long) ∙ h))
+      by_length : (65536 < length bytes) ⊎ (length bytes ≤ 65536)
+          → Reads form bytes (clauses_of v.items)
+      by_length (inl long) =
+          absurd (not_both (TooLong, 65536) (clauses_of v.items)
+          (sym (too_long form bytes long) ∙ h))
       by_length (inr le) =
           let e = ends_last 0 0 bytes in
           record { short = le; means = items_found form (lexed bytes) e.0 e.1 (clauses_of v.items) (sym (fits form bytes le) ∙ h) }
   found (Err e) h = tt
 
-  pub only : (r : Result (Vec Item Global) CatFault) → ReadsTo r (reading form bytes) → (v : List Clause) → Reads form bytes v → MatchResult r (λ w. clauses_of w.items ≡ v) IsMemory
-  only (Ok w) h v m = items_only form (lexed bytes) (clauses_of w.items) v (sym (fits form bytes m.short) ∙ h) m.means
+  pub only : (r : Result (Vec Item Global) CatFault) → ReadsTo r (reading form bytes)
+      → (v : List Clause) → Reads form bytes v
+      → MatchResult r (λ w. clauses_of w.items ≡ v) IsMemory
+  only (Ok w) h v m =
+      items_only form (lexed bytes) (clauses_of w.items) v (sym (fits form bytes m.short) ∙ h)
+      m.means
   only (Err (faults.OutOfMemory e)) h v m = tt
-  only (Err (faults.Refused rule offset)) h v m = no_fault form (lexed bytes) v rule offset m.means (fault_found form (lexed bytes) rule offset (sym (fits form bytes m.short) ∙ h))
+  only (Err (faults.Refused rule offset)) h v m =
+      no_fault form (lexed bytes) v rule offset m.means (fault_found form (lexed bytes) rule offset
+      (sym (fits form bytes m.short) ∙ h))
 
-  pub fault : (r : Result (Vec Item Global) CatFault) → ReadsTo r (reading form bytes) → IfErr r (IsFaultOf form bytes)
+  pub fault : (r : Result (Vec Item Global) CatFault) → ReadsTo r (reading form bytes)
+      → IfErr r (IsFaultOf form bytes)
   fault (Ok v) h = tt
   fault (Err (faults.OutOfMemory e)) h = tt
   fault (Err (faults.Refused rule offset)) h = by_length (cases_lt 65536 (length bytes))
@@ -62,7 +80,8 @@ module _ (form : Form) (bytes : List ℕ) where
       by_length (inl long) =
           let e : (rule, offset) ≡ (TooLong, 65536) = refused_is (rule, offset) (TooLong, 65536) (sym h ∙ too_long form bytes long) in
           IsLong long (ap (λ (p : CatRule × ℕ). p.0) e) (ap (λ (p : CatRule × ℕ). p.1) e)
-      by_length (inr le) = InText le (fault_found form (lexed bytes) rule offset (sym (fits form bytes le) ∙ h))
+      by_length (inr le) =
+          InText le (fault_found form (lexed bytes) rule offset (sym (fits form bytes le) ∙ h))
 
 -- ---- one item
 
@@ -71,31 +90,41 @@ many-pushed [] x = refl
 many-pushed (y ∷ xs) x = let i = many-pushed xs x in omega arith
 
 is_one : (bytes : List ℕ) (v : List Clause) → Reads forms.Item bytes v → length v ≡ 1
-is_one bytes v r = sym (ap length r.means.meant) ∙ length-items_meaning r.means.items ∙ r.means.form_is.1
+is_one bytes v r =
+    sym (ap length r.means.meant) ∙ length-items_meaning r.means.items ∙ r.means.form_is.1
 
 -- the item that a text is, alone
-pub the_one : (bytes : List ℕ) (all rest : List Item) (x : Item) → Reads forms.Item bytes (clauses_of all) → all ≡ rest ++ x ∷ [] → clauses_of all ≡ clause_of x ∷ []
+pub the_one : (bytes : List ℕ) (all rest : List Item) (x : Item)
+    → Reads forms.Item bytes (clauses_of all) → all ≡ rest ++ x ∷ []
+    → clauses_of all ≡ clause_of x ∷ []
 the_one bytes all [] x r e = ap clauses_of e
 the_one bytes all (y ∷ rest) x r e =
     let m = many-pushed (y ∷ rest) x in
     let n : length (clauses_of ((y ∷ rest) ++ x ∷ [])) ≡ 1 = ap (λ (is : List Item). length (clauses_of is)) (sym e) ∙ is_one bytes (clauses_of all) r in
     absurd (omega arith)
 
-pub item_found : (bytes : List ℕ) (all rest : List Item) (x : Item) → Reads forms.Item bytes (clauses_of all) → all ≡ rest ++ x ∷ [] → Reads forms.Item bytes (clause_of x ∷ [])
+pub item_found : (bytes : List ℕ) (all rest : List Item) (x : Item)
+    → Reads forms.Item bytes (clauses_of all) → all ≡ rest ++ x ∷ []
+    → Reads forms.Item bytes (clause_of x ∷ [])
 item_found bytes all rest x r e = subst (Reads forms.Item bytes) (the_one bytes all rest x r e) r
 
 abbrev first : Clause → List Clause → Clause
 first d [] = d
 first d (c ∷ cs) = c
 
-pub item_only : (bytes : List ℕ) (all rest : List Item) (x : Item) → Reads forms.Item bytes (clauses_of all) → all ≡ rest ++ x ∷ [] → ((v : List Clause) → Reads forms.Item bytes v → clauses_of all ≡ v) → (v : Clause) → Reads forms.Item bytes (v ∷ []) → clause_of x ≡ v
-item_only bytes all rest x r e h v m = ap (first v) (sym (the_one bytes all rest x r e) ∙ h (v ∷ []) m)
+pub item_only : (bytes : List ℕ) (all rest : List Item) (x : Item)
+    → Reads forms.Item bytes (clauses_of all) → all ≡ rest ++ x ∷ []
+    → ((v : List Clause) → Reads forms.Item bytes v → clauses_of all ≡ v) → (v : Clause)
+    → Reads forms.Item bytes (v ∷ []) → clause_of x ≡ v
+item_only bytes all rest x r e h v m =
+    ap (first v) (sym (the_one bytes all rest x r e) ∙ h (v ∷ []) m)
 
 many-clauses : (all : List Item) → length (clauses_of all) ≡ length all
 many-clauses [] = refl
 many-clauses (y ∷ all) = let i = many-clauses all in omega arith
 
-pub some_item : (bytes : List ℕ) (all : List Item) → Reads forms.Item bytes (clauses_of all) → length all ≡ 0 → ⊥
+pub some_item : (bytes : List ℕ) (all : List Item) → Reads forms.Item bytes (clauses_of all)
+    → length all ≡ 0 → ⊥
 some_item bytes all r e =
     let n = is_one bytes (clauses_of all) r in
     let m = many-clauses all in

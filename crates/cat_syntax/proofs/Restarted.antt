@@ -8,7 +8,8 @@ use Rattle.cat_syntax.specs.ParserState.{part_with}
 use Rattle.cat_syntax.specs.ReadingItems.{part_of}
 
 pub part_restarted : (o : OpenExpression) (p : Part) → IsStart o → part_with o p ≡ part_of p
-part_restarted o (parts.Body h) start = rw (start.nothing_open, start.no_operator, start.wants_operand) refl
+part_restarted o (parts.Body h) start =
+    rw (start.nothing_open, start.no_operator, start.wants_operand) refl
 part_restarted o parts.Title start = refl
 part_restarted o parts.Start start = refl
 part_restarted o (parts.Let p) start = refl

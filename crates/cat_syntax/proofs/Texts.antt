@@ -30,58 +30,94 @@ module _ (before offset : ℕ) (made : Result State Fault) where
   pub step_goes : (s : State) → made ≡ Ok s → with_offset before offset made ≡ Ok s
   step_goes s e = ap (with_offset before offset) e
 
-  pub step_fails : (e : StepError) (rule : CatRule) → e ≡ errors.Refused rule → Fails e made → with_offset before offset made ≡ Err (rule, offset)
-  step_fails e rule is h = ap (with_offset before offset) (subst (λ (x : StepError). Fails x made) is h)
+  pub step_fails : (e : StepError) (rule : CatRule) → e ≡ errors.Refused rule → Fails e made
+      → with_offset before offset made ≡ Err (rule, offset)
+  step_fails e rule is h =
+      ap (with_offset before offset) (subst (λ (x : StepError). Fails x made) is h)
 
-  pub step_fails_before : (e : StepError) (rule : CatRule) → e ≡ errors.RefusedBefore rule → Fails e made → with_offset before offset made ≡ Err (rule, before)
-  step_fails_before e rule is h = ap (with_offset before offset) (subst (λ (x : StepError). Fails x made) is h)
+  pub step_fails_before : (e : StepError) (rule : CatRule) → e ≡ errors.RefusedBefore rule
+      → Fails e made → with_offset before offset made ≡ Err (rule, before)
+  step_fails_before e rule is h =
+      ap (with_offset before offset) (subst (λ (x : StepError). Fails x made) is h)
 
 -- the reader's turns
-module _ (most : Limits) (form : Form) (bytes : List ℕ) (before : ℕ) (s : State) (p n q : ℕ) (all : Ran) (so_far : all ≡ run most form before s (tokens_from 0 p (drop p bytes))) where
+module _ (most : Limits) (form : Form) (bytes : List ℕ) (before : ℕ) (s : State) (p n q : ℕ)
+    (all : Ran) (so_far : all ≡ run most form before s (tokens_from 0 p (drop p bytes))) where
   whole_rest : front (take (length bytes - p) (drop p bytes)) ≡ front (drop p bytes)
-  whole_rest = ap front (take_all (length bytes - p) (drop p bytes) (let l = length-drop p bytes in omega arith))
+  whole_rest =
+      ap front (take_all (length bytes - p) (drop p bytes)
+      (let l = length-drop p bytes in omega arith))
 
-  pub layout_run : (f : Front) → p < length bytes → q ≡ p + min (max n 1) (length bytes - p) → f ≡ front (take (length bytes - p) (drop p bytes)) → f ≡ Layout n → all ≡ run most form before s (tokens_from 0 q (drop q bytes))
-  layout_run f lt is e k = so_far ∙ ap (run most form before s) (layout_turn bytes p n q lt is f (e ∙ whole_rest) k)
+  pub layout_run : (f : Front) → p < length bytes → q ≡ p + min (max n 1) (length bytes - p)
+      → f ≡ front (take (length bytes - p) (drop p bytes)) → f ≡ Layout n
+      → all ≡ run most form before s (tokens_from 0 q (drop q bytes))
+  layout_run f lt is e k =
+      so_far ∙ ap (run most form before s) (layout_turn bytes p n q lt is f (e ∙ whole_rest) k)
 
-  pub lexeme_run : (f : Front) (t : Token) (s' : State) → p < length bytes → q ≡ p + min (max n 1) (length bytes - p) → f ≡ front (take (length bytes - p) (drop p bytes)) → f ≡ Lexeme t n → with_offset before p (step most form s t) ≡ Ok s' → all ≡ run most form p s' (tokens_from 0 q (drop q bytes))
+  pub lexeme_run : (f : Front) (t : Token) (s' : State) → p < length bytes
+      → q ≡ p + min (max n 1) (length bytes - p)
+      → f ≡ front (take (length bytes - p) (drop p bytes)) → f ≡ Lexeme t n
+      → with_offset before p (step most form s t) ≡ Ok s'
+      → all ≡ run most form p s' (tokens_from 0 q (drop q bytes))
   lexeme_run f t s' lt is e k goes =
-      so_far ∙ ap (run most form before s) (lexeme_turn bytes p n q lt is f t (e ∙ whole_rest) k) ∙ ap (λ (r : Ran). and_then r (λ x. run most form p x (tokens_from 0 q (drop q bytes)))) goes
+      so_far ∙ ap (run most form before s) (lexeme_turn bytes p n q lt is f t (e ∙ whole_rest) k)
+      ∙ ap (λ (r : Ran). and_then r (λ x. run most form p x (tokens_from 0 q (drop q bytes))))
+      goes
 
-  pub lexeme_fails : (f : Front) (t : Token) (d : CatFault) → p < length bytes → f ≡ front (take (length bytes - p) (drop p bytes)) → f ≡ Lexeme t n → FailsAt d (with_offset before p (step most form s t)) → FailsAt d all
+  pub lexeme_fails : (f : Front) (t : Token) (d : CatFault) → p < length bytes
+      → f ≡ front (take (length bytes - p) (drop p bytes)) → f ≡ Lexeme t n
+      → FailsAt d (with_offset before p (step most form s t)) → FailsAt d all
   lexeme_fails f t (faults.OutOfMemory x) lt e k fails = tt
   lexeme_fails f t (faults.Refused rule offset) lt e k fails =
       let r = p + min (max n 1) (length bytes - p) in
-      so_far ∙ ap (run most form before s) (lexeme_turn bytes p n r lt refl f t (e ∙ whole_rest) k) ∙ ap (λ (y : Ran). and_then y (λ z. run most form p z (tokens_from 0 r (drop r bytes)))) fails
+      so_far ∙ ap (run most form before s) (lexeme_turn bytes p n r lt refl f t (e ∙ whole_rest) k)
+      ∙ ap (λ (y : Ran). and_then y (λ z. run most form p z (tokens_from 0 r (drop r bytes))))
+      fails
 
-  pub end_run : (s' : State) → p ≤ length bytes → length bytes ≤ p → with_offset before p (step most form s tokens.End) ≡ Ok s' → all ≡ Ok s'
+  pub end_run : (s' : State) → p ≤ length bytes → length bytes ≤ p
+      → with_offset before p (step most form s tokens.End) ≡ Ok s' → all ≡ Ok s'
   end_run s' low high goes =
-      so_far ∙ ap (run most form before s) (at_end bytes p low high) ∙ ap (λ (r : Ran). and_then r (λ x. Ok x)) goes
+      so_far ∙ ap (run most form before s) (at_end bytes p low high)
+      ∙ ap (λ (r : Ran). and_then r (λ x. Ok x)) goes
 
-  pub end_fails : (d : CatFault) → p ≤ length bytes → length bytes ≤ p → FailsAt d (with_offset before p (step most form s tokens.End)) → FailsAt d all
+  pub end_fails : (d : CatFault) → p ≤ length bytes → length bytes ≤ p
+      → FailsAt d (with_offset before p (step most form s tokens.End)) → FailsAt d all
   end_fails (faults.OutOfMemory x) low high fails = tt
   end_fails (faults.Refused rule offset) low high fails =
-      so_far ∙ ap (run most form before s) (at_end bytes p low high) ∙ ap (λ (r : Ran). and_then r (λ x. Ok x)) fails
+      so_far ∙ ap (run most form before s) (at_end bytes p low high)
+      ∙ ap (λ (r : Ran). and_then r (λ x. Ok x)) fails
 
-  pub end_steps : (r : Result (Unit {0}) CatFault) (parser : Parser) → p ≤ length bytes → length bytes ≤ p → StepsAt r parser (with_offset before p (step most form s tokens.End)) → StepsAt r parser all
+  pub end_steps : (r : Result (Unit {0}) CatFault) (parser : Parser) → p ≤ length bytes
+      → length bytes ≤ p → StepsAt r parser (with_offset before p (step most form s tokens.End))
+      → StepsAt r parser all
   end_steps (Ok u) parser low high goes = end_run (state_of parser) low high goes
   end_steps (Err d) parser low high fails = end_fails d low high fails
 
 -- the parser before a text stands at the start
-pub at_start : (form f : Form) (s : State) (bytes : List ℕ) → f ≡ form → s ≡ start form → run limits f 0 s (lexed bytes) ≡ run limits form 0 (start form) (lexed bytes)
+pub at_start : (form f : Form) (s : State) (bytes : List ℕ) → f ≡ form → s ≡ start form
+    → run limits f 0 s (lexed bytes) ≡ run limits form 0 (start form) (lexed bytes)
 at_start form f s bytes forms states = λ i. run limits (forms i) 0 (states i) (lexed bytes)
 
 -- the length is looked at first
-pub too_long : (form : Form) (bytes : List ℕ) → 65536 < length bytes → reading form bytes ≡ Err (TooLong, 65536)
+pub too_long : (form : Form) (bytes : List ℕ) → 65536 < length bytes
+    → reading form bytes ≡ Err (TooLong, 65536)
 unfolding reading
 too_long form bytes lt =
-    ap (λ (b : Bool). if b then Err (TooLong, 65536) else items_of (run limits form 0 (start form) (lexed bytes))) (lt-ltb 65536 (length bytes) lt)
+    ap
+    (λ (b : Bool). if b then Err (TooLong, 65536)
+    else items_of (run limits form 0 (start form) (lexed bytes)))
+    (lt-ltb 65536 (length bytes) lt)
 
-pub fits : (form : Form) (bytes : List ℕ) → length bytes ≤ 65536 → reading form bytes ≡ items_of (run limits form 0 (start form) (lexed bytes))
+pub fits : (form : Form) (bytes : List ℕ) → length bytes ≤ 65536
+    → reading form bytes ≡ items_of (run limits form 0 (start form) (lexed bytes))
 unfolding reading
 fits form bytes le =
-    ap (λ (b : Bool). if b then Err (TooLong, 65536) else items_of (run limits form 0 (start form) (lexed bytes))) (le-ltb 65536 (length bytes) le)
+    ap
+    (λ (b : Bool). if b then Err (TooLong, 65536)
+    else items_of (run limits form 0 (start form) (lexed bytes)))
+    (le-ltb 65536 (length bytes) le)
 
-pub refused : (form : Form) (bytes : List ℕ) (d : CatFault) → length bytes ≤ 65536 → FailsAt d (run limits form 0 (start form) (lexed bytes)) → FailsAt d (reading form bytes)
+pub refused : (form : Form) (bytes : List ℕ) (d : CatFault) → length bytes ≤ 65536
+    → FailsAt d (run limits form 0 (start form) (lexed bytes)) → FailsAt d (reading form bytes)
 refused form bytes (faults.OutOfMemory x) le fails = tt
 refused form bytes (faults.Refused rule offset) le fails = fits form bytes le ∙ ap items_of fails

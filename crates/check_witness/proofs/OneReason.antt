@@ -34,7 +34,8 @@ neither a b less more = elim (cases_lt a b) [
 one_reflexive : (R : ℕ → ℕ → Type 0) (a b : ℕ) → IsFirstReflexive R a → IsFirstReflexive R b → a ≡ b
 one_reflexive R a b p q = neither a b (λ lt. q.least a lt p.related) (λ gt. p.least b gt q.related)
 
-one_pair : (R : ℕ → ℕ → Type 0) (a b x y : ℕ) → IsLeastPair R a b → IsLeastPair R x y → (a ≡ x) × (b ≡ y)
+one_pair : (R : ℕ → ℕ → Type 0) (a b x y : ℕ) → IsLeastPair R a b → IsLeastPair R x y
+    → (a ≡ x) × (b ≡ y)
 one_pair R a b x y p q =
     let first : a ≡ x = neither a x (λ lt. q.first a b lt p.related) (λ gt. p.first x y gt q.related) in
     let second : b ≡ y = neither b y (λ lt. q.second b lt (subst (λ (z : ℕ). R z b) first p.related)) (λ gt. p.second y gt (subst (λ (z : ℕ). R z y) (sym first) q.related)) in
@@ -43,8 +44,10 @@ one_pair R a b x y p q =
 one_member : (S : ℕ → Type 0) (a b : ℕ) → IsFirstMember S a → IsFirstMember S b → a ≡ b
 one_member S a b p q = neither a b (λ lt. q.least a lt p.member) (λ gt. p.least b gt q.member)
 
-pub breaks_once : (word : CheckWord) (R : ℕ → ℕ → Type 0) (v w : Witness) → Breaks word R v → Breaks word R w → IsSame v w
-breaks_once words.Acyclic R (shown.Cycle xs) (shown.Cycle ys) p q = one_cycle R xs.items ys.items p q
+pub breaks_once : (word : CheckWord) (R : ℕ → ℕ → Type 0) (v w : Witness) → Breaks word R v
+    → Breaks word R w → IsSame v w
+breaks_once words.Acyclic R (shown.Cycle xs) (shown.Cycle ys) p q =
+    one_cycle R xs.items ys.items p q
 breaks_once words.Acyclic R (shown.Cycle xs) (shown.Reflexive e) p q = absurd q
 breaks_once words.Acyclic R (shown.Cycle xs) (shown.Pair e f) p q = absurd q
 breaks_once words.Acyclic R (shown.Cycle xs) (shown.Member e) p q = absurd q
@@ -55,7 +58,8 @@ breaks_once words.Acyclic R (shown.Member a) w p q = absurd p
 breaks_once words.Acyclic R shown.Met w p q = absurd p
 breaks_once words.Irreflexive R (shown.Cycle xs) w p q = absurd p
 breaks_once words.Irreflexive R (shown.Reflexive a) (shown.Cycle es) p q = absurd q
-breaks_once words.Irreflexive R (shown.Reflexive a) (shown.Reflexive b) p q = one_reflexive R a b p q
+breaks_once words.Irreflexive R (shown.Reflexive a) (shown.Reflexive b) p q =
+    one_reflexive R a b p q
 breaks_once words.Irreflexive R (shown.Reflexive a) (shown.Pair e f) p q = absurd q
 breaks_once words.Irreflexive R (shown.Reflexive a) (shown.Member e) p q = absurd q
 breaks_once words.Irreflexive R (shown.Reflexive a) shown.Met p q = absurd q
@@ -101,8 +105,10 @@ met_once shown.Met (shown.Pair a b) p q = absurd q
 met_once shown.Met (shown.Member a) p q = absurd q
 met_once shown.Met shown.Met p q = tt
 
-module _ (A : Type 0) (P : Witness → Type 0) (refutes : (w : Witness) → P w → A → ⊥) (once : (v w : Witness) → P v → P w → IsSame v w) where
-  one_explanation : (negated : Bool) (f g : Option Witness) → IsExplanation negated A P f → IsExplanation negated A P g → AreSame f g
+module _ (A : Type 0) (P : Witness → Type 0) (refutes : (w : Witness) → P w → A → ⊥)
+    (once : (v w : Witness) → P v → P w → IsSame v w) where
+  one_explanation : (negated : Bool) (f g : Option Witness) → IsExplanation negated A P f
+      → IsExplanation negated A P g → AreSame f g
   one_explanation false None None p q = tt
   one_explanation false None (Some w) p q = absurd (refutes w q p)
   one_explanation false (Some v) None p q = absurd (refutes v p q)
@@ -112,8 +118,10 @@ module _ (A : Type 0) (P : Witness → Type 0) (refutes : (w : Witness) → P w 
   one_explanation true (Some v) None p q = absurd (q p.0)
   one_explanation true (Some v) (Some w) p q = met_once v w p.1 q.1
 
-module _ (check : CheckCode) (n : ℕ) (sets : Source → ℕ → Type 0) (outer : Source → ℕ → ℕ → Type 0) (f g : Option Witness) where
-  one_explained : (kind : Kind) → IsExpression kind check.code.steps.items → IsExplained check n sets outer kind f → IsExplained check n sets outer kind g → AreSame f g
+module _ (check : CheckCode) (n : ℕ) (sets : Source → ℕ → Type 0) (outer : Source → ℕ → ℕ → Type 0)
+    (f g : Option Witness) where
+  one_explained : (kind : Kind) → IsExpression kind check.code.steps.items
+      → IsExplained check n sets outer kind f → IsExplained check n sets outer kind g → AreSame f g
   one_explained kinds.OfSet (t, code) p q =
       let S = MeansSet n sets t in one_explanation (IsEmptySet S) (BreaksSet S) (breaks_set_refutes S) (breaks_set_once S) check.negated f g (p t code) (q t code)
   one_explained kinds.OfRelation (t, code) p q =
@@ -123,4 +131,6 @@ module _ (check : CheckCode) (n : ℕ) (sets : Source → ℕ → Type 0) (outer
 
 pub one_refusal : (check : CheckCode) (values : Column) (k : ℕ) → HasOneRefusal check values k
 one_refusal check values k space inputs one expression are at f g p q =
-    one_explained check (events_of one) (EventsAt (events_of one) one inputs k) (PairsAt (events_of one) one inputs k) f g check.code.kind expression (p space inputs one are at) (q space inputs one are at)
+    one_explained check (events_of one) (EventsAt (events_of one) one inputs k)
+    (PairsAt (events_of one) one inputs k) f g check.code.kind expression
+    (p space inputs one are at) (q space inputs one are at)

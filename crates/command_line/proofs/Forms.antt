@@ -13,28 +13,42 @@ count words = length-map words (λ w. w.now)
 
 -- ---- the first `--`
 
-pub found : (words : List (Bor (List ℕ))) (i : ℕ) → i < length words → ((k : ℕ) → k < i → is_word (word_at (texts_of words) k) (codes "--") ≡ false) → is_word (word_at (texts_of words) i) (codes "--") ≡ true → i ≡ dashes (texts_of words)
+pub found : (words : List (Bor (List ℕ))) (i : ℕ) → i < length words
+    → ((k : ℕ) → k < i → is_word (word_at (texts_of words) k) (codes "--") ≡ false)
+    → is_word (word_at (texts_of words) i) (codes "--") ≡ true → i ≡ dashes (texts_of words)
 found words i inside before here =
     let n = count words in
-    sym (position_or_len_is (λ w. is_word w (codes "--")) (texts_of words) i [] (omega arith) before (λ h. here))
+    sym (position_or_len_is (λ w. is_word w (codes "--")) (texts_of words) i [] (omega arith) before
+    (λ h. here))
 
-pub absent : (words : List (Bor (List ℕ))) (i : ℕ) → i ≡ length words → ((k : ℕ) → k < i → is_word (word_at (texts_of words) k) (codes "--") ≡ false) → length words ≡ dashes (texts_of words)
+pub absent : (words : List (Bor (List ℕ))) (i : ℕ) → i ≡ length words
+    → ((k : ℕ) → k < i → is_word (word_at (texts_of words) k) (codes "--") ≡ false)
+    → length words ≡ dashes (texts_of words)
 absent words i end before =
     let n = count words in
-    sym end ∙ sym (position_or_len_is (λ w. is_word w (codes "--")) (texts_of words) i [] (omega arith) before (λ h. absurd (omega arith)))
+    sym end
+    ∙ sym (position_or_len_is (λ w. is_word w (codes "--")) (texts_of words) i [] (omega arith)
+    before (λ h. absurd (omega arith)))
 
 -- ---- paths
 
-all_pass : (p : List ℕ → Bool) (xs : List (List ℕ)) → ((k : ℕ) → k < length xs → p (get_or xs k []) ≡ true) → list_all p xs ≡ true
+all_pass : (p : List ℕ → Bool) (xs : List (List ℕ))
+    → ((k : ℕ) → k < length xs → p (get_or xs k []) ≡ true) → list_all p xs ≡ true
 all_pass p [] h = refl
-all_pass p (x ∷ xs) h = and_from (p x) (list_all p xs) (h 0 (omega arith)) (all_pass p xs (λ k g. h (suc k) (omega arith)))
+all_pass p (x ∷ xs) h =
+    and_from (p x) (list_all p xs) (h 0 (omega arith))
+    (all_pass p xs (λ k g. h (suc k) (omega arith)))
 
-pub all_paths : (words : List (Bor (List ℕ))) (i : ℕ) → i ≡ length words → ((k : ℕ) → k < i → is_path (word_at (texts_of words) k) ≡ true) → true ≡ are_paths (texts_of words)
-all_paths words i end before = let n = count words in sym (all_pass is_path (texts_of words) (λ k h. before k (omega arith)))
+pub all_paths : (words : List (Bor (List ℕ))) (i : ℕ) → i ≡ length words
+    → ((k : ℕ) → k < i → is_path (word_at (texts_of words) k) ≡ true)
+    → true ≡ are_paths (texts_of words)
+all_paths words i end before =
+    let n = count words in sym (all_pass is_path (texts_of words) (λ k h. before k (omega arith)))
 
 -- ---- a table
 
-all_true : (a b c : Bool) (x : Asked) → a ≡ true → b ≡ true → c ≡ true → asked_if (a && b && c) x ≡ Some x
+all_true : (a b c : Bool) (x : Asked) → a ≡ true → b ≡ true → c ≡ true
+    → asked_if (a && b && c) x ≡ Some x
 all_true a b c x p q r = rw (p, q, r) refl
 
 last_false : (a b c : Bool) (x : Asked) → c ≡ false → asked_if (a && b && c) x ≡ None
@@ -43,35 +57,58 @@ last_false true false c x r = refl
 last_false false true c x r = refl
 last_false false false c x r = refl
 
-behind : (words : List (Bor (List ℕ))) (n : ℕ) → texts_of (take (length words - n) (drop n words)) ≡ drop n (texts_of words)
+behind : (words : List (Bor (List ℕ))) (n : ℕ)
+    → texts_of (take (length words - n) (drop n words)) ≡ drop n (texts_of words)
 behind words n =
-    ap (λ (l : List (Bor (List ℕ))). texts_of l) (take_all (length words - n) (drop n words) (let h = length-drop n words in omega arith)) ∙ sym (drop-map (λ w. w.now) n words)
+    ap (λ (l : List (Bor (List ℕ))). texts_of l) (take_all (length words - n) (drop n words)
+    (let h = length-drop n words in omega arith)) ∙ sym (drop-map (λ w. w.now) n words)
 
-before_split : (words : List (Bor (List ℕ))) (n : ℕ) → texts_of (take n words) ≡ take n (texts_of words)
+before_split : (words : List (Bor (List ℕ))) (n : ℕ)
+    → texts_of (take n words) ≡ take n (texts_of words)
 before_split words n = sym (take-map (λ w. w.now) n words)
 
-pub is_table : (words : List (Bor (List ℕ))) (k : ℕ) (b : Bool) → 0 < k → k + 1 < length words → k ≡ dashes (texts_of words) → b ≡ are_paths (texts_of (take k words)) → b ≡ true
-    → Some (Table (texts_of (take k words)) (texts_of (take (length words - (k + 1)) (drop (k + 1) words)))) ≡ table_of (texts_of words) (dashes (texts_of words))
+pub is_table : (words : List (Bor (List ℕ))) (k : ℕ) (b : Bool) → 0 < k → k + 1 < length words
+    → k ≡ dashes (texts_of words) → b ≡ are_paths (texts_of (take k words)) → b ≡ true
+    → Some (Table (texts_of (take k words)) (texts_of
+    (take (length words - (k + 1)) (drop (k + 1) words))))
+    ≡ table_of (texts_of words) (dashes (texts_of words))
 is_table words k b some more split paths is_true =
     let n = count words in
     let are : are_paths (take k (texts_of words)) ≡ true = ap are_paths (sym (before_split words k)) ∙ sym paths ∙ is_true in
-    ap (λ (l : List (List ℕ)). Some (Table l (texts_of (take (length words - (k + 1)) (drop (k + 1) words))))) (before_split words k)
+    ap
+    (λ (l : List (List ℕ)).
+    Some (Table l (texts_of (take (length words - (k + 1)) (drop (k + 1) words)))))
+    (before_split words k)
     ∙ ap (λ (l : List (List ℕ)). Some (Table (take k (texts_of words)) l)) (behind words (k + 1))
-    ∙ sym (all_true (ltb 0 k) (ltb (k + 1) (length (texts_of words))) (are_paths (take k (texts_of words))) (Table (take k (texts_of words)) (drop (k + 1) (texts_of words))) (lt-ltb 0 k some) (lt-ltb (k + 1) (length (texts_of words)) (omega arith)) are)
+    ∙ sym (all_true (ltb 0 k) (ltb (k + 1) (length (texts_of words)))
+    (are_paths (take k (texts_of words)))
+    (Table (take k (texts_of words)) (drop (k + 1) (texts_of words))) (lt-ltb 0 k some)
+    (lt-ltb (k + 1) (length (texts_of words)) (omega arith)) are)
     ∙ ap (λ (m : ℕ). table_of (texts_of words) m) split
 
-pub is_no_table : (words : List (Bor (List ℕ))) (k : ℕ) (b : Bool) → k ≡ dashes (texts_of words) → b ≡ are_paths (texts_of (take k words)) → b ≡ false → None ≡ table_of (texts_of words) (dashes (texts_of words))
+pub is_no_table : (words : List (Bor (List ℕ))) (k : ℕ) (b : Bool) → k ≡ dashes (texts_of words)
+    → b ≡ are_paths (texts_of (take k words)) → b ≡ false
+    → None ≡ table_of (texts_of words) (dashes (texts_of words))
 is_no_table words k b split paths is_false =
     let are : are_paths (take k (texts_of words)) ≡ false = ap are_paths (sym (before_split words k)) ∙ sym paths ∙ is_false in
-    sym (last_false (ltb 0 k) (ltb (k + 1) (length (texts_of words))) (are_paths (take k (texts_of words))) (Table (take k (texts_of words)) (drop (k + 1) (texts_of words))) are) ∙ ap (λ (m : ℕ). table_of (texts_of words) m) split
+    sym (last_false (ltb 0 k) (ltb (k + 1) (length (texts_of words)))
+    (are_paths (take k (texts_of words)))
+    (Table (take k (texts_of words)) (drop (k + 1) (texts_of words))) are)
+    ∙ ap (λ (m : ℕ). table_of (texts_of words) m) split
 
 -- ---- a command
 
-pub is_command : (words : List (Bor (List ℕ))) (r : Option Asked) (w : List ℕ) → 2 ≤ length words → w ≡ word_at (texts_of words) 1 → r ≡ by_command w (texts_of (take (length words - 2) (drop 2 words))) → r ≡ asked_in (texts_of words)
+pub is_command : (words : List (Bor (List ℕ))) (r : Option Asked) (w : List ℕ) → 2 ≤ length words
+    → w ≡ word_at (texts_of words) 1
+    → r ≡ by_command w (texts_of (take (length words - 2) (drop 2 words)))
+    → r ≡ asked_in (texts_of words)
 is_command words r w long first given =
     let n = count words in
     let not_short : ltb (length (texts_of words)) 2 ≡ false = le-ltb (length (texts_of words)) 2 (omega arith) in
-    given ∙ ap (λ (t : List ℕ). by_command t (texts_of (take (length words - 2) (drop 2 words)))) first ∙ ap (λ (l : List (List ℕ)). by_command (word_at (texts_of words) 1) l) (behind words 2)
+    given
+    ∙ ap (λ (t : List ℕ). by_command t (texts_of (take (length words - 2) (drop 2 words))))
+    first
+    ∙ ap (λ (l : List (List ℕ)). by_command (word_at (texts_of words) 1) l) (behind words 2)
     ∙ rw not_short refl
 
 -- ---- paths and options
@@ -83,59 +120,107 @@ first : {X : Type 0} (b : Bool) (x y : X) → b ≡ true → x ≡ (if b then x 
 first b x y h = ap (λ (c : Bool). if c then x else y) (sym h)
 
 pub last_paths : (words : List (Bor (List ℕ))) → is_path (word_at (texts_of words) 0) ≡ false
-    → texts_of (take (length words - (length words - 2)) (drop (length words - 2) words)) ≡ paths_of (texts_of words)
+    → texts_of (take (length words - (length words - 2)) (drop (length words - 2) words))
+    ≡ paths_of (texts_of words)
 last_paths words fails =
-    behind words (length words - 2) ∙ ap (λ (n : ℕ). drop (n - 2) (texts_of words)) (sym (count words))
-    ∙ second (is_path (word_at (texts_of words) 0)) (take 2 (texts_of words)) (drop (length (texts_of words) - 2) (texts_of words)) fails
+    behind words (length words - 2)
+    ∙ ap (λ (n : ℕ). drop (n - 2) (texts_of words)) (sym (count words))
+    ∙ second (is_path (word_at (texts_of words) 0)) (take 2 (texts_of words))
+    (drop (length (texts_of words) - 2) (texts_of words)) fails
 
-pub first_options : (words : List (Bor (List ℕ))) → is_path (word_at (texts_of words) 0) ≡ false → texts_of (take (length words - 2) words) ≡ options_of (texts_of words)
+pub first_options : (words : List (Bor (List ℕ))) → is_path (word_at (texts_of words) 0) ≡ false
+    → texts_of (take (length words - 2) words) ≡ options_of (texts_of words)
 first_options words fails =
-    before_split words (length words - 2) ∙ ap (λ (n : ℕ). take (n - 2) (texts_of words)) (sym (count words))
-    ∙ second (is_path (word_at (texts_of words) 0)) (drop 2 (texts_of words)) (take (length (texts_of words) - 2) (texts_of words)) fails
+    before_split words (length words - 2)
+    ∙ ap (λ (n : ℕ). take (n - 2) (texts_of words)) (sym (count words))
+    ∙ second (is_path (word_at (texts_of words) 0)) (drop 2 (texts_of words))
+    (take (length (texts_of words) - 2) (texts_of words)) fails
 
 long : (words : List (Bor (List ℕ))) → 2 ≤ length words → ltb (length (texts_of words)) 2 ≡ false
 long words enough = let n = count words in le-ltb (length (texts_of words)) 2 (omega arith)
 
-given_options : (words paths options : List (Bor (List ℕ))) (r : Option Asked) (f d : Bool) → texts_of paths ≡ paths_of (texts_of words) → texts_of options ≡ options_of (texts_of words)
-    → f ≡ has_option (texts_of options) (codes "--forbidden") → d ≡ has_option (texts_of options) (codes "--deep") → r ≡ why_with (texts_of paths) (length options) f d
-    → r ≡ why_with (paths_of (texts_of words)) (length (options_of (texts_of words))) (has_option (options_of (texts_of words)) (codes "--forbidden")) (has_option (options_of (texts_of words)) (codes "--deep"))
+given_options : (words paths options : List (Bor (List ℕ))) (r : Option Asked) (f d : Bool)
+    → texts_of paths ≡ paths_of (texts_of words) → texts_of options ≡ options_of (texts_of words)
+    → f ≡ has_option (texts_of options) (codes "--forbidden")
+    → d ≡ has_option (texts_of options) (codes "--deep")
+    → r ≡ why_with (texts_of paths) (length options) f d
+    → r
+    ≡ why_with (paths_of (texts_of words)) (length (options_of (texts_of words)))
+    (has_option (options_of (texts_of words)) (codes "--forbidden"))
+    (has_option (options_of (texts_of words)) (codes "--deep"))
 given_options words paths options r f d split_paths split_options forbidden deep given =
-    given ∙ ap (λ (n : ℕ). why_with (texts_of paths) n f d) (sym (count options)) ∙ ap (λ (b : Bool). why_with (texts_of paths) (length (texts_of options)) b d) forbidden
-    ∙ ap (λ (b : Bool). why_with (texts_of paths) (length (texts_of options)) (has_option (texts_of options) (codes "--forbidden")) b) deep
-    ∙ ap (λ (p : List (List ℕ)). why_with p (length (texts_of options)) (has_option (texts_of options) (codes "--forbidden")) (has_option (texts_of options) (codes "--deep"))) split_paths
-    ∙ ap (λ (o : List (List ℕ)). why_with (paths_of (texts_of words)) (length o) (has_option o (codes "--forbidden")) (has_option o (codes "--deep"))) split_options
+    given ∙ ap (λ (n : ℕ). why_with (texts_of paths) n f d) (sym (count options))
+    ∙ ap (λ (b : Bool). why_with (texts_of paths) (length (texts_of options)) b d) forbidden
+    ∙ ap
+    (λ (b : Bool). why_with (texts_of paths) (length (texts_of options))
+    (has_option (texts_of options) (codes "--forbidden")) b) deep
+    ∙ ap
+    (λ (p : List (List ℕ)). why_with p (length (texts_of options))
+    (has_option (texts_of options) (codes "--forbidden"))
+    (has_option (texts_of options) (codes "--deep"))) split_paths
+    ∙ ap
+    (λ (o : List (List ℕ)). why_with (paths_of (texts_of words)) (length o)
+    (has_option o (codes "--forbidden")) (has_option o (codes "--deep"))) split_options
 
-pub is_why : (words paths options : List (Bor (List ℕ))) (r : Option Asked) (f d : Bool) → 2 ≤ length words → texts_of paths ≡ paths_of (texts_of words) → texts_of options ≡ options_of (texts_of words)
-    → f ≡ has_option (texts_of options) (codes "--forbidden") → d ≡ has_option (texts_of options) (codes "--deep") → r ≡ why_with (texts_of paths) (length options) f d → r ≡ why_of (texts_of words)
+pub is_why : (words paths options : List (Bor (List ℕ))) (r : Option Asked) (f d : Bool)
+    → 2 ≤ length words → texts_of paths ≡ paths_of (texts_of words)
+    → texts_of options ≡ options_of (texts_of words)
+    → f ≡ has_option (texts_of options) (codes "--forbidden")
+    → d ≡ has_option (texts_of options) (codes "--deep")
+    → r ≡ why_with (texts_of paths) (length options) f d → r ≡ why_of (texts_of words)
 is_why words paths options r f d enough split_paths split_options forbidden deep given =
     given_options words paths options r f d split_paths split_options forbidden deep given
-    ∙ second (ltb (length (texts_of words)) 2) None (why_with (paths_of (texts_of words)) (length (options_of (texts_of words))) (has_option (options_of (texts_of words)) (codes "--forbidden")) (has_option (options_of (texts_of words)) (codes "--deep"))) (long words enough)
+    ∙ second (ltb (length (texts_of words)) 2) None
+    (why_with (paths_of (texts_of words)) (length (options_of (texts_of words)))
+    (has_option (options_of (texts_of words)) (codes "--forbidden"))
+    (has_option (options_of (texts_of words)) (codes "--deep")))
+    (long words enough)
 
-pub is_draw : (words paths options : List (Bor (List ℕ))) (r : Option Asked) → 2 ≤ length words → texts_of paths ≡ paths_of (texts_of words) → texts_of options ≡ options_of (texts_of words)
+pub is_draw : (words paths options : List (Bor (List ℕ))) (r : Option Asked) → 2 ≤ length words
+    → texts_of paths ≡ paths_of (texts_of words) → texts_of options ≡ options_of (texts_of words)
     → r ≡ draw_by (texts_of paths) (texts_of options) → r ≡ draw_of (texts_of words)
 is_draw words paths options r enough split_paths split_options given =
-    given ∙ ap (λ (p : List (List ℕ)). draw_by p (texts_of options)) split_paths ∙ ap (λ (o : List (List ℕ)). draw_by (paths_of (texts_of words)) o) split_options
-    ∙ second (ltb (length (texts_of words)) 2) None (draw_by (paths_of (texts_of words)) (options_of (texts_of words))) (long words enough)
+    given ∙ ap (λ (p : List (List ℕ)). draw_by p (texts_of options)) split_paths
+    ∙ ap (λ (o : List (List ℕ)). draw_by (paths_of (texts_of words)) o) split_options
+    ∙ second (ltb (length (texts_of words)) 2) None
+    (draw_by (paths_of (texts_of words)) (options_of (texts_of words))) (long words enough)
 
 -- ---- watching
 
 -- what is asked for with --workers N, and with --workers=N or without a number
 abbrev watch_numbered : List (List ℕ) → Option Asked
-watch_numbered words = if ltb (length words) 2 then None else watch_with (drop 2 words) (number_in (word_at words 1))
+watch_numbered words =
+    if ltb (length words) 2 then None else watch_with (drop 2 words) (number_in (word_at words 1))
 
 abbrev watch_set : List (List ℕ) → Option Asked
-watch_set words = if sets_workers (word_at words 0) then watch_with (drop 1 words) (workers_in (word_at words 0)) else watch_with words (Some 0)
+watch_set words =
+    if sets_workers (word_at words 0) then watch_with (drop 1 words) (workers_in (word_at words 0))
+    else watch_with words (Some 0)
 
-pub is_watch : (words : List (Bor (List ℕ))) (r : Option Asked) (n : Option ℕ) → 2 ≤ length words → is_workers (word_at (texts_of words) 0) ≡ true → n ≡ number_in (word_at (texts_of words) 1)
-    → r ≡ watch_with (texts_of (take (length words - 2) (drop 2 words))) n → r ≡ watch_of (texts_of words)
+pub is_watch : (words : List (Bor (List ℕ))) (r : Option Asked) (n : Option ℕ) → 2 ≤ length words
+    → is_workers (word_at (texts_of words) 0) ≡ true → n ≡ number_in (word_at (texts_of words) 1)
+    → r ≡ watch_with (texts_of (take (length words - 2) (drop 2 words))) n
+    → r ≡ watch_of (texts_of words)
 is_watch words r n enough workers given made =
-    made ∙ ap (λ (l : List (List ℕ)). watch_with l n) (behind words 2) ∙ ap (λ (m : Option ℕ). watch_with (drop 2 (texts_of words)) m) given
-    ∙ second (ltb (length (texts_of words)) 2) None (watch_with (drop 2 (texts_of words)) (number_in (word_at (texts_of words) 1))) (long words enough)
-    ∙ first (is_workers (word_at (texts_of words) 0)) (watch_numbered (texts_of words)) (watch_set (texts_of words)) workers
+    made ∙ ap (λ (l : List (List ℕ)). watch_with l n) (behind words 2)
+    ∙ ap (λ (m : Option ℕ). watch_with (drop 2 (texts_of words)) m) given
+    ∙ second (ltb (length (texts_of words)) 2) None
+    (watch_with (drop 2 (texts_of words)) (number_in (word_at (texts_of words) 1)))
+    (long words enough)
+    ∙ first (is_workers (word_at (texts_of words) 0)) (watch_numbered (texts_of words))
+    (watch_set (texts_of words)) workers
 
-pub is_watch_set : (words : List (Bor (List ℕ))) (r : Option Asked) (n : Option ℕ) → is_workers (word_at (texts_of words) 0) ≡ false → sets_workers (word_at (texts_of words) 0) ≡ true
-    → n ≡ workers_in (word_at (texts_of words) 0) → r ≡ watch_with (texts_of (take (length words - 1) (drop 1 words))) n → r ≡ watch_of (texts_of words)
+pub is_watch_set : (words : List (Bor (List ℕ))) (r : Option Asked) (n : Option ℕ)
+    → is_workers (word_at (texts_of words) 0) ≡ false
+    → sets_workers (word_at (texts_of words) 0) ≡ true
+    → n ≡ workers_in (word_at (texts_of words) 0)
+    → r ≡ watch_with (texts_of (take (length words - 1) (drop 1 words))) n
+    → r ≡ watch_of (texts_of words)
 is_watch_set words r n other sets given made =
-    made ∙ ap (λ (l : List (List ℕ)). watch_with l n) (behind words 1) ∙ ap (λ (m : Option ℕ). watch_with (drop 1 (texts_of words)) m) given
-    ∙ first (sets_workers (word_at (texts_of words) 0)) (watch_with (drop 1 (texts_of words)) (workers_in (word_at (texts_of words) 0))) (watch_with (texts_of words) (Some 0)) sets
-    ∙ second (is_workers (word_at (texts_of words) 0)) (watch_numbered (texts_of words)) (watch_set (texts_of words)) other
+    made ∙ ap (λ (l : List (List ℕ)). watch_with l n) (behind words 1)
+    ∙ ap (λ (m : Option ℕ). watch_with (drop 1 (texts_of words)) m) given
+    ∙ first (sets_workers (word_at (texts_of words) 0))
+    (watch_with (drop 1 (texts_of words)) (workers_in (word_at (texts_of words) 0)))
+    (watch_with (texts_of words) (Some 0)) sets
+    ∙ second (is_workers (word_at (texts_of words) 0)) (watch_numbered (texts_of words))
+    (watch_set (texts_of words)) other

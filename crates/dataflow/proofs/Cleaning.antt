@@ -21,11 +21,17 @@ written_first f = record {
 }
 
 -- behind one instruction more
-pub written_next : (f : Executed) (n : ℕ) (i : Instruction) (word : ℕ) (t : Taints) → i ≡ f n → IsWrittenBetween f 0 n t → IsWrittenBetween f 0 (suc n) (with_word i word t)
+pub written_next : (f : Executed) (n : ℕ) (i : Instruction) (word : ℕ) (t : Taints) → i ≡ f n
+    → IsWrittenBetween f 0 n t → IsWrittenBetween f 0 (suc n) (with_word i word t)
 written_next f n i word t same old = record {
   height = with_word_long i word t ∙ old.height;
   writers = λ p within. elim (is_written i p) [
-    | inl here ↦ inr (n, omega arith, omega arith, subst (λ (j : Instruction). IsWritten j p) same here)
+    | inl here ↦ inr (
+      n,
+      omega arith,
+      omega arith,
+      subst (λ (j : Instruction). IsWritten j p) same here,
+    )
     | inr not_here ↦ elim (old.writers p within) [
       | inl none ↦ inl (with_word-kept i word t p not_here ∙ none)
       | inr x ↦ let (j, from, to, writes) = x in inr (j, from, omega (arith, to), writes)
@@ -34,7 +40,8 @@ written_next f n i word t same old = record {
 }
 
 -- the word that the first instruction writes is set back
-pub cleaned_next : (f : Executed) (k n : ℕ) (i : Instruction) (t : Taints) → i ≡ f k → IsWrittenBetween f k n t → IsWrittenBetween f (k + 1) n (with_word i 0 t)
+pub cleaned_next : (f : Executed) (k n : ℕ) (i : Instruction) (t : Taints) → i ≡ f k
+    → IsWrittenBetween f k n t → IsWrittenBetween f (k + 1) n (with_word i 0 t)
 cleaned_next f k n i t same old = record {
   height = with_word_long i 0 t ∙ old.height;
   writers = λ p within. elim (is_written i p) [
@@ -42,14 +49,16 @@ cleaned_next f k n i t same old = record {
     | inr not_here ↦ elim (old.writers p within) [
       | inl none ↦ inl (with_word-kept i 0 t p not_here ∙ none)
       | inr x ↦ let (j, from, to, writes) = x in elim (cases_eq j k) [
-        | inl e ↦ absurd (not_here (subst (λ (a : Instruction). IsWritten a p) (sym same) (subst (λ (m : ℕ). IsWritten (f m) p) e writes)))
+        | inl e ↦ absurd (not_here (subst (λ (a : Instruction). IsWritten a p) (sym same)
+            (subst (λ (m : ℕ). IsWritten (f m) p) e writes)))
         | inr ne ↦ inr (j, omega (arith, from, ne), to, writes)
       ]
     ]
   ];
 }
 
-zero_word : (f : Executed) (n : ℕ) (t : Taints) → IsWrittenBetween f n n t → (p : Place) → IsPlace p → word_of t p ≡ 0
+zero_word : (f : Executed) (n : ℕ) (t : Taints) → IsWrittenBetween f n n t → (p : Place) → IsPlace p
+    → word_of t p ≡ 0
 zero_word f n t x p within = elim (x.writers p within) [
   | inl none ↦ none
   | inr y ↦ let (j, from, to, writes) = y in absurd (omega (arith, from, to))
@@ -58,6 +67,9 @@ zero_word f n t x p within = elim (x.writers p within) [
 pub all_clean : (f : Executed) (n : ℕ) (t : Taints) → IsWrittenBetween f n n t → t ≡ clean_taints
 all_clean f n t x =
     ap (λ (xs : List ℕ). record t { registers = xs })
-    (same_number_lists t.registers (replicate 256 0) (x.height ∙ sym (length-replicate {A = ℕ} 256 0))
-    (λ k lt. let inside : k < 256 = omega (arith, lt, x.height) in zero_word f n t x (Register k) inside ∙ sym (get_or-replicate 256 k 0 0 inside)))
+    (same_number_lists t.registers (replicate 256 0)
+    (x.height ∙ sym (length-replicate {A = ℕ} 256 0))
+    (λ k lt.
+    let inside : k < 256 = omega (arith, lt, x.height) in
+    zero_word f n t x (Register k) inside ∙ sym (get_or-replicate 256 k 0 0 inside)))
     ∙ ap (λ (w : ℕ). record clean_taints { compared = w }) (zero_word f n t x Cr0 tt)

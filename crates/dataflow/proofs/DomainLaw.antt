@@ -22,7 +22,8 @@ use Rattle.dataflow.proofs.Agreement.{stores_the_same}
 use Rattle.dataflow.proofs.Walks.{follow, IsWalk-started, state_prefix}
 use Rattle.dataflow.proofs.Inversion.{Decision, decide_need}
 
--- Each element comes after as many rounds as there are elements, if it comes a round after those that precede it.
+-- Each element comes after as many rounds as there are elements, if it comes a round after those
+-- that precede it.
 module _ (n : ℕ) (R : ℕ → ℕ → Type 0) (In : ℕ → ℕ → Type 0)
     (acyclic : (l : ℕ) (through : List ℕ) → Way R l through l → ⊥)
     (round : (k l : ℕ) → l < n → ((m : ℕ) → m < n → R m l → In k m) → In (suc k) l) where
@@ -36,12 +37,16 @@ module _ (n : ℕ) (R : ℕ → ℕ → Type 0) (In : ℕ → ℕ → Type 0)
 
   apart : (l : ℕ) (xs : List ℕ) → Passed l xs → AllByRecursion (λ y. eqb l y ≡ false) xs
   apart l [] p = tt
-  apart l (x ∷ xs) p = (other l x (λ same. acyclic l p.1.0 (subst (λ y. Way R l p.1.0 y) (sym same) p.1.1)), apart l xs p.2)
+  apart l (x ∷ xs) p = (
+    other l x (λ same. acyclic l p.1.0 (subst (λ y. Way R l p.1.0 y) (sym same) p.1.1)),
+    apart l xs p.2,
+  )
     where
       other : (a b : ℕ) → (a ≡ b → ⊥) → eqb a b ≡ false
       other a b ne = elim (eqb_tells a b) [ inl t ↦ absurd (ne t.1) | inr t ↦ t.0 ]
 
-  below : (l : ℕ) (xs : List ℕ) → l < n → Passed l xs → (q : ℕ) → list_any (eqb q) (l ∷ xs) ≡ true → q < n
+  below : (l : ℕ) (xs : List ℕ) → l < n → Passed l xs → (q : ℕ) → list_any (eqb q) (l ∷ xs) ≡ true
+      → q < n
   below l xs lt p q found = elim (eqb_tells q l) [
     | inl t ↦ subst (λ y. y < n) (sym t.1) lt
     | inr t ↦ among xs p (rw t.0 at found)
@@ -54,13 +59,15 @@ module _ (n : ℕ) (R : ℕ → ℕ → Type 0) (In : ℕ → ℕ → Type 0)
         | inr t ↦ among ys p.2 (rw t.0 at found)
       ]
 
-  descent : (k l : ℕ) (xs : List ℕ) → l < n → Passed l xs → IsDistinct eqb xs → length xs + k ≡ n → In k l
+  descent : (k l : ℕ) (xs : List ℕ) → l < n → Passed l xs → IsDistinct eqb xs → length xs + k ≡ n
+      → In k l
   unfolding IsDistinct
   descent zero l xs lt p distinct many =
       let all : length (l ∷ xs) ≤ n = length-le_from_distinct_below (l ∷ xs) n (apart l xs p, distinct) (below l xs lt p) in
       absurd (omega arith)
   descent (suc k) l xs lt p distinct many =
-      round k l lt (λ m m_lt r. descent k m (l ∷ xs) m_lt (lt, ([], r), pass m l xs r p) (apart l xs p, distinct) (omega arith))
+      round k l lt (λ m m_lt r. descent k m (l ∷ xs) m_lt (lt, ([], r), pass m l xs r p)
+      (apart l xs p, distinct) (omega arith))
 
   pub all_there : (l : ℕ) → l < n → In n l
   unfolding IsDistinct
@@ -80,18 +87,24 @@ load_no_jump : (i : Instruction) → IsTrue (is_load i) → i ≡ Jump 0 → ⊥
 load_no_jump i load e = false≢true (subst (λ (y : Instruction). IsTrue (is_load y)) e load)
 
 -- a store writes what is in its register
-stores_event : (i : Instruction) (v : Value) (s : State) (q : ℕ) → IsStoredRegister i (Register q) → (a : Value) × (event_of i v s ≡ Writes a (register s q) ∷ [])
+stores_event : (i : Instruction) (v : Value) (s : State) (q : ℕ) → IsStoredRegister i (Register q)
+    → (a : Value) × (event_of i v s ≡ Writes a (register s q) ∷ [])
 stores_event (Immediate d n) v s q e = absurd e
 stores_event (Move d a) v s q e = absurd e
 stores_event (AddImmediate d a n) v s q e = absurd e
 stores_event (Operate o d a b) v s q e = absurd e
 stores_event (Load d a) v s q e = absurd e
 stores_event (LoadIndexed d a b) v s q e = absurd e
-stores_event (Store d a) v s q e = (register s a, ap (λ (r : ℕ). Writes (register s a) (register s r) ∷ []) (inside d q (sym e)))
+stores_event (Store d a) v s q e =
+    (register s a, ap (λ (r : ℕ). Writes (register s a) (register s r) ∷ []) (inside d q (sym e)))
   where
     inside : (d q : ℕ) → Register d ≡ Register q → d ≡ q
     inside d q e = cc
-stores_event (StoreIndexed d a b) v s q e = (sum_of (register s a) (register s b), ap (λ (r : ℕ). Writes (sum_of (register s a) (register s b)) (register s r) ∷ []) (inside d q (sym e)))
+stores_event (StoreIndexed d a b) v s q e = (
+  sum_of (register s a) (register s b),
+  ap (λ (r : ℕ). Writes (sum_of (register s a) (register s b)) (register s r) ∷ [])
+      (inside d q (sym e)),
+)
   where
     inside : (d q : ℕ) → Register d ≡ Register q → d ≡ q
     inside d q e = cc
@@ -102,11 +115,15 @@ stores_event (Jump l) v s q e = absurd e
 stores_event (Barrier f) v s q e = absurd e
 
 -- the event of a index is among the events
-has_event : (f : Executed) (l : ℕ → Value) (s : State) (n j : ℕ) (e : Event) → j < n → Contains (event_of (f j) (l j) (state_at f l s j)) e → Contains (events_before f l s n) e
+has_event : (f : Executed) (l : ℕ → Value) (s : State) (n j : ℕ) (e : Event) → j < n
+    → Contains (event_of (f j) (l j) (state_at f l s j)) e → Contains (events_before f l s n) e
 has_event f l s zero j e lt c = absurd (omega arith)
 has_event f l s (suc n) j e lt c = elim (cases_eq j n) [
-  | inl same ↦ Contains-append_right (events_before f l s n) (event_of (f n) (l n) (state_at f l s n)) e (subst (λ (k : ℕ). Contains (event_of (f k) (l k) (state_at f l s k)) e) same c)
-  | inr ne ↦ Contains-append_left (events_before f l s n) (event_of (f n) (l n) (state_at f l s n)) e (has_event f l s n j e (omega arith) c)
+  | inl same ↦ Contains-append_right (events_before f l s n)
+      (event_of (f n) (l n) (state_at f l s n)) e (subst
+      (λ (k : ℕ). Contains (event_of (f k) (l k) (state_at f l s k)) e) same c)
+  | inr ne ↦ Contains-append_left (events_before f l s n) (event_of (f n) (l n) (state_at f l s n))
+      e (has_event f l s n j e (omega arith) c)
 ]
 
 -- a value if it was needed, else another one
@@ -119,7 +136,8 @@ unfolding chosen
 chosen-needed (inl y) v d a = refl
 chosen-needed (inr n) v d a = absurd (n a)
 
-chosen-allowed : {A : Type 0} (P : Value → Type 0) (x : Decision A) (v d : Value) → (A → P v) → P d → P (chosen x v d)
+chosen-allowed : {A : Type 0} (P : Value → Type 0) (x : Decision A) (v d : Value) → (A → P v) → P d
+    → P (chosen x v d)
 unfolding chosen
 chosen-allowed P (inl y) v d a p = a y
 chosen-allowed P (inr n) v d a p = p
@@ -128,17 +146,28 @@ abbrev picked_value : Outcome → ℕ → Value → ℕ → Value
 picked_value r j d i = chosen (decide_need (executed r.walk.steps) i j) (loaded_at r.walk.steps i) d
 
 -- what the free run stores at the index
-same_store : (s : State) (r : Outcome) (d : Value) (j q : ℕ) (f : Walk) → IsPicked (picked_value r j d) r.walk f → IsStoredRegister (executed r.walk.steps j) (Register q)
-    → register (state_at (executed f.steps) (loaded_at f.steps) s j) q ≡ register (state_at (executed r.walk.steps) (loaded_at r.walk.steps) s j) q
+same_store : (s : State) (r : Outcome) (d : Value) (j q : ℕ) (f : Walk)
+    → IsPicked (picked_value r j d) r.walk f
+    → IsStoredRegister (executed r.walk.steps j) (Register q)
+    → register (state_at (executed f.steps) (loaded_at f.steps) s j) q
+    ≡ register (state_at (executed r.walk.steps) (loaded_at r.walk.steps) s j) q
 same_store s r d j q f p stored =
     let lt : j < length r.walk.steps = in_run r.walk.steps j (not_jump (executed r.walk.steps j) q stored) in
-    ap (λ (t : State). register t q) (state_prefix (executed f.steps) (executed r.walk.steps) (loaded_at f.steps) (loaded_at f.steps) s j (λ k k_lt. p.same k (omega arith)) (λ k k_lt. refl))
-    ∙ sym (stores_the_same (executed r.walk.steps) s (loaded_at r.walk.steps) (loaded_at f.steps) j (λ i need.
+    ap (λ (t : State). register t q) (state_prefix (executed f.steps) (executed r.walk.steps)
+    (loaded_at f.steps) (loaded_at f.steps) s j (λ k k_lt. p.same k (omega arith))
+    (λ k k_lt. refl))
+    ∙ sym (stores_the_same (executed r.walk.steps) s (loaded_at r.walk.steps) (loaded_at f.steps) j
+    (λ i need.
     sym (p.picked i (in_run r.walk.steps i (load_no_jump (executed r.walk.steps i) need.0)) need.0
-    ∙ chosen-needed (decide_need (executed r.walk.steps) i j) (loaded_at r.walk.steps i) d need)) q stored)
+    ∙ chosen-needed (decide_need (executed r.walk.steps) i j) (loaded_at r.walk.steps i) d need)) q
+    stored)
 
-stored_in : (s : State) (r : Outcome) (d : Value) (j q : ℕ) (f : Walk) → IsWalk s f → IsPicked (picked_value r j d) r.walk f → IsStoredRegister (executed r.walk.steps j) (Register q)
-    → (a : Value) × Contains f.events (Writes a (register (state_at (executed r.walk.steps) (loaded_at r.walk.steps) s j) q))
+stored_in : (s : State) (r : Outcome) (d : Value) (j q : ℕ) (f : Walk) → IsWalk s f
+    → IsPicked (picked_value r j d) r.walk f
+    → IsStoredRegister (executed r.walk.steps j) (Register q)
+    → (a : Value)
+    × Contains f.events (Writes a (register
+    (state_at (executed r.walk.steps) (loaded_at r.walk.steps) s j) q))
 stored_in s r d j q f x p stored =
     let lt : j < length r.walk.steps = in_run r.walk.steps j (not_jump (executed r.walk.steps j) q stored) in
     let stored' : IsStoredRegister (executed f.steps j) (Register q) = subst (λ (i : Instruction). IsStoredRegister i (Register q)) (sym (p.same j lt)) stored in
@@ -148,25 +177,36 @@ stored_in s r d j q f x p stored =
     let w : Event = Writes a (register (state_at (executed r.walk.steps) (loaded_at r.walk.steps) s j) q) in (
       a,
       subst (λ (es : List Event). Contains es w) (sym x.events)
-          (has_event (executed f.steps) (loaded_at f.steps) s (length f.steps) j w (omega (arith, p.long))
+          (has_event (executed f.steps) (loaded_at f.steps) s (length f.steps) j w
+          (omega (arith, p.long))
           (subst (λ (es : List Event). Contains es w) (sym e') (Contains-push [] w))),
     )
 
--- a store of a run stores its value in a free run too, in which the loads that it needs keep their values and the others have an allowed one
-pub stored_freely : (threads : List Thread) (t : Thread) (vs : List Value) (r : Outcome) (P : Value → Type 0) (d : Value) (j q : ℕ)
-    → Contains threads t → run_of t.lines t.first vs ≡ Some r → IsStoredRegister (executed r.walk.steps j) (Register q) → P d
+-- a store of a run stores its value in a free run too, in which the loads that it needs keep their
+-- values and the others have an allowed one
+pub stored_freely : (threads : List Thread) (t : Thread) (vs : List Value) (r : Outcome)
+    (P : Value → Type 0) (d : Value) (j q : ℕ)
+    → Contains threads t → run_of t.lines t.first vs ≡ Some r
+    → IsStoredRegister (executed r.walk.steps j) (Register q) → P d
     → ((i : ℕ) → IsNeed (executed r.walk.steps) i j → P (loaded_at r.walk.steps i))
-    → StoresFreely threads P (register (state_at (executed r.walk.steps) (loaded_at r.walk.steps) t.first j) q)
+    → StoresFreely threads P (register
+    (state_at (executed r.walk.steps) (loaded_at r.walk.steps) t.first j) q)
 stored_freely threads t vs r P d j q there ran stored default_ok needed_ok =
     let free = follow P (picked_value r j d) t.first
-    (λ i. chosen-allowed P (decide_need (executed r.walk.steps) i j) (loaded_at r.walk.steps i) d (needed_ok i) default_ok)
+    (λ i. chosen-allowed P (decide_need (executed r.walk.steps) i j) (loaded_at r.walk.steps i) d
+    (needed_ok i) default_ok)
     t.lines (started t.first) (started t.first) vs r ran (IsWalk-started t.first) refl refl
-    (record { long = omega arith; same = λ n lt. absurd (omega arith); picked = λ n lt load. absurd (omega arith) }) in
+    (record {
+      long = omega arith;
+      same = λ n lt. absurd (omega arith);
+      picked = λ n lt load. absurd (omega arith);
+    }) in
     let found = stored_in t.first r d j q free.outcome.walk free.walk free.picked stored in
     (t, there, free.choices, free.values, free.allowed, free.outcome, free.free, found.0, found.1)
 
 -- a way by loads is a way by loads and stores
-longer_way : (e : Execution) (a : ℕ) (through : List ℕ) (b : ℕ) → Way (Precedes e) a through b → (nodes : List Node) × Way (Leads e) (LoadNode a) nodes (LoadNode b)
+longer_way : (e : Execution) (a : ℕ) (through : List ℕ) (b : ℕ) → Way (Precedes e) a through b
+    → (nodes : List Node) × Way (Leads e) (LoadNode a) nodes (LoadNode b)
 longer_way e a [] b w =
     let (j, source, need) = w in
     (StoreNode (e.load a).thread j ∷ [], ((refl, need), source))
@@ -175,19 +215,25 @@ longer_way e a (c ∷ cs) b w =
     let (nodes, rest) = longer_way e c cs b w.1 in
     (StoreNode (e.load a).thread j ∷ LoadNode c ∷ nodes, ((refl, need), (source, rest)))
 
-in_every : (initial : List Value) (threads : List Thread) (k : ℕ) (v : Value) → Contains initial v → InDomain initial threads k v
+in_every : (initial : List Value) (threads : List Thread) (k : ℕ) (v : Value) → Contains initial v
+    → InDomain initial threads k v
 in_every initial threads zero v c = c
 in_every initial threads (suc k) v c = inl (in_every initial threads k v c)
 
-module _ (initial : List Value) (threads : List Thread) (e : Execution) (x : IsExecution initial threads e) where
-  from_source : (s : Source) (k l : ℕ) → l < e.count → (e.load l).source ≡ s → IsReadFrom e initial threads s (value_read e l)
-      → ((m : ℕ) → m < e.count → Precedes e m l → InDomain initial threads k (value_read e m)) → InDomain initial threads (suc k) (value_read e l)
+module _ (initial : List Value) (threads : List Thread) (e : Execution)
+    (x : IsExecution initial threads e) where
+  from_source : (s : Source) (k l : ℕ) → l < e.count → (e.load l).source ≡ s
+      → IsReadFrom e initial threads s (value_read e l)
+      → ((m : ℕ) → m < e.count → Precedes e m l → InDomain initial threads k (value_read e m))
+      → InDomain initial threads (suc k) (value_read e l)
   from_source Initial k l lt is c before = inl (in_every initial threads k (value_read e l) c)
   from_source (From t j) k l lt is c before =
       inr (
         subst (λ (v : Value). StoresFreely threads (InDomain initial threads k) v) (sym c.1.2)
-            (stored_freely threads (e.ran t).thread (e.ran t).values (e.ran t).outcome (InDomain initial threads k) x.some_initial.0 j c.1.0
-            c.0 (x.runs t c.0) c.1.1 (in_every initial threads k x.some_initial.0 x.some_initial.1) needed),
+            (stored_freely threads (e.ran t).thread (e.ran t).values (e.ran t).outcome
+            (InDomain initial threads k) x.some_initial.0 j c.1.0
+            c.0 (x.runs t c.0) c.1.1 (in_every initial threads k x.some_initial.0 x.some_initial.1)
+            needed),
         x.proper l lt,
       )
     where
@@ -195,7 +241,8 @@ module _ (initial : List Value) (threads : List Thread) (e : Execution) (x : IsE
       needed i need =
           let (m, m_lt, same_thread, same_place) = x.numbered t i need.0 in
           subst (λ (p : ℕ). InDomain initial threads k (loaded_by e t p)) same_place
-          (subst (λ (u : ℕ). InDomain initial threads k (loaded_by e u (e.load m).index)) same_thread
+          (subst (λ (u : ℕ). InDomain initial threads k (loaded_by e u (e.load m).index))
+          same_thread
           (before m m_lt (
             j,
             is ∙ ap (λ (u : ℕ). From u j) (sym same_thread),
@@ -205,5 +252,6 @@ module _ (initial : List Value) (threads : List Thread) (e : Execution) (x : IsE
 
   pub nothing_lost : (l : ℕ) → l < e.count → InDomain initial threads e.count (value_read e l)
   nothing_lost = all_there e.count (Precedes e) (λ k l. InDomain initial threads k (value_read e l))
-      (λ l through w. let (nodes, way) = longer_way e l through l w in x.acyclic (LoadNode l) nodes way)
+      (λ l through w.
+      let (nodes, way) = longer_way e l through l w in x.acyclic (LoadNode l) nodes way)
       (λ k l lt before. from_source (e.load l).source k l lt refl (x.reads l lt) before)

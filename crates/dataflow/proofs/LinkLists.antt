@@ -15,10 +15,12 @@ use Rattle.dataflow.specs.Dependencies.{ArePairs}
 use Rattle.dataflow.proofs.ReachLoop.{place_lt}
 
 -- past the end of a run nothing is an event
-pub event_within : (steps : List RunStep) (i : ℕ) → is_event (executed steps i) ≡ true → i < length steps
+pub event_within : (steps : List RunStep) (i : ℕ) → is_event (executed steps i) ≡ true
+    → i < length steps
 event_within steps i event = elim (cases_lt i (length steps)) [
   | inl lt ↦ lt
-  | inr ge ↦ absurd (false≢true (sym (ap (λ (x : RunStep). is_event x.instruction) (get_or_past steps i nothing ge)) ∙ event))
+  | inr ge ↦ absurd (false≢true (sym (ap (λ (x : RunStep). is_event x.instruction)
+      (get_or_past steps i nothing ge)) ∙ event))
 ]
 
 -- each place below the number of events is that of an event
@@ -28,7 +30,9 @@ EventAt f n e = (j : ℕ) × (j < n) × IsTrue (is_event (f j)) × (event_place 
 event_later : (f : Executed) (n e : ℕ) → EventAt f n e → EventAt f (suc n) e
 event_later f n e x = let (j, before, event, index) = x in (j, omega (arith, before), event, index)
 
-event_here : (f : Executed) (n e : ℕ) (b : Bool) → is_event (f n) ≡ b → (e < event_place f n → EventAt f n e) → e < (if b then event_place f n + 1 else event_place f n) → EventAt f (suc n) e
+event_here : (f : Executed) (n e : ℕ) (b : Bool) → is_event (f n) ≡ b
+    → (e < event_place f n → EventAt f n e)
+    → e < (if b then event_place f n + 1 else event_place f n) → EventAt f (suc n) e
 event_here f n e true is earlier less = elim (cases_lt e (event_place f n)) [
   | inl before ↦ event_later f n e (earlier before)
   | inr ge ↦ (n, omega arith, is, omega (arith, ge, less))
@@ -43,9 +47,13 @@ event_at f (suc n) e lt = event_here f n e (is_event (f n)) refl (event_at f n e
 abbrev pub OfLoads : (Executed → ℕ → ℕ → Type 0) → Executed → Type 0
 OfLoads R f = (i j : ℕ) → R f i j → IsTrue (is_event (f i)) × IsTrue (is_event (f j))
 
-pub listed : (R : Executed → ℕ → ℕ → Type 0) (steps : List RunStep) (words : List ℕ) (ps : List (ℕ × ℕ)) → OfLoads R (executed steps)
-    → AreColumnsOf R (executed steps) (length steps) words → ArePairs words (event_place (executed steps) (length steps)) ps → IsListOf R (executed steps) ps
-listed R steps words ps loads columns found = record { rising = found.rising; exact = λ p. (forth p, back p) }
+pub listed : (R : Executed → ℕ → ℕ → Type 0) (steps : List RunStep) (words : List ℕ)
+    (ps : List (ℕ × ℕ)) → OfLoads R (executed steps)
+    → AreColumnsOf R (executed steps) (length steps) words
+    → ArePairs words (event_place (executed steps) (length steps)) ps
+    → IsListOf R (executed steps) ps
+listed R steps words ps loads columns found =
+    record { rising = found.rising; exact = λ p. (forth p, back p) }
   where
     f : Executed
     f = executed steps
@@ -63,18 +71,28 @@ listed R steps words ps loads columns found = record { rising = found.rising; ex
         let (load, event) = loads i j related in
         let inside : j < length steps = event_within steps j event in
         (found.exact p).1 (
-          subst (λ (k : ℕ). k < event_place f (length steps)) (sym from) (place_lt f i (length steps) load (event_within steps i load)),
-          subst (λ (k : ℕ). k < event_place f (length steps)) (sym to) (place_lt f j (length steps) event inside),
-          subst (λ (k : ℕ). Bit (get_or words k 0) p.0) (sym to) ((columns j inside event p.0).1 (i, sym from, related)),
+          subst (λ (k : ℕ). k < event_place f (length steps)) (sym from)
+              (place_lt f i (length steps) load (event_within steps i load)),
+          subst (λ (k : ℕ). k < event_place f (length steps)) (sym to)
+              (place_lt f j (length steps) event inside),
+          subst (λ (k : ℕ). Bit (get_or words k 0) p.0) (sym to)
+              ((columns j inside event p.0).1 (i, sym from, related)),
         )
 
 -- the same, over what the loops were given
-pub list_of : (R : Executed → ℕ → ℕ → Type 0) (steps counted given : List RunStep) (words : List ℕ) (count : ℕ) (ps : List (ℕ × ℕ)) → ((f : Executed) → OfLoads R f) → counted ≡ steps → given ≡ steps
-    → count ≡ event_place (executed counted) (length counted) → AreColumnsOf R (executed given) (length given) words → ArePairs words count ps → IsListOf R (executed steps) ps
+pub list_of : (R : Executed → ℕ → ℕ → Type 0) (steps counted given : List RunStep) (words : List ℕ)
+    (count : ℕ) (ps : List (ℕ × ℕ)) → ((f : Executed) → OfLoads R f) → counted ≡ steps
+    → given ≡ steps
+    → count ≡ event_place (executed counted) (length counted)
+    → AreColumnsOf R (executed given) (length given) words → ArePairs words count ps
+    → IsListOf R (executed steps) ps
 list_of R steps counted given words count ps loads same_counted same_given many columns found =
     listed R steps words ps (loads (executed steps))
-    (subst (λ (xs : List RunStep). AreColumnsOf R (executed xs) (length xs) words) same_given columns)
-    (subst (λ (n : ℕ). ArePairs words n ps) (many ∙ ap (λ (xs : List RunStep). event_place (executed xs) (length xs)) same_counted) found)
+    (subst (λ (xs : List RunStep). AreColumnsOf R (executed xs) (length xs) words) same_given
+    columns)
+    (subst (λ (n : ℕ). ArePairs words n ps)
+    (many ∙ ap (λ (xs : List RunStep). event_place (executed xs) (length xs)) same_counted)
+    found)
 
 load_event : (i : Instruction) → is_load i ≡ true → is_event i ≡ true
 load_event (Load d a) l = refl
@@ -91,7 +109,8 @@ load_event (Branch c m) l = absurd (false≢true l)
 load_event (Jump m) l = absurd (false≢true l)
 load_event (Barrier f) l = refl
 
-access_event : (stored : Bool) (i : Instruction) (p : Place) → reads_of stored i p → is_event i ≡ true
+access_event : (stored : Bool) (i : Instruction) (p : Place) → reads_of stored i p
+    → is_event i ≡ true
 access_event stored (Load d a) p r = refl
 access_event stored (LoadIndexed d a b) p r = refl
 access_event stored (Store d a) p r = refl
@@ -114,11 +133,18 @@ access_event false (CompareImmediate a m) p r = absurd r
 access_event false (Branch c m) p r = absurd r
 access_event false (Jump m) p r = absurd r
 
-pub reach_loads : (passes : Instruction → Bool) (stored : Bool) (f : Executed) → OfLoads (LoadReaches passes (reads_of stored)) f
-reach_loads passes stored f i j x = let (load, rest) = x in let (p, reads, reaches) = rest in (load_event (f i) load, access_event stored (f j) p reads)
+pub reach_loads : (passes : Instruction → Bool) (stored : Bool) (f : Executed)
+    → OfLoads (LoadReaches passes (reads_of stored)) f
+reach_loads passes stored f i j x =
+    let (load, rest) = x in
+    let (p, reads, reaches) = rest in (load_event (f i) load, access_event stored (f j) p reads)
 
 pub ctrl_loads : (f : Executed) → OfLoads IsCtrl f
-ctrl_loads f i j x = let (event, behind) = x in let (b, lt, branch, reaches) = behind in (load_event (f i) reaches.0, event)
+ctrl_loads f i j x =
+    let (event, behind) = x in
+    let (b, lt, branch, reaches) = behind in (load_event (f i) reaches.0, event)
 
 pub ctrlisync_loads : (f : Executed) → OfLoads IsCtrlIsync f
-ctrlisync_loads f i j x = let (event, behind) = x in let (s, lt, sync, ctrl) = behind in ((ctrl_loads f i s ctrl).0, event)
+ctrlisync_loads f i j x =
+    let (event, behind) = x in
+    let (s, lt, sync, ctrl) = behind in ((ctrl_loads f i s ctrl).0, event)

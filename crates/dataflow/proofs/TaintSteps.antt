@@ -19,56 +19,106 @@ use Rattle.dataflow.proofs.Inversion.{through_last, before_last, from_through, n
 module _ (passes : Instruction → Bool) (at : Executed) where
   -- what reaches the place that the last instruction wrote
   taint_written : (n : ℕ) (p : Place) (e : ℕ) → IsWritten (at n) p
-      → TaintOf passes at (suc n) p e ↔ ((IsTrue (is_load (at n)) × (event_place at n ≡ e)) ⊎ (IsTrue (passes (at n)) × ((a : Place) × IsOperand (at n) a × TaintOf passes at n a e)))
+      → TaintOf passes at (suc n) p e
+      ↔ ((IsTrue (is_load (at n)) × (event_place at n ≡ e))
+      ⊎ (IsTrue (passes (at n))
+      × ((a : Place) × IsOperand (at n) a × TaintOf passes at n a e)))
   taint_written n p e here = (forth, back)
     where
       split : (i : ℕ) → IsTrue (is_load (at i)) → event_place at i ≡ e → Through passes at i n
-          → (IsTrue (is_load (at n)) × (event_place at n ≡ e)) ⊎ (IsTrue (passes (at n)) × ((a : Place) × IsOperand (at n) a × TaintOf passes at n a e))
-      split i load here_is (inl same) = inl (subst (λ (k : ℕ). IsTrue (is_load (at k))) same load, subst (λ (k : ℕ). event_place at k ≡ e) same here_is)
-      split i load here_is (inr t) = let (ok, rest) = t in let (a, operand, y) = rest in inr (ok, (a, operand, (i, load, here_is, y)))
+          → (IsTrue (is_load (at n)) × (event_place at n ≡ e))
+          ⊎ (IsTrue (passes (at n))
+          × ((a : Place) × IsOperand (at n) a × TaintOf passes at n a e))
+      split i load here_is (inl same) =
+          inl (
+            subst (λ (k : ℕ). IsTrue (is_load (at k))) same load,
+            subst (λ (k : ℕ). event_place at k ≡ e) same here_is,
+          )
+      split i load here_is (inr t) =
+          let (ok, rest) = t in
+          let (a, operand, y) = rest in inr (ok, (a, operand, (i, load, here_is, y)))
 
-      forth : TaintOf passes at (suc n) p e → (IsTrue (is_load (at n)) × (event_place at n ≡ e)) ⊎ (IsTrue (passes (at n)) × ((a : Place) × IsOperand (at n) a × TaintOf passes at n a e))
-      forth t = let (i, load, here_is, x) = t in split i load here_is (through_last passes at i p n here x)
+      forth : TaintOf passes at (suc n) p e
+          → (IsTrue (is_load (at n)) × (event_place at n ≡ e))
+          ⊎ (IsTrue (passes (at n))
+          × ((a : Place) × IsOperand (at n) a × TaintOf passes at n a e))
+      forth t =
+          let (i, load, here_is, x) = t in
+          split i load here_is (through_last passes at i p n here x)
 
-      back : (IsTrue (is_load (at n)) × (event_place at n ≡ e)) ⊎ (IsTrue (passes (at n)) × ((a : Place) × IsOperand (at n) a × TaintOf passes at n a e)) → TaintOf passes at (suc n) p e
+      back : (IsTrue (is_load (at n)) × (event_place at n ≡ e))
+          ⊎ (IsTrue (passes (at n))
+          × ((a : Place) × IsOperand (at n) a × TaintOf passes at n a e))
+          → TaintOf passes at (suc n) p e
       back (inl t) = (n, t.0, t.1, from_through passes at n p n here (inl refl))
-      back (inr t) = let (ok, rest) = t in let (a, operand, taint) = rest in let (i, load, here_is, x) = taint in
+      back (inr t) =
+          let (ok, rest) = t in
+          let (a, operand, taint) = rest in let (i, load, here_is, x) = taint in
           (i, load, here_is, from_through passes at i p n here (inr (ok, (a, operand, x))))
 
-  taint_kept : (n : ℕ) (p : Place) (e : ℕ) → (IsWritten (at n) p → ⊥) → TaintOf passes at (suc n) p e ↔ TaintOf passes at n p e
+  taint_kept : (n : ℕ) (p : Place) (e : ℕ) → (IsWritten (at n) p → ⊥)
+      → TaintOf passes at (suc n) p e ↔ TaintOf passes at n p e
   taint_kept n p e not_here = (
-    (λ t. let (i, load, here_is, x) = t in (i, load, here_is, before_last passes at i p n not_here x)),
-    (λ t. let (i, load, here_is, x) = t in (i, load, here_is, reaches_more passes at i p n not_here x)),
+    (λ t.
+        let (i, load, here_is, x) = t in
+        (i, load, here_is, before_last passes at i p n not_here x)),
+    (λ t.
+        let (i, load, here_is, x) = t in
+        (i, load, here_is, reaches_more passes at i p n not_here x)),
   )
 
-  pub taints_first : (t : Taints) → ((p : Place) → IsPlace p → word_of t p ≡ 0) → AreTaints passes at zero t
-  taints_first t empty p within e =
-      ((λ bit. absurd (Bit-zero e (subst (λ (w : ℕ). Bit w e) (empty p within) bit))), (λ taint. let (i, load, here_is, x) = taint in absurd (none_first passes at i p x)))
+  pub taints_first : (t : Taints) → ((p : Place) → IsPlace p → word_of t p ≡ 0)
+      → AreTaints passes at zero t
+  taints_first t empty p within e = (
+    (λ bit. absurd (Bit-zero e (subst (λ (w : ℕ). Bit w e) (empty p within) bit))),
+    (λ taint. let (i, load, here_is, x) = taint in absurd (none_first passes at i p x)),
+  )
 
 -- one instruction more, whose operands are within the file of registers
 module _ (narrow : Bool) (at : Executed) where
-  pub taints_more : (n : ℕ) (t u : Taints) → ((a : Place) → IsOperand (at n) a → IsPlace a) → AreTaints (passes_of narrow) at n t → IsStep narrow (at n) (event_place at n) t u → AreTaints (passes_of narrow) at (suc n) u
+  pub taints_more : (n : ℕ) (t u : Taints) → ((a : Place) → IsOperand (at n) a → IsPlace a)
+      → AreTaints (passes_of narrow) at n t → IsStep narrow (at n) (event_place at n) t u
+      → AreTaints (passes_of narrow) at (suc n) u
   taints_more n t u inside old step p within e = go (is_written (at n) p)
     where
-      go : IsWritten (at n) p ⊎ (IsWritten (at n) p → ⊥) → Bit (word_of u p) e ↔ TaintOf (passes_of narrow) at (suc n) p e
+      go : IsWritten (at n) p ⊎ (IsWritten (at n) p → ⊥)
+          → Bit (word_of u p) e ↔ TaintOf (passes_of narrow) at (suc n) p e
       go (inl here) =
           let (f, g) = step.written p within here e in
           let (f', g') = taint_written (passes_of narrow) at n p e here in (
-            (λ bit. g' (elim (f bit) [ inl own ↦ inl own | inr s ↦ let (ok, rest) = s in let (a, operand, b) = rest in inr (ok, (a, operand, (old a (inside a operand) e).0 b)) ])),
-            (λ taint. g (elim (f' taint) [ inl own ↦ inl own | inr s ↦ let (ok, rest) = s in let (a, operand, b) = rest in inr (ok, (a, operand, (old a (inside a operand) e).1 b)) ])),
+            (λ bit. g' (elim (f bit) [
+              | inl own ↦ inl own
+              | inr s ↦
+                  let (ok, rest) = s in
+                  let (a, operand, b) = rest in
+                  inr (ok, (a, operand, (old a (inside a operand) e).0 b))
+            ])),
+            (λ taint. g (elim (f' taint) [
+              | inl own ↦ inl own
+              | inr s ↦
+                  let (ok, rest) = s in
+                  let (a, operand, b) = rest in
+                  inr (ok, (a, operand, (old a (inside a operand) e).1 b))
+            ])),
           )
       go (inr not_here) =
           let (f', g') = taint_kept (passes_of narrow) at n p e not_here in
-          let same = step.kept p not_here in
-          ((λ bit. g' ((old p within e).0 (subst (λ (w : ℕ). Bit w e) same bit))), (λ taint. subst (λ (w : ℕ). Bit w e) (sym same) ((old p within e).1 (f' taint))))
+          let same = step.kept p not_here in (
+            (λ bit. g' ((old p within e).0 (subst (λ (w : ℕ). Bit w e) same bit))),
+            (λ taint. subst (λ (w : ℕ). Bit w e) (sym same) ((old p within e).1 (f' taint))),
+          )
 
 -- the bits of the places that an instruction reads
-pub one_place : (t : Taints) (a : Place) (e : ℕ) → Bit (word_of t a) e ↔ ((p : Place) × (p ≡ a) × Bit (word_of t p) e)
+pub one_place : (t : Taints) (a : Place) (e : ℕ)
+    → Bit (word_of t a) e ↔ ((p : Place) × (p ≡ a) × Bit (word_of t p) e)
 one_place t a e = ((λ b. (a, refl, b)), (λ x. subst (λ (p : Place). Bit (word_of t p) e) x.1 x.2))
 
-pub two_places : (t : Taints) (a b : Place) (e : ℕ) → Bit (bit_or (word_of t a) (word_of t b)) e ↔ ((p : Place) × ((p ≡ a) ⊎ (p ≡ b)) × Bit (word_of t p) e)
+pub two_places : (t : Taints) (a b : Place) (e : ℕ)
+    → Bit (bit_or (word_of t a) (word_of t b)) e
+    ↔ ((p : Place) × ((p ≡ a) ⊎ (p ≡ b)) × Bit (word_of t p) e)
 two_places t a b e = (
-  (λ x. elim ((Bit-or (word_of t a) (word_of t b) e).0 x) [ inl y ↦ (a, inl refl, y) | inr y ↦ (b, inr refl, y) ]),
+  (λ x. elim ((Bit-or (word_of t a) (word_of t b) e).0 x)
+      [ inl y ↦ (a, inl refl, y) | inr y ↦ (b, inr refl, y) ]),
   (λ x. (Bit-or (word_of t a) (word_of t b) e).1 (elim x.1 [
     | inl same ↦ inl (subst (λ (p : Place). Bit (word_of t p) e) same x.2)
     | inr same ↦ inr (subst (λ (p : Place). Bit (word_of t p) e) same x.2)
@@ -79,22 +129,40 @@ pub no_places : (t : Taints) (e : ℕ) → Bit 0 e ↔ ((p : Place) × ⊥ × Bi
 no_places t e = ((λ x. absurd (Bit-zero e x)), (λ x. absurd x.1))
 
 -- an instruction that is a load, or passes its operands' bits on, or none
-pub of_load : (narrow : Bool) (i : Instruction) (index : ℕ) (t : Taints) (word : ℕ) → is_load i ≡ true → (passes_of narrow i ≡ true → ⊥)
+pub of_load : (narrow : Bool) (i : Instruction) (index : ℕ) (t : Taints) (word : ℕ)
+    → is_load i ≡ true → (passes_of narrow i ≡ true → ⊥)
     → ((e : ℕ) → Bit word e ↔ (index ≡ e)) → (e : ℕ) → Bit word e ↔ IsOrigin narrow i index t e
-of_load narrow i index t word load not_passed own e =
-    ((λ b. inl (load, (own e).0 b)), (λ x. elim x [ inl y ↦ (own e).1 y.1 | inr y ↦ absurd (not_passed y.0) ]))
+of_load narrow i index t word load not_passed own e = (
+  (λ b. inl (load, (own e).0 b)),
+  (λ x. elim x [ inl y ↦ (own e).1 y.1 | inr y ↦ absurd (not_passed y.0) ]),
+)
 
-pub of_operands : (narrow : Bool) (i : Instruction) (index : ℕ) (t : Taints) (word : ℕ) → is_load i ≡ false → passes_of narrow i ≡ true
+pub of_operands : (narrow : Bool) (i : Instruction) (index : ℕ) (t : Taints) (word : ℕ)
+    → is_load i ≡ false → passes_of narrow i ≡ true
     → IsUnion IsOperand i t word → (e : ℕ) → Bit word e ↔ IsOrigin narrow i index t e
-of_operands narrow i index t word not_load passed u e =
-    ((λ b. inr (passed, (u e).0 b)), (λ x. elim x [ inl y ↦ absurd (false≢true (sym not_load ∙ y.0)) | inr y ↦ (u e).1 y.1 ]))
+of_operands narrow i index t word not_load passed u e = (
+  (λ b. inr (passed, (u e).0 b)),
+  (λ x. elim x [
+    | inl y ↦ absurd (false≢true (sym not_load ∙ y.0))
+    | inr y ↦ (u e).1
+        y.1
+  ]),
+)
 
-pub of_none : (narrow : Bool) (i : Instruction) (index : ℕ) (t : Taints) → is_load i ≡ false → (passes_of narrow i ≡ true → ⊥)
+pub of_none : (narrow : Bool) (i : Instruction) (index : ℕ) (t : Taints) → is_load i ≡ false
+    → (passes_of narrow i ≡ true → ⊥)
     → (e : ℕ) → Bit 0 e ↔ IsOrigin narrow i index t e
-of_none narrow i index t not_load not_passed e =
-    ((λ b. absurd (Bit-zero e b)), (λ x. elim x [ inl y ↦ absurd (false≢true (sym not_load ∙ y.0)) | inr y ↦ absurd (not_passed y.0) ]))
+of_none narrow i index t not_load not_passed e = (
+  (λ b. absurd (Bit-zero e b)),
+  (λ x. elim x [
+    | inl y ↦ absurd (false≢true (sym not_load ∙ y.0))
+    | inr y ↦ absurd
+        (not_passed y.0)
+  ]),
+)
 
-pub load_blocks : (narrow : Bool) (i : Instruction) → is_load i ≡ true → passes_of narrow i ≡ true → ⊥
+pub load_blocks : (narrow : Bool) (i : Instruction) → is_load i ≡ true → passes_of narrow i ≡ true
+    → ⊥
 load_blocks true (Load d a) l p = false≢true p
 load_blocks true (LoadIndexed d a b) l p = false≢true p
 load_blocks false (Load d a) l p = false≢true p
@@ -129,43 +197,61 @@ operand_word-union (Barrier f) t e = no_places t e
 pub bit_word-bit : (k : ℕ) → k < 128 → (e : ℕ) → Bit (bit_word k) e ↔ (k ≡ e)
 unfolding Bit
 bit_word-bit k lt e = elim (cases_eq e k) [
-  | inl same ↦ ((λ b. sym same), (λ x. subst (λ (j : ℕ). bit_at (bit_word k) j ≡ 1) (sym same) (bit_at_set_same w128 0 k lt)))
+  | inl same ↦ (
+    (λ b. sym same),
+    (λ x. subst (λ (j : ℕ). bit_at (bit_word k) j ≡ 1) (sym same)
+        (bit_at_set_same w128 0 k lt)),
+  )
   | inr ne ↦
       let off : bit_at (bit_word k) e ≡ 0 = bit_at_set_other w128 0 k lt e ne ∙ bit_at-zero e in
       ((λ b. absurd (zero_or_one _ off b)), (λ x. absurd (ne (sym x))))
 ]
 
-pub origin_word-origin : (narrow : Bool) (i : Instruction) (k : ℕ) (t : Taints) → (is_load i ≡ true → k < 128) → (e : ℕ) → Bit (origin_word narrow i k t) e ↔ IsOrigin narrow i k t e
+pub origin_word-origin : (narrow : Bool) (i : Instruction) (k : ℕ) (t : Taints)
+    → (is_load i ≡ true → k < 128) → (e : ℕ)
+    → Bit (origin_word narrow i k t) e ↔ IsOrigin narrow i k t e
 origin_word-origin narrow i k t lt e = go (is_load i) (passes_of narrow i) refl refl
   where
-    go : (ld ps : Bool) → is_load i ≡ ld → passes_of narrow i ≡ ps → Bit (if ld then bit_word k else if ps then operand_word i t else 0) e ↔ IsOrigin narrow i k t e
-    go true ps load p = of_load narrow i k t (bit_word k) load (load_blocks narrow i load) (bit_word-bit k (lt load)) e
-    go false true load p = of_operands narrow i k t (operand_word i t) load p (operand_word-union i t) e
+    go : (ld ps : Bool) → is_load i ≡ ld → passes_of narrow i ≡ ps
+        → Bit (if ld then bit_word k else if ps then operand_word i t else 0) e
+        ↔ IsOrigin narrow i k t e
+    go true ps load p =
+        of_load narrow i k t (bit_word k) load (load_blocks narrow i load)
+        (bit_word-bit k (lt load)) e
+    go false true load p =
+        of_operands narrow i k t (operand_word i t) load p (operand_word-union i t) e
     go false false load p = of_none narrow i k t load (λ q. false≢true (sym p ∙ q)) e
 
-register_word : (t : Taints) (d : ℕ) (w : ℕ) (p : Place) → length t.registers ≡ 256 → IsPlace p → p ≡ Register d → word_of (record t { registers = set t.registers d w }) p ≡ w
+register_word : (t : Taints) (d : ℕ) (w : ℕ) (p : Place) → length t.registers ≡ 256 → IsPlace p
+    → p ≡ Register d → word_of (record t { registers = set t.registers d w }) p ≡ w
 register_word t d w (Register r) long within e = go r d within (inside r d e)
   where
     inside : (r d : ℕ) → Register r ≡ Register d → r ≡ d
     inside r d e = cc
 
     go : (r d : ℕ) → r < 256 → r ≡ d → get_or (set t.registers d w) r 0 ≡ w
-    go r d lt e = subst (λ (j : ℕ). get_or (set t.registers d w) j 0 ≡ w) (sym e) (get_or-set_same t.registers d w 0 (omega arith))
+    go r d lt e =
+        subst (λ (j : ℕ). get_or (set t.registers d w) j 0 ≡ w) (sym e)
+        (get_or-set_same t.registers d w 0 (omega arith))
 register_word t d w Cr0 long within e = absurd cc
 
-register_kept : (t : Taints) (d : ℕ) (w : ℕ) (p : Place) → (p ≡ Register d → ⊥) → word_of (record t { registers = set t.registers d w }) p ≡ word_of t p
+register_kept : (t : Taints) (d : ℕ) (w : ℕ) (p : Place) → (p ≡ Register d → ⊥)
+    → word_of (record t { registers = set t.registers d w }) p ≡ word_of t p
 register_kept t d w (Register r) ne = get_or-set_other t.registers d r w 0 (λ e. ne (ap Register e))
 register_kept t d w Cr0 ne = refl
 
-compared_word : (t : Taints) (w : ℕ) (p : Place) → p ≡ Cr0 → word_of (record t { compared = w }) p ≡ w
+compared_word : (t : Taints) (w : ℕ) (p : Place) → p ≡ Cr0
+    → word_of (record t { compared = w }) p ≡ w
 compared_word t w (Register r) e = absurd cc
 compared_word t w Cr0 e = refl
 
-compared_kept : (t : Taints) (w : ℕ) (p : Place) → (p ≡ Cr0 → ⊥) → word_of (record t { compared = w }) p ≡ word_of t p
+compared_kept : (t : Taints) (w : ℕ) (p : Place) → (p ≡ Cr0 → ⊥)
+    → word_of (record t { compared = w }) p ≡ word_of t p
 compared_kept t w (Register r) ne = refl
 compared_kept t w Cr0 ne = absurd (ne refl)
 
-pub with_word-written : (i : Instruction) (w : ℕ) (t : Taints) (p : Place) → length t.registers ≡ 256 → IsPlace p → IsWritten i p → word_of (with_word i w t) p ≡ w
+pub with_word-written : (i : Instruction) (w : ℕ) (t : Taints) (p : Place)
+    → length t.registers ≡ 256 → IsPlace p → IsWritten i p → word_of (with_word i w t) p ≡ w
 with_word-written (Immediate d n) w t p long within e = register_word t d w p long within e
 with_word-written (Move d a) w t p long within e = register_word t d w p long within e
 with_word-written (AddImmediate d a n) w t p long within e = register_word t d w p long within e
@@ -180,7 +266,8 @@ with_word-written (Branch c l) w t p long within e = absurd e
 with_word-written (Jump l) w t p long within e = absurd e
 with_word-written (Barrier f) w t p long within e = absurd e
 
-pub with_word-kept : (i : Instruction) (w : ℕ) (t : Taints) (p : Place) → (IsWritten i p → ⊥) → word_of (with_word i w t) p ≡ word_of t p
+pub with_word-kept : (i : Instruction) (w : ℕ) (t : Taints) (p : Place) → (IsWritten i p → ⊥)
+    → word_of (with_word i w t) p ≡ word_of t p
 with_word-kept (Immediate d n) w t p ne = register_kept t d w p ne
 with_word-kept (Move d a) w t p ne = register_kept t d w p ne
 with_word-kept (AddImmediate d a n) w t p ne = register_kept t d w p ne
@@ -195,13 +282,19 @@ with_word-kept (Branch c l) w t p ne = refl
 with_word-kept (Jump l) w t p ne = refl
 with_word-kept (Barrier f) w t p ne = refl
 
-pub noted-step : (narrow : Bool) (i : Instruction) (k : ℕ) (t : Taints) → (is_load i ≡ true → k < 128) → length t.registers ≡ 256 → IsStep narrow i k t (noted narrow i k t)
+pub noted-step : (narrow : Bool) (i : Instruction) (k : ℕ) (t : Taints)
+    → (is_load i ≡ true → k < 128) → length t.registers ≡ 256
+    → IsStep narrow i k t (noted narrow i k t)
 noted-step narrow i k t lt long = record {
-  written = λ p within here e. subst (λ (w : ℕ). Bit w e ↔ IsOrigin narrow i k t e) (sym (with_word-written i (origin_word narrow i k t) t p long within here)) (origin_word-origin narrow i k t lt e);
+  written =
+      λ p within here e. subst (λ (w : ℕ). Bit w e ↔ IsOrigin narrow i k t e)
+      (sym (with_word-written i (origin_word narrow i k t) t p long within here))
+      (origin_word-origin narrow i k t lt e);
   kept = λ p not_here. with_word-kept i (origin_word narrow i k t) t p not_here;
 }
 
-pub read_word-union : (stored : Bool) (i : Instruction) (t : Taints) → IsUnion (reads_of stored) i t (read_word stored i t)
+pub read_word-union : (stored : Bool) (i : Instruction) (t : Taints)
+    → IsUnion (reads_of stored) i t (read_word stored i t)
 read_word-union false (Load d a) t e = one_place t (Register a) e
 read_word-union false (LoadIndexed d a b) t e = two_places t (Register a) (Register b) e
 read_word-union false (Store d a) t e = one_place t (Register a) e
@@ -229,7 +322,8 @@ read_word-union true (Branch c l) t e = no_places t e
 read_word-union true (Jump l) t e = no_places t e
 read_word-union true (Barrier f) t e = no_places t e
 
-pub with_word_long : (i : Instruction) (w : ℕ) (t : Taints) → length (with_word i w t).registers ≡ length t.registers
+pub with_word_long : (i : Instruction) (w : ℕ) (t : Taints)
+    → length (with_word i w t).registers ≡ length t.registers
 with_word_long (Immediate d n) w t = length-set _ _ _
 with_word_long (Move d a) w t = length-set _ _ _
 with_word_long (AddImmediate d a n) w t = length-set _ _ _

@@ -11,8 +11,11 @@ use Rattle.desk.specs.Boards.{BoardCell, with_outcome}
 use Rattle.desk.specs.Posts.{IsPosted, Posts}
 use Rattle.desk.proofs.Outcomes.{length_with, settled_here, settled_kept, each_append}
 
-module _ {T O : Type 0} (is_settle : O → Type 0) (are_after : T → List O → Type 0) (last_number : List O → ℕ) (count : List O → ℕ) (t : T) where
-  pub posts_then : (a b c : Pressed O) → Posts is_settle are_after last_number count t a b → Posts is_settle are_after last_number count t b c → Posts is_settle are_after last_number count t a c
+module _ {T O : Type 0} (is_settle : O → Type 0) (are_after : T → List O → Type 0)
+    (last_number : List O → ℕ) (count : List O → ℕ) (t : T) where
+  pub posts_then : (a b c : Pressed O) → Posts is_settle are_after last_number count t a b
+      → Posts is_settle are_after last_number count t b c
+      → Posts is_settle are_after last_number count t a c
   posts_then a b c p q = record {
     more = p.more ++ q.more;
     are_settles = each_append is_settle p.more q.more p.are_settles q.are_settles;
@@ -24,8 +27,12 @@ module _ {T O : Type 0} (is_settle : O → Type 0) (are_after : T → List O →
   }
 
   -- where the operation was appended or nothing was
-  pub posts_one : {A F : Type 0} (r : Result A F) (a b : Pressed O) (op : O) → MatchResult r (λ _. b.all ≡ a.all ++ op ∷ []) (λ _. b.all ≡ a.all) → b.published ≡ a.published
-      → is_settle op → are_after t a.all → are_after t (a.all ++ op ∷ []) → last_number (a.all ++ op ∷ []) ≡ last_number a.all → count (a.all ++ op ∷ []) ≡ count a.all
+  pub posts_one : {A F : Type 0} (r : Result A F) (a b : Pressed O) (op : O)
+      → MatchResult r (λ _. b.all ≡ a.all ++ op ∷ []) (λ _. b.all ≡ a.all)
+      → b.published ≡ a.published
+      → is_settle op → are_after t a.all → are_after t (a.all ++ op ∷ [])
+      → last_number (a.all ++ op ∷ []) ≡ last_number a.all
+      → count (a.all ++ op ∷ []) ≡ count a.all
       → Posts is_settle are_after last_number count t a b
   posts_one (Ok x) a b op is published settle old new number cells = record {
     more = op ∷ [];
@@ -46,26 +53,40 @@ module _ {T O : Type 0} (is_settle : O → Type 0) (are_after : T → List O →
     cells = ap count is;
   }
 
-module _ {T E V G O B P : Type 0} (net : T → Net G) (of : Cells T E V O) (bench : Bench T V) (cells : B → List (BoardCell O)) (after : B → P → B) (none : B) where
+module _ {T E V G O B P : Type 0} (net : T → Net G) (of : Cells T E V O) (bench : Bench T V)
+    (cells : B → List (BoardCell O)) (after : B → P → B) (none : B) where
   abbrev shown : List P → List (BoardCell O)
   shown ops = cells (fold after none ops)
 
   -- what is shown once a cell was settled
-  pub shown_one : (ops : List P) (op : P) (i : ℕ) (o : O) → cells (after (fold after none ops) op) ≡ with_outcome i o (shown ops) → shown (ops ++ op ∷ []) ≡ with_outcome i o (shown ops)
+  pub shown_one : (ops : List P) (op : P) (i : ℕ) (o : O)
+      → cells (after (fold after none ops) op) ≡ with_outcome i o (shown ops)
+      → shown (ops ++ op ∷ []) ≡ with_outcome i o (shown ops)
   shown_one ops op i o is = ap cells (fold_push after none ops op) ∙ is
 
-  pub count_one : (ops : List P) (op : P) (i : ℕ) (o : O) → cells (after (fold after none ops) op) ≡ with_outcome i o (shown ops) → length (shown (ops ++ op ∷ [])) ≡ length (shown ops)
+  pub count_one : (ops : List P) (op : P) (i : ℕ) (o : O)
+      → cells (after (fold after none ops) op) ≡ with_outcome i o (shown ops)
+      → length (shown (ops ++ op ∷ [])) ≡ length (shown ops)
   count_one ops op i o is = ap length (shown_one ops op i o is) ∙ length_with (shown ops) i o
 
-  pub posted_here : {A F : Type 0} (r : Result A F) (old new : List P) (op : P) (i : ℕ) (o : O) → MatchResult r (λ _. new ≡ old ++ op ∷ []) (λ _. new ≡ old)
-      → cells (after (fold after none old) op) ≡ with_outcome i o (shown old) → IsTrue (is_ok r) → IsPosted net of bench (shown new) i
+  pub posted_here : {A F : Type 0} (r : Result A F) (old new : List P) (op : P) (i : ℕ) (o : O)
+      → MatchResult r (λ _. new ≡ old ++ op ∷ []) (λ _. new ≡ old)
+      → cells (after (fold after none old) op) ≡ with_outcome i o (shown old) → IsTrue (is_ok r)
+      → IsPosted net of bench (shown new) i
   posted_here (Ok x) old new op i o is made ok c p e s =
-      settled_here (shown old) i o c (subst (λ (l : List (BoardCell O)). slice_get l i ≡ Some c) (ap shown is ∙ shown_one old op i o made) e)
+      settled_here (shown old) i o c (subst (λ (l : List (BoardCell O)). slice_get l i ≡ Some c)
+      (ap shown is ∙ shown_one old op i o made) e)
   posted_here (Err x) old new op i o is made ok c p e s = absurd cc
 
-  pub posted_kept : {A F : Type 0} (r : Result A F) (old new : List P) (op : P) (i : ℕ) (o : O) → MatchResult r (λ _. new ≡ old ++ op ∷ []) (λ _. new ≡ old)
-      → cells (after (fold after none old) op) ≡ with_outcome i o (shown old) → (k : ℕ) → IsPosted net of bench (shown old) k → IsPosted net of bench (shown new) k
+  pub posted_kept : {A F : Type 0} (r : Result A F) (old new : List P) (op : P) (i : ℕ) (o : O)
+      → MatchResult r (λ _. new ≡ old ++ op ∷ []) (λ _. new ≡ old)
+      → cells (after (fold after none old) op) ≡ with_outcome i o (shown old) → (k : ℕ)
+      → IsPosted net of bench (shown old) k → IsPosted net of bench (shown new) k
   posted_kept (Ok x) old new op i o is made k posted c p e s =
-      settled_kept (λ test model. (q : O) × IsSettledCell net of bench test model q) (shown old) i k o (λ d f u. posted d u.0 f u.1) c
-      (subst (λ (l : List (BoardCell O)). slice_get l k ≡ Some c) (ap shown is ∙ shown_one old op i o made) e) (p, s)
-  posted_kept (Err x) old new op i o is made k posted c p e s = subst (λ (l : List P). IsPosted net of bench (shown l) k) (sym is) posted c p e s
+      settled_kept (λ test model. (q : O) × IsSettledCell net of bench test model q) (shown old) i k
+      o (λ d f u. posted d u.0 f u.1) c
+      (subst (λ (l : List (BoardCell O)). slice_get l k ≡ Some c)
+      (ap shown is ∙ shown_one old op i o made) e)
+      (p, s)
+  posted_kept (Err x) old new op i o is made k posted c p e s =
+      subst (λ (l : List P). IsPosted net of bench (shown l) k) (sym is) posted c p e s

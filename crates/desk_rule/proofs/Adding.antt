@@ -17,7 +17,9 @@ module _ {O : Type 0} where
 
   adds_goes : (log v : List O) (e : O) (old : ℕ) → length v ≡ old → IsPrefix v log
       → (b : Bool) → (length log == old) ≡ b
-      → Goes IsCounted shown moved 0 (v, (no_nib, None)) (λ n. either (n == old) (old + 1) n) (Adds (step 0 old (old + 1) e) (v, (no_nib, None))) ((length log, true) ∷ (0, true) ∷ []) log
+      → Goes IsCounted shown moved 0 (v, (no_nib, None)) (λ n. either (n == old) (old + 1) n)
+      (Adds (step 0 old (old + 1) e) (v, (no_nib, None))) ((length log, true) ∷ (0, true) ∷ [])
+      log
   adds_goes log v e old len pre true is =
       let here : length log ≡ old = grind (arith, nat_tests) in
       let same : v ≡ log = prefix_whole v log pre (omega arith) in
@@ -42,9 +44,11 @@ module _ {O : Type 0} where
         (λ (is' : length log ≡ old). absurd (grind (arith, nat_tests))),
       )
 
-  -- whatever the book is, the exchange adds the operation to all that was seen, or finds that the history is longer
+  -- whatever the book is, the exchange adds the operation to all that was seen, or finds that the
+  -- history is longer
   pub adds_moves : (v : List O) (e : O) (old : ℕ) → length v ≡ old
-      → Moves IsCounted shown moved 0 (v, (no_nib, None)) (λ n. either (n == old) (old + 1) n) (Adds (step 0 old (old + 1) e) (v, (no_nib, None)))
+      → Moves IsCounted shown moved 0 (v, (no_nib, None)) (λ n. either (n == old) (old + 1) n)
+      (Adds (step 0 old (old + 1) e) (v, (no_nib, None)))
   adds_moves v e old len cs log kept pre away =
       let P : List Cell → Type 0 = λ c. (0 < length c) × ((cell c 0).1 ≡ true) × Goes IsCounted shown moved 0 (v, (no_nib, None)) (λ n. either (n == old) (old + 1) n) (Adds (step 0 old (old + 1) e) (v, (no_nib, None))) c log in
       subst P (sym kept) (omega arith, refl, adds_goes log v e old len pre (length log == old) refl)

@@ -38,11 +38,15 @@ none_is e = cc
 -- ---- tests
 
 -- a part that holds the same in the later tests has one stamp in both
-abbrev KeepStamps : List TestRow → List Test → List Names → List TestRow → List Test → List Names → Type 0
-KeepStamps rs ts ls new after names = (part of : ℕ) (c : PartContent) → test_content rs ts ls part of ≡ Some c → test_content new after names part of ≡ Some c → test_stamp new part of ≡ test_stamp rs part of
+abbrev KeepStamps : List TestRow → List Test → List Names → List TestRow → List Test → List Names
+    → Type 0
+KeepStamps rs ts ls new after names =
+    (part of : ℕ) (c : PartContent) → test_content rs ts ls part of ≡ Some c
+    → test_content new after names part of ≡ Some c → test_stamp new part of ≡ test_stamp rs part of
 
 -- what holds something is a part of a test
-content_has : (rs : List TestRow) (ts : List Test) (ls : List Names) (part of : ℕ) (c : PartContent) → test_content rs ts ls part of ≡ Some c → Has (map (λ r. r.id) rs) of
+content_has : (rs : List TestRow) (ts : List Test) (ls : List Names) (part of : ℕ) (c : PartContent)
+    → test_content rs ts ls part of ≡ Some c → Has (map (λ r. r.id) rs) of
 content_has [] ts ls part of c = λ e. absurd (none_is e)
 content_has (r ∷ rs) [] ls part of c = λ e. absurd (none_is e)
 content_has (r ∷ rs) (t ∷ ts) [] part of c = λ e. absurd (none_is e)
@@ -51,9 +55,13 @@ content_has (r ∷ rs) (t ∷ ts) (l ∷ ls) part of c = elim (eqb_tells r.id of
   | inr other ↦ rw other.0 (λ e. inr (content_has rs ts ls part of c e))
 ]
 
-module _ (last number : ℕ) (row new : TestRow) (test : Test) (names : Names) (raised : IsRaisedRow last number row new) where
+module _ (last number : ℕ) (row new : TestRow) (test : Test) (names : Names)
+    (raised : IsRaisedRow last number row new) where
   -- a test takes an index
-  tests_put : (at : ℕ) (rs : List TestRow) (ts : List Test) (ls : List Names) → AreTestRows last rs ts ls → IsRowOf (next_number last) (entry_in rs ts ls at) (test_id (next_number last) (entry_in rs ts ls at)) test names.items row
+  tests_put : (at : ℕ) (rs : List TestRow) (ts : List Test) (ls : List Names)
+      → AreTestRows last rs ts ls
+      → IsRowOf (next_number last) (entry_in rs ts ls at)
+      (test_id (next_number last) (entry_in rs ts ls at)) test names.items row
       → KeepStamps rs ts ls (put_at at new rs) (put_at at test ts) (put_at at names ls)
   tests_put at [] [] [] h made part of c = λ was is. absurd (none_is was)
   tests_put at [] [] (l ∷ ls) h made part of c = absurd h
@@ -64,7 +72,9 @@ module _ (last number : ℕ) (row new : TestRow) (test : Test) (names : Names) (
     | inl same ↦ let e : new.id ≡ of = raised.id_is ∙ made.id_is ∙ same.1 in
         let kept = put_entry last number (record { row = r; test = t; locations = l.items }) test names.items row new h.0 made raised in
         rw (same.0, eq-eqb new.id of e) (λ was is. kept.stamps part (is ∙ sym was))
-    | inr other ↦ let e : new.id ≢ of = λ k. other.1 (sym (raised.id_is ∙ made.id_is) ∙ k) in rw (other.0, ne_eqb new.id of e) (λ was is. refl)
+    | inr other ↦
+        let e : new.id ≢ of = λ k. other.1 (sym (raised.id_is ∙ made.id_is) ∙ k) in
+        rw (other.0, ne_eqb new.id of e) (λ was is. refl)
   ]
   tests_put (suc at) (r ∷ rs) (t ∷ ts) (l ∷ ls) h made part of c = elim (eqb_tells r.id of) [
     | inl same ↦ rw same.0 (λ was is. refl)
@@ -72,59 +82,93 @@ module _ (last number : ℕ) (row new : TestRow) (test : Test) (names : Names) (
   ]
 
 -- a test goes
-tests_removed : (last at : ℕ) (rs : List TestRow) (ts : List Test) (ls : List Names) → AreTestRows last rs ts ls → AreApart (map (λ r. r.id) rs) → KeepStamps rs ts ls (remove rs at) (remove ts at) (remove ls at)
+tests_removed : (last at : ℕ) (rs : List TestRow) (ts : List Test) (ls : List Names)
+    → AreTestRows last rs ts ls → AreApart (map (λ r. r.id) rs)
+    → KeepStamps rs ts ls (remove rs at) (remove ts at) (remove ls at)
 tests_removed last at [] [] [] h apart part of c = λ was is. absurd (none_is was)
 tests_removed last at [] [] (l ∷ ls) h apart part of c = absurd h
 tests_removed last at [] (t ∷ ts) ls h apart part of c = absurd h
 tests_removed last at (r ∷ rs) [] ls h apart part of c = absurd h
 tests_removed last at (r ∷ rs) (t ∷ ts) [] h apart part of c = absurd h
 tests_removed last zero (r ∷ rs) (t ∷ ts) (l ∷ ls) h apart part of c = elim (eqb_tells r.id of) [
-  | inl same ↦ λ was is. absurd (apart.0 (subst (λ (n : ℕ). Has (map (λ (x : TestRow). x.id) rs) n) (sym same.1) (content_has rs ts ls part of c is)))
+  | inl same ↦ λ was is. absurd (apart.0 (subst (λ (n : ℕ). Has (map (λ (x : TestRow). x.id) rs) n)
+      (sym same.1) (content_has rs ts ls part of c is)))
   | inr other ↦ rw other.0 (λ was is. refl)
 ]
-tests_removed last (suc at) (r ∷ rs) (t ∷ ts) (l ∷ ls) h apart part of c = elim (eqb_tells r.id of) [
-  | inl same ↦ rw same.0 (λ was is. refl)
-  | inr other ↦ rw other.0 (λ was is. tests_removed last at rs ts ls h.1 apart.1 part of c was is)
-]
+tests_removed last (suc at) (r ∷ rs) (t ∷ ts) (l ∷ ls) h apart part of c =
+    elim (eqb_tells r.id of) [
+      | inl same ↦ rw same.0 (λ was is. refl)
+      | inr other ↦ rw other.0 (λ was is.
+          tests_removed last at rs ts ls h.1 apart.1 part of c was is)
+    ]
 
 -- ---- after an edit
 
 abbrev TestsKeep : Parts → List Test → Parts → List Test → Type 0
-TestsKeep p tests q after = KeepStamps p.table.tests.items tests p.locations.items q.table.tests.items after q.locations.items
+TestsKeep p tests q after =
+    KeepStamps p.table.tests.items tests p.locations.items q.table.tests.items after
+    q.locations.items
 
 tests_same : (p q : Parts) (tests : List Test) → AreTestsSame p q → TestsKeep p tests q tests
 tests_same p q tests same part of c = rw (same.rows, same.locations) (λ was is. refl)
 
-tests_left : (p q : Parts) (tests : List Test) (models : List NamedModel) (r : Replacement) (number : ℕ) (e : EditedParts) → IsEdit p tests models r number e q → TestsKeep p tests q (tests_with r tests)
-tests_left p q tests models (made.PutTest at test) number (edited.PutTest to row names) edit part of c =
+tests_left : (p q : Parts) (tests : List Test) (models : List NamedModel) (r : Replacement)
+    (number : ℕ) (e : EditedParts) → IsEdit p tests models r number e q
+    → TestsKeep p tests q (tests_with r tests)
+tests_left p q tests models (made.PutTest at test) number (edited.PutTest to row names) edit part of
+    c =
     let puts = subst (λ (i : ℕ). PutsTest p number i row names q) edit.is_made.0 edit.committed.changes in
-    rw (puts.rows, puts.locations_are) (tests_put p.last number row puts.new test names puts.raised at p.table.tests.items tests p.locations.items edit.owed.built.tests edit.is_made.1.made part of c)
-tests_left p q tests models (made.PutTest at test) number (edited.DropTest to) edit part of c = absurd edit.is_made
-tests_left p q tests models (made.PutTest at test) number (edited.Models m) edit part of c = absurd edit.is_made
-tests_left p q tests models (made.DropTest at) number (edited.PutTest to row names) edit part of c = absurd edit.is_made
+    rw (puts.rows, puts.locations_are) (tests_put p.last number row puts.new test names puts.raised
+    at p.table.tests.items tests p.locations.items edit.owed.built.tests edit.is_made.1.made
+    part of c)
+tests_left p q tests models (made.PutTest at test) number (edited.DropTest to) edit part of c =
+    absurd edit.is_made
+tests_left p q tests models (made.PutTest at test) number (edited.Models m) edit part of c =
+    absurd edit.is_made
+tests_left p q tests models (made.DropTest at) number (edited.PutTest to row names) edit part of c =
+    absurd edit.is_made
 tests_left p q tests models (made.DropTest at) number (edited.DropTest to) edit part of c =
     let drops = subst (λ (i : ℕ). DropsTest p i q) edit.is_made edit.committed.changes in
-    rw (drops.rows, drops.locations) (tests_removed p.last at p.table.tests.items tests p.locations.items edit.owed.built.tests edit.owed.numbered.tests_apart part of c)
-tests_left p q tests models (made.DropTest at) number (edited.Models m) edit part of c = absurd edit.is_made
-tests_left p q tests models (made.PutModel at model next) number (edited.PutTest to row names) edit part of c = absurd edit.is_made
-tests_left p q tests models (made.PutModel at model next) number (edited.DropTest to) edit part of c = absurd edit.is_made
-tests_left p q tests models (made.PutModel at model next) number (edited.Models m) edit part of c = tests_same p q tests edit.committed.changes.tests part of c
-tests_left p q tests models (made.DropModel at) number (edited.PutTest to row names) edit part of c = absurd edit.is_made
-tests_left p q tests models (made.DropModel at) number (edited.DropTest to) edit part of c = absurd edit.is_made
-tests_left p q tests models (made.DropModel at) number (edited.Models m) edit part of c = tests_same p q tests edit.committed.changes.tests part of c
+    rw (drops.rows, drops.locations) (tests_removed p.last at p.table.tests.items tests
+    p.locations.items edit.owed.built.tests edit.owed.numbered.tests_apart part of c)
+tests_left p q tests models (made.DropTest at) number (edited.Models m) edit part of c =
+    absurd edit.is_made
+tests_left p q tests models (made.PutModel at model next) number (edited.PutTest to row names) edit
+    part of c = absurd edit.is_made
+tests_left p q tests models (made.PutModel at model next) number (edited.DropTest to) edit part of
+    c = absurd edit.is_made
+tests_left p q tests models (made.PutModel at model next) number (edited.Models m) edit part of c =
+    tests_same p q tests edit.committed.changes.tests part of c
+tests_left p q tests models (made.DropModel at) number (edited.PutTest to row names) edit part of
+    c = absurd edit.is_made
+tests_left p q tests models (made.DropModel at) number (edited.DropTest to) edit part of c =
+    absurd edit.is_made
+tests_left p q tests models (made.DropModel at) number (edited.Models m) edit part of c =
+    tests_same p q tests edit.committed.changes.tests part of c
 
-pub equal_parts_keep : (p q : Parts) (tests : List Test) (models : List NamedModel) (r : Replacement) (number : ℕ) (e : EditedParts) → IsEdit p tests models r number e q → AreApart (item_numbers (models_with r models)) → All IsRead (models_with r models)
-    → (next later part : ℕ) → EqualPartsKeepStamps (written_state p tests models next) (written_state q (tests_with r tests) (models_with r models) later) part
-equal_parts_keep p q tests models r number e edit numbers read next later part = elim (eqb_tells part 0) [
-  | inl zero_is ↦ subst Keep (sym zero_is.1) (items_left p q tests models r number e next later edit owed)
-  | inr other ↦ elim (eqb_tells part 1) [
-    | inl one_is ↦ subst Keep (sym one_is.1) (faults_left p q tests models r number e next later edit owed)
-    | inr more ↦ λ of c. rw (other.0, more.0) (tests_left p q tests models r number e edit part of c)
-  ]
-]
+pub equal_parts_keep : (p q : Parts) (tests : List Test) (models : List NamedModel)
+    (r : Replacement) (number : ℕ) (e : EditedParts) → IsEdit p tests models r number e q
+    → AreApart (item_numbers (models_with r models)) → All IsRead (models_with r models)
+    → (next later part : ℕ)
+    → EqualPartsKeepStamps (written_state p tests models next)
+    (written_state q (tests_with r tests) (models_with r models) later) part
+equal_parts_keep p q tests models r number e edit numbers read next later part =
+    elim (eqb_tells part 0) [
+      | inl zero_is ↦ subst Keep (sym zero_is.1) (items_left p q tests models r number e next later
+          edit
+          owed)
+      | inr other ↦ elim (eqb_tells part 1) [
+        | inl one_is ↦ subst Keep (sym one_is.1) (faults_left p q tests models r number e next later
+            edit owed)
+        | inr more ↦ λ of c.
+            rw (other.0, more.0) (tests_left p q tests models r number e edit part of c)
+      ]
+    ]
   where
     Keep : ℕ → Type 0
-    Keep = EqualPartsKeepStamps (written_state p tests models next) (written_state q (tests_with r tests) (models_with r models) later)
+    Keep =
+        EqualPartsKeepStamps (written_state p tests models next) (written_state q
+        (tests_with r tests) (models_with r models) later)
 
     owed : ArePartsOf q (tests_with r tests) (models_with r models)
     owed = edits_keep p q tests models r number e edit numbers read

@@ -40,7 +40,8 @@ item_there xs k lt = elim (slice_get_cases xs k).1 [
   | inr past ↦ absurd (omega (arith, lt, past.0))
 ]
 
-module _ (p : Parts) (tests : List Test) (models : List NamedModel) (next : ℕ) (o : AreOrderlyParts p tests models) where
+module _ (p : Parts) (tests : List Test) (models : List NamedModel) (next : ℕ)
+    (o : AreOrderlyParts p tests models) where
   abbrev here : ℕ → WrittenState
   here last = written_state p tests models last
 
@@ -48,22 +49,40 @@ module _ (p : Parts) (tests : List Test) (models : List NamedModel) (next : ℕ)
   low = above (item_numbers models)
 
   whole : IsWhole (here low)
-  whole = parts_whole p tests models low o.parts_are (record { read = o.read; apart = o.items_apart; low = all_below (item_numbers models) })
+  whole =
+      parts_whole p tests models low o.parts_are (record {
+        read = o.read;
+        apart = o.items_apart;
+        low = all_below (item_numbers models);
+      })
 
-  module _ (row : ModelRow) (m : NamedModel) (there : Has (written_models p.table.models.items models) (written_model row m)) where
-    text_at : (index : ℕ) → index < length m.numbers.items → HoldsText (here next) (number_at m.numbers.items index) (clause_at m.text.items.items index)
+  module _ (row : ModelRow) (m : NamedModel)
+      (there : Has (written_models p.table.models.items models) (written_model row m)) where
+    text_at : (index : ℕ) → index < length m.numbers.items
+        → HoldsText (here next) (number_at m.numbers.items index)
+        (clause_at m.text.items.items index)
     text_at index lt =
         let x = item_there m.text.items.items index (omega (arith, lt, each_item_has_number m)) in
-        let at = slice_get-get_or m.numbers.items index 0 lt in
-        (clause_of x.0, ap (option_map clause_of) x.1, text_known (here low) whole (written_model row m) index (number_at m.numbers.items index) x.0 there at x.1)
+        let at = slice_get-get_or m.numbers.items index 0 lt in (
+          clause_of x.0,
+          ap (option_map clause_of) x.1,
+          text_known (here low) whole (written_model row m) index
+              (number_at m.numbers.items index) x.0 there at x.1,
+        )
 
-    texts : (rd : Reading) (index : ℕ) → index < length (numbers_in (reading_by row.id m.numbers.items rd)) → HoldsText (here next) (number_at (numbers_in (reading_by row.id m.numbers.items rd)) index) (clause_at m.text.items.items index)
+    texts : (rd : Reading) (index : ℕ)
+        → index < length (numbers_in (reading_by row.id m.numbers.items rd))
+        → HoldsText (here next)
+        (number_at (numbers_in (reading_by row.id m.numbers.items rd)) index)
+        (clause_at m.text.items.items index)
     texts (readings.Sound resolved used) index lt = text_at index lt
     texts (readings.Faulty fault) index lt = absurd (omega (arith, lt))
 
     pub model_held : HoldsModel (here next) (written_model row m)
     model_held = record {
-      kept = subst (IsKept (state_of p tests)) (sym (readings_are p.table.models.items models)) (parts_kept p tests models o).kept;
+      kept =
+          subst (IsKept (state_of p tests)) (sym (readings_are p.table.models.items models))
+          (parts_kept p tests models o).kept;
       there = there;
       texts = texts m.reading;
     }

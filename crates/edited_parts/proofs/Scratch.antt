@@ -43,36 +43,56 @@ head_is p q ps qs e = cc
 none_some : (p : Pair) (ps : List Pair) → ◌≡◌ {A = List Pair} [] (p ∷ ps) → ⊥
 none_some p ps e = cc
 
-first_output : (os : List (Made NodeContent)) (v : NodeContent) → named_values os ≡ (0, v) ∷ [] → (stamp : ℕ) × (output_at 0 os ≡ Some (stamp, v))
+first_output : (os : List (Made NodeContent)) (v : NodeContent) → named_values os ≡ (0, v) ∷ []
+    → (stamp : ℕ) × (output_at 0 os ≡ Some (stamp, v))
 first_output [] v e = absurd (none_some (0, v) [] e)
 first_output (o ∷ os) v e =
     let first = head_is (o.name, o.value) (0, v) (named_values os) [] e in
     let name : o.name ≡ 0 = ap (λ (p : Pair). p.0) first in
-    let value : o.value ≡ v = ap (λ (p : Pair). p.1) first in
-    (o.stamp, rw name (ap (λ (w : NodeContent). let q : Option (ℕ × NodeContent) = Some (o.stamp, w) in q) value))
+    let value : o.value ≡ v = ap (λ (p : Pair). p.1) first in (
+      o.stamp,
+      rw name (ap
+          (λ (w : NodeContent). let q : Option (ℕ × NodeContent) = Some (o.stamp, w) in q)
+          value),
+    )
 
 module _ (net : Net GivenContent) (memos : List (Memo NodeContent)) (n : Node) where
-  carried : core.IsSolved makes net memos n → ((g : GivenContent) (values outputs : List NodeContent) → net.gives n g ≡ true → Makes g values outputs → HoldsOutcome g outputs) → (o : Outcome) × (stamp : ℕ) × (at memos (Output n 0) ≡ Some (stamp, OfOutcome o))
+  carried : core.IsSolved makes net memos n
+      → ((g : GivenContent) (values outputs : List NodeContent) → net.gives n g ≡ true
+      → Makes g values outputs → HoldsOutcome g outputs)
+      → (o : Outcome) × (stamp : ℕ) × (at memos (Output n 0) ≡ Some (stamp, OfOutcome o))
   carried s gives =
       let made = s.made.made in
       let outcome = gives s.made.given s.values made.0 s.made.gives made.1 in
       let first = first_output s.memo.outputs (OfOutcome outcome.0) (made.2 ∙ ap (zip (output_names s.made.given)) outcome.1 ∙ ap (λ (ns : List ℕ). zip ns (OfOutcome outcome.0 ∷ [])) outcome.2) in
       (outcome.0, first.0, ap (stored_at 0) s.found ∙ first.1)
 
-  verdict_holds : (parts : VerdictPartsContent) (uses : List Key) → IsNode net n (ForVerdict parts) uses → (g : GivenContent) (values outputs : List NodeContent) → net.gives n g ≡ true → Makes g values outputs → HoldsOutcome g outputs
+  verdict_holds : (parts : VerdictPartsContent) (uses : List Key)
+      → IsNode net n (ForVerdict parts) uses
+      → (g : GivenContent) (values outputs : List NodeContent) → net.gives n g ≡ true
+      → Makes g values outputs → HoldsOutcome g outputs
   verdict_holds parts uses is g values outputs gives made =
       let h = subst (λ (x : GivenContent). Makes x values outputs) (is.given_is g gives) made in (h.0, h.1, ap output_names (is.given_is g gives))
 
-  fault_holds : (parts : FaultPartsContent) (uses : List Key) → IsNode net n (ForFault parts) uses → (g : GivenContent) (values outputs : List NodeContent) → net.gives n g ≡ true → Makes g values outputs → HoldsOutcome g outputs
+  fault_holds : (parts : FaultPartsContent) (uses : List Key) → IsNode net n (ForFault parts) uses
+      → (g : GivenContent) (values outputs : List NodeContent) → net.gives n g ≡ true
+      → Makes g values outputs → HoldsOutcome g outputs
   fault_holds parts uses is g values outputs gives made =
       let h = subst (λ (x : GivenContent). Makes x values outputs) (is.given_is g gives) made in (_, h, ap output_names (is.given_is g gives))
 
-module _ (s : State) (models : List ModelReading) (kept : IsKept s models) (index : ℕ) (row : TestRow) (test : Test) (test_at : IsTestAt s index row test) where
-  solved_in : (memos : List (Memo NodeContent)) → cells.AreSolved makes (net_in s) memos → AreSolved (net_in s) memos
+module _ (s : State) (models : List ModelReading) (kept : IsKept s models) (index : ℕ)
+    (row : TestRow) (test : Test) (test_at : IsTestAt s index row test) where
+  solved_in : (memos : List (Memo NodeContent)) → cells.AreSolved makes (net_in s) memos
+      → AreSolved (net_in s) memos
   solved_in memos all = record { solved = all.solved; closed = all.closed }
 
-  module _ (id : ℕ) (numbers : List ℕ) (items : List ResolvedItem) (us : List ℕ) (there : Has models (Sound id numbers items us)) (model : ModelText) (none : IsFaultless model) (of_model : AreItemsOf model items) where
-    at_verdict : (memos : List (Memo NodeContent)) → cells.AreSolved makes (net_in s) memos → IsSettled (net_in s) memos (verdict_node row.id id) → (o : Outcome) × cells.Carries outcome_in memos (verdict_node row.id id) o × IsFromScratch test model o
+  module _ (id : ℕ) (numbers : List ℕ) (items : List ResolvedItem) (us : List ℕ)
+      (there : Has models (Sound id numbers items us)) (model : ModelText)
+      (none : IsFaultless model) (of_model : AreItemsOf model items) where
+    at_verdict : (memos : List (Memo NodeContent)) → cells.AreSolved makes (net_in s) memos
+        → IsSettled (net_in s) memos (verdict_node row.id id)
+        → (o : Outcome) × cells.Carries outcome_in memos (verdict_node row.id id) o
+        × IsFromScratch test model o
     at_verdict memos all settled =
         let nodes = are_nodes s models kept index row test test_at id numbers items us there in
         let is_used = verdict_used s models kept index row test test_at (Sound id numbers items us) there in
@@ -90,14 +110,21 @@ module _ (s : State) (models : List ModelReading) (kept : IsKept s models) (inde
           }),
         )
 
-    pub sound_scratch : SolvedIsFromScratch makes (net_in s) outcome_in (Some (verdict_node row.id id)) (λ o. IsFromScratch test model o)
+    pub sound_scratch : SolvedIsFromScratch makes (net_in s) outcome_in
+        (Some (verdict_node row.id id)) (λ o. IsFromScratch test model o)
     sound_scratch memos n all e settled =
         let same : verdict_node row.id id ≡ n = same_Some _ _ e in
-        subst (λ (m : Node). (o : Outcome) × cells.Carries outcome_in memos m o × IsFromScratch test model o) same
+        subst
+        (λ (m : Node). (o : Outcome) × cells.Carries outcome_in memos m o
+        × IsFromScratch test model o) same
         (at_verdict memos all (subst (IsSettled (net_in s) memos) (sym same) settled))
 
-  module _ (id : ℕ) (fault : ModelFault) (there : Has models (Faulty id fault)) (model : ModelText) (of_model : IsFaultOf model fault) where
-    at_fault : (memos : List (Memo NodeContent)) → cells.AreSolved makes (net_in s) memos → IsSettled (net_in s) memos (verdict_node row.id id) → (o : Outcome) × cells.Carries outcome_in memos (verdict_node row.id id) o × IsFromScratch test model o
+  module _ (id : ℕ) (fault : ModelFault) (there : Has models (Faulty id fault)) (model : ModelText)
+      (of_model : IsFaultOf model fault) where
+    at_fault : (memos : List (Memo NodeContent)) → cells.AreSolved makes (net_in s) memos
+        → IsSettled (net_in s) memos (verdict_node row.id id)
+        → (o : Outcome) × cells.Carries outcome_in memos (verdict_node row.id id) o
+        × IsFromScratch test model o
     at_fault memos all settled =
         let node = fault_is_node s models kept index row test test_at id fault there in
         let is_used = verdict_used s models kept index row test test_at (Faulty id fault) there in
@@ -114,8 +141,11 @@ module _ (s : State) (models : List ModelReading) (kept : IsKept s models) (inde
           }),
         )
 
-    pub faulty_scratch : SolvedIsFromScratch makes (net_in s) outcome_in (Some (verdict_node row.id id)) (λ o. IsFromScratch test model o)
+    pub faulty_scratch : SolvedIsFromScratch makes (net_in s) outcome_in
+        (Some (verdict_node row.id id)) (λ o. IsFromScratch test model o)
     faulty_scratch memos n all e settled =
         let same : verdict_node row.id id ≡ n = same_Some _ _ e in
-        subst (λ (m : Node). (o : Outcome) × cells.Carries outcome_in memos m o × IsFromScratch test model o) same
+        subst
+        (λ (m : Node). (o : Outcome) × cells.Carries outcome_in memos m o
+        × IsFromScratch test model o) same
         (at_fault memos all (subst (IsSettled (net_in s) memos) (sym same) settled))

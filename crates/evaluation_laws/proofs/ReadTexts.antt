@@ -52,7 +52,10 @@ label_read (items.Include p) = refl
 
 -- items with equal texts say the same
 pub same_text : (x y : Item) → values.clause_of x ≡ values.clause_of y → SayTheSame x y
-same_text x y e = (sym (clause_read x) ∙ (ap to_clause e ∙ clause_read y), sym (label_read x) ∙ (ap to_label e ∙ label_read y))
+same_text x y e = (
+  sym (clause_read x) ∙ (ap to_clause e ∙ clause_read y),
+  sym (label_read x) ∙ (ap to_label e ∙ label_read y),
+)
 
 abbrev IsLabelledBy : Option (Bool × Option (List ℕ)) → ResolvedItem → Type 0
 IsLabelledBy None r = Unit {0}
@@ -74,5 +77,8 @@ label_given (items.Flag c l) r h = h
 label_given (items.Show f s) r h = tt
 label_given (items.Include n) r h = tt
 
-pub label_moved : (x y : Item) (r : ResolvedItem) → label_of x ≡ label_of y → IsLabelledAs y r → IsLabelledAs x r
-label_moved x y r e h = label_given x r (subst (λ (l : Option (Bool × Option (List ℕ))). IsLabelledBy l r) (sym e) (label_taken y r h))
+pub label_moved : (x y : Item) (r : ResolvedItem) → label_of x ≡ label_of y → IsLabelledAs y r
+    → IsLabelledAs x r
+label_moved x y r e h =
+    label_given x r (subst (λ (l : Option (Bool × Option (List ℕ))). IsLabelledBy l r) (sym e)
+    (label_taken y r h))

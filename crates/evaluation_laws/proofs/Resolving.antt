@@ -35,13 +35,17 @@ use Rattle.evaluation_laws.specs.Laws.{HasTree, AreCoded, IsCoded, HasOneResolut
 
 -- ---- one content
 
-code_one : (ss : List Sense) (names : List Naming) (us : List Used) (from : ℕ) (t : Term) (c d : Code) → IsCode ss names us from t c → IsCode ss names us from t d → code_content c ≡ code_content d
+code_one : (ss : List Sense) (names : List Naming) (us : List Used) (from : ℕ) (t : Term)
+    (c d : Code) → IsCode ss names us from t c → IsCode ss names us from t d
+    → code_content c ≡ code_content d
 code_one ss names us from t c d h g =
     let kind : c.kind ≡ d.kind = h.0 ∙ sym g.0 in
     let steps : c.steps.items ≡ d.steps.items = h.1 ∙ sym g.1 in
     λ i. record { kind = kind i; steps = steps i }
 
-bodies_one : (ss : List Sense) (us : List Usage) (names : List Naming) (from : ℕ) (vs : List Used) (bs : List Bound) (rs qs : List Body) → AreBodies ss us names from vs bs rs → AreBodies ss us names from vs bs qs → map body_content rs ≡ map body_content qs
+bodies_one : (ss : List Sense) (us : List Usage) (names : List Naming) (from : ℕ) (vs : List Used)
+    (bs : List Bound) (rs qs : List Body) → AreBodies ss us names from vs bs rs
+    → AreBodies ss us names from vs bs qs → map body_content rs ≡ map body_content qs
 bodies_one ss us names from vs [] [] [] h g = refl
 bodies_one ss us names from vs [] [] (q ∷ qs) h g = absurd g
 bodies_one ss us names from vs [] (r ∷ rs) qs h g = absurd h
@@ -55,7 +59,9 @@ bodies_one ss us names from vs (b ∷ bs) (r ∷ rs) (q ∷ qs) h g =
     let rest = bodies_one ss us names from used bs rs qs h.2 g.2 in
     λ i. first i ∷ rest i
 
-group_one : (ss : List Sense) (us : List Usage) (names : List Naming) (from : ℕ) (recursive : Bool) (bs : List Bound) (r q : Role) → IsGroupRole ss us names from recursive bs r → IsGroupRole ss us names from recursive bs q → role_content r ≡ role_content q
+group_one : (ss : List Sense) (us : List Usage) (names : List Naming) (from : ℕ) (recursive : Bool)
+    (bs : List Bound) (r q : Role) → IsGroupRole ss us names from recursive bs r
+    → IsGroupRole ss us names from recursive bs q → role_content r ≡ role_content q
 group_one ss us names from recursive bs (roles.Group a rs) (roles.Group b qs) h g =
     let kind : a ≡ b = h.0 ∙ sym g.0 in
     let bodies = bodies_one ss us names from [] bs rs.items qs.items h.1 g.1 in
@@ -65,7 +71,10 @@ group_one ss us names from recursive bs (roles.Group a rs) roles.Silent h g = ab
 group_one ss us names from recursive bs (roles.Check c) q h g = absurd h
 group_one ss us names from recursive bs roles.Silent q h g = absurd h
 
-check_one : (ss : List Sense) (us : List Usage) (names : List Naming) (from : ℕ) (w : CheckWord) (e : Term) (negated : Bool) (flag : Option (List ℕ)) (r q : Role) → IsCheckRole ss us names from w e r → IsCheckRole ss us names from w e q → IsLabelled negated flag r → IsLabelled negated flag q → role_content r ≡ role_content q
+check_one : (ss : List Sense) (us : List Usage) (names : List Naming) (from : ℕ) (w : CheckWord)
+    (e : Term) (negated : Bool) (flag : Option (List ℕ)) (r q : Role)
+    → IsCheckRole ss us names from w e r → IsCheckRole ss us names from w e q
+    → IsLabelled negated flag r → IsLabelled negated flag q → role_content r ≡ role_content q
 check_one ss us names from w e negated flag (roles.Group a rs) q h g l m = absurd h
 check_one ss us names from w e negated flag (roles.Check c) (roles.Group b qs) h g l m = absurd g
 check_one ss us names from w e negated flag (roles.Check c) (roles.Check d) h g l m =
@@ -77,22 +86,45 @@ check_one ss us names from w e negated flag (roles.Check c) (roles.Check d) h g 
 check_one ss us names from w e negated flag (roles.Check c) roles.Silent h g l m = absurd g
 check_one ss us names from w e negated flag roles.Silent q h g l m = absurd h
 
-uses_one : (r q : ResolvedItem) (vs : List Used) (fs : List ℕ) → role_content r.role ≡ role_content q.role → HasUses r vs fs → HasUses q vs fs → item_content r ≡ item_content q
+uses_one : (r q : ResolvedItem) (vs : List Used) (fs : List ℕ)
+    → role_content r.role ≡ role_content q.role → HasUses r vs fs → HasUses q vs fs
+    → item_content r ≡ item_content q
 uses_one r q vs fs role h g =
     let inputs : r.inputs.items ≡ q.inputs.items = h.inputs ∙ sym g.inputs in
     let functions : r.functions.items ≡ q.functions.items = h.functions ∙ sym g.functions in
     λ i. record { role = role i; inputs = inputs i; functions = functions i }
 
-item_one : (ss : List Sense) (us : List Usage) (names own : List Naming) (from : ℕ) (x : code_item.Item) (r q : ResolvedItem) → IsResolvedIn ss us names own from (clause_of x) r → IsResolvedIn ss us names own from (clause_of x) q → IsLabelledAs x r → IsLabelledAs x q → item_content r ≡ item_content q
-item_one ss us names own from (items.Let true g) r q h k l m = uses_one r q _ _ (group_one ss us own from true (map bound_of g.items) r.role q.role h.0 k.0) h.1 k.1
-item_one ss us names own from (items.Let false g) r q h k l m = uses_one r q _ _ (group_one ss us names from false (map bound_of g.items) r.role q.role h.0 k.0) h.1 k.1
-item_one ss us names own from (items.Function n ps b) r q h k l m = uses_one r q _ _ (ap role_content (h.0 ∙ sym k.0)) h.1 k.1
-item_one ss us names own from (items.Check c t) r q h k l m = uses_one r q _ _ (check_one ss us names from c.word (term_of c.body) c.negated None r.role q.role h.0 k.0 l m) h.1 k.1
-item_one ss us names own from (items.Flag c t) r q h k l m = uses_one r q _ _ (check_one ss us names from c.word (term_of c.body) c.negated (Some t) r.role q.role h.0 k.0 l m) h.1 k.1
-item_one ss us names own from (items.Show s t) r q h k l m = uses_one r q _ _ (ap role_content (h.0 ∙ sym k.0)) h.1 k.1
-item_one ss us names own from (items.Include n) r q h k l m = uses_one r q _ _ (ap role_content (h.0 ∙ sym k.0)) h.1 k.1
+item_one : (ss : List Sense) (us : List Usage) (names own : List Naming) (from : ℕ)
+    (x : code_item.Item) (r q : ResolvedItem)
+    → IsResolvedIn ss us names own from (clause_of x) r
+    → IsResolvedIn ss us names own from (clause_of x) q → IsLabelledAs x r → IsLabelledAs x q
+    → item_content r ≡ item_content q
+item_one ss us names own from (items.Let true g) r q h k l m =
+    uses_one r q _ _ (group_one ss us own from true (map bound_of g.items) r.role q.role h.0 k.0)
+    h.1 k.1
+item_one ss us names own from (items.Let false g) r q h k l m =
+    uses_one r q _ _ (group_one ss us names from false (map bound_of g.items) r.role q.role h.0 k.0)
+    h.1 k.1
+item_one ss us names own from (items.Function n ps b) r q h k l m =
+    uses_one r q _ _ (ap role_content (h.0 ∙ sym k.0)) h.1 k.1
+item_one ss us names own from (items.Check c t) r q h k l m =
+    uses_one r q _ _
+    (check_one ss us names from c.word (term_of c.body) c.negated None r.role q.role h.0 k.0 l m)
+    h.1 k.1
+item_one ss us names own from (items.Flag c t) r q h k l m =
+    uses_one r q _ _
+    (check_one ss us names from c.word (term_of c.body) c.negated (Some t) r.role q.role h.0 k.0 l
+    m) h.1 k.1
+item_one ss us names own from (items.Show s t) r q h k l m =
+    uses_one r q _ _ (ap role_content (h.0 ∙ sym k.0)) h.1 k.1
+item_one ss us names own from (items.Include n) r q h k l m =
+    uses_one r q _ _ (ap role_content (h.0 ∙ sym k.0)) h.1 k.1
 
-all_one : (ss : List Sense) (us : List Usage) (names : List Naming) (at : ℕ) (xs : List code_item.Item) (rs qs : List ResolvedItem) → AreResolved ss us names at (map clause_of xs) rs → AreResolved ss us names at (map clause_of xs) qs → AreLabelled xs rs → AreLabelled xs qs → map item_content rs ≡ map item_content qs
+all_one : (ss : List Sense) (us : List Usage) (names : List Naming) (at : ℕ)
+    (xs : List code_item.Item) (rs qs : List ResolvedItem)
+    → AreResolved ss us names at (map clause_of xs) rs
+    → AreResolved ss us names at (map clause_of xs) qs → AreLabelled xs rs → AreLabelled xs qs
+    → map item_content rs ≡ map item_content qs
 all_one ss us names at [] [] [] h g l m = refl
 all_one ss us names at [] [] (q ∷ qs) h g l m = absurd g
 all_one ss us names at [] (r ∷ rs) qs h g l m = absurd h
@@ -109,17 +141,22 @@ one_resolution model rs qs h g = all_one [] [] outermost 0 model.items.items rs 
 
 -- ---- steps of expressions
 
-tree_of_kind : (k : Kind) (steps : List Step) (s : SetTree) (r : RelTree) → steps ≡ steps_of k s r → HasTree k steps
+tree_of_kind : (k : Kind) (steps : List Step) (s : SetTree) (r : RelTree) → steps ≡ steps_of k s r
+    → HasTree k steps
 tree_of_kind OfSet steps s r e = (s, e)
 tree_of_kind OfRelation steps s r e = (r, e)
 tree_of_kind OfAny steps s r e = (r, e)
 
-code_coded : (ss : List Sense) (names : List Naming) (us : List Used) (from : ℕ) (t : Term) (c : Code) → IsCode ss names us from t c → HasTree c.kind c.steps.items
+code_coded : (ss : List Sense) (names : List Naming) (us : List Used) (from : ℕ) (t : Term)
+    (c : Code) → IsCode ss names us from t c → HasTree c.kind c.steps.items
 code_coded ss names us from t c h =
     let f = formula_in ss names [] t in
-    subst (λ (k : Kind). HasTree k c.steps.items) (sym h.0) (tree_of_kind (kind_in ss names t) c.steps.items (set_of us from f) (relation_of us from f) h.1)
+    subst (λ (k : Kind). HasTree k c.steps.items) (sym h.0) (tree_of_kind (kind_in ss names t)
+    c.steps.items (set_of us from f) (relation_of us from f) h.1)
 
-bodies_coded : (ss : List Sense) (us : List Usage) (names : List Naming) (from : ℕ) (vs : List Used) (bs : List Bound) (rs : List Body) → AreBodies ss us names from vs bs rs → AllByRecursion (λ b. HasTree b.code.kind b.code.steps.items) rs
+bodies_coded : (ss : List Sense) (us : List Usage) (names : List Naming) (from : ℕ) (vs : List Used)
+    (bs : List Bound) (rs : List Body) → AreBodies ss us names from vs bs rs
+    → AllByRecursion (λ b. HasTree b.code.kind b.code.steps.items) rs
 bodies_coded ss us names from vs [] [] h = tt
 bodies_coded ss us names from vs [] (r ∷ rs) h = absurd h
 bodies_coded ss us names from vs (b ∷ bs) [] h = absurd h
@@ -128,47 +165,75 @@ bodies_coded ss us names from vs (b ∷ bs) (r ∷ rs) h =
     (code_coded ss names used from b.body r.code h.1, bodies_coded ss us names from used bs rs h.2)
 
 -- no body of a recursive group without fault is a set
-no_sets : (ss : List Sense) (us : List Usage) (names : List Naming) (from : ℕ) (vs : List Used) (before : List (List ℕ)) (bs : List Bound) (rs : List Body) → AreBodies ss us names from vs bs rs → ((p : ℕ) (k : ModelFault) → IsFaultIn ss names from true before bs p k → ⊥) → AllByRecursion (λ b. b.code.kind ≡ OfSet → ⊥) rs
+no_sets : (ss : List Sense) (us : List Usage) (names : List Naming) (from : ℕ) (vs : List Used)
+    (before : List (List ℕ)) (bs : List Bound) (rs : List Body)
+    → AreBodies ss us names from vs bs rs
+    → ((p : ℕ) (k : ModelFault) → IsFaultIn ss names from true before bs p k → ⊥)
+    → AllByRecursion (λ b. b.code.kind ≡ OfSet → ⊥) rs
 no_sets ss us names from vs before [] [] h none = tt
 no_sets ss us names from vs before [] (r ∷ rs) h none = absurd h
 no_sets ss us names from vs before (b ∷ bs) [] h none = absurd h
 no_sets ss us names from vs before (b ∷ bs) (r ∷ rs) h none =
     let used = with_values us names [] from b.body vs in
-    let no_set : kind_in ss names b.body ≡ OfSet → ⊥ = λ e. none 0 faults.SetInRec (inl (refl, inr (search rules, e, refl))) in
-    (λ e. no_set (sym h.1.0 ∙ e), no_sets ss us names from used (b.name ∷ before) bs rs h.2 (λ p k f. none (1 + width b.body + p) k (inr (inr (p, refl, f)))))
+    let no_set : kind_in ss names b.body ≡ OfSet → ⊥ = λ e. none 0 faults.SetInRec (inl (refl, inr (search rules, e, refl))) in (
+      λ e. no_set (sym h.1.0 ∙ e),
+      no_sets ss us names from used (b.name ∷ before) bs rs h.2 (λ p k f.
+          none (1 + width b.body + p) k (inr (inr (p, refl, f)))),
+    )
 
-recursive_coded : (ss : List Sense) (us : List Usage) (names : List Naming) (from : ℕ) (bs : List Bound) (role : Role) → IsGroupRole ss us names from true bs role → ((p : ℕ) (k : ModelFault) → IsFaultIn ss names from true [] bs p k → ⊥) → IsRising role → IsCoded role
+recursive_coded : (ss : List Sense) (us : List Usage) (names : List Naming) (from : ℕ)
+    (bs : List Bound) (role : Role) → IsGroupRole ss us names from true bs role
+    → ((p : ℕ) (k : ModelFault) → IsFaultIn ss names from true [] bs p k → ⊥) → IsRising role
+    → IsCoded role
 recursive_coded ss us names from bs (roles.Group a rs) h none rises =
     let all : AreCoded true rs.items = (subst (λ (b : Bool). AreRising b rs.items) h.0 rises, no_sets ss us names from [] [] bs rs.items h.1 none) in
     subst (λ (b : Bool). AreCoded b rs.items) (sym h.0) all
 recursive_coded ss us names from bs (roles.Check c) h none rises = absurd h
 recursive_coded ss us names from bs roles.Silent h none rises = absurd h
 
-plain_coded : (ss : List Sense) (us : List Usage) (names : List Naming) (from : ℕ) (bs : List Bound) (role : Role) → IsGroupRole ss us names from false bs role → IsCoded role
-plain_coded ss us names from bs (roles.Group a rs) h = subst (λ (b : Bool). AreCoded b rs.items) (sym h.0) (bodies_coded ss us names from [] bs rs.items h.1)
+plain_coded : (ss : List Sense) (us : List Usage) (names : List Naming) (from : ℕ) (bs : List Bound)
+    (role : Role) → IsGroupRole ss us names from false bs role → IsCoded role
+plain_coded ss us names from bs (roles.Group a rs) h =
+    subst (λ (b : Bool). AreCoded b rs.items) (sym h.0)
+    (bodies_coded ss us names from [] bs rs.items h.1)
 plain_coded ss us names from bs (roles.Check c) h = absurd h
 plain_coded ss us names from bs roles.Silent h = absurd h
 
-check_coded : (ss : List Sense) (us : List Usage) (names : List Naming) (from : ℕ) (w : CheckWord) (e : Term) (role : Role) → IsCheckRole ss us names from w e role → IsCoded role
+check_coded : (ss : List Sense) (us : List Usage) (names : List Naming) (from : ℕ) (w : CheckWord)
+    (e : Term) (role : Role) → IsCheckRole ss us names from w e role → IsCoded role
 check_coded ss us names from w e (roles.Group a rs) h = absurd h
-check_coded ss us names from w e (roles.Check c) h = code_coded ss names (with_values us names [] from e []) from e c.code h.1
+check_coded ss us names from w e (roles.Check c) h =
+    code_coded ss names (with_values us names [] from e []) from e c.code h.1
 check_coded ss us names from w e roles.Silent h = absurd h
 
-item_coded : (ss : List Sense) (us : List Usage) (names : List Naming) (at : ℕ) (c : Clause) (r : ResolvedItem) → ((p : ℕ) (k : ModelFault) → IsFaultOfItem ss names at c p k → ⊥) → IsRising r.role → IsResolvedIn ss us names (extended ss names at c) (length names) c r → IsCoded r.role
-item_coded ss us names at (Group true bs) r none rises h = recursive_coded ss us (with_own names at 0 bs) (length names) bs r.role h.0 none rises
-item_coded ss us names at (Group false bs) r none rises h = plain_coded ss us names (length names) bs r.role h.0
-item_coded ss us names at (Check w e) r none rises h = check_coded ss us names (length names) w e r.role h.0
+item_coded : (ss : List Sense) (us : List Usage) (names : List Naming) (at : ℕ) (c : Clause)
+    (r : ResolvedItem) → ((p : ℕ) (k : ModelFault) → IsFaultOfItem ss names at c p k → ⊥)
+    → IsRising r.role → IsResolvedIn ss us names (extended ss names at c) (length names) c r
+    → IsCoded r.role
+item_coded ss us names at (Group true bs) r none rises h =
+    recursive_coded ss us (with_own names at 0 bs) (length names) bs r.role h.0 none rises
+item_coded ss us names at (Group false bs) r none rises h =
+    plain_coded ss us names (length names) bs r.role h.0
+item_coded ss us names at (Check w e) r none rises h =
+    check_coded ss us names (length names) w e r.role h.0
 item_coded ss us names at Mute r none rises h = subst (λ (role : Role). IsCoded role) (sym h.0) tt
-item_coded ss us names at (Defined n ps b) r none rises h = subst (λ (role : Role). IsCoded role) (sym h.0) tt
+item_coded ss us names at (Defined n ps b) r none rises h =
+    subst (λ (role : Role). IsCoded role) (sym h.0) tt
 
-all_coded : (ss : List Sense) (us : List Usage) (names : List Naming) (at : ℕ) (cs : List Clause) (rs : List ResolvedItem) → HasNoFault ss names at cs → AllByRecursion (λ r. IsRising r.role) rs → AreResolved ss us names at cs rs → AllByRecursion (λ r. IsCoded r.role) rs
+all_coded : (ss : List Sense) (us : List Usage) (names : List Naming) (at : ℕ) (cs : List Clause)
+    (rs : List ResolvedItem) → HasNoFault ss names at cs
+    → AllByRecursion (λ r. IsRising r.role) rs → AreResolved ss us names at cs rs
+    → AllByRecursion (λ r. IsCoded r.role) rs
 all_coded ss us names at [] [] none rises h = tt
 all_coded ss us names at [] (r ∷ rs) none rises h = absurd h
 all_coded ss us names at (c ∷ cs) [] none rises h = absurd h
 all_coded ss us names at (c ∷ cs) (r ∷ rs) none rises h = (
   item_coded ss us names at c r (λ p k f. none 0 p k (inl (refl, f))) rises.0 h.0,
-  all_coded (senses_after ss names c) (usages_after us names at c) (extended ss names at c) (at + 1) cs rs (λ i p k f. none (1 + i) p k (inr (i, refl, f))) rises.1 h.1,
+  all_coded (senses_after ss names c) (usages_after us names at c) (extended ss names at c) (at + 1)
+      cs rs (λ i p k f. none (1 + i) p k (inr (i, refl, f))) rises.1 h.1,
 )
 
 pub coded_items : (model : ModelText) → HasCodedItems model
-coded_items model rs none h = all_coded [] [] outermost 0 (clauses_of model) rs none (resolved_rising outermost 0 (clauses_of model) rs none h.0) h.0
+coded_items model rs none h =
+    all_coded [] [] outermost 0 (clauses_of model) rs none
+    (resolved_rising outermost 0 (clauses_of model) rs none h.0) h.0

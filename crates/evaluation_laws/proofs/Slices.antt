@@ -19,7 +19,10 @@ use Rattle.evaluation_laws.proofs.ReadModels.{models_walked}
 use Rattle.evaluation_laws.proofs.Walk.{role_at}
 
 module _ (ns ms : List ℕ) where
-  read_one : (o p : Option ResolvedItem) → option_map (λ r. role_content r.role) o ≡ option_map (λ r. role_content r.role) p → option_map (uses_of ns) o ≡ option_map (uses_of ms) p → option_map (read_item ns) o ≡ option_map (read_item ms) p
+  read_one : (o p : Option ResolvedItem)
+      → option_map (λ r. role_content r.role) o ≡ option_map (λ r. role_content r.role) p
+      → option_map (uses_of ns) o ≡ option_map (uses_of ms) p
+      → option_map (read_item ns) o ≡ option_map (read_item ms) p
   read_one None None e f = refl
   read_one None (Some q) e f = absurd (let n : None ≡ Some (role_content q.role) = e in cc)
   read_one (Some r) None e f = absurd (let n : Some (role_content r.role) ≡ None = e in cc)
@@ -34,7 +37,11 @@ module _ (ns ms : List ℕ) where
   rest_uses : (a b : Option Uses) (ls ks : List (Option Uses)) → a ∷ ls ≡ b ∷ ks → ls ≡ ks
   rest_uses a b ls ks e = cc
 
-  read_all : (rs qs : List ResolvedItem) (us vs : List ℕ) → AllZip (λ u v. role_at rs u ≡ role_at qs v) us vs → map (uses_at ns rs) us ≡ map (uses_at ms qs) vs → map (λ k. option_map (read_item ns) (slice_get rs k)) us ≡ map (λ k. option_map (read_item ms) (slice_get qs k)) vs
+  read_all : (rs qs : List ResolvedItem) (us vs : List ℕ)
+      → AllZip (λ u v. role_at rs u ≡ role_at qs v) us vs
+      → map (uses_at ns rs) us ≡ map (uses_at ms qs) vs
+      → map (λ k. option_map (read_item ns) (slice_get rs k)) us
+      ≡ map (λ k. option_map (read_item ms) (slice_get qs k)) vs
   read_all rs qs [] [] roles uses = refl
   read_all rs qs [] (v ∷ vs) roles uses = absurd roles
   read_all rs qs (u ∷ us) [] roles uses = absurd roles
@@ -43,13 +50,17 @@ module _ (ns ms : List ℕ) where
       let rest = read_all rs qs us vs roles.1 (rest_uses (uses_at ns rs u) (uses_at ms qs v) (map (uses_at ns rs) us) (map (uses_at ms qs) vs) uses) in
       λ i. first i ∷ rest i
 
-pub clauses_same : (c d : Content) (ns ms : List (Option ℕ)) (cs ds : List (Option value.Clause)) (us vs : List (Option Uses)) → OfItems c ns cs us ≡ OfItems d ms ds vs → cs ≡ ds
+pub clauses_same : (c d : Content) (ns ms : List (Option ℕ)) (cs ds : List (Option value.Clause))
+    (us vs : List (Option Uses)) → OfItems c ns cs us ≡ OfItems d ms ds vs → cs ≡ ds
 clauses_same c d ns ms cs ds us vs e = cc
 
-uses_same : (c d : Content) (ns ms : List (Option ℕ)) (cs ds : List (Option value.Clause)) (us vs : List (Option Uses)) → OfItems c ns cs us ≡ OfItems d ms ds vs → us ≡ vs
+uses_same : (c d : Content) (ns ms : List (Option ℕ)) (cs ds : List (Option value.Clause))
+    (us vs : List (Option Uses)) → OfItems c ns cs us ≡ OfItems d ms ds vs → us ≡ vs
 uses_same c d ns ms cs ds us vs e = cc
 
-by_readings : (test other : Content) (m n : NamedModel) (r q : Reading) → IsReading m.text.items.items r → IsReading n.text.items.items q → slice_by test m r ≡ slice_by other n q → items_read_by m r ≡ items_read_by n q
+by_readings : (test other : Content) (m n : NamedModel) (r q : Reading)
+    → IsReading m.text.items.items r → IsReading n.text.items.items q
+    → slice_by test m r ≡ slice_by other n q → items_read_by m r ≡ items_read_by n q
 by_readings test other m n (readings.Faulty f) (readings.Faulty g) a b e = refl
 by_readings test other m n (readings.Faulty f) (readings.Sound resolved used) a b e = cc
 by_readings test other m n (readings.Sound resolved used) (readings.Faulty g) a b e = cc
@@ -57,7 +68,9 @@ by_readings test other m n (readings.Sound resolved used) (readings.Sound others
     let rs = (arc_value resolved).items.items in
     let qs = (arc_value others).items.items in
     let walked = models_walked m.text.items.items n.text.items.items rs qs used.items reached.items a.0 b.0 a.1 b.1 (clauses_same _ _ _ _ _ _ _ _ e) in
-    read_all m.numbers.items n.numbers.items rs qs used.items reached.items walked.roles (uses_same _ _ _ _ _ _ _ _ e)
+    read_all m.numbers.items n.numbers.items rs qs used.items reached.items walked.roles
+    (uses_same _ _ _ _ _ _ _ _ e)
 
-pub read_alike : (test other : Content) (m n : NamedModel) → IsRead m → IsRead n → slice test m ≡ slice other n → items_read m ≡ items_read n
+pub read_alike : (test other : Content) (m n : NamedModel) → IsRead m → IsRead n
+    → slice test m ≡ slice other n → items_read m ≡ items_read n
 read_alike test other m n a b e = by_readings test other m n m.reading n.reading a b e

@@ -32,19 +32,29 @@ use Rattle.evaluation_laws.specs.SliceLaws.{GiveTheSame}
 
 -- the names of the locations of a test that says this
 abbrev names_in : Content → List (List ℕ)
-names_in c = (flat_map entry_names c.init ++ formula_names c.condition) ++ flat_map place_names c.observed
+names_in c =
+    (flat_map entry_names c.init ++ formula_names c.condition) ++ flat_map place_names c.observed
 
-steps_at : (threads others : List Thread) → map steps_of threads ≡ map steps_of others → (k : ℕ) (thread : Thread) → k < length others → (slice_index_or threads k thread).steps.items ≡ (slice_index_or others k thread).steps.items
+steps_at : (threads others : List Thread) → map steps_of threads ≡ map steps_of others
+    → (k : ℕ) (thread : Thread) → k < length others
+    → (slice_index_or threads k thread).steps.items ≡ (slice_index_or others k thread).steps.items
 steps_at threads others same k thread lt =
     let many : length threads ≡ length others = sym (length-map threads steps_of) ∙ (ap length same ∙ length-map others steps_of) in
-    sym (get_or-map steps_of threads k thread [] (omega arith)) ∙ (ap (λ (l : List (List Step)). slice_index_or l k []) same ∙ get_or-map steps_of others k thread [] lt)
+    sym (get_or-map steps_of threads k thread [] (omega arith))
+    ∙ (ap (λ (l : List (List Step)). slice_index_or l k []) same
+    ∙ get_or-map steps_of others k thread [] lt)
 
-threads_kept : (threads others : List Thread) (lines : List (Vec Line Global)) → map steps_of threads ≡ map steps_of others → AreThreads threads lines → AreThreads others lines
+threads_kept : (threads others : List Thread) (lines : List (Vec Line Global))
+    → map steps_of threads ≡ map steps_of others → AreThreads threads lines
+    → AreThreads others lines
 threads_kept threads others lines same h =
     let many : length threads ≡ length others = sym (length-map threads steps_of) ∙ (ap length same ∙ length-map others steps_of) in
     record {
       each_one = h.each_one ∙ many;
-      each = λ k thread made lt. subst (λ (steps : List Step). AreLines steps (slice_index_or lines k made).items) (steps_at threads others same k thread lt) (h.each k thread made (omega arith));
+      each =
+          λ k thread made lt. subst
+          (λ (steps : List Step). AreLines steps (slice_index_or lines k made).items)
+          (steps_at threads others same k thread lt) (h.each k thread made (omega arith));
     }
 
 module _ (test other : Test) (same : content_of test ≡ content_of other) where
@@ -56,13 +66,30 @@ module _ (test other : Test) (same : content_of test ≡ content_of other) where
   program_kept : (p : Program) → IsProgram test p → IsProgram other p
   program_kept p h = record {
     locations = subst (λ (c : Content). AreNames (names_in c) p.locations.items) same h.locations;
-    initial = subst (λ (c : Content). AreInitial c.init p.locations.items p.initial.items) same h.initial;
-    threads = threads_kept test.threads.items other.threads.items p.threads.items (ap (λ (c : Content). c.threads) same) h.threads;
-    registers = subst (λ (n : ℕ). AreFiles other.init.items p.locations.items n p.registers.items) count_kept (subst (λ (c : Content). AreFiles c.init p.locations.items (vec_len test.threads) p.registers.items) same h.registers);
+    initial =
+        subst (λ (c : Content). AreInitial c.init p.locations.items p.initial.items) same h.initial;
+    threads =
+        threads_kept test.threads.items other.threads.items p.threads.items
+        (ap (λ (c : Content). c.threads) same) h.threads;
+    registers =
+        subst (λ (n : ℕ). AreFiles other.init.items p.locations.items n p.registers.items)
+        count_kept (subst
+        (λ (c : Content).
+        AreFiles c.init p.locations.items (vec_len test.threads) p.registers.items) same
+        h.registers);
   }
 
-  executions_kept : (initial : List Value) (xs : List Execution) → AreTestExecutions test initial xs → AreTestExecutions other initial xs
-  executions_kept initial xs h = record { program = h.program; values = h.values; of_test = program_kept h.program h.of_test; starts = h.starts; domain = h.domain; executions = h.executions }
+  executions_kept : (initial : List Value) (xs : List Execution) → AreTestExecutions test initial xs
+      → AreTestExecutions other initial xs
+  executions_kept initial xs h =
+      record {
+        program = h.program;
+        values = h.values;
+        of_test = program_kept h.program h.of_test;
+        starts = h.starts;
+        domain = h.domain;
+        executions = h.executions;
+      }
 
   pub lists_kept : (space : Space) → ListsExecutions test space → ListsExecutions other space
   lists_kept space h = record {
@@ -72,7 +99,8 @@ module _ (test other : Test) (same : content_of test ≡ content_of other) where
     few = h.few;
     sound = h.sound;
     shown = h.shown;
-    locations = subst (λ (c : Content). AreNames (names_in c) space.locations.items) same h.locations;
+    locations =
+        subst (λ (c : Content). AreNames (names_in c) space.locations.items) same h.locations;
   }
 
   pub refusal_kept : (r : EvalRefusal) → IsRefusal test r → IsRefusal other r
@@ -80,16 +108,41 @@ module _ (test other : Test) (same : content_of test ≡ content_of other) where
   refusal_kept TooManyValues h = (h.0, program_kept h.0 h.1, h.2)
   refusal_kept TooManyRuns h = (h.0, program_kept h.0 h.1, h.2)
   refusal_kept TooManyCombinations h = (h.0, program_kept h.0 h.1, h.2)
-  refusal_kept TooManyCandidates h = record { initial = h.initial; all = h.all; executions = executions_kept h.initial h.all h.executions; many = h.many }
-  refusal_kept AddressFault h = record { initial = h.initial; all = h.all; executions = executions_kept h.initial h.all h.executions; few = h.few; execution = h.execution; there = h.there; fault = h.fault }
+  refusal_kept TooManyCandidates h =
+      record {
+        initial = h.initial;
+        all = h.all;
+        executions = executions_kept h.initial h.all h.executions;
+        many = h.many;
+      }
+  refusal_kept AddressFault h =
+      record {
+        initial = h.initial;
+        all = h.all;
+        executions = executions_kept h.initial h.all h.executions;
+        few = h.few;
+        execution = h.execution;
+        there = h.there;
+        fault = h.fault;
+      }
 
-  evaluation_kept : (items : List ResolvedItem) (space : Space) (e : Evaluation) → IsEvaluationBy items space test e → IsEvaluationBy items space other e
-  evaluation_kept items space e h = (h.0, h.1, h.2, subst (λ (c : Content). IsEvaluation space.locations.items (shown_in space) c.quantifier c.condition c.observed h.0 h.1 e) same h.3)
+  evaluation_kept : (items : List ResolvedItem) (space : Space) (e : Evaluation)
+      → IsEvaluationBy items space test e → IsEvaluationBy items space other e
+  evaluation_kept items space e h = (
+    h.0,
+    h.1,
+    h.2,
+    subst
+        (λ (c : Content). IsEvaluation space.locations.items (shown_in space) c.quantifier
+        c.condition c.observed h.0 h.1 e) same h.3,
+  )
 
-  result_kept : (model : ModelText) (r : OutcomeResult) → IsResultOf test model r → IsResultOf other model r
+  result_kept : (model : ModelText) (r : OutcomeResult) → IsResultOf test model r
+      → IsResultOf other model r
   result_kept model (Refused (refusals.Model k)) h = h
   result_kept model (Refused (refusals.Space r)) h = (h.0, refusal_kept r h.1)
-  result_kept model (Evaluated e) h = (h.0, (h.1.0, h.1.1, h.1.2, lists_kept h.1.2 h.1.3, evaluation_kept h.1.0 h.1.2 e h.1.4))
+  result_kept model (Evaluated e) h =
+      (h.0, (h.1.0, h.1.1, h.1.2, lists_kept h.1.2 h.1.3, evaluation_kept h.1.0 h.1.2 e h.1.4))
 
 pub equal_tests : (test other : Test) (model : ModelText) → GiveTheSame test other model
 equal_tests test other model same o h = record {

@@ -20,30 +20,39 @@ same_back c d h = record {
   dependencies = sym h.dependencies;
 }
 
-set_same : (n : ℕ) (name : Predefined) (c d : Combination) → HasSame c d → (a : ℕ) → SetIn c n name a → SetIn d n name a
-set_same n name c d same a h = (h.0, subst (λ (es : List Event). At es (IsIn name) a) same.events h.1)
+set_same : (n : ℕ) (name : Predefined) (c d : Combination) → HasSame c d → (a : ℕ)
+    → SetIn c n name a → SetIn d n name a
+set_same n name c d same a h =
+    (h.0, subst (λ (es : List Event). At es (IsIn name) a) same.events h.1)
 
-fixed_same : (name : Predefined) (n : ℕ) (c d : Combination) → HasSame c d → (a b : ℕ) → Fixed name n c a b → Fixed name n d a b
+fixed_same : (name : Predefined) (n : ℕ) (c d : Combination) → HasSame c d → (a b : ℕ)
+    → Fixed name n c a b → Fixed name n d a b
 fixed_same names.Identity n c d same a b h = h
 fixed_same names.ProgramOrder n c d same a b h = rw (← same.events) h
 fixed_same names.SameLocation n c d same a b h = rw (← same.events) h
 fixed_same names.ProgramOrderSameLocation n c d same a b h = rw (← same.events) h
 fixed_same names.Internal n c d same a b h = rw (← same.events) h
 fixed_same names.External n c d same a b h = rw (← same.events) h
-fixed_same names.AddressDependency n c d same a b h = subst (λ (x : DependencyLists). Listed x.addr_pairs a b) same.dependencies h
-fixed_same names.DataDependency n c d same a b h = subst (λ (x : DependencyLists). Listed x.data_pairs a b) same.dependencies h
-fixed_same names.ControlDependency n c d same a b h = subst (λ (x : DependencyLists). Listed x.ctrl_pairs a b) same.dependencies h
-fixed_same names.ControlIsyncDependency n c d same a b h = subst (λ (x : DependencyLists). Listed x.ctrlisync_pairs a b) same.dependencies h
+fixed_same names.AddressDependency n c d same a b h =
+    subst (λ (x : DependencyLists). Listed x.addr_pairs a b) same.dependencies h
+fixed_same names.DataDependency n c d same a b h =
+    subst (λ (x : DependencyLists). Listed x.data_pairs a b) same.dependencies h
+fixed_same names.ControlDependency n c d same a b h =
+    subst (λ (x : DependencyLists). Listed x.ctrl_pairs a b) same.dependencies h
+fixed_same names.ControlIsyncDependency n c d same a b h =
+    subst (λ (x : DependencyLists). Listed x.ctrlisync_pairs a b) same.dependencies h
 fixed_same names.SyncOrder n c d same a b h = rw (← same.events) h
 fixed_same names.LwsyncOrder n c d same a b h = rw (← same.events) h
 fixed_same names.EieioOrder n c d same a b h = rw (← same.events) h
 fixed_same names.IsyncOrder n c d same a b h = rw (← same.events) h
 fixed_same _ n c d same a b h = absurd h
 
-shared_same : (n : ℕ) (name : Predefined) (c d : Combination) → HasSame c d → (a b : ℕ) → SharedIn c n name a b → SharedIn d n name a b
+shared_same : (n : ℕ) (name : Predefined) (c d : Combination) → HasSame c d → (a b : ℕ)
+    → SharedIn c n name a b → SharedIn d n name a b
 shared_same n name c d same a b h = (h.0, h.1, fixed_same name n c d same a b h.2)
 
-pub entered_as : (base : Known) (c d : Combination) → HasSame c d → IsEntered base c → IsEntered base d
+pub entered_as : (base : Known) (c d : Combination) → HasSame c d → IsEntered base c
+    → IsEntered base d
 entered_as base c d same h = record {
   count = h.count ∙ ap (λ (es : List Event). length es) same.events;
   sets = λ name held a. (
@@ -56,8 +65,10 @@ entered_as base c d same h = record {
   );
 }
 
--- what the candidates share stays as the loads read in another way and the stores have another order
-pub entered_still : (old new : Known) (c : Combination) → new.count ≡ old.count → new.sets ≡ old.sets → new.shared ≡ old.shared → IsEntered old c → IsEntered new c
+-- what the candidates share stays as the loads read in another way and the stores have another
+-- order
+pub entered_still : (old new : Known) (c : Combination) → new.count ≡ old.count
+    → new.sets ≡ old.sets → new.shared ≡ old.shared → IsEntered old c → IsEntered new c
 entered_still old new c count sets shared h = record {
   count = count ∙ h.count;
   sets = rw (sets, count) h.sets;

@@ -16,44 +16,68 @@ use Rattle.binding_kinds.specs.Verdict.{or_else, unless}
 use Rattle.binding_kinds.specs.Senses.{Sense, IsKept, IsAlike, size_with, size_applied, kind_in, kinds_in, fault_applied}
 use Rattle.binding_kinds.proofs.Applications.{below_table, next, long_kinds, count_arguments, or_none}
 
-own_large : (s : Sense) (sizes : List ℕ) (kinds : List Kind) (size : ℕ) → IsAlike size (size_with s sizes) → 4096 < size → fault_applied (Ok s) sizes kinds None ≡ Some faults.TooLarge
+own_large : (s : Sense) (sizes : List ℕ) (kinds : List Kind) (size : ℕ)
+    → IsAlike size (size_with s sizes) → 4096 < size
+    → fault_applied (Ok s) sizes kinds None ≡ Some faults.TooLarge
 own_large s sizes kinds size alike lt =
-    ap (λ (b : Bool). if b then Some faults.TooLarge else or_else (unless (not (s.clashes kinds)) faults.Kind) None) (lt-ltb 4096 (size_with s sizes) (omega (arith, alike, lt)))
+    ap
+    (λ (b : Bool). if b then Some faults.TooLarge
+    else or_else (unless (not (s.clashes kinds)) faults.Kind) None)
+    (lt-ltb 4096 (size_with s sizes) (omega (arith, alike, lt)))
 
-own_small : (f : Function) (s : Sense) (sizes : List ℕ) (kinds : List Kind) (size combination : ℕ) → IsKept f s → length kinds ≡ s.arity → combination ≡ number_of kinds → IsAlike size (size_with s sizes) → size ≤ 4096
-    → fault_applied (Ok s) sizes kinds None ≡ unless (not (get_or f.signatures.items combination unknown).clashes) faults.Kind
+own_small : (f : Function) (s : Sense) (sizes : List ℕ) (kinds : List Kind) (size combination : ℕ)
+    → IsKept f s → length kinds ≡ s.arity → combination ≡ number_of kinds
+    → IsAlike size (size_with s sizes) → size ≤ 4096
+    → fault_applied (Ok s) sizes kinds None
+    ≡ unless (not (get_or f.signatures.items combination unknown).clashes) faults.Kind
 own_small f s sizes kinds size combination kept long is alike le =
     let g = ap (λ (n : ℕ). get_or f.signatures.items n unknown) is ∙ kept.kinds kinds long in
-    ap (λ (b : Bool). if b then Some faults.TooLarge else or_else (unless (not (s.clashes kinds)) faults.Kind) None) (le-ltb 4096 (size_with s sizes) (omega (arith, alike, le)))
+    ap
+    (λ (b : Bool). if b then Some faults.TooLarge
+    else or_else (unless (not (s.clashes kinds)) faults.Kind) None)
+    (le-ltb 4096 (size_with s sizes) (omega (arith, alike, le)))
     ∙ or_none (unless (not (s.clashes kinds)) faults.Kind)
     ∙ sym (ap (λ (x : Signature). unless (not x.clashes) faults.Kind) g)
 
 -- the kinds of so many arguments
-long_arguments : (ss : List Sense) (names : List Naming) (xs : List Expression) → length (kinds_in ss names (gathered (map term_of xs))) ≡ length xs
+long_arguments : (ss : List Sense) (names : List Naming) (xs : List Expression)
+    → length (kinds_in ss names (gathered (map term_of xs))) ≡ length xs
 long_arguments ss names xs = long_kinds ss names (gathered (map term_of xs)) ∙ count_arguments xs
 
 -- ---- what an application answers
 
-pub too_large : (r : Result Sense ModelFault) (s : Sense) (sizes : List ℕ) (kinds : List Kind) (size : ℕ) → r ≡ Ok s → IsAlike size (size_applied r sizes) → 4096 < size → Some faults.TooLarge ≡ fault_applied r sizes kinds None
+pub too_large : (r : Result Sense ModelFault) (s : Sense) (sizes : List ℕ) (kinds : List Kind)
+    (size : ℕ) → r ≡ Ok s → IsAlike size (size_applied r sizes) → 4096 < size
+    → Some faults.TooLarge ≡ fault_applied r sizes kinds None
 too_large r s sizes kinds size is alike lt =
     sym (ap (λ (q : Result Sense ModelFault). fault_applied q sizes kinds None) is
-    ∙ own_large s sizes kinds size (alike ∙ ap (λ (q : Result Sense ModelFault). min (size_applied q sizes) 4097) is) lt)
+    ∙ own_large s sizes kinds size
+    (alike ∙ ap (λ (q : Result Sense ModelFault). min (size_applied q sizes) 4097) is) lt)
 
-pub clashing : (f : Function) (ss : List Sense) (names : List Naming) (xs : List Expression) (r : Result Sense ModelFault) (s : Sense) (sizes : List ℕ) (size combination : ℕ) (o : Option ModelFault) → r ≡ Ok s → IsKept f s → length xs ≡ s.arity
-    → (length xs ≤ 8 → combination ≡ number_of (kinds_in ss names (gathered (map term_of xs)))) → IsAlike size (size_applied r sizes) → size ≤ 4096
-    → o ≡ unless (not (get_or f.signatures.items combination unknown).clashes) faults.Kind → o ≡ fault_applied r sizes (kinds_in ss names (gathered (map term_of xs))) None
+pub clashing : (f : Function) (ss : List Sense) (names : List Naming) (xs : List Expression)
+    (r : Result Sense ModelFault) (s : Sense) (sizes : List ℕ) (size combination : ℕ)
+    (o : Option ModelFault) → r ≡ Ok s → IsKept f s → length xs ≡ s.arity
+    → (length xs ≤ 8 → combination ≡ number_of (kinds_in ss names (gathered (map term_of xs))))
+    → IsAlike size (size_applied r sizes) → size ≤ 4096
+    → o ≡ unless (not (get_or f.signatures.items combination unknown).clashes) faults.Kind
+    → o ≡ fault_applied r sizes (kinds_in ss names (gathered (map term_of xs))) None
 clashing f ss names xs r s sizes size combination o is kept arity combined alike le o_is =
     let kinds = kinds_in ss names (gathered (map term_of xs)) in
     let few : length xs ≤ 8 = let k = kept.few in omega (arith, arity, k) in
     o_is ∙ sym (
     ap (λ (q : Result Sense ModelFault). fault_applied q sizes kinds None) is
-    ∙ own_small f s sizes kinds size combination kept (long_arguments ss names xs ∙ arity) (combined few) (alike ∙ ap (λ (q : Result Sense ModelFault). min (size_applied q sizes) 4097) is) le
+    ∙ own_small f s sizes kinds size combination kept (long_arguments ss names xs ∙ arity)
+    (combined few)
+    (alike ∙ ap (λ (q : Result Sense ModelFault). min (size_applied q sizes) 4097) is) le
     )
 
 -- ---- the combination, from the last argument to the first
 
-pub combined_before : (ss : List Sense) (names : List Naming) (xs : List Expression) (i : ℕ) (e : Expression) (k : Kind) (c after : ℕ) → i < length xs → length xs ≤ 8 → e ≡ get_or xs i e → k ≡ kind_in ss names (term_of e)
-    → c ≡ number_of (kinds_in ss names (gathered (map term_of (drop (i + 1) xs)))) → (c < 6561 → after ≡ c * 3 + digit k)
+pub combined_before : (ss : List Sense) (names : List Naming) (xs : List Expression) (i : ℕ)
+    (e : Expression) (k : Kind) (c after : ℕ) → i < length xs → length xs ≤ 8
+    → e ≡ get_or xs i e → k ≡ kind_in ss names (term_of e)
+    → c ≡ number_of (kinds_in ss names (gathered (map term_of (drop (i + 1) xs))))
+    → (c < 6561 → after ≡ c * 3 + digit k)
     → after ≡ number_of (kinds_in ss names (gathered (map term_of (drop i xs))))
 combined_before ss names xs i e k c after lt few is k_is c_is after_is =
     let rest = drop (i + 1) xs in

@@ -7,8 +7,11 @@ use Rattle.text_values.specs.ModelValues.{term_of}
 use Rattle.text_values.proofs.Arguments.{applied_term}
 
 -- applications of one function with equal arguments are equal
-pub copied_application : (e : Expression) (n m : List ℕ) (copies args : Vec Expression Global) (xs : List Expression)
-    → e ≡ expressions.Applied m args → n ≡ m → xs ≡ args.items → map term_of copies.items ≡ map term_of xs → term_of (expressions.Applied n copies) ≡ term_of e
+pub copied_application : (e : Expression) (n m : List ℕ) (copies args : Vec Expression Global)
+    (xs : List Expression)
+    → e ≡ expressions.Applied m args → n ≡ m → xs ≡ args.items
+    → map term_of copies.items ≡ map term_of xs
+    → term_of (expressions.Applied n copies) ≡ term_of e
 copied_application e n m copies args xs is names items_are same =
     applied_term n copies
     ∙ ap (λ k. Apply k (gathered (map term_of copies.items))) names

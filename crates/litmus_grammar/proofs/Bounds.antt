@@ -59,21 +59,27 @@ module _ (n p : ℕ) (le : p ≤ n) where
       choose true = tt
       choose false = h
 
-  noted_within : (b : Block) (k : Option (List ℕ)) → AreAtMost n b.starts → InBlock n (init.added_if b k)
+  noted_within : (b : Block) (k : Option (List ℕ)) → AreAtMost n b.starts
+      → InBlock n (init.added_if b k)
   noted_within b None h = h
   noted_within b (Some k) h = added_within b k h
 
-  result_within : (b : Block) (o : Option PlaceStep) → AreAtMost n b.starts → InDid n (init.place_result b o)
+  result_within : (b : Block) (o : Option PlaceStep) → AreAtMost n b.starts
+      → InDid n (init.place_result b o)
   result_within b (Some (place_steps.Goes expected)) h = h
   result_within b (Some (place_steps.Ends w)) h = h
   result_within b None h = tt
 
-  both_within : (o : Option Block) (s : Option PlaceStep) → InBlock n o → InDid n (init.and_place o s)
+  both_within : (o : Option Block) (s : Option PlaceStep) → InBlock n o
+      → InDid n (init.and_place o s)
   both_within (Some b) s h = result_within b s h
   both_within None s h = tt
 
-  place_within : (b : Block) (expected : PlaceExpectation) (t : Token) → AreAtMost n b.starts → InDid n (init.place_read b expected t)
-  place_within b expected t h = both_within (init.added_if b (init.token_key expected t)) (place_step expected t) (noted_within b (init.token_key expected t) h)
+  place_within : (b : Block) (expected : PlaceExpectation) (t : Token) → AreAtMost n b.starts
+      → InDid n (init.place_read b expected t)
+  place_within b expected t h =
+      both_within (init.added_if b (init.token_key expected t)) (place_step expected t)
+      (noted_within b (init.token_key expected t) h)
 
   entry_within : (b : Block) (t : Token) → AreAtMost n b.starts → InDid n (init.entry_read b t p)
   entry_within b (tokens.Mark marks.CloseBrace) h = h
@@ -83,11 +89,13 @@ module _ (n p : ℕ) (le : p ≤ n) where
   open_within b (tokens.Mark marks.OpenBrace) h = h
   open_within b t h = tt
 
-  equals_within : (b : Block) (q : Place) (t : Token) → AreAtMost n b.starts → InDid n (init.equals_read b q t)
+  equals_within : (b : Block) (q : Place) (t : Token) → AreAtMost n b.starts
+      → InDid n (init.equals_read b q t)
   equals_within b q (tokens.Mark marks.Equals) h = h
   equals_within b q t h = tt
 
-  valued_within : (b : Block) (q : Place) (v : Option declared_value.Value) → AreAtMost n b.starts → InDid n (init.valued b q v)
+  valued_within : (b : Block) (q : Place) (v : Option declared_value.Value) → AreAtMost n b.starts
+      → InDid n (init.valued b q v)
   valued_within b q (Some v) h = h
   valued_within b q None h = tt
 
@@ -96,7 +104,8 @@ module _ (n p : ℕ) (le : p ≤ n) where
   behind_within b (tokens.Mark marks.CloseBrace) h = h
   behind_within b t h = tt
 
-  init_within : (b : Block) (expected : InitExpectation) (t : Token) → AreAtMost n b.starts → InDid n (init.step b expected t p)
+  init_within : (b : Block) (expected : InitExpectation) (t : Token) → AreAtMost n b.starts
+      → InDid n (init.step b expected t p)
   init_within b expectations.WantsOpen t h = open_within b t h
   init_within b expectations.WantsEntry t h = entry_within b t h
   init_within b (expectations.InPlace within) t h = place_within b within t h
@@ -105,12 +114,15 @@ module _ (n p : ℕ) (le : p ≤ n) where
   init_within b expectations.HasEntry t h = behind_within b t h
 
 -- the entry of a thread that is not there
-missing_within : (n threads : ℕ) (es : List InitEntry) (ss : List ℕ) (p : ℕ) → AreAtMost n ss → missing threads es ss ≡ Some p → p ≤ n
+missing_within : (n threads : ℕ) (es : List InitEntry) (ss : List ℕ) (p : ℕ) → AreAtMost n ss
+    → missing threads es ss ≡ Some p → p ≤ n
 missing_within n threads [] ss p h e = absurd cc
 missing_within n threads (x ∷ es) [] p h e = absurd cc
-missing_within n threads (x ∷ es) (s ∷ ss) p h e = choose (lacks_thread threads x.place) e (missing_within n threads es ss p h.1)
+missing_within n threads (x ∷ es) (s ∷ ss) p h e =
+    choose (lacks_thread threads x.place) e (missing_within n threads es ss p h.1)
   where
-    choose : (b : Bool) → (if b then Some s else missing threads es ss) ≡ Some p → (missing threads es ss ≡ Some p → p ≤ n) → p ≤ n
+    choose : (b : Bool) → (if b then Some s else missing threads es ss) ≡ Some p
+        → (missing threads es ss ≡ Some p → p ≤ n) → p ≤ n
     choose true e f = let same : s ≡ p = cc in subst (λ k. k ≤ n) same h.0
     choose false e f = f e
 
@@ -125,29 +137,37 @@ module _ (n p : ℕ) (le : p ≤ n) (kind : TextKind) (h : Draft) (k : AreKept n
   led (Some q) = k
   led None = tt
 
-  either_way : (b : Bool) (x y : Option Next) → InNext n x → InNext n y → InNext n (if b then x else y)
+  either_way : (b : Bool) (x y : Option Next) → InNext n x → InNext n y
+      → InNext n (if b then x else y)
   either_way true x y f g = f
   either_way false x y f g = g
 
   title_kept : (t : Token) → InNext n (text.title_read h t)
-  title_kept (tokens.Word w) = either_way (is_test_name w) (at (with_name h w) text.TitleEnd) None k tt
+  title_kept (tokens.Word w) =
+      either_way (is_test_name w) (at (with_name h w) text.TitleEnd) None k tt
   title_kept t = tt
 
   init_kept : (o : Option Did) → InDid n o → InNext n (text.init_result kind h o)
   init_kept (Some d) w = (w, k.1)
   init_kept None w = tt
 
-  table_kept : (q : Part) (o : Option table.State) → ((s : table.State) → o ≡ Some s → AreWithin n s.threads) → InNext n (text.table_result h q o)
+  table_kept : (q : Part) (o : Option table.State)
+      → ((s : table.State) → o ≡ Some s → AreWithin n s.threads)
+      → InNext n (text.table_result h q o)
   table_kept q (Some s) f = (k.0, f s refl)
   table_kept q None f = tt
 
   rows_kept : (q : Part) (t : Token) → InNext n (text.table_result h q (table.step h.table t p))
-  rows_kept q t = table_kept q (table.step h.table t p) (λ s e. expectation_within n p le h.table.threads h.table.column k.1 h.table.expected t s e)
+  rows_kept q t =
+      table_kept q (table.step h.table t p) (λ s e.
+      expectation_within n p le h.table.threads h.table.column k.1 h.table.expected t s e)
 
   named_kept : (t : Token) → InNext n (text.table_result h text.HasColumn (table.named h.table t))
   named_kept (tokens.Word w) = choose (names_column (length h.table.threads) w)
     where
-      choose : (b : Bool) → InNext n (text.table_result h text.HasColumn (if b then Some (table.widened h.table) else None))
+      choose : (b : Bool)
+          → InNext n (text.table_result h text.HasColumn
+          (if b then Some (table.widened h.table) else None))
       choose true = (k.0, widened_within n h.table.threads k.1)
       choose false = tt
   named_kept t = tt
@@ -158,35 +178,45 @@ module _ (n p : ℕ) (le : p ≤ n) (kind : TextKind) (h : Draft) (k : AreKept n
   item_result_kept None = tt
 
   starts_kept : (threads : ℕ) (t : Token) → InNext n (text.item_start threads h t)
-  starts_kept threads t = either_way (is_there threads t) (text.item_result h (place_step places.Begins t)) None (item_result_kept (place_step places.Begins t)) tt
+  starts_kept threads t =
+      either_way (is_there threads t) (text.item_result h (place_step places.Begins t)) None
+      (item_result_kept (place_step places.Begins t)) tt
 
   next_kept : (threads : ℕ) (t : Token) → InNext n (text.next_item kind threads h t)
   next_kept threads (tokens.Mark marks.CloseBracket) = k
   next_kept threads t = starts_kept threads t
 
-  item_kept : (threads : ℕ) (expected : ItemExpectation) (t : Token) → InNext n (text.item_read kind threads h expected t)
+  item_kept : (threads : ℕ) (expected : ItemExpectation) (t : Token)
+      → InNext n (text.item_read kind threads h expected t)
   item_kept threads items.WantsFirst t = starts_kept threads t
   item_kept threads items.WantsNext t = next_kept threads t
   item_kept threads (items.Within expected) t = item_result_kept (place_step expected t)
   item_kept threads items.HasItem t = led (text.item_ended kind t)
 
-  proposition_kept : (q : Quantifier) (f : condition.StepResult) → InNext n (text.proposition_result h q f)
+  proposition_kept : (q : Quantifier) (f : condition.StepResult)
+      → InNext n (text.proposition_result h q f)
   proposition_kept q (condition.Goes fs used expected) = k
   proposition_kept q (condition.Ends a) = k
   proposition_kept q condition.Refuses = tt
 
   row_kept : (t : Token) → InNext n (text.row_read h t p)
-  row_kept t = either_way (table.is_row_start h.table && begins_tail t) (next_at h (text.tail_start t)) (text.table_result h text.Rows (table.step h.table t p)) (led (text.tail_start t)) (rows_kept text.Rows t)
+  row_kept t =
+      either_way (table.is_row_start h.table && begins_tail t) (next_at h (text.tail_start t))
+      (text.table_result h text.Rows (table.step h.table t p)) (led (text.tail_start t))
+      (rows_kept text.Rows t)
 
   cell_kept : (t : Token) → InNext n (text.cell_read h t p)
-  cell_kept t = either_way (table.can_end h.table.expected && is_end t) (at h text.Done) (text.table_result h text.Cells (table.step h.table t p)) k (rows_kept text.Cells t)
+  cell_kept t =
+      either_way (table.can_end h.table.expected && is_end t) (at h text.Done)
+      (text.table_result h text.Cells (table.step h.table t p)) k (rows_kept text.Cells t)
 
   part_kept : (given : ℕ) (q : Part) (t : Token) → InNext n (text.part_step kind given h q t p)
   part_kept given text.Magic t = led (text.magic_read t)
   part_kept given text.Title t = title_kept t
   part_kept given text.TitleEnd t = led (text.title_ended t)
   part_kept given (text.Head b) t = led (text.head_read b t)
-  part_kept given (text.Init expected) t = init_kept (init.step h.init expected t p) (init_within n p le h.init expected t k.0)
+  part_kept given (text.Init expected) t =
+      init_kept (init.step h.init expected t p) (init_within n p le h.init expected t k.0)
   part_kept given text.WantsColumn t = named_kept t
   part_kept given text.HasColumn t = led (text.column_ended t)
   part_kept given text.Rows t = row_kept t
@@ -195,7 +225,9 @@ module _ (n p : ℕ) (le : p ≤ n) (kind : TextKind) (h : Draft) (k : AreKept n
   part_kept given (text.Item expected) t = item_kept (text.threads_in kind given h) expected t
   part_kept given text.WantsQuantifier t = led (text.quantifier_read t)
   part_kept given text.AfterTilde t = led (text.exists_read t)
-  part_kept given (text.Proposition q fs used expected) t = proposition_kept q (condition.proposition_step limits (text.threads_in kind given h) fs used expected t)
+  part_kept given (text.Proposition q fs used expected) t =
+      proposition_kept q (condition.proposition_step limits (text.threads_in kind given h) fs used
+      expected t)
   part_kept given text.ListOrEnd t = led (text.list_start t)
   part_kept given text.WantsEnd t = led (text.end_read t)
   part_kept given text.Done t = tt
@@ -206,22 +238,34 @@ abbrev AreBefore : ℕ → List TokenAt → Type 0
 AreBefore n [] = Unit {0}
 AreBefore n (q ∷ qs) = (q.offset ≤ n) × AreBefore n qs
 
-run_kept : (n : ℕ) (s : State) (ps : List TokenAt) → AreBefore n ps → AreKept n s.draft → IsKept n (run s ps)
+run_kept : (n : ℕ) (s : State) (ps : List TokenAt) → AreBefore n ps → AreKept n s.draft
+    → IsKept n (run s ps)
 run_kept n s [] h k = k
 run_kept n s (q ∷ ps) h k =
-    by_next (text.part_step s.kind s.threads s.draft s.part q.token q.offset) (part_kept n q.offset h.0 s.kind s.draft k s.threads s.part q.token) (λ x j. run_kept n x ps h.1 j)
+    by_next (text.part_step s.kind s.threads s.draft s.part q.token q.offset)
+    (part_kept n q.offset h.0 s.kind s.draft k s.threads s.part q.token)
+    (λ x j. run_kept n x ps h.1 j)
   where
-    by_next : (o : Option Next) → InNext n o → ((x : State) → AreKept n x.draft → IsKept n (run x ps)) → IsKept n (and_then (text.with_offset q.offset (stepped s q.token o)) (λ x. run x ps))
+    by_next : (o : Option Next) → InNext n o
+        → ((x : State) → AreKept n x.draft → IsKept n (run x ps))
+        → IsKept n (and_then (text.with_offset q.offset (stepped s q.token o)) (λ x. run x ps))
     by_next (Some x) j f = f _ j
     by_next None j f = h.0
 
-tokens_before : (n : ℕ) (s : Stage) (fresh : Bool) (skip offset : ℕ) (bs : List ℕ) → offset + length bs ≤ n → AreBefore n (tokens_from s fresh skip offset bs)
+tokens_before : (n : ℕ) (s : Stage) (fresh : Bool) (skip offset : ℕ) (bs : List ℕ)
+    → offset + length bs ≤ n → AreBefore n (tokens_from s fresh skip offset bs)
 unfolding tokens_from
 tokens_before n s fresh skip offset [] le = (omega arith, tt)
-tokens_before n s fresh (suc skip) offset (b ∷ bs) le = tokens_before n s fresh skip (offset + 1) bs (omega arith)
-tokens_before n s fresh zero offset (b ∷ bs) le = by_front (front s fresh (b ∷ bs)) (λ g f skip. tokens_before n g f skip (offset + 1) bs (omega arith))
+tokens_before n s fresh (suc skip) offset (b ∷ bs) le =
+    tokens_before n s fresh skip (offset + 1) bs (omega arith)
+tokens_before n s fresh zero offset (b ∷ bs) le =
+    by_front (front s fresh (b ∷ bs)) (λ g f skip.
+    tokens_before n g f skip (offset + 1) bs (omega arith))
   where
-    by_front : (f : Front) → ((g : Stage) (f : Bool) (skip : ℕ) → AreBefore n (tokens_from g f skip (offset + 1) bs)) → AreBefore n (after_front s fresh offset b f (λ g f skip. tokens_from g f skip (offset + 1) bs))
+    by_front : (f : Front)
+        → ((g : Stage) (f : Bool) (skip : ℕ) → AreBefore n (tokens_from g f skip (offset + 1) bs))
+        → AreBefore n (after_front s fresh offset b f
+        (λ g f skip. tokens_from g f skip (offset + 1) bs))
     by_front (Layout k) r = r _ _ _
     by_front (Lexeme t k) r = (omega arith, r _ _ _)
 
@@ -234,12 +278,17 @@ start_kept n kinds.Locations = (tt, tt)
 
 module _ (kind : TextKind) (threads : ℕ) (bytes : List ℕ) where
   pub all_kept : IsKept (length bytes) (run (start kind threads) (lexed (first_stage kind) bytes))
-  all_kept = run_kept (length bytes) (start kind threads) (lexed (first_stage kind) bytes) (tokens_before (length bytes) (first_stage kind) false 0 0 bytes (omega arith)) (start_kept (length bytes) kind)
+  all_kept =
+      run_kept (length bytes) (start kind threads) (lexed (first_stage kind) bytes)
+      (tokens_before (length bytes) (first_stage kind) false 0 0 bytes (omega arith))
+      (start_kept (length bytes) kind)
 
-  kept : (s : State) → run (start kind threads) (lexed (first_stage kind) bytes) ≡ Ok s → AreKept (length bytes) s.draft
+  kept : (s : State) → run (start kind threads) (lexed (first_stage kind) bytes) ≡ Ok s
+      → AreKept (length bytes) s.draft
   kept s h = subst (IsKept (length bytes)) h all_kept
 
-pub missing_kept : (n threads p : ℕ) (h : Draft) → AreKept n h → missing threads h.init.entries h.init.starts ≡ Some p → p ≤ n
+pub missing_kept : (n threads p : ℕ) (h : Draft) → AreKept n h
+    → missing threads h.init.entries h.init.starts ≡ Some p → p ≤ n
 missing_kept n threads p h k e = missing_within n threads h.init.entries h.init.starts p k.0 e
 
 pub is_short : (bytes : List ℕ) → (65536 < length bytes → ⊥) → length bytes ≤ 65536
@@ -249,5 +298,7 @@ is_short bytes bounded = choose (cases_lt 65536 (length bytes))
     choose (inl lt) = absurd (bounded lt)
     choose (inr le) = le
 
-pub kept_short : (kind : TextKind) (threads : ℕ) (bytes : List ℕ) (s : State) → (length bytes ≤ 65536 → run (start kind threads) (lexed (first_stage kind) bytes) ≡ Ok s) → (65536 < length bytes → ⊥) → AreKept (length bytes) s.draft
+pub kept_short : (kind : TextKind) (threads : ℕ) (bytes : List ℕ) (s : State)
+    → (length bytes ≤ 65536 → run (start kind threads) (lexed (first_stage kind) bytes) ≡ Ok s)
+    → (65536 < length bytes → ⊥) → AreKept (length bytes) s.draft
 kept_short kind threads bytes s h bounded = kept kind threads bytes s (h (is_short bytes bounded))

@@ -41,10 +41,13 @@ no_operand p (Some wants.Comma) = refl
 no_operand p (Some wants.Open) = refl
 no_operand p (Some wants.Close) = refl
 
-pub no_cell : (ts : List table.ThreadSteps) (c : ℕ) (expected : table.Expectation) (offset : ℕ) → table.expected_step ts c expected End offset ≡ None
+pub no_cell : (ts : List table.ThreadSteps) (c : ℕ) (expected : table.Expectation) (offset : ℕ)
+    → table.expected_step ts c expected End offset ≡ None
 no_cell ts c table.Begins offset = refl
 no_cell ts c table.Labelled offset = refl
-no_cell ts c (table.Within p) offset = ap (λ (o : Option table.Pending). table.operand ts c o offset) (no_operand p (table.first_of p.wants))
+no_cell ts c (table.Within p) offset =
+    ap (λ (o : Option table.Pending). table.operand ts c o offset)
+    (no_operand p (table.first_of p.wants))
 no_cell ts c (table.WantsLabel condition) offset = refl
 no_cell ts c table.Whole offset = refl
 
@@ -54,43 +57,65 @@ IsDone (Some n) = n.part ≡ text.Done
 
 module _ (kind : TextKind) (given : ℕ) (h : Draft) (offset : ℕ) where
   no_row : (q : Part) → IsDone (text.table_result h q (table.step h.table End offset))
-  no_row q = subst (λ (o : Option table.State). IsDone (text.table_result h q o)) (sym (no_cell h.table.threads h.table.column h.table.expected offset)) tt
+  no_row q =
+      subst (λ (o : Option table.State). IsDone (text.table_result h q o))
+      (sym (no_cell h.table.threads h.table.column h.table.expected offset)) tt
 
-  row_done : (b : Bool) → IsDone (if b && false then text.next_at h (text.tail_start End) else text.table_result h text.Rows (table.step h.table End offset))
+  row_done : (b : Bool)
+      → IsDone (if b && false then text.next_at h (text.tail_start End)
+      else text.table_result h text.Rows (table.step h.table End offset))
   row_done true = no_row text.Rows
   row_done false = no_row text.Rows
 
-  cell_done : (b : Bool) → IsDone (if b && true then text.at h text.Done else text.table_result h text.Cells (table.step h.table End offset))
+  cell_done : (b : Bool)
+      → IsDone (if b && true then text.at h text.Done
+      else text.table_result h text.Cells (table.step h.table End offset))
   cell_done true = refl
   cell_done false = no_row text.Cells
 
-  init_done : (expected : InitExpectation) → IsDone (text.init_result kind h (init.step h.init expected End offset))
+  init_done : (expected : InitExpectation)
+      → IsDone (text.init_result kind h (init.step h.init expected End offset))
   init_done expectations.WantsOpen = tt
   init_done expectations.WantsEntry = tt
-  init_done (expectations.InPlace within) = subst (λ o. IsDone (text.init_result kind h (init.place_result h.init o))) (sym (no_place within)) tt
+  init_done (expectations.InPlace within) =
+      subst (λ o. IsDone (text.init_result kind h (init.place_result h.init o)))
+      (sym (no_place within)) tt
   init_done (expectations.WantsEquals p) = tt
   init_done (expectations.WantsValue p) = tt
   init_done expectations.HasEntry = tt
 
-  item_done : (threads : ℕ) (expected : ItemExpectation) → IsDone (text.item_read kind threads h expected End)
+  item_done : (threads : ℕ) (expected : ItemExpectation)
+      → IsDone (text.item_read kind threads h expected End)
   item_done threads items.WantsFirst = tt
   item_done threads items.WantsNext = tt
-  item_done threads (items.Within within) = subst (λ o. IsDone (text.item_result h o)) (sym (no_place within)) tt
+  item_done threads (items.Within within) =
+      subst (λ o. IsDone (text.item_result h o)) (sym (no_place within)) tt
   item_done threads items.HasItem = tt
 
-  ended_done : (q : Quantifier) (p : List Frame × Formula) → IsDone (text.proposition_result h q (condition.ended p))
+  ended_done : (q : Quantifier) (p : List Frame × Formula)
+      → IsDone (text.proposition_result h q (condition.ended p))
   ended_done q ([], v) = refl
   ended_done q (f ∷ fs, v) = tt
 
-  not_done : (q : Quantifier) (b : Bool) → IsDone (text.proposition_result h q (if b then condition.Refuses else condition.Refuses))
+  not_done : (q : Quantifier) (b : Bool)
+      → IsDone (text.proposition_result h q (if b then condition.Refuses else condition.Refuses))
   not_done q true = tt
   not_done q false = tt
 
-  proposition_done : (threads : ℕ) (q : Quantifier) (fs : List Frame) (used : ℕ) (expected : condition.Expectation) → IsDone (text.proposition_result h q (condition.proposition_step limits threads fs used expected End))
+  proposition_done : (threads : ℕ) (q : Quantifier) (fs : List Frame) (used : ℕ)
+      (expected : condition.Expectation)
+      → IsDone (text.proposition_result h q (condition.proposition_step limits threads fs used
+      expected End))
   proposition_done threads q fs used condition.Wants = tt
-  proposition_done threads q fs used (condition.HasConstant b) = ended_done q (condition.fold_to 0 fs (Constant b))
-  proposition_done threads q fs used condition.HasNot = not_done q (nat_lt (condition.open_count fs) limits.nesting)
-  proposition_done threads q fs used (condition.InPlace within) = subst (λ o. IsDone (text.proposition_result h q (condition.in_place fs used (condition.expected_after_place o)))) (sym (no_place within)) tt
+  proposition_done threads q fs used (condition.HasConstant b) =
+      ended_done q (condition.fold_to 0 fs (Constant b))
+  proposition_done threads q fs used condition.HasNot =
+      not_done q (nat_lt (condition.open_count fs) limits.nesting)
+  proposition_done threads q fs used (condition.InPlace within) =
+      subst
+      (λ o. IsDone (text.proposition_result h q (condition.in_place fs used
+      (condition.expected_after_place o))))
+      (sym (no_place within)) tt
   proposition_done threads q fs used (condition.WantsEquals p) = tt
   proposition_done threads q fs used (condition.WantsValue p) = tt
   proposition_done threads q fs used (condition.Has v) = ended_done q (condition.fold_to 0 fs v)
@@ -109,7 +134,8 @@ module _ (kind : TextKind) (given : ℕ) (h : Draft) (offset : ℕ) where
   part_done (text.Item expected) = item_done (text.threads_in kind given h) expected
   part_done text.WantsQuantifier = tt
   part_done text.AfterTilde = tt
-  part_done (text.Proposition q fs used expected) = proposition_done (text.threads_in kind given h) q fs used expected
+  part_done (text.Proposition q fs used expected) =
+      proposition_done (text.threads_in kind given h) q fs used expected
   part_done text.ListOrEnd = refl
   part_done text.WantsEnd = refl
   part_done text.Done = tt
@@ -118,13 +144,19 @@ abbrev part_in : Ran → Part
 part_in (Ok x) = x.part
 part_in (Err d) = text.Done
 
-pub ends_done : (s s' : State) (ps : List TokenAt) (n : ℕ) → run s (ps ++ record { token = End; offset = n } ∷ []) ≡ Ok s' → s'.part ≡ text.Done
-ends_done s s' ps n e = by_run (run s ps) (sym (run-split s ps (record { token = End; offset = n } ∷ [])) ∙ e)
+pub ends_done : (s s' : State) (ps : List TokenAt) (n : ℕ)
+    → run s (ps ++ record { token = End; offset = n } ∷ []) ≡ Ok s' → s'.part ≡ text.Done
+ends_done s s' ps n e =
+    by_run (run s ps) (sym (run-split s ps (record { token = End; offset = n } ∷ [])) ∙ e)
   where
-    by_end : (x : State) (o : Option Next) → IsDone o → and_then (text.with_offset n (stepped x End o)) (λ y. Ok y) ≡ Ok s' → s'.part ≡ text.Done
+    by_end : (x : State) (o : Option Next) → IsDone o
+        → and_then (text.with_offset n (stepped x End o)) (λ y. Ok y) ≡ Ok s' → s'.part ≡ text.Done
     by_end x (Some y) d k = sym (ap part_in k) ∙ d
     by_end x None d k = absurd cc
 
-    by_run : (r : Ran) → and_then r (λ x. run x (record { token = End; offset = n } ∷ [])) ≡ Ok s' → s'.part ≡ text.Done
-    by_run (Ok x) k = by_end x (part_step x.kind x.threads x.draft x.part End n) (part_done x.kind x.threads x.draft n x.part) k
+    by_run : (r : Ran) → and_then r (λ x. run x (record { token = End; offset = n } ∷ [])) ≡ Ok s'
+        → s'.part ≡ text.Done
+    by_run (Ok x) k =
+        by_end x (part_step x.kind x.threads x.draft x.part End n)
+        (part_done x.kind x.threads x.draft n x.part) k
     by_run (Err d) k = absurd cc

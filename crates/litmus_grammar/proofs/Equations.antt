@@ -1,5 +1,5 @@
--- What an equation of two lists says of their first elements and of the others. Its terms are cheap where `cc` would first
--- compute all that is known beside the equation.
+-- What an equation of two lists says of their first elements and of the others. Its terms are cheap
+-- where `cc` would first compute all that is known beside the equation.
 use Rattle.std.proofs.Common.{◌≡◌, List, [], ◌∷◌}
 
 -- an empty list has no first element

@@ -43,12 +43,16 @@ in_head name g p = test_at g p (early name init.start table.start [])
 -- ---- what is taken, where it is known behind the brace
 
 module _ (X : List Token → Type 0) (Q : State → Type 0) (any : Begins X [])
-    (from : (name : List ℕ) (ps : List TokenAt) (n : ℕ) (g : Stage) (s : State) → length ps + 1 < 18446744073709551616 → run (block_at name g) ps ≡ Ok s → Q s → Begins X (tokens_of (brace_at n ∷ ps))) where
+    (from : (name : List ℕ) (ps : List TokenAt) (n : ℕ) (g : Stage) (s : State)
+    → length ps + 1 < 18446744073709551616 → run (block_at name g) ps ≡ Ok s → Q s
+    → Begins X (tokens_of (brace_at n ∷ ps))) where
   abbrev pub Keys : List Token → Type 0
   Keys ts = (k : ℕ) × (behind : List Token) × X behind × (ts ≡ spelled_keylines k behind)
 
   abbrev pub Lines : List Token → Type 0
-  Lines ts = (t : Bool) × (k : ℕ) × (behind : List Token) × X behind × (ts ≡ spelled_text t (spelled_keylines k behind))
+  Lines ts =
+      (t : Bool) × (k : ℕ) × (behind : List Token) × X behind
+      × (ts ≡ spelled_text t (spelled_keylines k behind))
 
   abbrev HeadOf : Bool → List Token → Type 0
   HeadOf true ts = Lines ts
@@ -58,11 +62,18 @@ module _ (X : List Token → Type 0) (Q : State → Type 0) (any : Begins X [])
   any_head true = record { rest = any.rest; text = (false, 0, any.rest, any.text, refl) }
   any_head false = record { rest = any.rest; text = (0, any.rest, any.text, refl) }
 
-  head_begins : (ps : List TokenAt) (b : Bool) (name : List ℕ) (g : Stage) (s : State) → length ps < 18446744073709551616 → run (in_head name g (text.Head b)) ps ≡ Ok s → Q s → Begins (HeadOf b) (tokens_of ps)
+  head_begins : (ps : List TokenAt) (b : Bool) (name : List ℕ) (g : Stage) (s : State)
+      → length ps < 18446744073709551616 → run (in_head name g (text.Head b)) ps ≡ Ok s → Q s
+      → Begins (HeadOf b) (tokens_of ps)
   head_begins [] b name g s few e q = any_head b
-  head_begins (p ∷ ps) b name g s few e q = by_token b p.token p.offset e (λ f k. head_begins ps false name f s (let h : length ps < 18446744073709551616 = omega (arith, few) in h) k q)
+  head_begins (p ∷ ps) b name g s few e q =
+      by_token b p.token p.offset e (λ f k. head_begins ps false name f s
+      (let h : length ps < 18446744073709551616 = omega (arith, few) in h) k q)
     where
-      by_token : (b : Bool) (t : Token) (n : ℕ) → run (in_head name g (text.Head b)) (record { token = t; offset = n } ∷ ps) ≡ Ok s → ((f : Stage) → run (in_head name f (text.Head false)) ps ≡ Ok s → Begins Keys (tokens_of ps)) → Begins (HeadOf b) (t ∷ tokens_of ps)
+      by_token : (b : Bool) (t : Token) (n : ℕ)
+          → run (in_head name g (text.Head b)) (record { token = t; offset = n } ∷ ps) ≡ Ok s
+          → ((f : Stage) → run (in_head name f (text.Head false)) ps ≡ Ok s
+          → Begins Keys (tokens_of ps)) → Begins (HeadOf b) (t ∷ tokens_of ps)
       by_token true tokens.Text n k later =
           let r = later (after g tokens.Text) k in
           let x = r.text in
@@ -93,49 +104,120 @@ module _ (X : List Token → Type 0) (Q : State → Type 0) (any : Begins X [])
     pub head : Lines lines
     pub whole : ts ≡ tokens.Word (codes "PPC") ∷ tokens.Word name ∷ tokens.LineEnd ∷ lines
 
-  headed : (name : List ℕ) → is_test_name name ≡ true → (ts : List Token) → Begins Lines ts → Begins IsHeaded (tokens.Word (codes "PPC") ∷ tokens.Word name ∷ tokens.LineEnd ∷ ts)
-  headed name i ts b = record { rest = b.rest; text = record { name = name; is_name = i; lines = ts ++ b.rest; head = b.text; whole = refl } }
+  headed : (name : List ℕ) → is_test_name name ≡ true → (ts : List Token) → Begins Lines ts
+      → Begins IsHeaded (tokens.Word (codes "PPC") ∷ tokens.Word name ∷ tokens.LineEnd ∷ ts)
+  headed name i ts b =
+      record {
+        rest = b.rest;
+        text =
+            record {
+              name = name;
+              is_name = i;
+              lines = ts ++ b.rest;
+              head = b.text;
+              whole = refl;
+            };
+      }
 
   any_lines : Begins Lines []
   any_lines = any_head true
 
-  line_end : (name : List ℕ) → is_test_name name ≡ true → (ps : List TokenAt) (g : Stage) (s : State) → length ps < 18446744073709551616 → run (in_head name g text.TitleEnd) ps ≡ Ok s → Q s → Begins IsHeaded (tokens.Word (codes "PPC") ∷ tokens.Word name ∷ tokens_of ps)
-  line_end name i [] g s few e q = let r = any_lines in record { rest = tokens.LineEnd ∷ r.rest; text = record { name = name; is_name = i; lines = r.rest; head = r.text; whole = refl } }
+  line_end : (name : List ℕ) → is_test_name name ≡ true
+      → (ps : List TokenAt) (g : Stage) (s : State) → length ps < 18446744073709551616
+      → run (in_head name g text.TitleEnd) ps ≡ Ok s → Q s
+      → Begins IsHeaded (tokens.Word (codes "PPC") ∷ tokens.Word name ∷ tokens_of ps)
+  line_end name i [] g s few e q =
+      let r = any_lines in
+      record {
+        rest = tokens.LineEnd ∷ r.rest;
+        text = record { name = name; is_name = i; lines = r.rest; head = r.text; whole = refl };
+      }
   line_end name i (p ∷ ps) g s few e q = by_token p.token p.offset e
     where
-      by_token : (t : Token) (n : ℕ) → run (in_head name g text.TitleEnd) (record { token = t; offset = n } ∷ ps) ≡ Ok s → Begins IsHeaded (tokens.Word (codes "PPC") ∷ tokens.Word name ∷ t ∷ tokens_of ps)
-      by_token tokens.LineEnd n k = headed name i (tokens_of ps) (head_begins ps true name (after g tokens.LineEnd) s (let h : length ps < 18446744073709551616 = omega (arith, few) in h) k q)
+      by_token : (t : Token) (n : ℕ)
+          → run (in_head name g text.TitleEnd) (record { token = t; offset = n } ∷ ps) ≡ Ok s
+          → Begins IsHeaded (tokens.Word (codes "PPC") ∷ tokens.Word name ∷ t ∷ tokens_of ps)
+      by_token tokens.LineEnd n k =
+          headed name i (tokens_of ps) (head_begins ps true name (after g tokens.LineEnd) s
+          (let h : length ps < 18446744073709551616 = omega (arith, few) in h) k q)
       by_token t n k = absurd (not_both _ _ k)
 
-  title : (ps : List TokenAt) (g : Stage) (s : State) → length ps < 18446744073709551616 → run (in_head [] g text.Title) ps ≡ Ok s → Q s → Begins IsHeaded (tokens.Word (codes "PPC") ∷ tokens_of ps)
-  title [] g s few e q = let r = any_lines in record { rest = tokens.Word (65 ∷ []) ∷ tokens.LineEnd ∷ r.rest; text = record { name = 65 ∷ []; is_name = refl; lines = r.rest; head = r.text; whole = refl } }
+  title : (ps : List TokenAt) (g : Stage) (s : State) → length ps < 18446744073709551616
+      → run (in_head [] g text.Title) ps ≡ Ok s → Q s
+      → Begins IsHeaded (tokens.Word (codes "PPC") ∷ tokens_of ps)
+  title [] g s few e q =
+      let r = any_lines in
+      record {
+        rest = tokens.Word (65 ∷ []) ∷ tokens.LineEnd ∷ r.rest;
+        text =
+            record {
+              name = 65 ∷ [];
+              is_name = refl;
+              lines = r.rest;
+              head = r.text;
+              whole = refl;
+            };
+      }
   title (p ∷ ps) g s few e q = by_token p.token p.offset e
     where
-      by_word : (w : List ℕ) (n : ℕ) (b : Bool) → is_test_name w ≡ b → and_then (with_offset n (stepped (in_head [] g text.Title) (tokens.Word w) (if b then text.at (early w init.start table.start []) text.TitleEnd else None))) (λ x. run x ps) ≡ Ok s → Begins IsHeaded (tokens.Word (codes "PPC") ∷ tokens.Word w ∷ tokens_of ps)
-      by_word w n true i k = line_end w i ps (after g (tokens.Word w)) s (let h : length ps < 18446744073709551616 = omega (arith, few) in h) k q
+      by_word : (w : List ℕ) (n : ℕ) (b : Bool) → is_test_name w ≡ b
+          → and_then
+          (with_offset n (stepped (in_head [] g text.Title) (tokens.Word w)
+          (if b then text.at (early w init.start table.start []) text.TitleEnd
+          else None)))
+          (λ x. run x ps) ≡ Ok s
+          → Begins IsHeaded (tokens.Word (codes "PPC") ∷ tokens.Word w ∷ tokens_of ps)
+      by_word w n true i k =
+          line_end w i ps (after g (tokens.Word w)) s
+          (let h : length ps < 18446744073709551616 = omega (arith, few) in h) k q
       by_word w n false i k = absurd (not_both _ _ k)
 
-      by_token : (t : Token) (n : ℕ) → run (in_head [] g text.Title) (record { token = t; offset = n } ∷ ps) ≡ Ok s → Begins IsHeaded (tokens.Word (codes "PPC") ∷ t ∷ tokens_of ps)
+      by_token : (t : Token) (n : ℕ)
+          → run (in_head [] g text.Title) (record { token = t; offset = n } ∷ ps) ≡ Ok s
+          → Begins IsHeaded (tokens.Word (codes "PPC") ∷ t ∷ tokens_of ps)
       by_token (tokens.Word w) n k = by_word w n (is_test_name w) refl k
       by_token t n k = absurd (not_both _ _ k)
 
-  pub magic : (ps : List TokenAt) (g : Stage) (s : State) → length ps < 18446744073709551616 → run (in_head [] g text.Magic) ps ≡ Ok s → Q s → Begins IsHeaded (tokens_of ps)
-  magic [] g s few e q = let r = any_lines in record { rest = tokens.Word (codes "PPC") ∷ tokens.Word (65 ∷ []) ∷ tokens.LineEnd ∷ r.rest; text = record { name = 65 ∷ []; is_name = refl; lines = r.rest; head = r.text; whole = refl } }
+  pub magic : (ps : List TokenAt) (g : Stage) (s : State) → length ps < 18446744073709551616
+      → run (in_head [] g text.Magic) ps ≡ Ok s → Q s → Begins IsHeaded (tokens_of ps)
+  magic [] g s few e q =
+      let r = any_lines in
+      record {
+        rest = tokens.Word (codes "PPC") ∷ tokens.Word (65 ∷ []) ∷ tokens.LineEnd ∷ r.rest;
+        text =
+            record {
+              name = 65 ∷ [];
+              is_name = refl;
+              lines = r.rest;
+              head = r.text;
+              whole = refl;
+            };
+      }
   magic (p ∷ ps) g s few e q = by_token p.token p.offset e
     where
-      by_word : (w : List ℕ) (n : ℕ) (b : Bool) → bytes_eq w (codes "PPC") ≡ b → and_then (with_offset n (stepped (in_head [] g text.Magic) (tokens.Word w) (text.next_at (early [] init.start table.start []) (if b then Some text.Title else None)))) (λ x. run x ps) ≡ Ok s → Begins IsHeaded (tokens.Word w ∷ tokens_of ps)
+      by_word : (w : List ℕ) (n : ℕ) (b : Bool) → bytes_eq w (codes "PPC") ≡ b
+          → and_then
+          (with_offset n (stepped (in_head [] g text.Magic) (tokens.Word w)
+          (text.next_at (early [] init.start table.start [])
+          (if b then Some text.Title else None))))
+          (λ x. run x ps) ≡ Ok s → Begins IsHeaded (tokens.Word w ∷ tokens_of ps)
       by_word w n true i k =
           let same : codes "PPC" ≡ w = sym ((bytes_eq-Decides w (codes "PPC")).0 i) in
-          subst (λ (v : List ℕ). Begins IsHeaded (tokens.Word v ∷ tokens_of ps)) same (title ps (after g (tokens.Word w)) s (let h : length ps < 18446744073709551616 = omega (arith, few) in h) k q)
+          subst (λ (v : List ℕ). Begins IsHeaded (tokens.Word v ∷ tokens_of ps)) same
+          (title ps (after g (tokens.Word w)) s
+          (let h : length ps < 18446744073709551616 = omega (arith, few) in h) k q)
       by_word w n false i k = absurd (not_both _ _ k)
 
-      by_token : (t : Token) (n : ℕ) → run (in_head [] g text.Magic) (record { token = t; offset = n } ∷ ps) ≡ Ok s → Begins IsHeaded (t ∷ tokens_of ps)
+      by_token : (t : Token) (n : ℕ)
+          → run (in_head [] g text.Magic) (record { token = t; offset = n } ∷ ps) ≡ Ok s
+          → Begins IsHeaded (t ∷ tokens_of ps)
       by_token (tokens.Word w) n k = by_word w n (bytes_eq w (codes "PPC")) refl k
       by_token t n k = absurd (not_both _ _ k)
 
 -- ---- each head is taken
 
-record TakesLines (name : List ℕ) (b : Bool) (t : Bool) (k : ℕ) (ps : List TokenAt) (behind : List Token) (g : Stage) : Type 0 where
+record TakesLines (name : List ℕ) (b : Bool) (t : Bool) (k : ℕ) (ps : List TokenAt)
+    (behind : List Token) (g : Stage) : Type 0 where
   before : List TokenAt
   left : List TokenAt
   stage : Stage
@@ -145,8 +227,19 @@ record TakesLines (name : List ℕ) (b : Bool) (t : Bool) (k : ℕ) (ps : List T
   are_left : tokens_of left ≡ behind
   by : run (in_head name g (text.Head b)) before ≡ Ok (in_head name stage (text.Head may))
 
-keys_led : (name : List ℕ) (k : ℕ) (b : Bool) (ps : List TokenAt) (behind : List Token) (g : Stage) → tokens_of ps ≡ spelled_keylines k behind → TakesLines name b false k ps behind g
-keys_led name zero b ps behind g e = record { before = []; left = ps; stage = g; may = b; whole = refl; are_before = refl; are_left = e; by = refl }
+keys_led : (name : List ℕ) (k : ℕ) (b : Bool) (ps : List TokenAt) (behind : List Token) (g : Stage)
+    → tokens_of ps ≡ spelled_keylines k behind → TakesLines name b false k ps behind g
+keys_led name zero b ps behind g e =
+    record {
+      before = [];
+      left = ps;
+      stage = g;
+      may = b;
+      whole = refl;
+      are_before = refl;
+      are_left = e;
+      by = refl;
+    }
 keys_led name (suc k) b [] behind g e = absurd (no_first e)
 keys_led name (suc k) b (p ∷ ps) behind g e =
     let t : p.token ≡ tokens.Keyline = same_first e in
@@ -159,12 +252,19 @@ keys_led name (suc k) b (p ∷ ps) behind g e =
       stage = r.stage;
       may = r.may;
       whole = ap (λ (l : List TokenAt). p ∷ l) r.whole;
-      are_before = ap (λ (x : Token). x ∷ tokens_of r.before) t ∙ ap (λ (l : List Token). tokens.Keyline ∷ l) r.are_before;
+      are_before =
+          ap (λ (x : Token). x ∷ tokens_of r.before) t
+          ∙ ap (λ (l : List Token). tokens.Keyline ∷ l) r.are_before;
       are_left = r.are_left;
-      by = ap (λ (x : Token). run (in_head name g (text.Head b)) (record { token = x; offset = p.offset } ∷ r.before)) t ∙ r.by;
+      by =
+          ap
+          (λ (x : Token). run (in_head name g (text.Head b))
+          (record { token = x; offset = p.offset } ∷ r.before)) t ∙ r.by;
     }
 
-lines_led : (name : List ℕ) (t : Bool) (k : ℕ) (ps : List TokenAt) (behind : List Token) (g : Stage) → tokens_of ps ≡ spelled_text t (spelled_keylines k behind) → TakesLines name true t k ps behind g
+lines_led : (name : List ℕ) (t : Bool) (k : ℕ) (ps : List TokenAt) (behind : List Token) (g : Stage)
+    → tokens_of ps ≡ spelled_text t (spelled_keylines k behind)
+    → TakesLines name true t k ps behind g
 lines_led name false k ps behind g e = keys_led name k true ps behind g e
 lines_led name true k [] behind g e = absurd (no_first e)
 lines_led name true k (p ∷ ps) behind g e =
@@ -178,23 +278,35 @@ lines_led name true k (p ∷ ps) behind g e =
       stage = r.stage;
       may = r.may;
       whole = ap (λ (l : List TokenAt). p ∷ l) r.whole;
-      are_before = ap (λ (x : Token). x ∷ tokens_of r.before) t ∙ ap (λ (l : List Token). tokens.Text ∷ l) r.are_before;
+      are_before =
+          ap (λ (x : Token). x ∷ tokens_of r.before) t
+          ∙ ap (λ (l : List Token). tokens.Text ∷ l) r.are_before;
       are_left = r.are_left;
-      by = ap (λ (x : Token). run (in_head name g (text.Head true)) (record { token = x; offset = p.offset } ∷ r.before)) t ∙ r.by;
+      by =
+          ap
+          (λ (x : Token). run (in_head name g (text.Head true))
+          (record { token = x; offset = p.offset } ∷ r.before)) t ∙ r.by;
     }
 
 -- the head was read, and this is left
-pub record TakesHead (name : List ℕ) (t : Bool) (k : ℕ) (ps : List TokenAt) (behind : List Token) : Type 0 where
+pub record TakesHead (name : List ℕ) (t : Bool) (k : ℕ) (ps : List TokenAt) (behind : List Token)
+    : Type 0 where
   pub before : List TokenAt
   pub left : List TokenAt
   pub stage : Stage
   pub may : Bool
   pub whole : ps ≡ before ++ left
-  pub are_before : tokens_of before ≡ tokens.Word (codes "PPC") ∷ tokens.Word name ∷ tokens.LineEnd ∷ spelled_text t (spelled_keylines k [])
+  pub are_before : tokens_of before
+      ≡ tokens.Word (codes "PPC") ∷ tokens.Word name ∷ tokens.LineEnd
+      ∷ spelled_text t (spelled_keylines k [])
   pub are_left : tokens_of left ≡ behind
   pub by : run (start kinds.Test 0) before ≡ Ok (in_head name stage (text.Head may))
 
-pub head_led : (name : List ℕ) (t : Bool) (k : ℕ) (ps : List TokenAt) (behind : List Token) → is_test_name name ≡ true → tokens_of ps ≡ tokens.Word (codes "PPC") ∷ tokens.Word name ∷ tokens.LineEnd ∷ spelled_text t (spelled_keylines k behind) → TakesHead name t k ps behind
+pub head_led : (name : List ℕ) (t : Bool) (k : ℕ) (ps : List TokenAt) (behind : List Token)
+    → is_test_name name ≡ true
+    → tokens_of ps
+    ≡ tokens.Word (codes "PPC") ∷ tokens.Word name ∷ tokens.LineEnd
+    ∷ spelled_text t (spelled_keylines k behind) → TakesHead name t k ps behind
 head_led name t k [] behind i e = absurd (no_first e)
 head_led name t k (a ∷ []) behind i e = absurd (no_first (same_others e))
 head_led name t k (a ∷ b ∷ []) behind i e = absurd (no_first (same_others (same_others e)))
@@ -213,14 +325,32 @@ head_led name t k (a ∷ b ∷ c ∷ ps) behind i e =
       may = r.may;
       whole = ap (λ (l : List TokenAt). a ∷ b ∷ c ∷ l) r.whole;
       are_before =
-          ap (λ (x : Token). x ∷ b.token ∷ c.token ∷ tokens_of r.before) ta ∙ ap (λ (x : Token). tokens.Word (codes "PPC") ∷ x ∷ c.token ∷ tokens_of r.before) tb
-          ∙ ap (λ (x : Token). tokens.Word (codes "PPC") ∷ tokens.Word name ∷ x ∷ tokens_of r.before) tc ∙ ap (λ (l : List Token). tokens.Word (codes "PPC") ∷ tokens.Word name ∷ tokens.LineEnd ∷ l) r.are_before;
+          ap (λ (x : Token). x ∷ b.token ∷ c.token ∷ tokens_of r.before) ta
+          ∙ ap (λ (x : Token). tokens.Word (codes "PPC") ∷ x ∷ c.token ∷ tokens_of r.before) tb
+          ∙ ap
+          (λ (x : Token). tokens.Word (codes "PPC") ∷ tokens.Word name ∷ x
+          ∷ tokens_of r.before) tc
+          ∙ ap
+          (λ (l : List Token). tokens.Word (codes "PPC") ∷ tokens.Word name ∷ tokens.LineEnd
+          ∷ l) r.are_before;
       are_left = r.are_left;
       by =
-          ap (λ (x : Token). run (start kinds.Test 0) (record { token = x; offset = a.offset } ∷ b ∷ c ∷ r.before)) ta
-          ∙ ap (λ (x : Token). run (in_head [] stages.Title text.Title) (record { token = x; offset = b.offset } ∷ c ∷ r.before)) tb
-          ∙ ap (λ (y : Bool). and_then (with_offset b.offset (stepped (in_head [] stages.Title text.Title) (tokens.Word name) (if y then text.at (early name init.start table.start []) text.TitleEnd else None))) (λ x. run x (c ∷ r.before))) i
-          ∙ ap (λ (x : Token). run (in_head name stages.TitleEnd text.TitleEnd) (record { token = x; offset = c.offset } ∷ r.before)) tc
+          ap
+          (λ (x : Token). run (start kinds.Test 0)
+          (record { token = x; offset = a.offset } ∷ b ∷ c ∷ r.before)) ta
+          ∙ ap
+          (λ (x : Token). run (in_head [] stages.Title text.Title)
+          (record { token = x; offset = b.offset } ∷ c ∷ r.before)) tb
+          ∙ ap
+          (λ (y : Bool). and_then
+          (with_offset b.offset (stepped (in_head [] stages.Title text.Title)
+          (tokens.Word name) (if y then text.at
+          (early name init.start table.start []) text.TitleEnd
+          else None)))
+          (λ x. run x (c ∷ r.before))) i
+          ∙ ap
+          (λ (x : Token). run (in_head name stages.TitleEnd text.TitleEnd)
+          (record { token = x; offset = c.offset } ∷ r.before)) tc
           ∙ r.by;
     }
 
@@ -230,26 +360,33 @@ pub record TakesTest (ps : List TokenAt) (t : TestTree) : Type 0 where
   pub stage : Stage
   pub block : init.Block
   pub reached : table.State
-  pub by : run (start kinds.Test 0) ps ≡ Ok (test_at stage text.Done (with_all t.name block reached (map place_meaning (members t.observed)) t.quantifier (meaning t.condition)))
+  pub by : run (start kinds.Test 0) ps
+      ≡ Ok (test_at stage text.Done (with_all t.name block reached
+      (map place_meaning (members t.observed)) t.quantifier (meaning t.condition)))
   pub entries : block.entries ≡ map entry_kept (members t.init)
   pub stand : AreStarts ps (before_entries t) (members t.init) block.starts
   pub meant : steps_of reached.threads ≡ columns_meaning 0 (t.others + 1) t.rows
   pub noted : AreNoted ps (columns_notes 0 (t.others + 1) (before_rows t) t.rows) reached.threads
 
-pub keylines-append : (k : ℕ) (xs ys : List Token) → spelled_keylines k xs ++ ys ≡ spelled_keylines k (xs ++ ys)
+pub keylines-append : (k : ℕ) (xs ys : List Token)
+    → spelled_keylines k xs ++ ys ≡ spelled_keylines k (xs ++ ys)
 keylines-append zero xs ys = refl
 keylines-append (suc k) xs ys = more tokens.Keyline _ _ (keylines-append k xs ys)
 
-text-append : (t : Bool) (k : ℕ) (ys : List Token) → spelled_text t (spelled_keylines k []) ++ ys ≡ spelled_text t (spelled_keylines k ys)
+text-append : (t : Bool) (k : ℕ) (ys : List Token)
+    → spelled_text t (spelled_keylines k []) ++ ys ≡ spelled_text t (spelled_keylines k ys)
 text-append true k ys = more tokens.Text _ _ (keylines-append k [] ys)
 text-append false k ys = keylines-append k [] ys
 
 pub head-append : (t : TestTree) (ys : List Token) → spelled_head t [] ++ ys ≡ spelled_head t ys
-head-append t ys = ap (λ (l : List Token). tokens.Word (codes "PPC") ∷ tokens.Word t.name ∷ tokens.LineEnd ∷ l) (text-append t.text t.keylines ys)
+head-append t ys =
+    ap (λ (l : List Token). tokens.Word (codes "PPC") ∷ tokens.Word t.name ∷ tokens.LineEnd ∷ l)
+    (text-append t.text t.keylines ys)
 
 module _ (t : TestTree) (fine : IsTest limits t) (few : t.others + 1 < 18446744073709551616) where
   abbrev behind_header : List Token
-  behind_header = spelled_rows t.rows (spelled_observed t.observed (spelled_condition t.quantifier t.condition))
+  behind_header =
+      spelled_rows t.rows (spelled_observed t.observed (spelled_condition t.quantifier t.condition))
 
   abbrev rows : IsRows t.others behind_header
   rows = record {
@@ -257,11 +394,24 @@ module _ (t : TestTree) (fine : IsTest limits t) (few : t.others + 1 < 184467440
     rows = t.rows;
     fine = fine.rows;
     behind = spelled_observed t.observed (spelled_condition t.quantifier t.condition);
-    tail = record { observed = t.observed; quantifier = t.quantifier; condition = t.condition; are_items = fine.observed; fine = fine.condition; whole = refl };
+    tail =
+        record {
+          observed = t.observed;
+          quantifier = t.quantifier;
+          condition = t.condition;
+          are_items = fine.observed;
+          fine = fine.condition;
+          whole = refl;
+        };
     whole = refl;
   }
 
-  body_taken : (ps : List TokenAt) (h : TakesHead t.name t.text t.keylines ps (spelled_init t.init (spelled_header t.others behind_header))) (before behind : List TokenAt) → h.left ≡ before ++ behind → tokens_of before ≡ spelled_init t.init [] → tokens_of behind ≡ spelled_header t.others behind_header → TakesTest ps t
+  body_taken : (ps : List TokenAt)
+      (h : TakesHead t.name t.text t.keylines ps (spelled_init t.init
+      (spelled_header t.others behind_header)))
+      (before behind : List TokenAt) → h.left ≡ before ++ behind
+      → tokens_of before ≡ spelled_init t.init []
+      → tokens_of behind ≡ spelled_header t.others behind_header → TakesTest ps t
   body_taken ps h [] behind l e k = absurd (no_first e)
   body_taken ps h (p ∷ q) [] l e k = absurd (no_first k)
   body_taken ps h (p ∷ q) (w ∷ b) l e k =
@@ -282,16 +432,31 @@ module _ (t : TestTree) (fine : IsTest limits t) (few : t.others + 1 < 184467440
         reached = r.reached;
         by =
             ap (run (start kinds.Test 0)) (sym all)
-            ∙ run-append (start kinds.Test 0) (in_head t.name h.stage (text.Head h.may)) h.before (brace_at n ∷ (q ++ w ∷ b)) h.by
+            ∙ run-append (start kinds.Test 0) (in_head t.name h.stage (text.Head h.may)) h.before
+            (brace_at n ∷ (q ++ w ∷ b)) h.by
             ∙ r.by;
         entries = r.entries;
         stand =
-            subst (λ (y : List TokenAt). AreStarts y (before_entries t) (members t.init) r.block.starts) all
-            (subst (λ (y : List Token). AreStarts (h.before ++ brace_at n ∷ (q ++ w ∷ b)) y (members t.init) r.block.starts) (ap (λ (y : List Token). y ++ tokens.Mark marks.OpenBrace ∷ []) h.are_before ∙ head-append t (tokens.Mark marks.OpenBrace ∷ [])) r.stand);
+            subst
+            (λ (y : List TokenAt).
+            AreStarts y (before_entries t) (members t.init) r.block.starts) all
+            (subst
+            (λ (y : List Token). AreStarts (h.before ++ brace_at n ∷ (q ++ w ∷ b)) y
+            (members t.init) r.block.starts)
+            (ap (λ (y : List Token). y ++ tokens.Mark marks.OpenBrace ∷ []) h.are_before
+            ∙ head-append t (tokens.Mark marks.OpenBrace ∷ [])) r.stand);
         meant = r.meant;
         noted =
-            subst (λ (y : List TokenAt). AreNoted y (columns_notes 0 (t.others + 1) (before_rows t) t.rows) r.reached.threads) all
-            (subst (λ (y : List Token). AreNoted (h.before ++ brace_at n ∷ (q ++ w ∷ b)) (columns_notes 0 (t.others + 1) y t.rows) r.reached.threads) (ap (λ (y : List Token). y ++ spelled_init t.init (spelled_header t.others [])) h.are_before ∙ head-append t (spelled_init t.init (spelled_header t.others []))) r.noted);
+            subst
+            (λ (y : List TokenAt). AreNoted y
+            (columns_notes 0 (t.others + 1) (before_rows t) t.rows) r.reached.threads) all
+            (subst
+            (λ (y : List Token). AreNoted (h.before ++ brace_at n ∷ (q ++ w ∷ b))
+            (columns_notes 0 (t.others + 1) y t.rows) r.reached.threads)
+            (ap (λ (y : List Token). y ++ spelled_init t.init (spelled_header t.others []))
+            h.are_before
+            ∙ head-append t (spelled_init t.init (spelled_header t.others [])))
+            r.noted);
       }
 
   pub test_led : (ps : List TokenAt) → tokens_of ps ≡ spelled_test t → TakesTest ps t
@@ -306,7 +471,9 @@ module _ (t : TestTree) (fine : IsTest limits t) (few : t.others + 1 < 184467440
 abbrev pub IsEnded : State → Type 0
 IsEnded s = s.part ≡ text.Done
 
-pub body_from : (name : List ℕ) (ps : List TokenAt) (n : ℕ) (g : Stage) (s : State) → length ps + 1 < 18446744073709551616 → run (block_at name g) ps ≡ Ok s → IsEnded s → Begins IsBody (tokens_of (brace_at n ∷ ps))
+pub body_from : (name : List ℕ) (ps : List TokenAt) (n : ℕ) (g : Stage) (s : State)
+    → length ps + 1 < 18446744073709551616 → run (block_at name g) ps ≡ Ok s → IsEnded s
+    → Begins IsBody (tokens_of (brace_at n ∷ ps))
 body_from name ps n g s few e d = by_opened (block_begins name ps n g s few e)
   where
     by_opened : Opened name ps n s → Begins IsBody (tokens_of (brace_at n ∷ ps))
@@ -319,7 +486,18 @@ any_body =
     let z : 0 + a.text.more ≡ a.text.more = omega arith in
     record {
       rest = tokens.Mark marks.OpenBrace ∷ tokens.Mark marks.CloseBrace ∷ a.rest;
-      text = record { entries = None; are_entries = tt; others = a.text.more; behind = a.text.behind; rows = subst (λ (n : ℕ). IsRows n a.text.behind) z a.text.rows; whole = ap (λ (l : List Token). tokens.Mark marks.OpenBrace ∷ tokens.Mark marks.CloseBrace ∷ l) a.text.whole };
+      text =
+          record {
+            entries = None;
+            are_entries = tt;
+            others = a.text.more;
+            behind = a.text.behind;
+            rows = subst (λ (n : ℕ). IsRows n a.text.behind) z a.text.rows;
+            whole =
+                ap
+                (λ (l : List Token). tokens.Mark marks.OpenBrace ∷ tokens.Mark marks.CloseBrace
+                ∷ l) a.text.whole;
+          };
     }
 
 -- a test of as many threads as can be told apart
@@ -336,19 +514,46 @@ test_of ts x =
     let r = b.rows in
     let c = r.tail in
     record {
-      tree = record { name = x.name; text = h.0; keylines = h.1; init = b.entries; others = b.others; rows = r.rows; observed = c.observed; quantifier = c.quantifier; condition = c.condition };
-      fine = record { name = x.is_name; init = b.are_entries; rows = r.fine; observed = c.are_items; condition = c.fine };
+      tree =
+          record {
+            name = x.name;
+            text = h.0;
+            keylines = h.1;
+            init = b.entries;
+            others = b.others;
+            rows = r.rows;
+            observed = c.observed;
+            quantifier = c.quantifier;
+            condition = c.condition;
+          };
+      fine =
+          record {
+            name = x.is_name;
+            init = b.are_entries;
+            rows = r.fine;
+            observed = c.are_items;
+            condition = c.fine;
+          };
       few = r.few;
       whole =
-          x.whole ∙ ap (λ (l : List Token). tokens.Word (codes "PPC") ∷ tokens.Word x.name ∷ tokens.LineEnd ∷ l)
-          (h.4 ∙ ap (λ (l : List Token). spelled_text h.0 (spelled_keylines h.1 l)) (b.whole ∙ ap (λ (l : List Token). spelled_init b.entries (spelled_header b.others l)) (r.whole ∙ ap (spelled_rows r.rows) c.whole)));
+          x.whole
+          ∙ ap (λ (l : List Token). tokens.Word (codes "PPC") ∷ tokens.Word x.name
+          ∷ tokens.LineEnd ∷ l)
+          (h.4
+          ∙ ap (λ (l : List Token). spelled_text h.0 (spelled_keylines h.1 l))
+          (b.whole
+          ∙ ap
+          (λ (l : List Token).
+          spelled_init b.entries (spelled_header b.others l))
+          (r.whole ∙ ap (spelled_rows r.rows) c.whole)));
     }
 
 nothing_more : (ts : List Token) → anywhere ts ≡ [] → ts ≡ []
 nothing_more [] e = refl
 nothing_more (t ∷ ts) e = absurd (no_first (sym e))
 
-pub test_whole : (ps : List TokenAt) (s : State) → length ps < 18446744073709551616 → run (start kinds.Test 0) ps ≡ Ok s → s.part ≡ text.Done → IsFewTest (tokens_of ps)
+pub test_whole : (ps : List TokenAt) (s : State) → length ps < 18446744073709551616
+    → run (start kinds.Test 0) ps ≡ Ok s → s.part ≡ text.Done → IsFewTest (tokens_of ps)
 test_whole ps s few e d =
     let b = magic IsBody IsEnded any_body body_from ps stages.Magic s few e d in
     let x = test_of (tokens_of ps ++ b.rest) b.text in
@@ -370,7 +575,8 @@ pub names_count : (k n : ℕ) (ts : List Token) → n ≤ length (spelled_names 
 names_count k zero ts = omega arith
 names_count k (suc n) ts = let h = names_count (k + 1) n ts in omega (arith, h)
 
-pub few_of : (t : TestTree) (ps : List TokenAt) → tokens_of ps ≡ spelled_test t → length ps < 18446744073709551616 → t.others + 1 < 18446744073709551616
+pub few_of : (t : TestTree) (ps : List TokenAt) → tokens_of ps ≡ spelled_test t
+    → length ps < 18446744073709551616 → t.others + 1 < 18446744073709551616
 few_of t ps e few =
     let rows = spelled_rows t.rows (spelled_observed t.observed (spelled_condition t.quantifier t.condition)) in
     let header = spelled_header t.others rows in

@@ -35,24 +35,33 @@ swapped false false c = refl
 same_key : (k x : List ℕ) → slice_cmp nat_cmp k x ≡ Equal → k ≡ x
 same_key k x e = (bytes_eq-Decides k x).0 (sym (is_eq-slice_cmp k x) ∙ ap is_eq e)
 
-has_insert : (ks : List (List ℕ)) (k q : List ℕ) → has_key (with_keys ks k) q ≡ (bytes_eq q k || has_key ks q)
+has_insert : (ks : List (List ℕ)) (k q : List ℕ)
+    → has_key (with_keys ks k) q ≡ (bytes_eq q k || has_key ks q)
 has_insert [] k q = ap (λ (b : Bool). b || false) (is_eq-slice_cmp q k)
 has_insert (x ∷ xs) k q = by_order (slice_cmp nat_cmp k x) refl (has_insert xs k q)
   where
-    by_order : (o : Ordering) → slice_cmp nat_cmp k x ≡ o → has_key (with_keys xs k) q ≡ (bytes_eq q k || has_key xs q) → has_key (match_ordering o (k ∷ x ∷ xs) (x ∷ xs) (x ∷ with_keys xs k)) q ≡ (bytes_eq q k || has_key (x ∷ xs) q)
+    by_order : (o : Ordering) → slice_cmp nat_cmp k x ≡ o
+        → has_key (with_keys xs k) q ≡ (bytes_eq q k || has_key xs q)
+        → has_key (match_ordering o (k ∷ x ∷ xs) (x ∷ xs) (x ∷ with_keys xs k)) q
+        ≡ (bytes_eq q k || has_key (x ∷ xs) q)
     by_order Less e h = ap (λ (b : Bool). b || has_key (x ∷ xs) q) (is_eq-slice_cmp q k)
     by_order Equal e h =
         let here : is_eq (slice_cmp nat_cmp q x) ≡ bytes_eq q k = is_eq-slice_cmp q x ∙ ap (bytes_eq q) (sym (same_key k x e)) in
-        ap (λ (b : Bool). b || has_key xs q) here ∙ sym (first_or (bytes_eq q k) (has_key xs q)) ∙ ap (λ (b : Bool). bytes_eq q k || (b || has_key xs q)) (sym here)
-    by_order Greater e h = ap (λ (b : Bool). is_eq (slice_cmp nat_cmp q x) || b) h ∙ swapped (is_eq (slice_cmp nat_cmp q x)) (bytes_eq q k) (has_key xs q)
+        ap (λ (b : Bool). b || has_key xs q) here ∙ sym (first_or (bytes_eq q k) (has_key xs q))
+        ∙ ap (λ (b : Bool). bytes_eq q k || (b || has_key xs q)) (sym here)
+    by_order Greater e h =
+        ap (λ (b : Bool). is_eq (slice_cmp nat_cmp q x) || b) h
+        ∙ swapped (is_eq (slice_cmp nat_cmp q x)) (bytes_eq q k) (has_key xs q)
 
 tail_of : (x y : ℕ) (xs ys : List ℕ) → (x ∷ xs) ≡ (y ∷ ys) → (x ≡ y) × (xs ≡ ys)
 tail_of x y xs ys e = (cc, cc)
 
 same_place : (v w : WrittenPlace) → key_of v ≡ key_of w → v ≡ w
 same_place (written.Location n) (written.Location m) e = ap written.Location (tail_of 0 0 n m e).1
-same_place (written.Location n) (written.Register t r) e = absurd (let no_tag : zero ≡ suc zero = (tail_of 0 1 n (r ∷ t) e).0 in omega arith)
-same_place (written.Register t r) (written.Location n) e = absurd (let no_tag : suc zero ≡ zero = (tail_of 1 0 (r ∷ t) n e).0 in omega arith)
+same_place (written.Location n) (written.Register t r) e =
+    absurd (let no_tag : zero ≡ suc zero = (tail_of 0 1 n (r ∷ t) e).0 in omega arith)
+same_place (written.Register t r) (written.Location n) e =
+    absurd (let no_tag : suc zero ≡ zero = (tail_of 1 0 (r ∷ t) n e).0 in omega arith)
 same_place (written.Register t r) (written.Register u q) e =
     let rest : (r ∷ t) ≡ (q ∷ u) = (tail_of 1 1 (r ∷ t) (q ∷ u) e).1 in
     let parts = tail_of r q t u rest in
@@ -60,7 +69,9 @@ same_place (written.Register t r) (written.Register u q) e =
 
 -- the keys are those of these places
 abbrev pub Keeps : List (List ℕ) → List WrittenPlace → Type 0
-Keeps ks ws = (w : WrittenPlace) → (has_key ks (key_of w) ≡ false → Lacks ws w) × (Lacks ws w → has_key ks (key_of w) ≡ false)
+Keeps ks ws =
+    (w : WrittenPlace)
+    → (has_key ks (key_of w) ≡ false → Lacks ws w) × (Lacks ws w → has_key ks (key_of w) ≡ false)
 
 pub keeps_none : Keeps [] []
 keeps_none w = (λ e. tt, λ l. refl)
@@ -73,25 +84,35 @@ right_false : (a b : Bool) → (a || b) ≡ false → b ≡ false
 right_false true b e = absurd cc
 right_false false b e = e
 
-pub keeps_more : (ks : List (List ℕ)) (ws : List WrittenPlace) (w : WrittenPlace) → Keeps ks ws → Keeps (with_keys ks (key_of w)) (w ∷ ws)
+pub keeps_more : (ks : List (List ℕ)) (ws : List WrittenPlace) (w : WrittenPlace) → Keeps ks ws
+    → Keeps (with_keys ks (key_of w)) (w ∷ ws)
 keeps_more ks ws w keeps v = (lacks, has_none)
   where
-    split : (bytes_eq (key_of v) (key_of w) || has_key ks (key_of v)) ≡ has_key (with_keys ks (key_of w)) (key_of v)
+    split : (bytes_eq (key_of v) (key_of w) || has_key ks (key_of v))
+        ≡ has_key (with_keys ks (key_of w)) (key_of v)
     split = sym (has_insert ks (key_of w) (key_of v))
 
     lacks : has_key (with_keys ks (key_of w)) (key_of v) ≡ false → (w ≡ v → ⊥) × Lacks ws v
     lacks e =
-        let apart : bytes_eq (key_of v) (key_of w) ≡ false = left_false (bytes_eq (key_of v) (key_of w)) (has_key ks (key_of v)) (split ∙ e) in
-        (λ same. let equal : bytes_eq (key_of v) (key_of w) ≡ true = (bytes_eq-Decides (key_of v) (key_of w)).1 (ap key_of (sym same)) in absurd cc, (keeps v).0 (right_false (bytes_eq (key_of v) (key_of w)) (has_key ks (key_of v)) (split ∙ e)))
+        let apart : bytes_eq (key_of v) (key_of w) ≡ false = left_false (bytes_eq (key_of v) (key_of w)) (has_key ks (key_of v)) (split ∙ e) in (
+          λ same.
+              let equal : bytes_eq (key_of v) (key_of w) ≡ true =
+              (bytes_eq-Decides (key_of v) (key_of w)).1 (ap key_of (sym same)) in
+              absurd cc,
+          (keeps v).0 (right_false (bytes_eq (key_of v) (key_of w)) (has_key ks (key_of v))
+              (split ∙ e)),
+        )
 
     has_none : (w ≡ v → ⊥) × Lacks ws v → has_key (with_keys ks (key_of w)) (key_of v) ≡ false
     has_none l =
         sym split ∙ or_from (bytes_eq (key_of v) (key_of w)) (has_key ks (key_of v))
-        (false_from_ne_true (bytes_eq (key_of v) (key_of w)) (λ e. l.0 (sym (same_place v w ((bytes_eq-Decides (key_of v) (key_of w)).0 e)))))
+        (false_from_ne_true (bytes_eq (key_of v) (key_of w)) (λ e.
+        l.0 (sym (same_place v w ((bytes_eq-Decides (key_of v) (key_of w)).0 e)))))
         ((keeps v).1 l.1)
 
 -- a place that was not named is taken
-pub added_new : (b : Block) (k : List ℕ) → has_key b.named k ≡ false → added b k ≡ Some (with_key b k)
+pub added_new : (b : Block) (k : List ℕ) → has_key b.named k ≡ false
+    → added b k ≡ Some (with_key b k)
 added_new b k e = ap (λ (there : Bool). if there then None else Some (with_key b k)) e
 
 -- ---- there is always another name
@@ -117,11 +138,17 @@ abbrev is_location : WrittenPlace → Bool
 is_location (written.Location n) = true
 is_location (written.Register t r) = false
 
-lacks_longer : (ws : List WrittenPlace) (k : ℕ) → size ws ≤ k → Lacks ws (written.Location (zeros k))
+lacks_longer : (ws : List WrittenPlace) (k : ℕ) → size ws ≤ k
+    → Lacks ws (written.Location (zeros k))
 lacks_longer [] k h = tt
-lacks_longer (written.Location n ∷ ws) k h =
-    (λ e. let same : length n ≡ length (zeros k) = ap name_length e in let len = length-zeros k in absurd (omega arith), lacks_longer ws k (omega arith))
-lacks_longer (written.Register t r ∷ ws) k h = (λ e. let other : false ≡ true = ap is_location e in absurd cc, lacks_longer ws k h)
+lacks_longer (written.Location n ∷ ws) k h = (
+  λ e.
+      let same : length n ≡ length (zeros k) = ap name_length e in
+      let len = length-zeros k in absurd (omega arith),
+  lacks_longer ws k (omega arith),
+)
+lacks_longer (written.Register t r ∷ ws) k h =
+    (λ e. let other : false ≡ true = ap is_location e in absurd cc, lacks_longer ws k h)
 
 abbrev pub fresh : List WrittenPlace → List ℕ
 fresh ws = zeros (size ws)

@@ -44,7 +44,8 @@ abbrev pub draft : Block → Draft
 draft b = with_init (nothing kinds.Init) b
 
 abbrev pub standing : ℕ → Stage → Part → Block → State
-standing threads g p b = record { kind = kinds.Init; threads = threads; stage = g; part = p; draft = draft b }
+standing threads g p b =
+    record { kind = kinds.Init; threads = threads; stage = g; part = p; draft = draft b }
 
 pub more : (t : Token) (ts us : List Token) → ts ≡ us → t ∷ ts ≡ t ∷ us
 more t ts us e = ap (λ (xs : List Token). t ∷ xs) e
@@ -142,42 +143,87 @@ another before ts l =
       others = b.others;
       closed = b.closed;
       fine = (l.fine, v.fine, l.once, b.fine);
-      whole = l.whole ∙ ap (spelled_place l.place) (l.equals.whole ∙ ap (λ (us : List Token). tokens.Mark marks.Equals ∷ us) (v.whole ∙ ap (spelled_value v.value) b.whole));
+      whole =
+          l.whole
+          ∙ ap (spelled_place l.place) (l.equals.whole
+          ∙ ap (λ (us : List Token). tokens.Mark marks.Equals ∷ us)
+          (v.whole ∙ ap (spelled_value v.value) b.whole));
     }
 
-after_semicolon : (before : List WrittenPlace) (ts : List Token) → EntryLeft before ts → Behind before (tokens.Mark marks.Semicolon ∷ ts)
-after_semicolon before ts (Closes e) = record { others = []; closed = true; fine = tt; whole = more (tokens.Mark marks.Semicolon) ts _ e }
-after_semicolon before ts (Another f) = record { others = f.first ∷ f.others; closed = f.closed; fine = f.fine; whole = more (tokens.Mark marks.Semicolon) ts _ f.whole }
+after_semicolon : (before : List WrittenPlace) (ts : List Token) → EntryLeft before ts
+    → Behind before (tokens.Mark marks.Semicolon ∷ ts)
+after_semicolon before ts (Closes e) =
+    record {
+      others = [];
+      closed = true;
+      fine = tt;
+      whole = more (tokens.Mark marks.Semicolon) ts _ e;
+    }
+after_semicolon before ts (Another f) =
+    record {
+      others = f.first ∷ f.others;
+      closed = f.closed;
+      fine = f.fine;
+      whole = more (tokens.Mark marks.Semicolon) ts _ f.whole;
+    }
 
 module _ (threads : ℕ) where
-  only_end : (ps : List TokenAt) (g : Stage) (b : Block) (s : State) → run (standing threads g text.Done b) ps ≡ Ok s → tokens_of ps ≡ []
+  only_end : (ps : List TokenAt) (g : Stage) (b : Block) (s : State)
+      → run (standing threads g text.Done b) ps ≡ Ok s → tokens_of ps ≡ []
   only_end [] g b s e = refl
   only_end (p ∷ ps) g b s e = absurd (not_both _ _ e)
 
-  end_left : (ps : List TokenAt) (g : Stage) (b : Block) (s : State) → run (standing threads g text.WantsEnd b) ps ≡ Ok s → s.part ≡ text.Done → tokens_of ps ≡ tokens.End ∷ []
+  end_left : (ps : List TokenAt) (g : Stage) (b : Block) (s : State)
+      → run (standing threads g text.WantsEnd b) ps ≡ Ok s → s.part ≡ text.Done
+      → tokens_of ps ≡ tokens.End ∷ []
   end_left [] g b s e d = absurd (false≢true (ap done_in e ∙ ap is_done d))
   end_left (p ∷ ps) g b s e d = by_token p.token p.offset e
     where
-      by_token : (t : Token) (n : ℕ) → run (standing threads g text.WantsEnd b) (record { token = t; offset = n } ∷ ps) ≡ Ok s → t ∷ tokens_of ps ≡ tokens.End ∷ []
-      by_token tokens.End n k = more tokens.End (tokens_of ps) [] (only_end ps (after g tokens.End) b s k)
+      by_token : (t : Token) (n : ℕ)
+          → run (standing threads g text.WantsEnd b) (record { token = t; offset = n } ∷ ps) ≡ Ok s
+          → t ∷ tokens_of ps ≡ tokens.End ∷ []
+      by_token tokens.End n k =
+          more tokens.End (tokens_of ps) [] (only_end ps (after g tokens.End) b s k)
       by_token t n k = absurd (not_both _ _ k)
 
   -- with what is left behind the token
-  module _ (ps : List TokenAt) (s : State) (d : s.part ≡ text.Done) (again : (expected : InitExpectation) (g : Stage) (b : Block) (before : List WrittenPlace) → Keeps b.named before → run (standing threads g (text.Init expected) b) ps ≡ Ok s → Left before expected (tokens_of ps)) where
+  module _ (ps : List TokenAt) (s : State) (d : s.part ≡ text.Done)
+      (again : (expected : InitExpectation) (g : Stage) (b : Block) (before : List WrittenPlace)
+      → Keeps b.named before → run (standing threads g (text.Init expected) b) ps ≡ Ok s
+      → Left before expected (tokens_of ps)) where
     abbrev went_on : Stage → InitExpectation → Block → Token → ℕ → Option Did → Ran
-    went_on g expected b t n o = and_then (with_offset n (stepped (standing threads g (text.Init expected) b) t (init_result kinds.Init (draft b) o))) (λ x. run x ps)
+    went_on g expected b t n o =
+        and_then
+        (with_offset n (stepped (standing threads g (text.Init expected) b) t
+        (init_result kinds.Init (draft b) o)))
+        (λ x. run x ps)
 
     -- a place that is named here was not named before
-    once : (g : Stage) (expected : InitExpectation) (c b : Block) (t : Token) (n : ℕ) (k : List ℕ) (o : Option PlaceStep) (x : Bool) → has_key b.named k ≡ x → went_on g expected c t n (and_place (if x then None else Some (with_key b k)) o) ≡ Ok s → (has_key b.named k ≡ false) × (went_on g expected c t n (place_result (with_key b k) o) ≡ Ok s)
+    once : (g : Stage) (expected : InitExpectation) (c b : Block) (t : Token) (n : ℕ) (k : List ℕ)
+        (o : Option PlaceStep) (x : Bool) → has_key b.named k ≡ x
+        → went_on g expected c t n (and_place (if x then None else Some (with_key b k)) o) ≡ Ok s
+        → (has_key b.named k ≡ false)
+        × (went_on g expected c t n (place_result (with_key b k) o) ≡ Ok s)
     once g expected c b t n k o true e h = absurd (not_both _ _ h)
     once g expected c b t n k o false e h = (e, h)
 
     -- the equals sign behind a place that was named
-    named : (g : Stage) (b : Block) (before : List WrittenPlace) (w : WrittenPlace) (p : Place) → Keeps b.named before → has_key b.named (key_of w) ≡ false → run (standing threads g (text.Init (expectations.WantsEquals p)) (with_key b (key_of w))) ps ≡ Ok s → Lacks before w × EqualsLeft (w ∷ before) (tokens_of ps)
-    named g b before w p keeps e h = ((keeps w).0 e, again (expectations.WantsEquals p) g (with_key b (key_of w)) (w ∷ before) (keeps_more b.named before w keeps) h)
+    named : (g : Stage) (b : Block) (before : List WrittenPlace) (w : WrittenPlace) (p : Place)
+        → Keeps b.named before → has_key b.named (key_of w) ≡ false
+        → run (standing threads g (text.Init (expectations.WantsEquals p)) (with_key b (key_of w)))
+        ps ≡ Ok s → Lacks before w × EqualsLeft (w ∷ before) (tokens_of ps)
+    named g b before w p keeps e h = (
+      (keeps w).0 e,
+      again (expectations.WantsEquals p) g (with_key b (key_of w)) (w ∷ before)
+          (keeps_more b.named before w keeps) h,
+    )
 
-    register_left : (g : Stage) (expected : InitExpectation) (b : Block) (before : List WrittenPlace) (d w : List ℕ) (n : ℕ) (o : Option ℕ) → register_of w ≡ o → Keeps b.named before
-        → went_on g expected b (tokens.Word w) n (and_place (init.added_if b (init.known_key d o)) (register_ends d o)) ≡ Ok s → RegisterLeft before d (tokens.Word w ∷ tokens_of ps)
+    register_left : (g : Stage) (expected : InitExpectation) (b : Block)
+        (before : List WrittenPlace) (d w : List ℕ) (n : ℕ) (o : Option ℕ) → register_of w ≡ o
+        → Keeps b.named before
+        → went_on g expected b (tokens.Word w) n (and_place (init.added_if b (init.known_key d o))
+        (register_ends d o)) ≡ Ok s
+        → RegisterLeft before d (tokens.Word w ∷ tokens_of ps)
     register_left g expected b before d w n (Some r) e keeps h =
         let place = written.Register d r in
         let o = once g expected b b (tokens.Word w) n (key_of place) (register_ends d (Some r)) (has_key b.named (key_of place)) refl h in
@@ -193,7 +239,10 @@ module _ (threads : ℕ) where
         }
     register_left g expected b before d w n None e keeps h = absurd (not_both _ _ h)
 
-    first_draft : (g : Stage) (expected : InitExpectation) (c b : Block) (before : List WrittenPlace) (t : Token) (n : ℕ) → Keeps b.named before → went_on g expected c t n (init.place_read b places.Begins t) ≡ Ok s → PlaceLeft before (t ∷ tokens_of ps)
+    first_draft : (g : Stage) (expected : InitExpectation) (c b : Block)
+        (before : List WrittenPlace) (t : Token) (n : ℕ) → Keeps b.named before
+        → went_on g expected c t n (init.place_read b places.Begins t) ≡ Ok s
+        → PlaceLeft before (t ∷ tokens_of ps)
     first_draft g expected c b before (tokens.Word w) n keeps h =
         let place = written.Location w in
         let o = once g expected c b (tokens.Word w) n (key_of place) (place_step places.Begins (tokens.Word w)) (has_key b.named (key_of place)) refl h in
@@ -208,8 +257,12 @@ module _ (threads : ℕ) where
         record { place = Register d r.word; rest = r.rest; fine = r.fine; whole = more (tokens.Number false d) (tokens_of ps) _ (l.whole ∙ more (tokens.Mark marks.Colon) l.rest _ r.whole); once = r.once; equals = r.equals }
     first_draft g expected c b before t n keeps h = absurd (not_both _ _ h)
 
-    within_left : (g : Stage) (expected : PlaceExpectation) (b : Block) (before : List WrittenPlace) (t : Token) (n : ℕ) → Keeps b.named before → went_on g (expectations.InPlace expected) b t n (init.place_read b expected t) ≡ Ok s → WithinLeft before expected (t ∷ tokens_of ps)
-    within_left g places.Begins b before t n keeps h = first_draft g (expectations.InPlace places.Begins) b b before t n keeps h
+    within_left : (g : Stage) (expected : PlaceExpectation) (b : Block) (before : List WrittenPlace)
+        (t : Token) (n : ℕ) → Keeps b.named before
+        → went_on g (expectations.InPlace expected) b t n (init.place_read b expected t) ≡ Ok s
+        → WithinLeft before expected (t ∷ tokens_of ps)
+    within_left g places.Begins b before t n keeps h =
+        first_draft g (expectations.InPlace places.Begins) b b before t n keeps h
     within_left g places.WantsName b before (tokens.Word w) n keeps h =
         let place = written.Location w in
         let o = once g (expectations.InPlace places.WantsName) b b (tokens.Word w) n (key_of place) (place_step places.WantsName (tokens.Word w)) (has_key b.named (key_of place)) refl h in
@@ -222,57 +275,112 @@ module _ (threads : ℕ) where
     within_left g (places.WantsColon d) b before (tokens.Mark marks.Colon) n keeps h =
         record { rest = tokens_of ps; whole = refl; register = again (expectations.InPlace (places.WantsRegister d)) (after g (tokens.Mark marks.Colon)) b before keeps h }
     within_left g (places.WantsColon d) b before t n keeps h = absurd (not_both _ _ h)
-    within_left g (places.WantsRegister d) b before (tokens.Word w) n keeps h = register_left g (expectations.InPlace (places.WantsRegister d)) b before d w n (register_of w) refl keeps h
+    within_left g (places.WantsRegister d) b before (tokens.Word w) n keeps h =
+        register_left g (expectations.InPlace (places.WantsRegister d)) b before d w n
+        (register_of w) refl keeps h
     within_left g (places.WantsRegister d) b before t n keeps h = absurd (not_both _ _ h)
 
-    entry_left : (g : Stage) (b : Block) (before : List WrittenPlace) (t : Token) (n : ℕ) → Keeps b.named before → went_on g expectations.WantsEntry b t n (init.entry_read b t n) ≡ Ok s → EntryLeft before (t ∷ tokens_of ps)
-    entry_left g b before (tokens.Mark marks.CloseBrace) n keeps h = Closes (more (tokens.Mark marks.CloseBrace) (tokens_of ps) _ (end_left ps (after g (tokens.Mark marks.CloseBrace)) b s h d))
-    entry_left g b before t n keeps h = Another (another before (t ∷ tokens_of ps) (first_draft g expectations.WantsEntry b (with_start b n) before t n keeps h))
+    entry_left : (g : Stage) (b : Block) (before : List WrittenPlace) (t : Token) (n : ℕ)
+        → Keeps b.named before
+        → went_on g expectations.WantsEntry b t n (init.entry_read b t n) ≡ Ok s
+        → EntryLeft before (t ∷ tokens_of ps)
+    entry_left g b before (tokens.Mark marks.CloseBrace) n keeps h =
+        Closes (more (tokens.Mark marks.CloseBrace) (tokens_of ps) _ (end_left ps
+        (after g (tokens.Mark marks.CloseBrace)) b s h d))
+    entry_left g b before t n keeps h =
+        Another (another before (t ∷ tokens_of ps) (first_draft g expectations.WantsEntry b
+        (with_start b n) before t n keeps h))
 
-    open_left : (g : Stage) (b : Block) (before : List WrittenPlace) (t : Token) (n : ℕ) → Keeps b.named before → went_on g expectations.WantsOpen b t n (init.open_read b t) ≡ Ok s → OpenLeft before (t ∷ tokens_of ps)
-    open_left g b before (tokens.Mark marks.OpenBrace) n keeps h = record { rest = tokens_of ps; whole = refl; entries = again expectations.WantsEntry (after g (tokens.Mark marks.OpenBrace)) b before keeps h }
+    open_left : (g : Stage) (b : Block) (before : List WrittenPlace) (t : Token) (n : ℕ)
+        → Keeps b.named before → went_on g expectations.WantsOpen b t n (init.open_read b t) ≡ Ok s
+        → OpenLeft before (t ∷ tokens_of ps)
+    open_left g b before (tokens.Mark marks.OpenBrace) n keeps h =
+        record {
+          rest = tokens_of ps;
+          whole = refl;
+          entries =
+              again expectations.WantsEntry (after g (tokens.Mark marks.OpenBrace)) b before keeps
+              h;
+        }
     open_left g b before t n keeps h = absurd (not_both _ _ h)
 
-    equals_left : (g : Stage) (p : Place) (b : Block) (before : List WrittenPlace) (t : Token) (n : ℕ) → Keeps b.named before → went_on g (expectations.WantsEquals p) b t n (init.equals_read b p t) ≡ Ok s → EqualsLeft before (t ∷ tokens_of ps)
-    equals_left g p b before (tokens.Mark marks.Equals) n keeps h = record { rest = tokens_of ps; whole = refl; value = again (expectations.WantsValue p) (after g (tokens.Mark marks.Equals)) b before keeps h }
+    equals_left : (g : Stage) (p : Place) (b : Block) (before : List WrittenPlace) (t : Token)
+        (n : ℕ) → Keeps b.named before
+        → went_on g (expectations.WantsEquals p) b t n (init.equals_read b p t) ≡ Ok s
+        → EqualsLeft before (t ∷ tokens_of ps)
+    equals_left g p b before (tokens.Mark marks.Equals) n keeps h =
+        record {
+          rest = tokens_of ps;
+          whole = refl;
+          value =
+              again (expectations.WantsValue p) (after g (tokens.Mark marks.Equals)) b before
+              keeps h;
+        }
     equals_left g p b before t n keeps h = absurd (not_both _ _ h)
 
-    number_left : (g : Stage) (p : Place) (b : Block) (before : List WrittenPlace) (negative : Bool) (ds : List ℕ) (n : ℕ) (x : Bool) → is_int negative ds ≡ x → Keeps b.named before
-        → went_on g (expectations.WantsValue p) b (tokens.Number negative ds) n (valued b p (number_read (if x then Some (signed negative (decimal ds)) else None))) ≡ Ok s → ValueLeft before (tokens.Number negative ds ∷ tokens_of ps)
+    number_left : (g : Stage) (p : Place) (b : Block) (before : List WrittenPlace) (negative : Bool)
+        (ds : List ℕ) (n : ℕ) (x : Bool) → is_int negative ds ≡ x → Keeps b.named before
+        → went_on g (expectations.WantsValue p) b (tokens.Number negative ds) n
+        (valued b p (number_read
+        (if x then Some (signed negative (decimal ds)) else None))) ≡ Ok s
+        → ValueLeft before (tokens.Number negative ds ∷ tokens_of ps)
     number_left g p b before negative ds n true e keeps h =
         record { value = Number negative ds; rest = tokens_of ps; fine = e; whole = refl; behind = again expectations.HasEntry (after g (tokens.Number negative ds)) (with_entry b p (values.Number (signed negative (decimal ds)))) before keeps h }
     number_left g p b before negative ds n false e keeps h = absurd (not_both _ _ h)
 
-    value_left : (g : Stage) (p : Place) (b : Block) (before : List WrittenPlace) (t : Token) (n : ℕ) → Keeps b.named before → went_on g (expectations.WantsValue p) b t n (init.step b (expectations.WantsValue p) t n) ≡ Ok s → ValueLeft before (t ∷ tokens_of ps)
+    value_left : (g : Stage) (p : Place) (b : Block) (before : List WrittenPlace) (t : Token)
+        (n : ℕ) → Keeps b.named before
+        → went_on g (expectations.WantsValue p) b t n (init.step b (expectations.WantsValue p) t n)
+        ≡ Ok s → ValueLeft before (t ∷ tokens_of ps)
     value_left g p b before (tokens.Word w) n keeps h =
         record { value = Address w; rest = tokens_of ps; fine = tt; whole = refl; behind = again expectations.HasEntry (after g (tokens.Word w)) (with_entry b p (values.Address w)) before keeps h }
-    value_left g p b before (tokens.Number negative ds) n keeps h = number_left g p b before negative ds n (is_int negative ds) refl keeps h
+    value_left g p b before (tokens.Number negative ds) n keeps h =
+        number_left g p b before negative ds n (is_int negative ds) refl keeps h
     value_left g p b before t n keeps h = absurd (not_both _ _ h)
 
-    behind_left : (g : Stage) (b : Block) (before : List WrittenPlace) (t : Token) (n : ℕ) → Keeps b.named before → went_on g expectations.HasEntry b t n (init.behind b t) ≡ Ok s → Behind before (t ∷ tokens_of ps)
-    behind_left g b before (tokens.Mark marks.Semicolon) n keeps h = after_semicolon before (tokens_of ps) (again expectations.WantsEntry (after g (tokens.Mark marks.Semicolon)) b before keeps h)
+    behind_left : (g : Stage) (b : Block) (before : List WrittenPlace) (t : Token) (n : ℕ)
+        → Keeps b.named before → went_on g expectations.HasEntry b t n (init.behind b t) ≡ Ok s
+        → Behind before (t ∷ tokens_of ps)
+    behind_left g b before (tokens.Mark marks.Semicolon) n keeps h =
+        after_semicolon before (tokens_of ps) (again expectations.WantsEntry
+        (after g (tokens.Mark marks.Semicolon)) b before keeps h)
     behind_left g b before (tokens.Mark marks.CloseBrace) n keeps h =
         record { others = []; closed = false; fine = tt; whole = more (tokens.Mark marks.CloseBrace) (tokens_of ps) _ (end_left ps (after g (tokens.Mark marks.CloseBrace)) b s h d) }
     behind_left g b before t n keeps h = absurd (not_both _ _ h)
 
-    by_expectation : (expected : InitExpectation) (g : Stage) (b : Block) (before : List WrittenPlace) (t : Token) (n : ℕ) → Keeps b.named before → run (standing threads g (text.Init expected) b) (record { token = t; offset = n } ∷ ps) ≡ Ok s → Left before expected (t ∷ tokens_of ps)
+    by_expectation : (expected : InitExpectation) (g : Stage) (b : Block)
+        (before : List WrittenPlace) (t : Token) (n : ℕ) → Keeps b.named before
+        → run (standing threads g (text.Init expected) b) (record { token = t; offset = n } ∷ ps)
+        ≡ Ok s → Left before expected (t ∷ tokens_of ps)
     by_expectation expectations.WantsOpen g b before t n keeps h = open_left g b before t n keeps h
-    by_expectation expectations.WantsEntry g b before t n keeps h = entry_left g b before t n keeps h
-    by_expectation (expectations.InPlace expected) g b before t n keeps h = within_left g expected b before t n keeps h
-    by_expectation (expectations.WantsEquals p) g b before t n keeps h = equals_left g p b before t n keeps h
-    by_expectation (expectations.WantsValue p) g b before t n keeps h = value_left g p b before t n keeps h
+    by_expectation expectations.WantsEntry g b before t n keeps h =
+        entry_left g b before t n keeps h
+    by_expectation (expectations.InPlace expected) g b before t n keeps h =
+        within_left g expected b before t n keeps h
+    by_expectation (expectations.WantsEquals p) g b before t n keeps h =
+        equals_left g p b before t n keeps h
+    by_expectation (expectations.WantsValue p) g b before t n keeps h =
+        value_left g p b before t n keeps h
     by_expectation expectations.HasEntry g b before t n keeps h = behind_left g b before t n keeps h
 
-  left : (ps : List TokenAt) (expected : InitExpectation) (g : Stage) (b : Block) (before : List WrittenPlace) (s : State) → Keeps b.named before → run (standing threads g (text.Init expected) b) ps ≡ Ok s → s.part ≡ text.Done → Left before expected (tokens_of ps)
+  left : (ps : List TokenAt) (expected : InitExpectation) (g : Stage) (b : Block)
+      (before : List WrittenPlace) (s : State) → Keeps b.named before
+      → run (standing threads g (text.Init expected) b) ps ≡ Ok s → s.part ≡ text.Done
+      → Left before expected (tokens_of ps)
   left [] expected g b before s keeps e d = absurd (false≢true (ap done_in e ∙ ap is_done d))
-  left (p ∷ ps) expected g b before s keeps e d = by_expectation ps s d (λ o f c more_places k i. left ps o f c more_places s k i d) expected g b before p.token p.offset keeps e
+  left (p ∷ ps) expected g b before s keeps e d =
+      by_expectation ps s d (λ o f c more_places k i. left ps o f c more_places s k i d) expected g
+      b before p.token p.offset keeps e
 
-  to_text : (ts us : List Token) → ts ≡ tokens.Mark marks.OpenBrace ∷ us → EntryLeft [] us → IsInitText ts
-  to_text ts us e (Closes k) = record { entries = None; fine = tt; whole = e ∙ more (tokens.Mark marks.OpenBrace) us _ k }
+  to_text : (ts us : List Token) → ts ≡ tokens.Mark marks.OpenBrace ∷ us → EntryLeft [] us
+      → IsInitText ts
+  to_text ts us e (Closes k) =
+      record { entries = None; fine = tt; whole = e ∙ more (tokens.Mark marks.OpenBrace) us _ k }
   to_text ts us e (Another f) =
       record { entries = Some (record { first = f.first; others = f.others; closed = f.closed }); fine = f.fine; whole = e ∙ more (tokens.Mark marks.OpenBrace) us _ f.whole }
 
-  pub init_whole : (ps : List TokenAt) (s : State) → run (start kinds.Init threads) ps ≡ Ok s → s.part ≡ text.Done → IsInitText (tokens_of ps)
+  pub init_whole : (ps : List TokenAt) (s : State) → run (start kinds.Init threads) ps ≡ Ok s
+      → s.part ≡ text.Done → IsInitText (tokens_of ps)
   init_whole ps s e d =
       let l = left ps expectations.WantsOpen (text.first_stage kinds.Init) init.start [] s keeps_none e d in
       to_text (tokens_of ps) l.rest l.whole l.entries

@@ -49,8 +49,12 @@ abbrev PlaceOpen : List Token → PlaceExpectation → Type 0
 PlaceOpen ts places.Begins = ⊥
 PlaceOpen ts places.WantsName = Unit {0}
 PlaceOpen ts (places.WantsBracket n) = Unit {0}
-PlaceOpen ts (places.WantsColon d) = (before : List Token) × CanFollow IsInitText before bracket × (ts ≡ before ++ tokens.Number false d ∷ [])
-PlaceOpen ts (places.WantsRegister d) = (before : List Token) × CanFollow IsInitText before bracket × (ts ≡ before ++ tokens.Number false d ∷ tokens.Mark marks.Colon ∷ [])
+PlaceOpen ts (places.WantsColon d) =
+    (before : List Token) × CanFollow IsInitText before bracket
+    × (ts ≡ before ++ tokens.Number false d ∷ [])
+PlaceOpen ts (places.WantsRegister d) =
+    (before : List Token) × CanFollow IsInitText before bracket
+    × (ts ≡ before ++ tokens.Number false d ∷ tokens.Mark marks.Colon ∷ [])
 
 abbrev ExpectationOpen : List Token → InitExpectation → Type 0
 ExpectationOpen ts (expectations.InPlace expected) = PlaceOpen ts expected
@@ -74,11 +78,14 @@ NextKnown ts (Some n) = (c : Block) × (n.draft ≡ draft c) × Known ts n.part 
 module _ (threads : ℕ) where
   -- ---- the part is the init block to its end
 
-  stays : (x : Bool) (ts : List Token) → (y : Bool) × (stage_after (stages.Init true x) ts ≡ stages.Init true y)
+  stays : (x : Bool) (ts : List Token)
+      → (y : Bool) × (stage_after (stages.Init true x) ts ≡ stages.Init true y)
   stays x [] = (x, refl)
   stays x (t ∷ ts) = by_token t (λ z. stays z ts)
     where
-      by_token : (u : Token) → ((z : Bool) → (y : Bool) × (stage_after (stages.Init true z) ts ≡ stages.Init true y)) → (y : Bool) × (stage_after (after (stages.Init true x) u) ts ≡ stages.Init true y)
+      by_token : (u : Token)
+          → ((z : Bool) → (y : Bool) × (stage_after (stages.Init true z) ts ≡ stages.Init true y))
+          → (y : Bool) × (stage_after (after (stages.Init true x) u) ts ≡ stages.Init true y)
       by_token (tokens.Mark marks.CloseBrace) later = later false
       by_token (tokens.Word w) later = later true
       by_token u later = later false
@@ -94,7 +101,8 @@ module _ (threads : ℕ) where
   abbrev behind_name : List Token
   behind_name = tokens.Mark marks.CloseBracket ∷ tokens.Mark marks.Equals ∷ tokens.Word [] ∷ closing
 
-  name_ended : (g : Stage) (b : Block) (ws : List WrittenPlace) → Keeps b.named ws → Ended (standing threads g (text.Init (expectations.InPlace places.WantsName)) b)
+  name_ended : (g : Stage) (b : Block) (ws : List WrittenPlace) → Keeps b.named ws
+      → Ended (standing threads g (text.Init (expectations.InPlace places.WantsName)) b)
   name_ended g b ws keeps =
       let name = fresh ws in
       let key = key_of (written.Location name) in
@@ -102,87 +110,156 @@ module _ (threads : ℕ) where
       record {
         rest = tokens.Word name ∷ behind_name;
         state = _;
-        by = ap (λ (o : Option Block). and_then (with_offset 0 (stepped (standing threads g (text.Init (expectations.InPlace places.WantsName)) b) (tokens.Word name) (init_result kinds.Init (draft b) (and_place o (place_step places.WantsName (tokens.Word name)))))) (λ x. run x (anywhere behind_name))) (added_new b key new);
+        by =
+            ap
+            (λ (o : Option Block). and_then
+            (with_offset 0 (stepped
+            (standing threads g (text.Init (expectations.InPlace places.WantsName)) b)
+            (tokens.Word name) (init_result kinds.Init (draft b)
+            (and_place o (place_step places.WantsName (tokens.Word name))))))
+            (λ x. run x (anywhere behind_name)))
+            (added_new b key new);
         done = refl;
       }
 
-  can_begin : (before : List TokenAt) (g : Stage) (b : Block) (ws : List WrittenPlace) → Keeps b.named ws → run (start kinds.Init threads) before ≡ Ok (standing threads g (text.Init expectations.WantsEntry) b) → CanFollow IsInitText (tokens_of before) bracket
+  can_begin : (before : List TokenAt) (g : Stage) (b : Block) (ws : List WrittenPlace)
+      → Keeps b.named ws
+      → run (start kinds.Init threads) before
+      ≡ Ok (standing threads g (text.Init expectations.WantsEntry) b)
+      → CanFollow IsInitText (tokens_of before) bracket
   can_begin before g b ws keeps reached =
       let e = name_ended (after g bracket) (with_start b 0) ws keeps in
       let us = bracket ∷ e.rest in
       let all : run (start kinds.Init threads) (before ++ anywhere us) ≡ Ok e.state = run-append (start kinds.Init threads) (standing threads g (text.Init expectations.WantsEntry) b) before (anywhere us) reached ∙ e.by in
       let same : tokens_of (before ++ anywhere us) ≡ (tokens_of before ++ bracket ∷ []) ++ e.rest
-      = tokens_of-append before (anywhere us) ∙ ap (λ (ts : List Token). tokens_of before ++ ts) (tokens_of-anywhere us) ∙ sym (append_assoc (tokens_of before) (bracket ∷ []) e.rest) in
+      =
+      tokens_of-append before (anywhere us)
+      ∙ ap (λ (ts : List Token). tokens_of before ++ ts) (tokens_of-anywhere us)
+      ∙ sym (append_assoc (tokens_of before) (bracket ∷ []) e.rest) in
       record { rest = e.rest; text = subst IsInitText same (init_whole threads (before ++ anywhere us) e.state all e.done) }
 
   -- ---- each token keeps what is known
 
-  module _ (before : List TokenAt) (g : Stage) (b : Block) (ws : List WrittenPlace) (keeps : Keeps b.named ws) where
+  module _ (before : List TokenAt) (g : Stage) (b : Block) (ws : List WrittenPlace)
+      (keeps : Keeps b.named ws) where
     abbrev so_far : Token → List Token
     so_far t = tokens_of before ++ t ∷ []
 
     -- a place that is named here
-    key_known : (t : Token) (c : Block) (w : WrittenPlace) (expected : InitExpectation) (o : Option PlaceStep) → c.named ≡ b.named → ExpectationOpen (so_far t) expected → ((d : Block) → place_result d o ≡ init.goes d expected) → (x : Bool) → NextKnown (so_far t) (init_result kinds.Init (draft b) (and_place (if x then None else Some (with_key c (key_of w))) o))
+    key_known : (t : Token) (c : Block) (w : WrittenPlace) (expected : InitExpectation)
+        (o : Option PlaceStep) → c.named ≡ b.named → ExpectationOpen (so_far t) expected
+        → ((d : Block) → place_result d o ≡ init.goes d expected) → (x : Bool)
+        → NextKnown (so_far t) (init_result kinds.Init (draft b) (and_place
+        (if x then None else Some (with_key c (key_of w))) o))
     key_known t c w expected o same open_so goes true = tt
     key_known t c w expected o same open_so goes false =
         let d = with_key c (key_of w) in
         let more : Keeps d.named (w ∷ ws) = keeps_more c.named ws w (subst (λ (ks : List (List ℕ)). Keeps ks ws) (sym same) keeps) in
-        subst (λ (x : Option init.Did). NextKnown (so_far t) (init_result kinds.Init (draft b) x)) (sym (goes d)) (d, refl, record { named = w ∷ ws; keeps = more; open_so = open_so })
+        subst (λ (x : Option init.Did). NextKnown (so_far t) (init_result kinds.Init (draft b) x))
+        (sym (goes d)) (d, refl, record { named = w ∷ ws; keeps = more; open_so = open_so })
 
-    entry_known : (t : Token) (n : ℕ) → run (start kinds.Init threads) before ≡ Ok (standing threads g (text.Init expectations.WantsEntry) b) → NextKnown (so_far t) (init_result kinds.Init (draft b) (init.entry_read b t n))
-    entry_known (tokens.Mark marks.CloseBrace) n reached = (b, refl, record { named = ws; keeps = keeps; open_so = tt })
+    entry_known : (t : Token) (n : ℕ)
+        → run (start kinds.Init threads) before
+        ≡ Ok (standing threads g (text.Init expectations.WantsEntry) b)
+        → NextKnown (so_far t) (init_result kinds.Init (draft b) (init.entry_read b t n))
+    entry_known (tokens.Mark marks.CloseBrace) n reached =
+        (b, refl, record { named = ws; keeps = keeps; open_so = tt })
     entry_known (tokens.Word w) n reached =
-        key_known (tokens.Word w) (with_start b n) (written.Location w) _ (place_step places.Begins (tokens.Word w)) refl tt (λ d. refl) (has_key b.named (key_of (written.Location w)))
-    entry_known (tokens.Mark marks.OpenBracket) n reached = (with_start b n, refl, record { named = ws; keeps = keeps; open_so = tt })
-    entry_known (tokens.Number false d) n reached = (with_start b n, refl, record { named = ws; keeps = keeps; open_so = (tokens_of before, can_begin before g b ws keeps reached, refl) })
+        key_known (tokens.Word w) (with_start b n) (written.Location w) _
+        (place_step places.Begins (tokens.Word w)) refl tt (λ d. refl)
+        (has_key b.named (key_of (written.Location w)))
+    entry_known (tokens.Mark marks.OpenBracket) n reached =
+        (with_start b n, refl, record { named = ws; keeps = keeps; open_so = tt })
+    entry_known (tokens.Number false d) n reached = (
+      with_start b n,
+      refl,
+      record {
+        named = ws;
+        keeps = keeps;
+        open_so = (tokens_of before, can_begin before g b ws keeps reached, refl);
+      },
+    )
     entry_known t n reached = tt
 
-    register_known : (d w : List ℕ) (o : Option ℕ) → NextKnown (so_far (tokens.Word w)) (init_result kinds.Init (draft b) (and_place (init.added_if b (init.known_key d o)) (register_ends d o)))
-    register_known d w (Some r) = key_known (tokens.Word w) b (written.Register d r) _ (register_ends d (Some r)) refl tt (λ c. refl) (has_key b.named (key_of (written.Register d r)))
+    register_known : (d w : List ℕ) (o : Option ℕ)
+        → NextKnown (so_far (tokens.Word w)) (init_result kinds.Init (draft b)
+        (and_place (init.added_if b (init.known_key d o)) (register_ends d o)))
+    register_known d w (Some r) =
+        key_known (tokens.Word w) b (written.Register d r) _ (register_ends d (Some r)) refl tt
+        (λ c. refl) (has_key b.named (key_of (written.Register d r)))
     register_known d w None = tt
 
-    within_known : (expected : PlaceExpectation) (t : Token) → PlaceOpen (tokens_of before) expected → NextKnown (so_far t) (init_result kinds.Init (draft b) (init.place_read b expected t))
+    within_known : (expected : PlaceExpectation) (t : Token) → PlaceOpen (tokens_of before) expected
+        → NextKnown (so_far t) (init_result kinds.Init (draft b) (init.place_read b expected t))
     within_known places.Begins t o = absurd o
     within_known places.WantsName (tokens.Word w) o =
-        key_known (tokens.Word w) b (written.Location w) (expectations.InPlace (places.WantsBracket w)) (place_step places.WantsName (tokens.Word w)) refl tt (λ d. refl) (has_key b.named (key_of (written.Location w)))
+        key_known (tokens.Word w) b (written.Location w)
+        (expectations.InPlace (places.WantsBracket w))
+        (place_step places.WantsName (tokens.Word w)) refl tt (λ d. refl)
+        (has_key b.named (key_of (written.Location w)))
     within_known places.WantsName t o = tt
-    within_known (places.WantsBracket w) (tokens.Mark marks.CloseBracket) o = (b, refl, record { named = ws; keeps = keeps; open_so = tt })
+    within_known (places.WantsBracket w) (tokens.Mark marks.CloseBracket) o =
+        (b, refl, record { named = ws; keeps = keeps; open_so = tt })
     within_known (places.WantsBracket w) t o = tt
     within_known (places.WantsColon d) (tokens.Mark marks.Colon) o =
         let same : so_far (tokens.Mark marks.Colon) ≡ o.0 ++ tokens.Number false d ∷ tokens.Mark marks.Colon ∷ []
-        = ap (λ (ts : List Token). ts ++ tokens.Mark marks.Colon ∷ []) o.2 ∙ append_assoc o.0 (tokens.Number false d ∷ []) (tokens.Mark marks.Colon ∷ []) in
+        =
+        ap (λ (ts : List Token). ts ++ tokens.Mark marks.Colon ∷ []) o.2
+        ∙ append_assoc o.0 (tokens.Number false d ∷ []) (tokens.Mark marks.Colon ∷ []) in
         (b, refl, record { named = ws; keeps = keeps; open_so = (o.0, o.1, same) })
     within_known (places.WantsColon d) t o = tt
     within_known (places.WantsRegister d) (tokens.Word w) o = register_known d w (register_of w)
     within_known (places.WantsRegister d) t o = tt
 
-    open_known : (t : Token) → NextKnown (so_far t) (init_result kinds.Init (draft b) (init.open_read b t))
-    open_known (tokens.Mark marks.OpenBrace) = (b, refl, record { named = ws; keeps = keeps; open_so = tt })
+    open_known : (t : Token)
+        → NextKnown (so_far t) (init_result kinds.Init (draft b) (init.open_read b t))
+    open_known (tokens.Mark marks.OpenBrace) =
+        (b, refl, record { named = ws; keeps = keeps; open_so = tt })
     open_known t = tt
 
-    equals_known : (p : Place) (t : Token) → NextKnown (so_far t) (init_result kinds.Init (draft b) (init.equals_read b p t))
-    equals_known p (tokens.Mark marks.Equals) = (b, refl, record { named = ws; keeps = keeps; open_so = tt })
+    equals_known : (p : Place) (t : Token)
+        → NextKnown (so_far t) (init_result kinds.Init (draft b) (init.equals_read b p t))
+    equals_known p (tokens.Mark marks.Equals) =
+        (b, refl, record { named = ws; keeps = keeps; open_so = tt })
     equals_known p t = tt
 
-    number_known : (p : Place) (negative : Bool) (ds : List ℕ) (x : Bool) → NextKnown (so_far (tokens.Number negative ds)) (init_result kinds.Init (draft b) (valued b p (number_read (if x then Some (signed negative (decimal ds)) else None))))
-    number_known p negative ds true = (with_entry b p (values.Number (signed negative (decimal ds))), refl, record { named = ws; keeps = keeps; open_so = tt })
+    number_known : (p : Place) (negative : Bool) (ds : List ℕ) (x : Bool)
+        → NextKnown (so_far (tokens.Number negative ds)) (init_result kinds.Init (draft b)
+        (valued b p (number_read
+        (if x then Some (signed negative (decimal ds)) else None))))
+    number_known p negative ds true = (
+      with_entry b p (values.Number (signed negative (decimal ds))),
+      refl,
+      record { named = ws; keeps = keeps; open_so = tt },
+    )
     number_known p negative ds false = tt
 
-    value_known : (p : Place) (t : Token) (n : ℕ) → NextKnown (so_far t) (init_result kinds.Init (draft b) (init.step b (expectations.WantsValue p) t n))
-    value_known p (tokens.Word w) n = (with_entry b p (values.Address w), refl, record { named = ws; keeps = keeps; open_so = tt })
+    value_known : (p : Place) (t : Token) (n : ℕ)
+        → NextKnown (so_far t) (init_result kinds.Init (draft b)
+        (init.step b (expectations.WantsValue p) t n))
+    value_known p (tokens.Word w) n = (
+      with_entry b p (values.Address w),
+      refl,
+      record { named = ws; keeps = keeps; open_so = tt },
+    )
     value_known p (tokens.Number negative ds) n = number_known p negative ds (is_int negative ds)
     value_known p t n = tt
 
-    behind_known : (t : Token) → NextKnown (so_far t) (init_result kinds.Init (draft b) (init.behind b t))
-    behind_known (tokens.Mark marks.Semicolon) = (b, refl, record { named = ws; keeps = keeps; open_so = tt })
-    behind_known (tokens.Mark marks.CloseBrace) = (b, refl, record { named = ws; keeps = keeps; open_so = tt })
+    behind_known : (t : Token)
+        → NextKnown (so_far t) (init_result kinds.Init (draft b) (init.behind b t))
+    behind_known (tokens.Mark marks.Semicolon) =
+        (b, refl, record { named = ws; keeps = keeps; open_so = tt })
+    behind_known (tokens.Mark marks.CloseBrace) =
+        (b, refl, record { named = ws; keeps = keeps; open_so = tt })
     behind_known t = tt
 
     end_known : (t : Token) → NextKnown (so_far t) (text.next_at (draft b) (text.end_read t))
     end_known tokens.End = (b, refl, record { named = ws; keeps = keeps; open_so = tt })
     end_known t = tt
 
-    step_known : (p : Part) (t : Token) (n : ℕ) → Open (tokens_of before) p → run (start kinds.Init threads) before ≡ Ok (standing threads g p b) → NextKnown (so_far t) (part_step kinds.Init threads (draft b) p t n)
+    step_known : (p : Part) (t : Token) (n : ℕ) → Open (tokens_of before) p
+        → run (start kinds.Init threads) before ≡ Ok (standing threads g p b)
+        → NextKnown (so_far t) (part_step kinds.Init threads (draft b) p t n)
     step_known (text.Init expectations.WantsOpen) t n o reached = open_known t
     step_known (text.Init expectations.WantsEntry) t n o reached = entry_known t n reached
     step_known (text.Init (expectations.InPlace expected)) t n o reached = within_known expected t o
@@ -200,27 +277,44 @@ module _ (threads : ℕ) where
     is : s ≡ standing threads stage part block
     known : Known ts part block
 
-  walk : (before rest : List TokenAt) (g : Stage) (p : Part) (b : Block) (s : State) → run (start kinds.Init threads) before ≡ Ok (standing threads g p b) → Known (tokens_of before) p b → run (standing threads g p b) rest ≡ Ok s → Reached (tokens_of (before ++ rest)) s
+  walk : (before rest : List TokenAt) (g : Stage) (p : Part) (b : Block) (s : State)
+      → run (start kinds.Init threads) before ≡ Ok (standing threads g p b)
+      → Known (tokens_of before) p b → run (standing threads g p b) rest ≡ Ok s
+      → Reached (tokens_of (before ++ rest)) s
   walk before [] g p b s reached k e =
       let same : s ≡ standing threads g p b = sym (same_state _ _ e) in
       record { stage = g; part = p; block = b; is = same; known = subst (λ (ps : List TokenAt). Known (tokens_of ps) p b) (sym (append-nil before)) k }
   walk before (q ∷ rest) g p b s reached k e =
-      by_next (part_step kinds.Init threads (draft b) p q.token q.offset) refl (step_known before g b k.named k.keeps p q.token q.offset k.open_so reached) e
-      (λ c r h i j. rw (← append_assoc before (q ∷ []) rest) (walk (before ++ q ∷ []) rest (after g q.token) r c s h i j))
+      by_next (part_step kinds.Init threads (draft b) p q.token q.offset) refl
+      (step_known before g b k.named k.keeps p q.token q.offset k.open_so reached) e
+      (λ c r h i j. rw (← append_assoc before (q ∷ []) rest)
+      (walk (before ++ q ∷ []) rest (after g q.token) r c s h i j))
     where
-      by_next : (o : Option Next) → part_step kinds.Init threads (draft b) p q.token q.offset ≡ o → NextKnown (tokens_of before ++ q.token ∷ []) o → and_then (with_offset q.offset (stepped (standing threads g p b) q.token o)) (λ x. run x rest) ≡ Ok s
-          → ((c : Block) (r : Part) → run (start kinds.Init threads) (before ++ q ∷ []) ≡ Ok (standing threads (after g q.token) r c) → Known (tokens_of (before ++ q ∷ [])) r c → run (standing threads (after g q.token) r c) rest ≡ Ok s → Reached (tokens_of (before ++ q ∷ rest)) s)
+      by_next : (o : Option Next) → part_step kinds.Init threads (draft b) p q.token q.offset ≡ o
+          → NextKnown (tokens_of before ++ q.token ∷ []) o
+          → and_then (with_offset q.offset (stepped (standing threads g p b) q.token o))
+          (λ x. run x rest) ≡ Ok s
+          → ((c : Block) (r : Part)
+          → run (start kinds.Init threads) (before ++ q ∷ [])
+          ≡ Ok (standing threads (after g q.token) r c)
+          → Known (tokens_of (before ++ q ∷ [])) r c
+          → run (standing threads (after g q.token) r c) rest ≡ Ok s
+          → Reached (tokens_of (before ++ q ∷ rest)) s)
           → Reached (tokens_of (before ++ q ∷ rest)) s
       by_next (Some n) step known h later =
           let here = run_one (start kinds.Init threads) (standing threads g p b) before q n reached step in
           let at_draft : (x : Draft) → State = λ (x : Draft). record { kind = kinds.Init; threads = threads; stage = after g q.token; part = n.part; draft = x } in
           later known.0 n.part (here ∙ ap (λ (x : Draft). Ok (at_draft x)) known.1)
-          (subst (λ (ts : List Token). Known ts n.part known.0) (sym (tokens_of-append before (q ∷ []))) known.2)
+          (subst (λ (ts : List Token). Known ts n.part known.0)
+          (sym (tokens_of-append before (q ∷ []))) known.2)
           (ap (λ (x : Draft). run (at_draft x) rest) (sym known.1) ∙ h)
       by_next None step known h later = absurd (not_both _ _ h)
 
-  reach : (ps : List TokenAt) (s : State) → run (start kinds.Init threads) ps ≡ Ok s → Reached (tokens_of ps) s
-  reach ps s e = walk [] ps first_stage (text.Init expectations.WantsOpen) init.start s refl (record { named = []; keeps = keeps_none; open_so = tt }) e
+  reach : (ps : List TokenAt) (s : State) → run (start kinds.Init threads) ps ≡ Ok s
+      → Reached (tokens_of ps) s
+  reach ps s e =
+      walk [] ps first_stage (text.Init expectations.WantsOpen) init.start s refl
+      (record { named = []; keeps = keeps_none; open_so = tt }) e
 
   -- ---- what is taken begins a text, or breaks one off
 
@@ -228,34 +322,79 @@ module _ (threads : ℕ) where
     Ends : Ended s → CanEnd ts s
     Breaks : IsBrokenOff IsInitText first_stage ts → CanEnd ts s
 
-  place_ends : (ts : List Token) (g : Stage) (b : Block) (expected : PlaceExpectation) → Known ts (text.Init (expectations.InPlace expected)) b → CanEnd ts (standing threads g (text.Init (expectations.InPlace expected)) b)
+  place_ends : (ts : List Token) (g : Stage) (b : Block) (expected : PlaceExpectation)
+      → Known ts (text.Init (expectations.InPlace expected)) b
+      → CanEnd ts (standing threads g (text.Init (expectations.InPlace expected)) b)
   place_ends ts g b places.Begins k = absurd k.open_so
   place_ends ts g b places.WantsName k = Ends (name_ended g b k.named k.keeps)
-  place_ends ts g b (places.WantsBracket n) k = Ends (record { rest = behind_name; state = _; by = refl; done = refl })
-  place_ends ts g b (places.WantsColon d) k = Breaks (record { before = k.open_so.0; in_init = ap is_init (stays false k.open_so.0).1; entry = k.open_so.1; thread = d; colon = false; whole = k.open_so.2 })
-  place_ends ts g b (places.WantsRegister d) k = Breaks (record { before = k.open_so.0; in_init = ap is_init (stays false k.open_so.0).1; entry = k.open_so.1; thread = d; colon = true; whole = k.open_so.2 })
+  place_ends ts g b (places.WantsBracket n) k =
+      Ends (record { rest = behind_name; state = _; by = refl; done = refl })
+  place_ends ts g b (places.WantsColon d) k =
+      Breaks (record {
+        before = k.open_so.0;
+        in_init = ap is_init (stays false k.open_so.0).1;
+        entry = k.open_so.1;
+        thread = d;
+        colon = false;
+        whole = k.open_so.2;
+      })
+  place_ends ts g b (places.WantsRegister d) k =
+      Breaks (record {
+        before = k.open_so.0;
+        in_init = ap is_init (stays false k.open_so.0).1;
+        entry = k.open_so.1;
+        thread = d;
+        colon = true;
+        whole = k.open_so.2;
+      })
 
-  ends : (ts : List Token) (g : Stage) (p : Part) (b : Block) → Known ts p b → CanEnd ts (standing threads g p b)
-  ends ts g (text.Init expectations.WantsOpen) b k = Ends (record { rest = tokens.Mark marks.OpenBrace ∷ closing; state = _; by = refl; done = refl })
-  ends ts g (text.Init expectations.WantsEntry) b k = Ends (record { rest = closing; state = _; by = refl; done = refl })
+  ends : (ts : List Token) (g : Stage) (p : Part) (b : Block) → Known ts p b
+      → CanEnd ts (standing threads g p b)
+  ends ts g (text.Init expectations.WantsOpen) b k =
+      Ends (record {
+        rest = tokens.Mark marks.OpenBrace ∷ closing;
+        state = _;
+        by = refl;
+        done = refl;
+      })
+  ends ts g (text.Init expectations.WantsEntry) b k =
+      Ends (record { rest = closing; state = _; by = refl; done = refl })
   ends ts g (text.Init (expectations.InPlace expected)) b k = place_ends ts g b expected k
-  ends ts g (text.Init (expectations.WantsEquals p)) b k = Ends (record { rest = tokens.Mark marks.Equals ∷ tokens.Word [] ∷ closing; state = _; by = refl; done = refl })
-  ends ts g (text.Init (expectations.WantsValue p)) b k = Ends (record { rest = tokens.Word [] ∷ closing; state = _; by = refl; done = refl })
-  ends ts g (text.Init expectations.HasEntry) b k = Ends (record { rest = closing; state = _; by = refl; done = refl })
-  ends ts g text.WantsEnd b k = Ends (record { rest = tokens.End ∷ []; state = _; by = refl; done = refl })
+  ends ts g (text.Init (expectations.WantsEquals p)) b k =
+      Ends (record {
+        rest = tokens.Mark marks.Equals ∷ tokens.Word [] ∷ closing;
+        state = _;
+        by = refl;
+        done = refl;
+      })
+  ends ts g (text.Init (expectations.WantsValue p)) b k =
+      Ends (record { rest = tokens.Word [] ∷ closing; state = _; by = refl; done = refl })
+  ends ts g (text.Init expectations.HasEntry) b k =
+      Ends (record { rest = closing; state = _; by = refl; done = refl })
+  ends ts g text.WantsEnd b k =
+      Ends (record { rest = tokens.End ∷ []; state = _; by = refl; done = refl })
   ends ts g text.Done b k = Ends (record { rest = []; state = _; by = refl; done = refl })
   ends ts g p b k = absurd k.open_so
 
-  begins_by : (ps : List TokenAt) (s : State) → run (start kinds.Init threads) ps ≡ Ok s → CanEnd (tokens_of ps) s → Begins (IsStart IsInitText first_stage) (tokens_of ps)
+  begins_by : (ps : List TokenAt) (s : State) → run (start kinds.Init threads) ps ≡ Ok s
+      → CanEnd (tokens_of ps) s → Begins (IsStart IsInitText first_stage) (tokens_of ps)
   begins_by ps s e (Ends x) =
       let same : tokens_of (ps ++ anywhere x.rest) ≡ tokens_of ps ++ x.rest = tokens_of-append ps (anywhere x.rest) ∙ ap (λ (ts : List Token). tokens_of ps ++ ts) (tokens_of-anywhere x.rest) in
       record { rest = x.rest; text = IsWhole (subst IsInitText same (init_whole threads (ps ++ anywhere x.rest) x.state (run-append (start kinds.Init threads) s ps (anywhere x.rest) e ∙ x.by) x.done)) }
-  begins_by ps s e (Breaks x) = record { rest = []; text = BreaksOff (subst (IsBrokenOff IsInitText first_stage) (sym (append-nil (tokens_of ps))) x) }
+  begins_by ps s e (Breaks x) =
+      record {
+        rest = [];
+        text =
+            BreaksOff (subst (IsBrokenOff IsInitText first_stage)
+            (sym (append-nil (tokens_of ps))) x);
+      }
 
-  init_begins : (ps : List TokenAt) (s : State) → run (start kinds.Init threads) ps ≡ Ok s → Begins (IsStart IsInitText first_stage) (tokens_of ps)
+  init_begins : (ps : List TokenAt) (s : State) → run (start kinds.Init threads) ps ≡ Ok s
+      → Begins (IsStart IsInitText first_stage) (tokens_of ps)
   init_begins ps s e =
       let r = reach ps s e in
-      begins_by ps s e (subst (CanEnd (tokens_of ps)) (sym r.is) (ends (tokens_of ps) r.stage r.part r.block r.known))
+      begins_by ps s e (subst (CanEnd (tokens_of ps)) (sym r.is)
+      (ends (tokens_of ps) r.stage r.part r.block r.known))
 
   -- ---- each is taken
 
@@ -274,12 +413,19 @@ module _ (threads : ℕ) where
       let s = split_at ps us vs (same_others e) in
       record { front = p ∷ s.front; back = s.back; split = ap (λ (x : List TokenAt). p ∷ x) s.split; front_is = ap (λ (x : Token). x ∷ tokens_of s.front) same ∙ ap (λ (x : List Token). u ∷ x) s.front_is; back_is = s.back_is }
 
-  at_entry : (ts : List Token) (g : Stage) (p : Part) (b : Block) (rest : List TokenAt) (s : State) → Known ts p b → run (standing threads g p b) (record { token = bracket; offset = 0 } ∷ rest) ≡ Ok s → p ≡ text.Init expectations.WantsEntry
+  at_entry : (ts : List Token) (g : Stage) (p : Part) (b : Block) (rest : List TokenAt) (s : State)
+      → Known ts p b
+      → run (standing threads g p b) (record { token = bracket; offset = 0 } ∷ rest) ≡ Ok s
+      → p ≡ text.Init expectations.WantsEntry
   at_entry ts g (text.Init expectations.WantsOpen) b rest s k e = absurd (not_both _ _ e)
   at_entry ts g (text.Init expectations.WantsEntry) b rest s k e = refl
   at_entry ts g (text.Init (expectations.InPlace expected)) b rest s k e = by_place expected k e
     where
-      by_place : (expected : PlaceExpectation) → Known ts (text.Init (expectations.InPlace expected)) b → run (standing threads g (text.Init (expectations.InPlace expected)) b) (record { token = bracket; offset = 0 } ∷ rest) ≡ Ok s → text.Init (expectations.InPlace expected) ≡ text.Init expectations.WantsEntry
+      by_place : (expected : PlaceExpectation)
+          → Known ts (text.Init (expectations.InPlace expected)) b
+          → run (standing threads g (text.Init (expectations.InPlace expected)) b)
+          (record { token = bracket; offset = 0 } ∷ rest) ≡ Ok s
+          → text.Init (expectations.InPlace expected) ≡ text.Init expectations.WantsEntry
       by_place places.Begins j h = absurd j.open_so
       by_place places.WantsName j h = absurd (not_both _ _ h)
       by_place (places.WantsBracket n) j h = absurd (not_both _ _ h)
@@ -292,35 +438,62 @@ module _ (threads : ℕ) where
   at_entry ts g text.Done b rest s k e = absurd (not_both _ _ e)
   at_entry ts g p b rest s k e = absurd k.open_so
 
-  number_taken : (g : Stage) (b : Block) (d : List ℕ) (colon : Bool) (ps : List TokenAt) → tokens_of ps ≡ tokens.Number false d ∷ spelled_colon colon → (s : State) × (run (standing threads g (text.Init expectations.WantsEntry) b) ps ≡ Ok s)
+  number_taken : (g : Stage) (b : Block) (d : List ℕ) (colon : Bool) (ps : List TokenAt)
+      → tokens_of ps ≡ tokens.Number false d ∷ spelled_colon colon
+      → (s : State) × (run (standing threads g (text.Init expectations.WantsEntry) b) ps ≡ Ok s)
   number_taken g b d colon [] e = absurd (no_first e)
   number_taken g b d colon (p ∷ ps) e =
       let same : p.token ≡ tokens.Number false d = same_first e in
       let rest : tokens_of ps ≡ spelled_colon colon = same_others e in
-      let r = colon_taken (after g (tokens.Number false d)) (with_start b p.offset) colon ps rest in
-      (r.0, ap (λ (x : Token). run (standing threads g (text.Init expectations.WantsEntry) b) (record { token = x; offset = p.offset } ∷ ps)) same ∙ r.1)
+      let r = colon_taken (after g (tokens.Number false d)) (with_start b p.offset) colon ps rest in (
+        r.0,
+        ap
+            (λ (x : Token). run (standing threads g (text.Init expectations.WantsEntry) b)
+            (record { token = x; offset = p.offset } ∷ ps)) same ∙ r.1,
+      )
     where
-      colon_taken : (h : Stage) (c : Block) (x : Bool) (qs : List TokenAt) → tokens_of qs ≡ spelled_colon x → (s : State) × (run (standing threads h (text.Init (expectations.InPlace (places.WantsColon d))) c) qs ≡ Ok s)
+      colon_taken : (h : Stage) (c : Block) (x : Bool) (qs : List TokenAt)
+          → tokens_of qs ≡ spelled_colon x
+          → (s : State)
+          × (run (standing threads h (text.Init (expectations.InPlace (places.WantsColon d))) c)
+          qs ≡ Ok s)
       colon_taken h c false [] k = (_, refl)
       colon_taken h c false (q ∷ qs) k = absurd (no_first (sym k))
       colon_taken h c true [] k = absurd (no_first k)
       colon_taken h c true (q ∷ []) k =
-          let same : q.token ≡ tokens.Mark marks.Colon = same_first k in
-          (_, ap (λ (x : Token). run (standing threads h (text.Init (expectations.InPlace (places.WantsColon d))) c) (record { token = x; offset = q.offset } ∷ [])) same)
+          let same : q.token ≡ tokens.Mark marks.Colon = same_first k in (
+            _,
+            ap
+                (λ (x : Token). run
+                (standing threads h
+                (text.Init (expectations.InPlace (places.WantsColon d))) c)
+                (record { token = x; offset = q.offset } ∷ [])) same,
+          )
       colon_taken h c true (q ∷ r ∷ qs) k = absurd (no_first (sym (same_others k)))
 
-  part_run : (front : List TokenAt) (rest : List TokenAt) (s : State) → run (start kinds.Init threads) (front ++ rest) ≡ Ok s → (x : State) × (run (start kinds.Init threads) front ≡ Ok x) × (run x rest ≡ Ok s)
-  part_run front rest s e = by_run (run (start kinds.Init threads) front) refl (sym (run-split (start kinds.Init threads) front rest) ∙ e)
+  part_run : (front : List TokenAt) (rest : List TokenAt) (s : State)
+      → run (start kinds.Init threads) (front ++ rest) ≡ Ok s
+      → (x : State) × (run (start kinds.Init threads) front ≡ Ok x) × (run x rest ≡ Ok s)
+  part_run front rest s e =
+      by_run (run (start kinds.Init threads) front) refl
+      (sym (run-split (start kinds.Init threads) front rest) ∙ e)
     where
-      by_run : (r : Ran) → run (start kinds.Init threads) front ≡ r → and_then r (λ x. run x rest) ≡ Ok s → (x : State) × (run (start kinds.Init threads) front ≡ Ok x) × (run x rest ≡ Ok s)
+      by_run : (r : Ran) → run (start kinds.Init threads) front ≡ r
+          → and_then r (λ x. run x rest) ≡ Ok s
+          → (x : State) × (run (start kinds.Init threads) front ≡ Ok x) × (run x rest ≡ Ok s)
       by_run (Ok x) k h = (x, k, h)
       by_run (Err d) k h = absurd (not_both _ _ h)
 
-  with_bracket : (front : List TokenAt) (before us : List Token) → tokens_of front ≡ before → tokens_of (front ++ anywhere (bracket ∷ us)) ≡ (before ++ bracket ∷ []) ++ us
+  with_bracket : (front : List TokenAt) (before us : List Token) → tokens_of front ≡ before
+      → tokens_of (front ++ anywhere (bracket ∷ us)) ≡ (before ++ bracket ∷ []) ++ us
   with_bracket front before us e =
-      tokens_of-append front (anywhere (bracket ∷ us)) ∙ ap (λ (ts : List Token). ts ++ tokens_of (anywhere (bracket ∷ us))) e ∙ ap (λ (ts : List Token). before ++ ts) (tokens_of-anywhere (bracket ∷ us)) ∙ sym (append_assoc before (bracket ∷ []) us)
+      tokens_of-append front (anywhere (bracket ∷ us))
+      ∙ ap (λ (ts : List Token). ts ++ tokens_of (anywhere (bracket ∷ us))) e
+      ∙ ap (λ (ts : List Token). before ++ ts) (tokens_of-anywhere (bracket ∷ us))
+      ∙ sym (append_assoc before (bracket ∷ []) us)
 
-  broken_taken : (ps : List TokenAt) → IsBrokenOff IsInitText first_stage (tokens_of ps) → (s : State) × (run (start kinds.Init threads) ps ≡ Ok s)
+  broken_taken : (ps : List TokenAt) → IsBrokenOff IsInitText first_stage (tokens_of ps)
+      → (s : State) × (run (start kinds.Init threads) ps ≡ Ok s)
   broken_taken ps x =
       let c = split_at ps x.before (tokens.Number false x.thread ∷ spelled_colon x.colon) x.whole in
       let us = bracket ∷ x.entry.rest in
@@ -332,14 +505,22 @@ module _ (threads : ℕ) where
       let there : run (standing threads r.stage r.part r.block) (anywhere us) ≡ Ok all.state = ap (λ (y : State). run y (anywhere us)) (sym r.is) ∙ p.2 in
       let entry : r.part ≡ text.Init expectations.WantsEntry = at_entry (tokens_of c.front) r.stage r.part r.block (anywhere x.entry.rest) all.state r.known there in
       let n = number_taken r.stage r.block x.thread x.colon c.back c.back_is in
-      let at_wants : p.0 ≡ standing threads r.stage (text.Init expectations.WantsEntry) r.block = r.is ∙ ap (λ (q : Part). standing threads r.stage q r.block) entry in
-      (n.0, ap (run (start kinds.Init threads)) c.split ∙ run-append (start kinds.Init threads) p.0 c.front c.back p.1 ∙ ap (λ (y : State). run y c.back) at_wants ∙ n.1)
+      let at_wants : p.0 ≡ standing threads r.stage (text.Init expectations.WantsEntry) r.block = r.is ∙ ap (λ (q : Part). standing threads r.stage q r.block) entry in (
+        n.0,
+        ap (run (start kinds.Init threads)) c.split
+            ∙ run-append (start kinds.Init threads) p.0 c.front c.back p.1
+            ∙ ap (λ (y : State). run y c.back) at_wants ∙ n.1,
+      )
 
-  init_takes : (ps : List TokenAt) → IsStart IsInitText first_stage (tokens_of ps) → (s : State) × (run (start kinds.Init threads) ps ≡ Ok s)
-  init_takes ps (IsWhole x) = let r = init_taken threads x.entries ps x.fine x.whole in (r.state, r.by)
+  init_takes : (ps : List TokenAt) → IsStart IsInitText first_stage (tokens_of ps)
+      → (s : State) × (run (start kinds.Init threads) ps ≡ Ok s)
+  init_takes ps (IsWhole x) =
+      let r = init_taken threads x.entries ps x.fine x.whole in (r.state, r.by)
   init_takes ps (BreaksOff x) = broken_taken ps x
 
-  init_says : (C : Token → Type 0) (kind : TextKind) (rows : table.State) (x : Bool) (t : Token) → Says C (stages.Init true x) (ruling (stages.Init true x) t) (rule_at kind rows (stages.Init true x) t)
+  init_says : (C : Token → Type 0) (kind : TextKind) (rows : table.State) (x : Bool) (t : Token)
+      → Says C (stages.Init true x) (ruling (stages.Init true x) t)
+      (rule_at kind rows (stages.Init true x) t)
   init_says C kind rows x (tokens.Broken rule) = refl
   init_says C kind rows true t = refl
   init_says C kind rows false t = refl
@@ -352,5 +533,10 @@ module _ (threads : ℕ) where
         let f = follows (start kinds.Init threads) s ps e in
         let y = stays false (tokens_of ps) in
         let C = CanFollow (IsStart IsInitText first_stage) (tokens_of ps) in
-        subst (λ (g : Stage). Says C g (ruling g t) (rule_at s.kind s.draft.table s.stage t)) (sym y.1) (subst (λ (g : Stage). Says C (stages.Init true y.0) (ruling (stages.Init true y.0) t) (rule_at s.kind s.draft.table g t)) (sym (f.stage ∙ y.1)) (init_says C s.kind s.draft.table y.0 t));
+        subst (λ (g : Stage). Says C g (ruling g t) (rule_at s.kind s.draft.table s.stage t))
+        (sym y.1) (subst
+        (λ (g : Stage). Says C (stages.Init true y.0) (ruling (stages.Init true y.0) t)
+        (rule_at s.kind s.draft.table g t))
+        (sym (f.stage ∙ y.1))
+        (init_says C s.kind s.draft.table y.0 t));
   }

@@ -50,12 +50,14 @@ mark_inner None = tt
 raw_inner : (bs : List ℕ) (n : ℕ) → FrontInner (raw_front bs n)
 raw_inner bs n = either (is_line_end (slice_index bs 0)) _ _ tt tt
 
-too_many : (b : Bool) (w : List ℕ) (n : ℕ) → FrontInner (Lexeme (if b then tokens.Broken rules.TooManyThreads else tokens.Word w) n)
+too_many : (b : Bool) (w : List ℕ) (n : ℕ)
+    → FrontInner (Lexeme (if b then tokens.Broken rules.TooManyThreads else tokens.Word w) n)
 too_many true w n = tt
 too_many false w n = tt
 
 word_inner : (s : Stage) (bs : List ℕ) (n : ℕ) → FrontInner (word_front s bs n)
-word_inner stages.CellBegins bs n = either (slice_index bs (n + gap_from 0 0 (drop n bs)) == 58) _ _ tt tt
+word_inner stages.CellBegins bs n =
+    either (slice_index bs (n + gap_from 0 0 (drop n bs)) == 58) _ _ tt tt
 word_inner (stages.Header zero) bs n = too_many (bytes_eq (take n bs) (codes "P8")) (take n bs) n
 word_inner (stages.Header (suc k)) bs n = tt
 word_inner stages.Magic bs n = tt
@@ -75,17 +77,21 @@ sign_inner b next =
 plain_inner : (s : Stage) (bs : List ℕ) → FrontInner (plain_front s bs)
 plain_inner s bs =
     either (is_line_end (slice_index bs 0)) _ _ tt (
-    either (is_letter (slice_index bs 0) || slice_index bs 0 == 95) _ _ (word_inner s bs (position_or_len ends_word bs)) (
+    either (is_letter (slice_index bs 0) || slice_index bs 0 == 95) _ _
+    (word_inner s bs (position_or_len ends_word bs)) (
     either (is_digit (slice_index bs 0)) _ _ tt (
-    either (slice_index bs 0 == 45 && is_digit (slice_index bs 1)) _ _ tt (sign_inner (slice_index bs 0) (slice_index bs 1)))))
+    either (slice_index bs 0 == 45 && is_digit (slice_index bs 1)) _ _ tt
+    (sign_inner (slice_index bs 0) (slice_index bs 1)))))
 
 line_inner : (line : List ℕ) → FrontInner (line_front line)
 line_inner line = either (position_or_len is_equals line == length line) _ _ tt tt
 
 head_inner : (fresh : Bool) (bs : List ℕ) → FrontInner (head_front fresh bs)
 head_inner fresh bs =
-    either (fresh && is_letter (slice_index bs 0)) _ _ (line_inner (take (position_or_len is_line_end bs) bs)) (
-    either (slice_index bs 0 == 34) _ _ (quoted_inner (quoted_from bs)) (plain_inner stages.Head bs))
+    either (fresh && is_letter (slice_index bs 0)) _ _
+    (line_inner (take (position_or_len is_line_end bs) bs)) (
+    either (slice_index bs 0 == 34) _ _ (quoted_inner (quoted_from bs))
+    (plain_inner stages.Head bs))
 
 stage_inner : (s : Stage) (fresh : Bool) (bs : List ℕ) → FrontInner (stage_front s fresh bs)
 stage_inner stages.Magic fresh bs = raw_inner bs (raw_from 0 bs)
@@ -103,7 +109,8 @@ unfolding front
 front_inner s fresh bs =
     either (is_not_ascii (slice_index bs 0)) _ _ tt (
     either (is_blank (slice_index bs 0)) _ _ tt (
-    either (begins_comment bs) _ _ (comment_inner (length bs) (comment_of bs)) (stage_inner s fresh bs)))
+    either (begins_comment bs) _ _ (comment_inner (length bs) (comment_of bs))
+    (stage_inner s fresh bs)))
 
 -- ---- a whole text
 
@@ -114,13 +121,20 @@ pub record EndsOnce (ps : List TokenAt) : Type 0 where
   pub split : ps ≡ inner ++ record { token = tokens.End; offset = offset } ∷ []
   pub are_inner : AreInner (tokens_of inner)
 
-from_ends : (s : Stage) (fresh : Bool) (skip offset : ℕ) (bytes : List ℕ) → EndsOnce (tokens_from s fresh skip offset bytes)
+from_ends : (s : Stage) (fresh : Bool) (skip offset : ℕ) (bytes : List ℕ)
+    → EndsOnce (tokens_from s fresh skip offset bytes)
 unfolding tokens_from
-from_ends s fresh skip offset [] = record { inner = []; offset = offset; split = refl; are_inner = tt }
+from_ends s fresh skip offset [] =
+    record { inner = []; offset = offset; split = refl; are_inner = tt }
 from_ends s fresh (suc skip) offset (b ∷ bs) = from_ends s fresh skip (offset + 1) bs
-from_ends s fresh zero offset (b ∷ bs) = by_front (front s fresh (b ∷ bs)) (front_inner s fresh (b ∷ bs)) (λ g f skip. from_ends g f skip (offset + 1) bs)
+from_ends s fresh zero offset (b ∷ bs) =
+    by_front (front s fresh (b ∷ bs)) (front_inner s fresh (b ∷ bs))
+    (λ g f skip. from_ends g f skip (offset + 1) bs)
   where
-    by_front : (f : Front) → FrontInner f → ((g : Stage) (f : Bool) (skip : ℕ) → EndsOnce (tokens_from g f skip (offset + 1) bs)) → EndsOnce (after_front s fresh offset b f (λ g f skip. tokens_from g f skip (offset + 1) bs))
+    by_front : (f : Front) → FrontInner f
+        → ((g : Stage) (f : Bool) (skip : ℕ) → EndsOnce (tokens_from g f skip (offset + 1) bs))
+        → EndsOnce (after_front s fresh offset b f
+        (λ g f skip. tokens_from g f skip (offset + 1) bs))
     by_front (Layout k) i r = r _ _ _
     by_front (Lexeme t k) i r =
         let q = r (after s t) (ends_line t) (k - 1) in
@@ -139,27 +153,44 @@ nothing_behind [] p cs e = absurd cc
 nothing_behind (b ∷ bs) p cs e = absurd cc
 
 -- what stands before a token of a text is no end
-pub before_inner : (qs : List TokenAt) (e : TokenAt) (before : List TokenAt) (p : TokenAt) (behind : List TokenAt) → before ++ p ∷ behind ≡ qs ++ e ∷ [] → AreInner (tokens_of qs) → AreInner (tokens_of before)
+pub before_inner : (qs : List TokenAt) (e : TokenAt) (before : List TokenAt) (p : TokenAt)
+    (behind : List TokenAt) → before ++ p ∷ behind ≡ qs ++ e ∷ [] → AreInner (tokens_of qs)
+    → AreInner (tokens_of before)
 before_inner qs e [] p behind same i = tt
 before_inner [] e (b ∷ before) p behind same i = absurd (nothing_behind before p behind cc)
 before_inner (q ∷ qs) e (b ∷ before) p behind same i =
     let first : b ≡ q = cc in
-    let others : before ++ p ∷ behind ≡ qs ++ e ∷ [] = cc in
-    (subst (λ (x : TokenAt). IsInner x.token) (sym first) i.0, before_inner qs e before p behind others i.1)
+    let others : before ++ p ∷ behind ≡ qs ++ e ∷ [] = cc in (
+      subst (λ (x : TokenAt). IsInner x.token) (sym first) i.0,
+      before_inner qs e before p behind others i.1,
+    )
 
-pub lexed_inner : (s : Stage) (bytes : List ℕ) (before : List TokenAt) (p : TokenAt) (behind : List TokenAt) → lexed s bytes ≡ before ++ p ∷ behind → AreInner (tokens_of before)
+pub lexed_inner : (s : Stage) (bytes : List ℕ) (before : List TokenAt) (p : TokenAt)
+    (behind : List TokenAt) → lexed s bytes ≡ before ++ p ∷ behind → AreInner (tokens_of before)
 lexed_inner s bytes before p behind e =
     let l = lexed_ends s bytes in
-    before_inner l.inner (record { token = tokens.End; offset = l.offset }) before p behind (sym e ∙ l.split) l.are_inner
+    before_inner l.inner (record { token = tokens.End; offset = l.offset }) before p behind
+    (sym e ∙ l.split) l.are_inner
 
-from_length : (s : Stage) (fresh : Bool) (skip offset : ℕ) (bytes : List ℕ) → length (tokens_from s fresh skip offset bytes) ≤ length bytes + 1
+from_length : (s : Stage) (fresh : Bool) (skip offset : ℕ) (bytes : List ℕ)
+    → length (tokens_from s fresh skip offset bytes) ≤ length bytes + 1
 unfolding tokens_from
 from_length s fresh skip offset [] = omega arith
-from_length s fresh (suc skip) offset (b ∷ bs) = let h = from_length s fresh skip (offset + 1) bs in omega (arith, h)
-from_length s fresh zero offset (b ∷ bs) = by_front (front s fresh (b ∷ bs)) (λ g f skip. from_length g f skip (offset + 1) bs)
+from_length s fresh (suc skip) offset (b ∷ bs) =
+    let h = from_length s fresh skip (offset + 1) bs in omega (arith, h)
+from_length s fresh zero offset (b ∷ bs) =
+    by_front (front s fresh (b ∷ bs)) (λ g f skip. from_length g f skip (offset + 1) bs)
   where
-    by_front : (f : Front) → ((g : Stage) (f : Bool) (skip : ℕ) → length (tokens_from g f skip (offset + 1) bs) ≤ length bs + 1) → length (after_front s fresh offset b f (λ g f skip. tokens_from g f skip (offset + 1) bs)) ≤ length (b ∷ bs) + 1
-    by_front (Layout k) r = let h = r _ _ (k - 1) in let m : length (after_front s fresh offset b (Layout k) (λ g f skip. tokens_from g f skip (offset + 1) bs)) ≤ length bs + 1 = h in omega (arith, m)
+    by_front : (f : Front)
+        → ((g : Stage) (f : Bool) (skip : ℕ)
+        → length (tokens_from g f skip (offset + 1) bs) ≤ length bs + 1)
+        → length (after_front s fresh offset b f (λ g f skip. tokens_from g f skip (offset + 1) bs))
+        ≤ length (b ∷ bs) + 1
+    by_front (Layout k) r =
+        let h = r _ _ (k - 1) in
+        let m : length (after_front s fresh offset b (Layout k)
+        (λ g f skip. tokens_from g f skip (offset + 1) bs)) ≤ length bs + 1 = h in
+        omega (arith, m)
     by_front (Lexeme t k) r = let h = r (after s t) (ends_line t) (k - 1) in omega (arith, h)
 
 pub lexed_length : (s : Stage) (bytes : List ℕ) → length (lexed s bytes) ≤ length bytes + 1

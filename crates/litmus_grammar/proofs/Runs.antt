@@ -30,22 +30,41 @@ tokens_of-anywhere [] = refl
 tokens_of-anywhere (t ∷ ts) = ap (λ (us : List Token). t ∷ us) (tokens_of-anywhere ts)
 
 abbrev pub went : State → Token → Next → State
-went s t n = record { kind = s.kind; threads = s.threads; stage = after s.stage t; part = n.part; draft = n.draft }
+went s t n =
+    record {
+      kind = s.kind;
+      threads = s.threads;
+      stage = after s.stage t;
+      part = n.part;
+      draft = n.draft;
+    }
 
-pub run-split : (s : State) (ps qs : List TokenAt) → run s (ps ++ qs) ≡ and_then (run s ps) (λ x. run x qs)
+pub run-split : (s : State) (ps qs : List TokenAt)
+    → run s (ps ++ qs) ≡ and_then (run s ps) (λ x. run x qs)
 run-split s [] qs = refl
-run-split s (p ∷ ps) qs = by_next (part_step s.kind s.threads s.draft s.part p.token p.offset) (λ x. run-split x ps qs)
+run-split s (p ∷ ps) qs =
+    by_next (part_step s.kind s.threads s.draft s.part p.token p.offset) (λ x. run-split x ps qs)
   where
-    by_next : (o : Option Next) → ((x : State) → run x (ps ++ qs) ≡ and_then (run x ps) (λ y. run y qs)) → and_then (with_offset p.offset (stepped s p.token o)) (λ x. run x (ps ++ qs)) ≡ and_then (and_then (with_offset p.offset (stepped s p.token o)) (λ x. run x ps)) (λ y. run y qs)
+    by_next : (o : Option Next)
+        → ((x : State) → run x (ps ++ qs) ≡ and_then (run x ps) (λ y. run y qs))
+        → and_then (with_offset p.offset (stepped s p.token o)) (λ x. run x (ps ++ qs))
+        ≡ and_then (and_then (with_offset p.offset (stepped s p.token o)) (λ x. run x ps))
+        (λ y. run y qs)
     by_next (Some n) f = f (went s p.token n)
     by_next None f = refl
 
-pub run-append : (s s' : State) (ps qs : List TokenAt) → run s ps ≡ Ok s' → run s (ps ++ qs) ≡ run s' qs
+pub run-append : (s s' : State) (ps qs : List TokenAt) → run s ps ≡ Ok s'
+    → run s (ps ++ qs) ≡ run s' qs
 run-append s s' ps qs e = run-split s ps qs ∙ ap (λ (r : Ran). and_then r (λ x. run x qs)) e
 
 -- one token more
-pub run_one : (s s' : State) (ps : List TokenAt) (p : TokenAt) (n : Next) → run s ps ≡ Ok s' → part_step s'.kind s'.threads s'.draft s'.part p.token p.offset ≡ Some n → run s (ps ++ p ∷ []) ≡ Ok (went s' p.token n)
-run_one s s' ps p n e step = run-append s s' ps (p ∷ []) e ∙ ap (λ (o : Option Next). and_then (with_offset p.offset (stepped s' p.token o)) (λ x. Ok x)) step
+pub run_one : (s s' : State) (ps : List TokenAt) (p : TokenAt) (n : Next) → run s ps ≡ Ok s'
+    → part_step s'.kind s'.threads s'.draft s'.part p.token p.offset ≡ Some n
+    → run s (ps ++ p ∷ []) ≡ Ok (went s' p.token n)
+run_one s s' ps p n e step =
+    run-append s s' ps (p ∷ []) e
+    ∙ ap (λ (o : Option Next). and_then (with_offset p.offset (stepped s' p.token o)) (λ x. Ok x))
+    step
 
 -- what is never changed, and the part of the text
 pub record Follows (s s' : State) (ts : List Token) : Type 0 where
@@ -54,22 +73,49 @@ pub record Follows (s s' : State) (ts : List Token) : Type 0 where
   pub stage : s'.stage ≡ stage_after s.stage ts
 
 pub follows : (s s' : State) (ps : List TokenAt) → run s ps ≡ Ok s' → Follows s s' (tokens_of ps)
-follows s s' [] e = let same : s' ≡ s = cc in record { kind = ap (λ (x : State). x.kind) same; threads = ap (λ (x : State). x.threads) same; stage = ap (λ (x : State). x.stage) same }
-follows s s' (p ∷ ps) e = by_next (part_step s.kind s.threads s.draft s.part p.token p.offset) e (λ x h. follows x s' ps h)
+follows s s' [] e =
+    let same : s' ≡ s = cc in
+    record {
+      kind = ap (λ (x : State). x.kind) same;
+      threads = ap (λ (x : State). x.threads) same;
+      stage = ap (λ (x : State). x.stage) same;
+    }
+follows s s' (p ∷ ps) e =
+    by_next (part_step s.kind s.threads s.draft s.part p.token p.offset) e
+    (λ x h. follows x s' ps h)
   where
-    by_next : (o : Option Next) → and_then (with_offset p.offset (stepped s p.token o)) (λ x. run x ps) ≡ Ok s' → ((x : State) → run x ps ≡ Ok s' → Follows x s' (tokens_of ps)) → Follows s s' (p.token ∷ tokens_of ps)
-    by_next (Some n) h f = let r = f (went s p.token n) h in record { kind = r.kind; threads = r.threads; stage = r.stage }
+    by_next : (o : Option Next)
+        → and_then (with_offset p.offset (stepped s p.token o)) (λ x. run x ps) ≡ Ok s'
+        → ((x : State) → run x ps ≡ Ok s' → Follows x s' (tokens_of ps))
+        → Follows s s' (p.token ∷ tokens_of ps)
+    by_next (Some n) h f =
+        let r = f (went s p.token n) h in
+        record { kind = r.kind; threads = r.threads; stage = r.stage }
     by_next None h f = absurd cc
 
 -- the last token of a text is its end
-pub ends_last : (s : Stage) (fresh : Bool) (skip offset : ℕ) (bytes : List ℕ) → (ps : List TokenAt) × (n : ℕ) × (tokens_from s fresh skip offset bytes ≡ ps ++ record { token = tokens.End; offset = n } ∷ [])
+pub ends_last : (s : Stage) (fresh : Bool) (skip offset : ℕ) (bytes : List ℕ)
+    → (ps : List TokenAt) × (n : ℕ)
+    × (tokens_from s fresh skip offset bytes
+    ≡ ps ++ record { token = tokens.End; offset = n } ∷ [])
 unfolding tokens_from
 ends_last s fresh skip offset [] = ([], offset, refl)
 ends_last s fresh (suc skip) offset (b ∷ bs) = ends_last s fresh skip (offset + 1) bs
-ends_last s fresh zero offset (b ∷ bs) = by_front (front s fresh (b ∷ bs)) (λ g f skip. ends_last g f skip (offset + 1) bs)
+ends_last s fresh zero offset (b ∷ bs) =
+    by_front (front s fresh (b ∷ bs)) (λ g f skip. ends_last g f skip (offset + 1) bs)
   where
-    by_front : (f : Front) → ((g : Stage) (f : Bool) (skip : ℕ) → (ps : List TokenAt) × (n : ℕ) × (tokens_from g f skip (offset + 1) bs ≡ ps ++ record { token = tokens.End; offset = n } ∷ [])) → (ps : List TokenAt) × (n : ℕ) × (after_front s fresh offset b f (λ g f skip. tokens_from g f skip (offset + 1) bs) ≡ ps ++ record { token = tokens.End; offset = n } ∷ [])
+    by_front : (f : Front)
+        → ((g : Stage) (f : Bool) (skip : ℕ)
+        → (ps : List TokenAt) × (n : ℕ)
+        × (tokens_from g f skip (offset + 1) bs
+        ≡ ps ++ record { token = tokens.End; offset = n } ∷ []))
+        → (ps : List TokenAt) × (n : ℕ)
+        × (after_front s fresh offset b f (λ g f skip. tokens_from g f skip (offset + 1) bs)
+        ≡ ps ++ record { token = tokens.End; offset = n } ∷ [])
     by_front (Layout k) r = r _ _ _
     by_front (Lexeme t k) r =
-        let q = r (after s t) (ends_line t) (k - 1) in
-        (record { token = t; offset = offset } ∷ q.0, q.1, ap (λ (ps : List TokenAt). record { token = t; offset = offset } ∷ ps) q.2)
+        let q = r (after s t) (ends_line t) (k - 1) in (
+          record { token = t; offset = offset } ∷ q.0,
+          q.1,
+          ap (λ (ps : List TokenAt). record { token = t; offset = offset } ∷ ps) q.2,
+        )

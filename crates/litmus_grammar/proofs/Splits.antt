@@ -11,7 +11,8 @@ pub record Split (ps : List TokenAt) (us vs : List Token) : Type 0 where
   pub are_behind : tokens_of behind ≡ vs
 
 pub split : (ps : List TokenAt) (us vs : List Token) → tokens_of ps ≡ us ++ vs → Split ps us vs
-split ps [] vs e = record { before = []; behind = ps; whole = refl; are_before = refl; are_behind = e }
+split ps [] vs e =
+    record { before = []; behind = ps; whole = refl; are_before = refl; are_behind = e }
 split [] (u ∷ us) vs e = absurd cc
 split (p ∷ ps) (u ∷ us) vs e =
     let first : p.token ≡ u = cc in
@@ -21,12 +22,15 @@ split (p ∷ ps) (u ∷ us) vs e =
       before = p ∷ r.before;
       behind = r.behind;
       whole = ap (λ (qs : List TokenAt). p ∷ qs) r.whole;
-      are_before = ap (λ (t : Token). t ∷ tokens_of r.before) first ∙ ap (λ (ts : List Token). u ∷ ts) r.are_before;
+      are_before =
+          ap (λ (t : Token). t ∷ tokens_of r.before) first
+          ∙ ap (λ (ts : List Token). u ∷ ts) r.are_before;
       are_behind = r.are_behind;
     }
 
 -- one token
-pub single : (ps : List TokenAt) (t : Token) → tokens_of ps ≡ t ∷ [] → (n : ℕ) × (ps ≡ record { token = t; offset = n } ∷ [])
+pub single : (ps : List TokenAt) (t : Token) → tokens_of ps ≡ t ∷ []
+    → (n : ℕ) × (ps ≡ record { token = t; offset = n } ∷ [])
 single [] t e = absurd cc
 single (p ∷ []) t e =
     let first : p.token ≡ t = cc in
@@ -34,7 +38,8 @@ single (p ∷ []) t e =
 single (p ∷ q ∷ ps) t e = absurd cc
 
 -- the last token
-pub unsnoc : (xs : List Token) (ys : List Token) (t u : Token) → xs ++ t ∷ [] ≡ ys ++ u ∷ [] → xs ≡ ys
+pub unsnoc : (xs : List Token) (ys : List Token) (t u : Token) → xs ++ t ∷ [] ≡ ys ++ u ∷ []
+    → xs ≡ ys
 unsnoc [] [] t u e = refl
 unsnoc [] (y ∷ ys) t u e = absurd (nothing ys u cc)
   where
@@ -61,7 +66,8 @@ rest_of [] rest us t e = More us e refl
 rest_of (x ∷ xs) rest [] t e =
     let first : x ≡ t = cc in
     let none : xs ++ rest ≡ [] = cc in
-    Nothing (ap (λ (y : Token). y ∷ xs) first ∙ ap (λ (ys : List Token). t ∷ ys) (empty xs rest none))
+    Nothing (ap (λ (y : Token). y ∷ xs) first
+    ∙ ap (λ (ys : List Token). t ∷ ys) (empty xs rest none))
   where
     empty : (ys zs : List Token) → ys ++ zs ≡ [] → ys ≡ []
     empty [] zs k = refl
@@ -72,8 +78,11 @@ rest_of (x ∷ xs) rest (u ∷ us) t e =
     by_rest first (rest_of xs rest us t others)
   where
     by_rest : x ≡ u → Rest xs rest us t → Rest (x ∷ xs) rest (u ∷ us) t
-    by_rest first (Nothing k) = Nothing (ap (λ (y : Token). y ∷ xs) first ∙ ap (λ (ys : List Token). u ∷ ys) k)
-    by_rest first (More more k m) = More more k (ap (λ (y : Token). y ∷ (xs ++ more)) first ∙ ap (λ (ys : List Token). u ∷ ys) m)
+    by_rest first (Nothing k) =
+        Nothing (ap (λ (y : Token). y ∷ xs) first ∙ ap (λ (ys : List Token). u ∷ ys) k)
+    by_rest first (More more k m) =
+        More more k (ap (λ (y : Token). y ∷ (xs ++ more)) first
+        ∙ ap (λ (ys : List Token). u ∷ ys) m)
 
 -- the last token with its place
 pub unsnoc_placed : (xs ys : List TokenAt) (p q : TokenAt) → xs ++ p ∷ [] ≡ ys ++ q ∷ [] → xs ≡ ys
@@ -91,4 +100,5 @@ unsnoc_placed (x ∷ xs) [] p q e = absurd (nothing xs p cc)
 unsnoc_placed (x ∷ xs) (y ∷ ys) p q e =
     let first : x ≡ y = cc in
     let others : xs ++ p ∷ [] ≡ ys ++ q ∷ [] = cc in
-    ap (λ (z : TokenAt). z ∷ xs) first ∙ ap (λ (zs : List TokenAt). y ∷ zs) (unsnoc_placed xs ys p q others)
+    ap (λ (z : TokenAt). z ∷ xs) first
+    ∙ ap (λ (zs : List TokenAt). y ∷ zs) (unsnoc_placed xs ys p q others)

@@ -47,7 +47,8 @@ none_left [] e = refl
 none_left (p ∷ ps) e = absurd (no_first (sym e))
 
 -- the shorter of two beginnings of a list begins the other
-shorter : (xs rest us vs : List Token) → xs ++ rest ≡ us ++ vs → length xs ≤ length us → (more : List Token) × (xs ++ more ≡ us)
+shorter : (xs rest us vs : List Token) → xs ++ rest ≡ us ++ vs → length xs ≤ length us
+    → (more : List Token) × (xs ++ more ≡ us)
 shorter [] rest us vs e le = (us, refl)
 shorter (x ∷ xs) rest [] vs e le = absurd (omega (arith, le))
 shorter (x ∷ xs) rest (u ∷ us) vs e le =
@@ -63,15 +64,20 @@ drop_same (x ∷ xs) ys zs e =
     drop_same xs ys zs others
 
 -- what leads to the end of some tokens leads through the first of them
-part_run : (s : State) (front rest : List TokenAt) (z : State) → run s (front ++ rest) ≡ Ok z → (x : State) × (run s front ≡ Ok x) × (run x rest ≡ Ok z)
+part_run : (s : State) (front rest : List TokenAt) (z : State) → run s (front ++ rest) ≡ Ok z
+    → (x : State) × (run s front ≡ Ok x) × (run x rest ≡ Ok z)
 part_run s front rest z e = by_run (run s front) refl (sym (run-split s front rest) ∙ e)
   where
-    by_run : (r : Ran) → run s front ≡ r → and_then r (λ x. run x rest) ≡ Ok z → (x : State) × (run s front ≡ Ok x) × (run x rest ≡ Ok z)
+    by_run : (r : Ran) → run s front ≡ r → and_then r (λ x. run x rest) ≡ Ok z
+        → (x : State) × (run s front ≡ Ok x) × (run x rest ≡ Ok z)
     by_run (Ok x) k h = (x, k, h)
     by_run (Err d) k h = absurd (not_both _ _ h)
 
-with_rest : (ps : List TokenAt) (rest : List Token) → tokens_of (ps ++ anywhere rest) ≡ tokens_of ps ++ rest
-with_rest ps rest = tokens_of-append ps (anywhere rest) ∙ ap (λ (l : List Token). tokens_of ps ++ l) (tokens_of-anywhere rest)
+with_rest : (ps : List TokenAt) (rest : List Token)
+    → tokens_of (ps ++ anywhere rest) ≡ tokens_of ps ++ rest
+with_rest ps rest =
+    tokens_of-append ps (anywhere rest)
+    ∙ ap (λ (l : List Token). tokens_of ps ++ l) (tokens_of-anywhere rest)
 
 -- ---- the header is taken
 
@@ -81,7 +87,10 @@ header_of t = spelled_header t.others []
 abbrev front_of : TestTree → List Token
 front_of t = spelled_head t (spelled_init t.init (header_of t))
 
-body_front : (t : TestTree) (g : Stage) (may : Bool) (before behind : List TokenAt) → AreEntries [] (members t.init) → tokens_of before ≡ spelled_init t.init [] → tokens_of behind ≡ header_of t → (s : State) × (run (in_head t.name g (text.Head may)) (before ++ behind) ≡ Ok s)
+body_front : (t : TestTree) (g : Stage) (may : Bool) (before behind : List TokenAt)
+    → AreEntries [] (members t.init) → tokens_of before ≡ spelled_init t.init []
+    → tokens_of behind ≡ header_of t
+    → (s : State) × (run (in_head t.name g (text.Head may)) (before ++ behind) ≡ Ok s)
 body_front t g may [] behind fine e k = absurd (no_first e)
 body_front t g may (p ∷ q) [] fine e k = absurd (no_first k)
 body_front t g may (p ∷ q) (w ∷ b) fine e k =
@@ -98,52 +107,69 @@ body_front t g may (p ∷ q) (w ∷ b) fine e k =
     let there = rows_at t.name x.block l.stage (columns (0 + t.others)) in (
       there,
       ap (λ (y : TokenAt). run (in_head t.name g (text.Head may)) (y ∷ (q ++ w ∷ b))) is_brace
-          ∙ run-append (block_at t.name g1) (header_at t.name x.block false x.stage 0) q (w ∷ b) x.by
-          ∙ ap (λ (y : Token). run (header_at t.name x.block false x.stage 0) (record { token = y; offset = w.offset } ∷ b)) first
+          ∙ run-append (block_at t.name g1) (header_at t.name x.block false x.stage 0) q (w ∷ b)
+          x.by
+          ∙ ap
+          (λ (y : Token). run (header_at t.name x.block false x.stage 0)
+          (record { token = y; offset = w.offset } ∷ b)) first
           ∙ name_step t.name x.block 0 w.offset b x.stage
           ∙ ap (run (header_at t.name x.block true g2 0)) l.whole
           ∙ run-append (header_at t.name x.block true g2 0) there l.before l.left l.by
           ∙ ap (run there) (none_left l.left l.are_left),
     )
 
-front_led : (t : TestTree) (ps : List TokenAt) → is_test_name t.name ≡ true → AreEntries [] (members t.init) → tokens_of ps ≡ front_of t → (s : State) × (run first_draft ps ≡ Ok s)
+front_led : (t : TestTree) (ps : List TokenAt) → is_test_name t.name ≡ true
+    → AreEntries [] (members t.init) → tokens_of ps ≡ front_of t
+    → (s : State) × (run first_draft ps ≡ Ok s)
 front_led t ps i fine e =
     let h = head_led t.name t.text t.keylines ps (spelled_init t.init (header_of t)) i e in
     let cut = split h.left (spelled_init t.init []) (header_of t) (h.are_left ∙ sym (init-append t.init [] (header_of t))) in
     let r = body_front t h.stage h.may cut.before cut.behind fine cut.are_before cut.are_behind in (
       r.0,
-      ap (run first_draft) h.whole ∙ run-append first_draft (in_head t.name h.stage (text.Head h.may)) h.before h.left h.by
+      ap (run first_draft) h.whole
+          ∙ run-append first_draft (in_head t.name h.stage (text.Head h.may)) h.before h.left h.by
           ∙ ap (run (in_head t.name h.stage (text.Head h.may))) cut.whole ∙ r.1,
     )
 
 -- ---- what begins a test is taken
 
 abbrev rows_of : TestTree → List Token
-rows_of t = spelled_rows t.rows (spelled_observed t.observed (spelled_condition t.quantifier t.condition))
+rows_of t =
+    spelled_rows t.rows (spelled_observed t.observed (spelled_condition t.quantifier t.condition))
 
 front-append : (t : TestTree) → front_of t ++ rows_of t ≡ spelled_test t
 front-append t =
-    ap (λ (l : List Token). l ++ rows_of t) (sym (head-append t (spelled_init t.init (header_of t))))
+    ap (λ (l : List Token). l ++ rows_of t)
+    (sym (head-append t (spelled_init t.init (header_of t))))
     ∙ append_assoc (spelled_head t []) (spelled_init t.init (header_of t)) (rows_of t)
     ∙ head-append t (spelled_init t.init (header_of t) ++ rows_of t)
-    ∙ ap (spelled_head t) (init-append t.init (header_of t) (rows_of t) ∙ ap (λ (l : List Token). spelled_init t.init (tokens.Word (column_name 0) ∷ l)) (names-append 1 t.others [] (rows_of t)))
+    ∙ ap (spelled_head t) (init-append t.init (header_of t) (rows_of t)
+    ∙ ap (λ (l : List Token). spelled_init t.init (tokens.Word (column_name 0) ∷ l))
+    (names-append 1 t.others [] (rows_of t)))
 
 front_length : (t : TestTree) → t.others + 1 ≤ length (front_of t)
 front_length t =
     let many : t.others + 1 ≤ length (header_of t) = (let h = names_count 1 t.others [] in omega (arith, h)) in
     let a : length (spelled_init t.init (header_of t)) ≡ length (spelled_init t.init []) + length (header_of t) = ap (λ (l : List Token). length l) (sym (init-append t.init [] (header_of t))) ∙ length-append (spelled_init t.init []) (header_of t) in
     let b : length (front_of t) ≡ length (spelled_head t []) + length (spelled_init t.init (header_of t)) =
-    ap (λ (l : List Token). length l) (sym (head-append t (spelled_init t.init (header_of t)))) ∙ length-append (spelled_head t []) (spelled_init t.init (header_of t)) in
+    ap (λ (l : List Token). length l) (sym (head-append t (spelled_init t.init (header_of t))))
+    ∙ length-append (spelled_head t []) (spelled_init t.init (header_of t)) in
     omega (arith, many, a, b)
 
-pub prefix_taken : (t : TestTree) → IsTest limits t → (ps : List TokenAt) (rest : List Token) → length ps < 18446744073709551616 → tokens_of ps ++ rest ≡ spelled_test t → (s : State) × (run first_draft ps ≡ Ok s)
+pub prefix_taken : (t : TestTree) → IsTest limits t → (ps : List TokenAt) (rest : List Token)
+    → length ps < 18446744073709551616 → tokens_of ps ++ rest ≡ spelled_test t
+    → (s : State) × (run first_draft ps ≡ Ok s)
 prefix_taken t fine ps rest few e = choose (cases_lt (t.others + 1) 18446744073709551616)
   where
-    through : (more : List Token) (z : State) → run first_draft (ps ++ anywhere more) ≡ Ok z → (s : State) × (run first_draft ps ≡ Ok s)
+    through : (more : List Token) (z : State) → run first_draft (ps ++ anywhere more) ≡ Ok z
+        → (s : State) × (run first_draft ps ≡ Ok s)
     through more z k = let r = part_run first_draft ps (anywhere more) z k in (r.0, r.1)
 
-    choose : (t.others + 1 < 18446744073709551616) ⊎ (18446744073709551616 ≤ t.others + 1) → (s : State) × (run first_draft ps ≡ Ok s)
-    choose (inl lt) = let r = test_led t fine lt (ps ++ anywhere rest) (with_rest ps rest ∙ e) in through rest _ r.by
+    choose : (t.others + 1 < 18446744073709551616) ⊎ (18446744073709551616 ≤ t.others + 1)
+        → (s : State) × (run first_draft ps ≡ Ok s)
+    choose (inl lt) =
+        let r = test_led t fine lt (ps ++ anywhere rest) (with_rest ps rest ∙ e) in
+        through rest _ r.by
     choose (inr ge) =
         let long = front_length t in
         let same = length-tokens ps in
@@ -158,12 +184,14 @@ IsText = IsTestText limits
 abbrev pub IsBegun : List Token → Type 0
 IsBegun = IsStart IsText stages.Magic
 
-text_taken : (ps : List TokenAt) (rest : List Token) → length ps < 18446744073709551616 → IsText (tokens_of ps ++ rest) → (s : State) × (run first_draft ps ≡ Ok s)
+text_taken : (ps : List TokenAt) (rest : List Token) → length ps < 18446744073709551616
+    → IsText (tokens_of ps ++ rest) → (s : State) × (run first_draft ps ≡ Ok s)
 text_taken ps rest few x = prefix_taken x.tree x.fine ps rest few x.whole
 
 -- ---- a register's beginning, where an entry may begin
 
-in_init_part : (g : Stage) (p : Part) (x : table.Expectation) → is_init g ≡ true → Agrees g p x → (expected : InitExpectation) × (p ≡ text.Init expected)
+in_init_part : (g : Stage) (p : Part) (x : table.Expectation) → is_init g ≡ true → Agrees g p x
+    → (expected : InitExpectation) × (p ≡ text.Init expected)
 in_init_part (stages.Init false y) (text.Init expected) x i a = (expected, refl)
 in_init_part (stages.Init b y) p x i a = absurd a
 in_init_part g p x i a = absurd (false≢true i)
@@ -171,37 +199,62 @@ in_init_part g p x i a = absurd (false≢true i)
 abbrev in_init_at : Stage → InitExpectation → Draft → State
 in_init_at g expected h = test_at g (text.Init expected) h
 
-colon_taken : (g : Stage) (d : List ℕ) (h : Draft) (colon : Bool) (qs : List TokenAt) (rest : List Token) → tokens_of qs ++ rest ≡ spelled_colon colon → (s : State) × (run (in_init_at g (expectations.InPlace (places.WantsColon d)) h) qs ≡ Ok s)
-colon_taken g d h colon [] rest e = (in_init_at g (expectations.InPlace (places.WantsColon d)) h, refl)
+colon_taken : (g : Stage) (d : List ℕ) (h : Draft) (colon : Bool) (qs : List TokenAt)
+    (rest : List Token) → tokens_of qs ++ rest ≡ spelled_colon colon
+    → (s : State) × (run (in_init_at g (expectations.InPlace (places.WantsColon d)) h) qs ≡ Ok s)
+colon_taken g d h colon [] rest e =
+    (in_init_at g (expectations.InPlace (places.WantsColon d)) h, refl)
 colon_taken g d h false (q ∷ qs) rest e = absurd (no_first (sym e))
 colon_taken g d h true (q ∷ []) rest e =
-    let same : q.token ≡ tokens.Mark marks.Colon = same_first e in
-    (_, ap (λ (x : Token). run (in_init_at g (expectations.InPlace (places.WantsColon d)) h) (record { token = x; offset = q.offset } ∷ [])) same)
+    let same : q.token ≡ tokens.Mark marks.Colon = same_first e in (
+      _,
+      ap
+          (λ (x : Token). run (in_init_at g (expectations.InPlace (places.WantsColon d)) h)
+          (record { token = x; offset = q.offset } ∷ [])) same,
+    )
 colon_taken g d h true (q ∷ r ∷ qs) rest e = absurd (no_first (sym (same_others e)))
 
-entry_taken : (g : Stage) (d : List ℕ) (h : Draft) (colon : Bool) (qs : List TokenAt) (rest : List Token) → tokens_of qs ++ rest ≡ tokens.Number false d ∷ spelled_colon colon → (s : State) × (run (in_init_at g expectations.WantsEntry h) qs ≡ Ok s)
+entry_taken : (g : Stage) (d : List ℕ) (h : Draft) (colon : Bool) (qs : List TokenAt)
+    (rest : List Token) → tokens_of qs ++ rest ≡ tokens.Number false d ∷ spelled_colon colon
+    → (s : State) × (run (in_init_at g expectations.WantsEntry h) qs ≡ Ok s)
 entry_taken g d h colon [] rest e = (in_init_at g expectations.WantsEntry h, refl)
 entry_taken g d h colon (q ∷ qs) rest e =
     let same : q.token ≡ tokens.Number false d = same_first e in
     let others : tokens_of qs ++ rest ≡ spelled_colon colon = same_others e in
-    let r = colon_taken (after g (tokens.Number false d)) d (text.with_init h (init.with_start h.init q.offset)) colon qs rest others in
-    (r.0, ap (λ (x : Token). run (in_init_at g expectations.WantsEntry h) (record { token = x; offset = q.offset } ∷ qs)) same ∙ r.1)
+    let r = colon_taken (after g (tokens.Number false d)) d (text.with_init h (init.with_start h.init q.offset)) colon qs rest others in (
+      r.0,
+      ap
+          (λ (x : Token). run (in_init_at g expectations.WantsEntry h)
+          (record { token = x; offset = q.offset } ∷ qs)) same ∙ r.1,
+    )
 
-place_taken : (g : Stage) (d : List ℕ) (h : Draft) (colon : Bool) (qs : List TokenAt) (rest : List Token) → tokens_of qs ++ rest ≡ tokens.Number false d ∷ spelled_colon colon → (s : State) × (run (in_init_at g (expectations.InPlace places.Begins) h) qs ≡ Ok s)
+place_taken : (g : Stage) (d : List ℕ) (h : Draft) (colon : Bool) (qs : List TokenAt)
+    (rest : List Token) → tokens_of qs ++ rest ≡ tokens.Number false d ∷ spelled_colon colon
+    → (s : State) × (run (in_init_at g (expectations.InPlace places.Begins) h) qs ≡ Ok s)
 place_taken g d h colon [] rest e = (in_init_at g (expectations.InPlace places.Begins) h, refl)
 place_taken g d h colon (q ∷ qs) rest e =
     let same : q.token ≡ tokens.Number false d = same_first e in
     let others : tokens_of qs ++ rest ≡ spelled_colon colon = same_others e in
-    let r = colon_taken (after g (tokens.Number false d)) d (text.with_init h h.init) colon qs rest others in
-    (r.0, ap (λ (x : Token). run (in_init_at g (expectations.InPlace places.Begins) h) (record { token = x; offset = q.offset } ∷ qs)) same ∙ r.1)
+    let r = colon_taken (after g (tokens.Number false d)) d (text.with_init h h.init) colon qs rest others in (
+      r.0,
+      ap
+          (λ (x : Token). run (in_init_at g (expectations.InPlace places.Begins) h)
+          (record { token = x; offset = q.offset } ∷ qs)) same ∙ r.1,
+    )
 
-number_taken : (g : Stage) (expected : InitExpectation) (h : Draft) (z : State) → run (in_init_at g expected h) (record { token = bracket; offset = 0 } ∷ []) ≡ Ok z → (d : List ℕ) (colon : Bool) (qs : List TokenAt) (rest : List Token) → tokens_of qs ++ rest ≡ tokens.Number false d ∷ spelled_colon colon
+number_taken : (g : Stage) (expected : InitExpectation) (h : Draft) (z : State)
+    → run (in_init_at g expected h) (record { token = bracket; offset = 0 } ∷ []) ≡ Ok z
+    → (d : List ℕ) (colon : Bool) (qs : List TokenAt) (rest : List Token)
+    → tokens_of qs ++ rest ≡ tokens.Number false d ∷ spelled_colon colon
     → (s : State) × (run (in_init_at g expected h) qs ≡ Ok s)
 number_taken g expectations.WantsOpen h z k d colon qs rest e = absurd (not_both _ _ k)
 number_taken g expectations.WantsEntry h z k d colon qs rest e = entry_taken g d h colon qs rest e
 number_taken g (expectations.InPlace expected) h z k d colon qs rest e = by_place expected k
   where
-    by_place : (expected : PlaceExpectation) → run (in_init_at g (expectations.InPlace expected) h) (record { token = bracket; offset = 0 } ∷ []) ≡ Ok z → (s : State) × (run (in_init_at g (expectations.InPlace expected) h) qs ≡ Ok s)
+    by_place : (expected : PlaceExpectation)
+        → run (in_init_at g (expectations.InPlace expected) h)
+        (record { token = bracket; offset = 0 } ∷ []) ≡ Ok z
+        → (s : State) × (run (in_init_at g (expectations.InPlace expected) h) qs ≡ Ok s)
     by_place places.Begins j = place_taken g d h colon qs rest e
     by_place places.WantsName j = absurd (not_both _ _ j)
     by_place (places.WantsBracket n) j = absurd (not_both _ _ j)
@@ -213,24 +266,32 @@ number_taken g expectations.HasEntry h z k d colon qs rest e = absurd (not_both 
 
 -- ---- what begins a text that is broken off is taken
 
-broken_taken : (ps : List TokenAt) (rest : List Token) → length ps < 18446744073709551616 → IsBrokenOff IsText stages.Magic (tokens_of ps ++ rest) → (s : State) × (run first_draft ps ≡ Ok s)
+broken_taken : (ps : List TokenAt) (rest : List Token) → length ps < 18446744073709551616
+    → IsBrokenOff IsText stages.Magic (tokens_of ps ++ rest)
+    → (s : State) × (run first_draft ps ≡ Ok s)
 broken_taken ps rest few x = choose (cases_lt (length x.before) (length (tokens_of ps)))
   where
     number : List Token
     number = tokens.Number false x.thread ∷ spelled_colon x.colon
 
-    within : (more : List Token) → tokens_of ps ++ more ≡ x.before → (s : State) × (run first_draft ps ≡ Ok s)
+    within : (more : List Token) → tokens_of ps ++ more ≡ x.before
+        → (s : State) × (run first_draft ps ≡ Ok s)
     within more e =
         let us = more ++ (bracket ∷ x.entry.rest) in
         let same : (x.before ++ bracket ∷ []) ++ x.entry.rest ≡ tokens_of ps ++ us =
-        append_assoc x.before (bracket ∷ []) x.entry.rest ∙ ap (λ (l : List Token). l ++ (bracket ∷ x.entry.rest)) (sym e) ∙ append_assoc (tokens_of ps) more (bracket ∷ x.entry.rest) in
+        append_assoc x.before (bracket ∷ []) x.entry.rest
+        ∙ ap (λ (l : List Token). l ++ (bracket ∷ x.entry.rest)) (sym e)
+        ∙ append_assoc (tokens_of ps) more (bracket ∷ x.entry.rest) in
         text_taken ps us few (subst IsText same x.entry.text)
 
-    behind : (front back : List TokenAt) → ps ≡ front ++ back → tokens_of front ≡ x.before → tokens_of back ++ rest ≡ number → length front + 1 < 18446744073709551616 → (s : State) × (run first_draft ps ≡ Ok s)
+    behind : (front back : List TokenAt) → ps ≡ front ++ back → tokens_of front ≡ x.before
+        → tokens_of back ++ rest ≡ number → length front + 1 < 18446744073709551616
+        → (s : State) × (run first_draft ps ≡ Ok s)
     behind front back whole are_front are_back short =
         let one : List TokenAt = record { token = bracket; offset = 0 } ∷ [] in
         let same : (x.before ++ bracket ∷ []) ++ x.entry.rest ≡ tokens_of (front ++ one) ++ x.entry.rest =
-        ap (λ (l : List Token). (l ++ bracket ∷ []) ++ x.entry.rest) (sym are_front) ∙ ap (λ (l : List Token). l ++ x.entry.rest) (sym (tokens_of-append front one)) in
+        ap (λ (l : List Token). (l ++ bracket ∷ []) ++ x.entry.rest) (sym are_front)
+        ∙ ap (λ (l : List Token). l ++ x.entry.rest) (sym (tokens_of-append front one)) in
         let many : length (front ++ one) ≡ length front + length one = length-append front one in
         let r = text_taken (front ++ one) x.entry.rest (let h : length (front ++ one) < 18446744073709551616 = omega (arith, many, short) in h) (subst IsText same x.entry.text) in
         let p = part_run first_draft front one r.0 r.1 in
@@ -238,29 +299,43 @@ broken_taken ps rest few x = choose (cases_lt (length x.before) (length (tokens_
         let i : is_init (stage_after stages.Magic (tokens_of front)) ≡ true = ap (λ (l : List Token). is_init (stage_after stages.Magic l)) are_front ∙ x.in_init in
         let q = in_init_part _ y.part y.draft.table.expected i y.agrees in
         let there : p.0 ≡ in_init_at (stage_after stages.Magic (tokens_of front)) q.0 y.draft = y.same ∙ ap (λ (z : Part). test_at (stage_after stages.Magic (tokens_of front)) z y.draft) q.1 in
-        let n = number_taken (stage_after stages.Magic (tokens_of front)) q.0 y.draft r.0 (ap (λ (z : State). run z one) (sym there) ∙ p.2) x.thread x.colon back rest are_back in
-        (n.0, ap (run first_draft) whole ∙ run-append first_draft p.0 front back p.1 ∙ ap (λ (z : State). run z back) there ∙ n.1)
+        let n = number_taken (stage_after stages.Magic (tokens_of front)) q.0 y.draft r.0 (ap (λ (z : State). run z one) (sym there) ∙ p.2) x.thread x.colon back rest are_back in (
+          n.0,
+          ap (run first_draft) whole ∙ run-append first_draft p.0 front back p.1
+              ∙ ap (λ (z : State). run z back) there ∙ n.1,
+        )
 
-    choose : (length x.before < length (tokens_of ps)) ⊎ (length (tokens_of ps) ≤ length x.before) → (s : State) × (run first_draft ps ≡ Ok s)
-    choose (inr le) = let c = shorter (tokens_of ps) rest x.before number x.whole le in within c.0 c.1
+    choose : (length x.before < length (tokens_of ps)) ⊎ (length (tokens_of ps) ≤ length x.before)
+        → (s : State) × (run first_draft ps ≡ Ok s)
+    choose (inr le) =
+        let c = shorter (tokens_of ps) rest x.before number x.whole le in within c.0 c.1
     choose (inl lt) =
         let same = length-tokens ps in
         let c = shorter x.before number (tokens_of ps) rest (sym x.whole) (let h : length x.before ≤ length (tokens_of ps) = omega (arith, lt) in h) in
         let cut = split ps x.before c.0 (sym c.1) in
         let left : c.0 ++ rest ≡ number = drop_same x.before (c.0 ++ rest) number (sym (append_assoc x.before c.0 rest) ∙ ap (λ (l : List Token). l ++ rest) c.1 ∙ x.whole) in
         let front : length cut.before ≡ length x.before = sym (length-tokens cut.before) ∙ ap (λ (l : List Token). length l) cut.are_before in
-        behind cut.before cut.behind cut.whole cut.are_before (ap (λ (l : List Token). l ++ rest) cut.are_behind ∙ left) (let h : length cut.before + 1 < 18446744073709551616 = omega (arith, front, lt, same, few) in h)
+        behind cut.before cut.behind cut.whole cut.are_before
+        (ap (λ (l : List Token). l ++ rest) cut.are_behind ∙ left) (
+        let h : length cut.before + 1 < 18446744073709551616 =
+        omega (arith, front, lt, same, few) in
+        h)
 
-start_taken : (ps : List TokenAt) (rest : List Token) → length ps < 18446744073709551616 → IsBegun (tokens_of ps ++ rest) → (s : State) × (run first_draft ps ≡ Ok s)
+start_taken : (ps : List TokenAt) (rest : List Token) → length ps < 18446744073709551616
+    → IsBegun (tokens_of ps ++ rest) → (s : State) × (run first_draft ps ≡ Ok s)
 start_taken ps rest few (IsWhole x) = text_taken ps rest few x
 start_taken ps rest few (BreaksOff x) = broken_taken ps rest few x
 
 -- a token that is refused cannot follow
-pub test_refused : (before : List TokenAt) (s : State) (p : TokenAt) → length before + 1 < 18446744073709551616 → run first_draft before ≡ Ok s → part_step s.kind s.threads s.draft s.part p.token p.offset ≡ None → CanFollow IsBegun (tokens_of before) p.token → ⊥
+pub test_refused : (before : List TokenAt) (s : State) (p : TokenAt)
+    → length before + 1 < 18446744073709551616 → run first_draft before ≡ Ok s
+    → part_step s.kind s.threads s.draft s.part p.token p.offset ≡ None
+    → CanFollow IsBegun (tokens_of before) p.token → ⊥
 test_refused before s p few reached none c =
     let qs = before ++ p ∷ [] in
     let many : length qs ≡ length before + 1 = length-append before (p ∷ []) in
     let same : tokens_of before ++ p.token ∷ [] ≡ tokens_of qs = sym (tokens_of-append before (p ∷ [])) in
     let r = start_taken qs c.rest (let h : length qs < 18446744073709551616 = omega (arith, many, few) in h) (subst (λ (l : List Token). IsBegun (l ++ c.rest)) same c.text) in
     let stops : run s (p ∷ []) ≡ Err (rule_at s.kind s.draft.table s.stage p.token, p.offset) = ap (λ (o : Option Next). and_then (with_offset p.offset (stepped s p.token o)) (λ x. run x [])) none in
-    not_both (rule_at s.kind s.draft.table s.stage p.token, p.offset) r.0 (sym stops ∙ sym (run-append first_draft s before (p ∷ []) reached) ∙ r.1)
+    not_both (rule_at s.kind s.draft.table s.stage p.token, p.offset) r.0
+    (sym stops ∙ sym (run-append first_draft s before (p ∷ []) reached) ∙ r.1)

@@ -58,7 +58,8 @@ in_cell stages.InCell h m = tt
 in_cell g h m = absurd m
 
 module _ (threads : List table.ThreadSteps) (c offset : ℕ) where
-  operation_matches : (o : Option Opcode) → IsMatched stages.InCell (table.operation threads c offset o)
+  operation_matches : (o : Option Opcode)
+      → IsMatched stages.InCell (table.operation threads c offset o)
   operation_matches (Some (opcodes.Data op)) = tt
   operation_matches (Some (opcodes.Branch condition)) = tt
   operation_matches (Some (opcodes.Fence f)) = tt
@@ -71,32 +72,46 @@ module _ (threads : List table.ThreadSteps) (c offset : ℕ) where
   none_of None e = refl
 
   no_opcode : (w : List ℕ) → ends_table w ≡ true → opcode_of w ≡ None
-  no_opcode w e = none_of (opcode_of w) (apart (record { threads = []; column = 0; expected = table.Begins }) (tokens.Word w) 0 refl e)
+  no_opcode w e =
+      none_of (opcode_of w) (apart (record { threads = []; column = 0; expected = table.Begins })
+      (tokens.Word w) 0 refl e)
 
-  word_matches : (w : List ℕ) → IsMatched (if ends_table w then stages.Tail else stages.InCell) (table.operation threads c offset (opcode_of w))
+  word_matches : (w : List ℕ)
+      → IsMatched (if ends_table w then stages.Tail else stages.InCell)
+      (table.operation threads c offset (opcode_of w))
   word_matches w = choose (ends_table w) refl
     where
-      choose : (b : Bool) → ends_table w ≡ b → IsMatched (if b then stages.Tail else stages.InCell) (table.operation threads c offset (opcode_of w))
-      choose true e = subst (λ (o : Option Opcode). IsMatched stages.Tail (table.operation threads c offset o)) (sym (no_opcode w e)) tt
+      choose : (b : Bool) → ends_table w ≡ b
+          → IsMatched (if b then stages.Tail else stages.InCell)
+          (table.operation threads c offset (opcode_of w))
+      choose true e =
+          subst (λ (o : Option Opcode). IsMatched stages.Tail (table.operation threads c offset o))
+          (sym (no_opcode w e)) tt
       choose false e = operation_matches (opcode_of w)
 
-  semicolon_matches : (b : Bool) → IsMatched stages.CellBegins (if b then table.at threads 0 table.Begins else None)
+  semicolon_matches : (b : Bool)
+      → IsMatched stages.CellBegins (if b then table.at threads 0 table.Begins else None)
   semicolon_matches true = tt
   semicolon_matches false = tt
 
-  bar_matches : (b : Bool) → IsMatched stages.CellBegins (if b then None else table.at threads (c + 1) table.Begins)
+  bar_matches : (b : Bool)
+      → IsMatched stages.CellBegins (if b then None else table.at threads (c + 1) table.Begins)
   bar_matches true = tt
   bar_matches false = tt
 
-  wanted_matches : (p : table.Pending) (o : Option Want) → IsMatched stages.InCell (table.goes_on threads c p o offset)
+  wanted_matches : (p : table.Pending) (o : Option Want)
+      → IsMatched stages.InCell (table.goes_on threads c p o offset)
   wanted_matches p None = tt
   wanted_matches p (Some w) = tt
 
-  operand_matches : (o : Option table.Pending) → IsMatched stages.InCell (table.operand threads c o offset)
+  operand_matches : (o : Option table.Pending)
+      → IsMatched stages.InCell (table.operand threads c o offset)
   operand_matches None = tt
   operand_matches (Some p) = wanted_matches p (table.first_of p.wants)
 
-  no_separator : (p : table.Pending) (o : Option Want) → (table.pending_as p o (tokens.Mark marks.Semicolon) ≡ None) × (table.pending_as p o (tokens.Mark marks.Bar) ≡ None)
+  no_separator : (p : table.Pending) (o : Option Want)
+      → (table.pending_as p o (tokens.Mark marks.Semicolon) ≡ None)
+      × (table.pending_as p o (tokens.Mark marks.Bar) ≡ None)
   no_separator p None = (refl, refl)
   no_separator p (Some wants.Register) = (refl, refl)
   no_separator p (Some wants.Base) = (refl, refl)
@@ -106,18 +121,27 @@ module _ (threads : List table.ThreadSteps) (c offset : ℕ) where
   no_separator p (Some wants.Open) = (refl, refl)
   no_separator p (Some wants.Close) = (refl, refl)
 
-  within_matches : (p : table.Pending) (t : Token) → IsMatched (after stages.InCell t) (table.operand threads c (table.pending_after p t) offset)
-  within_matches p (tokens.Mark marks.Semicolon) = subst (λ (o : Option table.Pending). IsMatched stages.CellBegins (table.operand threads c o offset)) (sym (no_separator p (table.first_of p.wants)).0) tt
-  within_matches p (tokens.Mark marks.Bar) = subst (λ (o : Option table.Pending). IsMatched stages.CellBegins (table.operand threads c o offset)) (sym (no_separator p (table.first_of p.wants)).1) tt
+  within_matches : (p : table.Pending) (t : Token)
+      → IsMatched (after stages.InCell t) (table.operand threads c (table.pending_after p t) offset)
+  within_matches p (tokens.Mark marks.Semicolon) =
+      subst
+      (λ (o : Option table.Pending). IsMatched stages.CellBegins (table.operand threads c o offset))
+      (sym (no_separator p (table.first_of p.wants)).0) tt
+  within_matches p (tokens.Mark marks.Bar) =
+      subst
+      (λ (o : Option table.Pending). IsMatched stages.CellBegins (table.operand threads c o offset))
+      (sym (no_separator p (table.first_of p.wants)).1) tt
   within_matches p t = operand_matches (table.pending_after p t)
 
-  labelled_matches : (t : Token) → IsMatched (after stages.InCell t) (table.begins threads c t offset)
+  labelled_matches : (t : Token)
+      → IsMatched (after stages.InCell t) (table.begins threads c t offset)
   labelled_matches (tokens.Word w) = operation_matches (opcode_of w)
   labelled_matches (tokens.Mark marks.Semicolon) = semicolon_matches (table.is_last threads c)
   labelled_matches (tokens.Mark marks.Bar) = bar_matches (table.is_last threads c)
   labelled_matches t = tt
 
-  target_matches : (condition : _) (t : Token) → IsMatched (after stages.InCell t) (table.target_read threads c condition t offset)
+  target_matches : (condition : _) (t : Token)
+      → IsMatched (after stages.InCell t) (table.target_read threads c condition t offset)
   target_matches condition (tokens.Word w) = tt
   target_matches condition t = tt
 
@@ -126,14 +150,16 @@ module _ (threads : List table.ThreadSteps) (c offset : ℕ) where
   whole_matches (tokens.Mark marks.Bar) = bar_matches (table.is_last threads c)
   whole_matches t = tt
 
-  start_matches : (t : Token) → IsMatched (after stages.CellBegins t) (table.cell threads c t offset)
+  start_matches : (t : Token)
+      → IsMatched (after stages.CellBegins t) (table.cell threads c t offset)
   start_matches (tokens.Label w) = tt
   start_matches (tokens.Word w) = word_matches w
   start_matches (tokens.Mark marks.Semicolon) = semicolon_matches (table.is_last threads c)
   start_matches (tokens.Mark marks.Bar) = bar_matches (table.is_last threads c)
   start_matches t = tt
 
-  pub step_matches : (g : Stage) (h : table.Expectation) (t : Token) → Matches g h → IsMatched (after g t) (table.expected_step threads c h t offset)
+  pub step_matches : (g : Stage) (h : table.Expectation) (t : Token) → Matches g h
+      → IsMatched (after g t) (table.expected_step threads c h t offset)
   step_matches stages.CellBegins table.Begins t m = start_matches t
   step_matches stages.InCell table.Labelled t m = labelled_matches t
   step_matches stages.InCell (table.Within p) t m = within_matches p t
@@ -143,21 +169,29 @@ module _ (threads : List table.ThreadSteps) (c offset : ℕ) where
 
 -- ---- tables on lists of tokens
 
-table_append : (ps qs : List TokenAt) (s : table.State) → laws.run s (ps ++ qs) ≡ then_on (λ u. laws.run u qs) (laws.run s ps)
+table_append : (ps qs : List TokenAt) (s : table.State)
+    → laws.run s (ps ++ qs) ≡ then_on (λ u. laws.run u qs) (laws.run s ps)
 table_append [] qs s = refl
 table_append (p ∷ ps) qs s = by_step (table.step s p.token p.offset) (table_append ps qs)
   where
-    by_step : (o : Option table.State) → ((u : table.State) → laws.run u (ps ++ qs) ≡ then_on (λ v. laws.run v qs) (laws.run u ps)) → then_on (λ u. laws.run u (ps ++ qs)) o ≡ then_on (λ u. laws.run u qs) (then_on (λ u. laws.run u ps) o)
+    by_step : (o : Option table.State)
+        → ((u : table.State) → laws.run u (ps ++ qs) ≡ then_on (λ v. laws.run v qs) (laws.run u ps))
+        → then_on (λ u. laws.run u (ps ++ qs)) o
+        ≡ then_on (λ u. laws.run u qs) (then_on (λ u. laws.run u ps) o)
     by_step None later = refl
     by_step (Some u) later = later u
 
 -- a token more
-pub table_one : (ps : List TokenAt) (s u v : table.State) (p : TokenAt) → laws.run s ps ≡ Some u → table.step u p.token p.offset ≡ Some v → laws.run s (ps ++ p ∷ []) ≡ Some v
-table_one ps s u v p e m = table_append ps (p ∷ []) s ∙ ap (then_on (λ x. laws.run x (p ∷ []))) e ∙ ap (then_on (λ x. Some x)) m
+pub table_one : (ps : List TokenAt) (s u v : table.State) (p : TokenAt) → laws.run s ps ≡ Some u
+    → table.step u p.token p.offset ≡ Some v → laws.run s (ps ++ p ∷ []) ≡ Some v
+table_one ps s u v p e m =
+    table_append ps (p ∷ []) s ∙ ap (then_on (λ x. laws.run x (p ∷ []))) e
+    ∙ ap (then_on (λ x. Some x)) m
 
 -- ---- what can stand, as tables know it and as texts do
 
-pub says_so : (C D : Token → Type 0) (g : Stage) (r : Ruling) (k : LitmusRule) → ((t : Token) → C t → D t) → ((t : Token) → D t → C t) → Says C g r k → Says D g r k
+pub says_so : (C D : Token → Type 0) (g : Stage) (r : Ruling) (k : LitmusRule)
+    → ((t : Token) → C t → D t) → ((t : Token) → D t → C t) → Says C g r k → Says D g r k
 says_so C D g (Always n) k to from e = e
 says_so C D g (Where other n) k to from (inl x) = inl (to other x.0, x.1)
 says_so C D g (Where other n) k to from (inr x) = inr (λ d. x.0 (from other d), x.1)
@@ -166,28 +200,45 @@ token_end : (t : Token) → is_end t ≡ true → t ≡ tokens.End
 token_end tokens.End e = refl
 token_end t e = absurd (false≢true e)
 
-end_placed : (p : TokenAt) → is_end p.token ≡ true → p ≡ record { token = tokens.End; offset = p.offset }
+end_placed : (p : TokenAt) → is_end p.token ≡ true
+    → p ≡ record { token = tokens.End; offset = p.offset }
 end_placed p e = ap (λ (t : Token). record { token = t; offset = p.offset }) (token_end p.token e)
 
 -- a token that the table takes ends no text
-pub cell_goes : (h : Draft) (t : Token) (offset : ℕ) (v : table.State) → table.step h.table t offset ≡ Some v → text.cell_read h t offset ≡ Some (record { part = text.Cells; draft = with_table h v })
+pub cell_goes : (h : Draft) (t : Token) (offset : ℕ) (v : table.State)
+    → table.step h.table t offset ≡ Some v
+    → text.cell_read h t offset ≡ Some (record { part = text.Cells; draft = with_table h v })
 cell_goes h t offset v e = choose (is_end t) refl
   where
-    choose : (b : Bool) → is_end t ≡ b → text.cell_read h t offset ≡ Some (record { part = text.Cells; draft = with_table h v })
+    choose : (b : Bool) → is_end t ≡ b
+        → text.cell_read h t offset ≡ Some (record { part = text.Cells; draft = with_table h v })
     choose true k =
         let none : table.step h.table t offset ≡ None = ap (λ (x : Token). table.step h.table x offset) (token_end t k) ∙ no_cell h.table.threads h.table.column h.table.expected offset in
         absurd (none-some v (sym none ∙ e))
     choose false k =
-        ap (λ (b : Bool). if table.can_end h.table.expected && b then text.at h text.Done else text.table_result h text.Cells (table.step h.table t offset)) k
-        ∙ ap (λ (b : Bool). if b then text.at h text.Done else text.table_result h text.Cells (table.step h.table t offset)) (and-false (table.can_end h.table.expected))
+        ap
+        (λ (b : Bool). if table.can_end h.table.expected && b then text.at h text.Done
+        else text.table_result h text.Cells (table.step h.table t offset)) k
+        ∙ ap
+        (λ (b : Bool). if b then text.at h text.Done
+        else text.table_result h text.Cells (table.step h.table t offset))
+        (and-false (table.can_end h.table.expected))
         ∙ ap (text.table_result h text.Cells) e
 
 -- ---- texts of threads
 
 to_text : (ts : List Token) → IsThread ts → IsThreadText (ts ++ tokens.End ∷ [])
-to_text ts x = record { tree = x.tree; fine = x.fine; whole = ap (λ (l : List Token). l ++ tokens.End ∷ []) x.whole ∙ thread-append x.tree [] (tokens.End ∷ []) }
+to_text ts x =
+    record {
+      tree = x.tree;
+      fine = x.fine;
+      whole =
+          ap (λ (l : List Token). l ++ tokens.End ∷ []) x.whole
+          ∙ thread-append x.tree [] (tokens.End ∷ []);
+    }
 
-inner_no_end : (qs : List TokenAt) (n : ℕ) → AreInner (tokens_of (qs ++ record { token = tokens.End; offset = n } ∷ [])) → ⊥
+inner_no_end : (qs : List TokenAt) (n : ℕ)
+    → AreInner (tokens_of (qs ++ record { token = tokens.End; offset = n } ∷ [])) → ⊥
 inner_no_end [] n i = i.0
 inner_no_end (q ∷ qs) n i = inner_no_end qs n i.1
 
@@ -197,51 +248,95 @@ module _ (threads : ℕ) where
 
   -- where a text that is taken so far stands
   data Standing (g : Stage) (h : Draft) (ps : List TokenAt) (s : State) : Type 0 where
-    Inside : (u : table.State) → laws.run h.table ps ≡ Some u → s ≡ standing (stage_after g (tokens_of ps)) text.Cells (with_table h u) → Matches (stage_after g (tokens_of ps)) u.expected → Standing g h ps s
-    Ended : (u : table.State) (qs : List TokenAt) (n : ℕ) → ps ≡ qs ++ record { token = tokens.End; offset = n } ∷ [] → laws.run h.table qs ≡ Some u → is_whole u ≡ true → s.draft ≡ with_table h u → Standing g h ps s
+    Inside : (u : table.State) → laws.run h.table ps ≡ Some u
+        → s ≡ standing (stage_after g (tokens_of ps)) text.Cells (with_table h u)
+        → Matches (stage_after g (tokens_of ps)) u.expected → Standing g h ps s
+    Ended : (u : table.State) (qs : List TokenAt) (n : ℕ)
+        → ps ≡ qs ++ record { token = tokens.End; offset = n } ∷ [] → laws.run h.table qs ≡ Some u
+        → is_whole u ≡ true → s.draft ≡ with_table h u → Standing g h ps s
 
-  prepend : (g : Stage) (h : Draft) (p : TokenAt) (ps : List TokenAt) (s : State) (u : table.State) → table.step h.table p.token p.offset ≡ Some u → Standing (after g p.token) (with_table h u) ps s → Standing g h (p ∷ ps) s
+  prepend : (g : Stage) (h : Draft) (p : TokenAt) (ps : List TokenAt) (s : State) (u : table.State)
+      → table.step h.table p.token p.offset ≡ Some u
+      → Standing (after g p.token) (with_table h u) ps s → Standing g h (p ∷ ps) s
   prepend g h p ps s u q (Inside v r e m) = Inside v (ap (then_on (λ x. laws.run x ps)) q ∙ r) e m
-  prepend g h p ps s u q (Ended v qs n whole r ended draft) = Ended v (p ∷ qs) n (ap (λ (l : List TokenAt). p ∷ l) whole) (ap (then_on (λ x. laws.run x qs)) q ∙ r) ended draft
+  prepend g h p ps s u q (Ended v qs n whole r ended draft) =
+      Ended v (p ∷ qs) n (ap (λ (l : List TokenAt). p ∷ l) whole)
+      (ap (then_on (λ x. laws.run x qs)) q ∙ r) ended draft
 
-  last : (g : Stage) (h : Draft) (p : TokenAt) (ps : List TokenAt) (s : State) → (table.can_end h.table.expected && is_end p.token) ≡ true → run (standing (after g p.token) text.Done h) ps ≡ Ok s → Standing g h (p ∷ ps) s
+  last : (g : Stage) (h : Draft) (p : TokenAt) (ps : List TokenAt) (s : State)
+      → (table.can_end h.table.expected && is_end p.token) ≡ true
+      → run (standing (after g p.token) text.Done h) ps ≡ Ok s → Standing g h (p ∷ ps) s
   last g h p [] s q e =
       let b = and_parts (table.can_end h.table.expected) (is_end p.token) q in
       let same : standing (after g p.token) text.Done h ≡ s = same_state _ _ e in
-      Ended h.table [] p.offset (ap (λ (x : TokenAt). x ∷ []) (end_placed p b.1)) refl b.0 (ap (λ (x : State). x.draft) (sym same))
+      Ended h.table [] p.offset (ap (λ (x : TokenAt). x ∷ []) (end_placed p b.1)) refl b.0
+      (ap (λ (x : State). x.draft) (sym same))
   last g h p (r ∷ ps) s q e = absurd (not_both _ _ e)
 
-  stands_there : (ps : List TokenAt) (g : Stage) (h : Draft) (s : State) → Matches g h.table.expected → run (standing g text.Cells h) ps ≡ Ok s → Standing g h ps s
+  stands_there : (ps : List TokenAt) (g : Stage) (h : Draft) (s : State)
+      → Matches g h.table.expected → run (standing g text.Cells h) ps ≡ Ok s → Standing g h ps s
   stands_there [] g h s m e =
       let same : standing g text.Cells h ≡ s = same_state _ _ e in
       Inside h.table refl (sym same) m
-  stands_there (p ∷ ps) g h s m e = by_end (table.can_end h.table.expected && is_end p.token) refl e (λ u k x. stands_there ps (after g p.token) (with_table h u) s k x)
+  stands_there (p ∷ ps) g h s m e =
+      by_end (table.can_end h.table.expected && is_end p.token) refl e
+      (λ u k x. stands_there ps (after g p.token) (with_table h u) s k x)
     where
-      by_step : (o : Option table.State) → table.step h.table p.token p.offset ≡ o → and_then (with_offset p.offset (stepped (standing g text.Cells h) p.token (text.table_result h text.Cells o))) (λ x. run x ps) ≡ Ok s
-          → ((u : table.State) → Matches (after g p.token) u.expected → run (standing (after g p.token) text.Cells (with_table h u)) ps ≡ Ok s → Standing (after g p.token) (with_table h u) ps s) → Standing g h (p ∷ ps) s
+      by_step : (o : Option table.State) → table.step h.table p.token p.offset ≡ o
+          → and_then
+          (with_offset p.offset (stepped (standing g text.Cells h) p.token
+          (text.table_result h text.Cells o)))
+          (λ x. run x ps) ≡ Ok s
+          → ((u : table.State) → Matches (after g p.token) u.expected
+          → run (standing (after g p.token) text.Cells (with_table h u)) ps ≡ Ok s
+          → Standing (after g p.token) (with_table h u) ps s) → Standing g h (p ∷ ps) s
       by_step None q k later = absurd (not_both _ _ k)
-      by_step (Some u) q k later = prepend g h p ps s u q (later u (subst (IsMatched (after g p.token)) q (step_matches h.table.threads h.table.column p.offset g h.table.expected p.token m)) k)
+      by_step (Some u) q k later =
+          prepend g h p ps s u q (later u
+          (subst (IsMatched (after g p.token)) q (step_matches h.table.threads h.table.column
+          p.offset g h.table.expected p.token m)) k)
 
       by_end : (b : Bool) → (table.can_end h.table.expected && is_end p.token) ≡ b
-          → and_then (with_offset p.offset (stepped (standing g text.Cells h) p.token (if b then text.at h text.Done else text.table_result h text.Cells (table.step h.table p.token p.offset)))) (λ x. run x ps) ≡ Ok s
-          → ((u : table.State) → Matches (after g p.token) u.expected → run (standing (after g p.token) text.Cells (with_table h u)) ps ≡ Ok s → Standing (after g p.token) (with_table h u) ps s) → Standing g h (p ∷ ps) s
+          → and_then
+          (with_offset p.offset (stepped (standing g text.Cells h) p.token
+          (if b then text.at h text.Done
+          else text.table_result h text.Cells
+          (table.step h.table p.token p.offset))))
+          (λ x. run x ps) ≡ Ok s
+          → ((u : table.State) → Matches (after g p.token) u.expected
+          → run (standing (after g p.token) text.Cells (with_table h u)) ps ≡ Ok s
+          → Standing (after g p.token) (with_table h u) ps s) → Standing g h (p ∷ ps) s
       by_end true q k later = last g h p ps s q k
       by_end false q k later = by_step (table.step h.table p.token p.offset) refl k later
 
   -- ---- each text is taken
 
-  cells_run : (ps : List TokenAt) (g : Stage) (h : Draft) (u : table.State) → laws.run h.table ps ≡ Some u → run (standing g text.Cells h) ps ≡ Ok (standing (stage_after g (tokens_of ps)) text.Cells (with_table h u))
+  cells_run : (ps : List TokenAt) (g : Stage) (h : Draft) (u : table.State)
+      → laws.run h.table ps ≡ Some u
+      → run (standing g text.Cells h) ps
+      ≡ Ok (standing (stage_after g (tokens_of ps)) text.Cells (with_table h u))
   cells_run [] g h u e =
       let same : h.table ≡ u = same_Some h.table u e in
       ap (λ (x : table.State). Ok (standing g text.Cells (with_table h x))) same
-  cells_run (p ∷ ps) g h u e = by_step (table.step h.table p.token p.offset) refl e (λ v k. cells_run ps (after g p.token) (with_table h v) u k)
+  cells_run (p ∷ ps) g h u e =
+      by_step (table.step h.table p.token p.offset) refl e
+      (λ v k. cells_run ps (after g p.token) (with_table h v) u k)
     where
-      by_step : (o : Option table.State) → table.step h.table p.token p.offset ≡ o → then_on (λ x. laws.run x ps) o ≡ Some u
-          → ((v : table.State) → laws.run v ps ≡ Some u → run (standing (after g p.token) text.Cells (with_table h v)) ps ≡ Ok (standing (stage_after (after g p.token) (tokens_of ps)) text.Cells (with_table h u)))
-          → run (standing g text.Cells h) (p ∷ ps) ≡ Ok (standing (stage_after g (tokens_of (p ∷ ps))) text.Cells (with_table h u))
+      by_step : (o : Option table.State) → table.step h.table p.token p.offset ≡ o
+          → then_on (λ x. laws.run x ps) o ≡ Some u
+          → ((v : table.State) → laws.run v ps ≡ Some u
+          → run (standing (after g p.token) text.Cells (with_table h v)) ps
+          ≡ Ok (standing (stage_after (after g p.token) (tokens_of ps)) text.Cells
+          (with_table h u)))
+          → run (standing g text.Cells h) (p ∷ ps)
+          ≡ Ok (standing (stage_after g (tokens_of (p ∷ ps))) text.Cells (with_table h u))
       by_step None q k later = absurd (none-some u k)
       by_step (Some v) q k later =
-          ap (λ (o : Option Next). and_then (with_offset p.offset (stepped (standing g text.Cells h) p.token o)) (λ x. run x ps)) (cell_goes h p.token p.offset v q) ∙ later v k
+          ap
+          (λ (o : Option Next). and_then
+          (with_offset p.offset (stepped (standing g text.Cells h) p.token o))
+          (λ x. run x ps))
+          (cell_goes h p.token p.offset v q) ∙ later v k
 
   abbrev first_draft : Draft
   first_draft = nothing kinds.Thread
@@ -250,7 +345,8 @@ module _ (threads : ℕ) where
   pub record TakesThread (ps : List TokenAt) (x : IsThreadText (tokens_of ps)) : Type 0 where
     pub after : table.State
     pub stage : Stage
-    pub by : run (start kinds.Thread threads) ps ≡ Ok (standing stage text.Done (with_table first_draft after))
+    pub by : run (start kinds.Thread threads) ps
+        ≡ Ok (standing stage text.Done (with_table first_draft after))
     pub meant : steps_of after.threads ≡ thread_meaning x.tree ∷ []
     pub noted : AreNoted ps (thread_notes [] (x.tree.first ∷ x.tree.others) ∷ []) after.threads
 
@@ -265,73 +361,133 @@ module _ (threads : ℕ) where
         after = r.after;
         stage = after g tokens.End;
         by =
-            ap (run (start kinds.Thread threads)) (cut.whole ∙ ap (λ (l : List TokenAt). cut.before ++ l) end.1)
-            ∙ run-append (start kinds.Thread threads) there cut.before (record { token = tokens.End; offset = end.0 } ∷ []) (cells_run cut.before stages.CellBegins first_draft r.after r.by)
-            ∙ ap (λ (b : Bool). and_then (with_offset end.0 (stepped there tokens.End (if b && true then text.at there.draft text.Done else text.table_result there.draft text.Cells (table.step r.after tokens.End end.0)))) (λ s. Ok s)) r.ended;
+            ap (run (start kinds.Thread threads)) (cut.whole
+            ∙ ap (λ (l : List TokenAt). cut.before ++ l) end.1)
+            ∙ run-append (start kinds.Thread threads) there cut.before
+            (record { token = tokens.End; offset = end.0 } ∷ []) (cells_run cut.before
+            stages.CellBegins first_draft r.after r.by)
+            ∙ ap
+            (λ (b : Bool). and_then
+            (with_offset end.0 (stepped there tokens.End (if b && true then text.at
+            there.draft text.Done
+            else text.table_result there.draft text.Cells
+            (table.step r.after tokens.End end.0))))
+            (λ s. Ok s)) r.ended;
         meant = r.meant;
-        noted = subst (λ (l : List TokenAt). AreNoted l (thread_notes [] (x.tree.first ∷ x.tree.others) ∷ []) r.after.threads) (sym cut.whole) r.noted;
+        noted =
+            subst
+            (λ (l : List TokenAt).
+            AreNoted l (thread_notes [] (x.tree.first ∷ x.tree.others) ∷ []) r.after.threads)
+            (sym cut.whole) r.noted;
       }
 
-  takes : (ps : List TokenAt) → IsThreadText (tokens_of ps) → (s : State) × (run (start kinds.Thread threads) ps ≡ Ok s)
-  takes ps x = let r = thread_taken ps x in (standing r.stage text.Done (with_table first_draft r.after), r.by)
+  takes : (ps : List TokenAt) → IsThreadText (tokens_of ps)
+      → (s : State) × (run (start kinds.Thread threads) ps ≡ Ok s)
+  takes ps x =
+      let r = thread_taken ps x in
+      (standing r.stage text.Done (with_table first_draft r.after), r.by)
 
   -- ---- what is taken begins a text
 
-  ended_text : (ps qs : List TokenAt) (n : ℕ) (u : table.State) → ps ≡ qs ++ record { token = tokens.End; offset = n } ∷ [] → laws.run (laws.columns 0) qs ≡ Some u → is_whole u ≡ true → IsThreadText (tokens_of ps)
+  ended_text : (ps qs : List TokenAt) (n : ℕ) (u : table.State)
+      → ps ≡ qs ++ record { token = tokens.End; offset = n } ∷ []
+      → laws.run (laws.columns 0) qs ≡ Some u → is_whole u ≡ true → IsThreadText (tokens_of ps)
   ended_text ps qs n u whole r ended =
-      subst IsThreadText (sym (ap tokens_of whole ∙ tokens_of-append qs (record { token = tokens.End; offset = n } ∷ []))) (to_text (tokens_of qs) (thread_sound qs u r ended))
+      subst IsThreadText
+      (sym (ap tokens_of whole
+      ∙ tokens_of-append qs (record { token = tokens.End; offset = n } ∷ [])))
+      (to_text (tokens_of qs) (thread_sound qs u r ended))
 
   begins_more : (ts : List Token) → Begins IsThread ts → Begins IsThreadText ts
-  begins_more ts b = record { rest = b.rest ++ tokens.End ∷ []; text = subst IsThreadText (append_assoc ts b.rest (tokens.End ∷ [])) (to_text (ts ++ b.rest) b.text) }
+  begins_more ts b =
+      record {
+        rest = b.rest ++ tokens.End ∷ [];
+        text =
+            subst IsThreadText (append_assoc ts b.rest (tokens.End ∷ []))
+            (to_text (ts ++ b.rest) b.text);
+      }
 
-  begins_by : (ps : List TokenAt) (s : State) → Standing stages.CellBegins first_draft ps s → Begins IsThreadText (tokens_of ps)
-  begins_by ps s (Inside u r e m) = begins_more (tokens_of ps) (thread_begins ps (record { after = u; by = r }))
-  begins_by ps s (Ended u qs n whole r ended draft) = record { rest = []; text = subst IsThreadText (sym (append-nil (tokens_of ps))) (ended_text ps qs n u whole r ended) }
+  begins_by : (ps : List TokenAt) (s : State) → Standing stages.CellBegins first_draft ps s
+      → Begins IsThreadText (tokens_of ps)
+  begins_by ps s (Inside u r e m) =
+      begins_more (tokens_of ps) (thread_begins ps (record { after = u; by = r }))
+  begins_by ps s (Ended u qs n whole r ended draft) =
+      record {
+        rest = [];
+        text =
+            subst IsThreadText (sym (append-nil (tokens_of ps)))
+            (ended_text ps qs n u whole r ended);
+      }
 
   abbrev is_done : Part → Bool
   is_done text.Done = true
   is_done p = false
 
-  whole_by : (ps : List TokenAt) (s : State) → Standing stages.CellBegins first_draft ps s → s.part ≡ text.Done → IsThreadText (tokens_of ps)
-  whole_by ps s (Inside u r e m) d = absurd (false≢true (ap (λ (x : State). is_done x.part) (sym e) ∙ ap is_done d))
+  whole_by : (ps : List TokenAt) (s : State) → Standing stages.CellBegins first_draft ps s
+      → s.part ≡ text.Done → IsThreadText (tokens_of ps)
+  whole_by ps s (Inside u r e m) d =
+      absurd (false≢true (ap (λ (x : State). is_done x.part) (sym e) ∙ ap is_done d))
   whole_by ps s (Ended u qs n whole r ended draft) d = ended_text ps qs n u whole r ended
 
-  pub thread_whole : (ps : List TokenAt) (s : State) → run (start kinds.Thread threads) ps ≡ Ok s → s.part ≡ text.Done → IsThreadText (tokens_of ps)
+  pub thread_whole : (ps : List TokenAt) (s : State) → run (start kinds.Thread threads) ps ≡ Ok s
+      → s.part ≡ text.Done → IsThreadText (tokens_of ps)
   thread_whole ps s e d = whole_by ps s (stands_there ps stages.CellBegins first_draft s tt e) d
 
   -- ---- the rule that another token breaks
 
-  module _ (ps : List TokenAt) (u : table.State) (by : laws.run (laws.columns 0) ps ≡ Some u) (g : Stage) (reached : run (start kinds.Thread threads) ps ≡ Ok (standing g text.Cells (with_table first_draft u))) where
+  module _ (ps : List TokenAt) (u : table.State) (by : laws.run (laws.columns 0) ps ≡ Some u)
+      (g : Stage)
+      (reached : run (start kinds.Thread threads) ps
+      ≡ Ok (standing g text.Cells (with_table first_draft u))) where
     abbrev Can : Token → Type 0
     Can t = CanFollow IsThreadText (tokens_of ps) t
 
     one_more : (t : Token) (v : table.State) → table.step u t 0 ≡ Some v → Can t
     one_more t v e =
         let p : TokenAt = record { token = t; offset = 0 } in
-        subst (Begins IsThreadText) (tokens_of-append ps (p ∷ [])) (begins_more (tokens_of (ps ++ p ∷ [])) (thread_begins (ps ++ p ∷ []) (record { after = v; by = table_one ps (laws.columns 0) u v p by e })))
+        subst (Begins IsThreadText) (tokens_of-append ps (p ∷ [])) (begins_more
+        (tokens_of (ps ++ p ∷ [])) (thread_begins (ps ++ p ∷ [])
+        (record { after = v; by = table_one ps (laws.columns 0) u v p by e })))
 
     ends_here : (t : Token) → is_whole u ≡ true → is_end t ≡ true → Can t
-    ends_here tokens.End w e = record { rest = []; text = subst IsThreadText (sym (append-nil (tokens_of ps ++ tokens.End ∷ []))) (to_text (tokens_of ps) (thread_sound ps u by w)) }
+    ends_here tokens.End w e =
+        record {
+          rest = [];
+          text =
+              subst IsThreadText (sym (append-nil (tokens_of ps ++ tokens.End ∷ [])))
+              (to_text (tokens_of ps) (thread_sound ps u by w));
+        }
     ends_here t w e = absurd (false≢true e)
 
     can_by : (t : Token) → stands true u t ≡ true → Can t
     can_by t e = choose (table.step u t 0) refl e
       where
-        choose : (o : Option table.State) → table.step u t 0 ≡ o → (is_taken o || (is_whole u && is_end t)) ≡ true → Can t
+        choose : (o : Option table.State) → table.step u t 0 ≡ o
+            → (is_taken o || (is_whole u && is_end t)) ≡ true → Can t
         choose (Some v) q k = one_more t v q
         choose None q k = let b = and_parts (is_whole u) (is_end t) k in ends_here t b.0 b.1
 
-    stuck : (t : Token) → stands true u t ≡ false → text.cell_read (with_table first_draft u) t 0 ≡ None
+    stuck : (t : Token) → stands true u t ≡ false
+        → text.cell_read (with_table first_draft u) t 0 ≡ None
     stuck t e = choose (table.step u t 0) refl e
       where
-        choose : (o : Option table.State) → table.step u t 0 ≡ o → (is_taken o || (is_whole u && is_end t)) ≡ false → text.cell_read (with_table first_draft u) t 0 ≡ None
+        choose : (o : Option table.State) → table.step u t 0 ≡ o
+            → (is_taken o || (is_whole u && is_end t)) ≡ false
+            → text.cell_read (with_table first_draft u) t 0 ≡ None
         choose (Some v) q k = absurd (false≢true (sym k))
         choose None q k =
-            ap (λ (b : Bool). if b then text.at (with_table first_draft u) text.Done else text.table_result (with_table first_draft u) text.Cells (table.step u t 0)) k
+            ap
+            (λ (b : Bool). if b then text.at (with_table first_draft u) text.Done
+            else text.table_result (with_table first_draft u) text.Cells (table.step u t 0))
+            k
             ∙ ap (text.table_result (with_table first_draft u) text.Cells) q
 
-    can_not : (t : Token) (offset : ℕ) → text.cell_read (with_table first_draft u) t offset ≡ None → Can t → ⊥
-    can_not t offset none c = refused IsThreadText kinds.Thread threads takes ps (standing g text.Cells (with_table first_draft u)) (record { token = t; offset = offset }) reached none c
+    can_not : (t : Token) (offset : ℕ) → text.cell_read (with_table first_draft u) t offset ≡ None
+        → Can t → ⊥
+    can_not t offset none c =
+        refused IsThreadText kinds.Thread threads takes ps
+        (standing g text.Cells (with_table first_draft u)) (record { token = t; offset = offset })
+        reached none c
 
     by_can : (t : Token) → Can t → stands true u t ≡ true
     by_can t c = choose (stands true u t) refl
@@ -340,36 +496,55 @@ module _ (threads : ℕ) where
         choose true e = e
         choose false e = absurd (can_not t 0 (stuck t e) c)
 
-    out : (t : Token) (offset : ℕ) → text.cell_read (with_table first_draft u) t offset ≡ None → stands true u t ≡ false
+    out : (t : Token) (offset : ℕ) → text.cell_read (with_table first_draft u) t offset ≡ None
+        → stands true u t ≡ false
     out t offset none = choose (stands true u t) refl
       where
         choose : (b : Bool) → stands true u t ≡ b → stands true u t ≡ false
         choose true e = absurd (can_not t offset none (can_by t e))
         choose false e = e
 
-    cell_says : (t : Token) (offset : ℕ) (there : IsInCell g) → text.cell_read (with_table first_draft u) t offset ≡ None → Says Can g (cell_ruling g t) (table.rule_at true u t)
-    cell_says t offset there none = says_so (λ x. stands true u x ≡ true) Can g (cell_ruling g t) (table.rule_at true u t) can_by by_can (rules_given true u g t there (out t offset none))
+    cell_says : (t : Token) (offset : ℕ) (there : IsInCell g)
+        → text.cell_read (with_table first_draft u) t offset ≡ None
+        → Says Can g (cell_ruling g t) (table.rule_at true u t)
+    cell_says t offset there none =
+        says_so (λ x. stands true u x ≡ true) Can g (cell_ruling g t) (table.rule_at true u t)
+        can_by by_can (rules_given true u g t there (out t offset none))
 
-  by_stage : (C : Token → Type 0) (u : table.State) (g : Stage) (t : Token) → IsInCell g → Says C g (cell_ruling g t) (table.rule_at true u t) → Says C g (ruling g t) (rule_at kinds.Thread u g t)
+  by_stage : (C : Token → Type 0) (u : table.State) (g : Stage) (t : Token) → IsInCell g
+      → Says C g (cell_ruling g t) (table.rule_at true u t)
+      → Says C g (ruling g t) (rule_at kinds.Thread u g t)
   by_stage C u stages.CellBegins (tokens.Broken rule) i x = refl
   by_stage C u stages.CellBegins t i x = x
   by_stage C u stages.InCell (tokens.Broken rule) i x = refl
   by_stage C u stages.InCell t i x = x
   by_stage C u g t i x = absurd i
 
-  says_by : (ps : List TokenAt) (s : State) (t : Token) (offset : ℕ) → AreInner (tokens_of ps) → run (start kinds.Thread threads) ps ≡ Ok s → part_step s.kind s.threads s.draft s.part t offset ≡ None → Standing stages.CellBegins first_draft ps s
-      → Says (CanFollow IsThreadText (tokens_of ps)) (stage_after stages.CellBegins (tokens_of ps)) (ruling (stage_after stages.CellBegins (tokens_of ps)) t) (rule_at s.kind s.draft.table s.stage t)
+  says_by : (ps : List TokenAt) (s : State) (t : Token) (offset : ℕ) → AreInner (tokens_of ps)
+      → run (start kinds.Thread threads) ps ≡ Ok s
+      → part_step s.kind s.threads s.draft s.part t offset ≡ None
+      → Standing stages.CellBegins first_draft ps s
+      → Says (CanFollow IsThreadText (tokens_of ps)) (stage_after stages.CellBegins (tokens_of ps))
+      (ruling (stage_after stages.CellBegins (tokens_of ps)) t)
+      (rule_at s.kind s.draft.table s.stage t)
   says_by ps s t offset fine e none (Inside u r same m) =
       let g = stage_after stages.CellBegins (tokens_of ps) in
       let there = in_cell g u.expected m in
       let still : text.cell_read (with_table first_draft u) t offset ≡ None = ap (λ (x : State). part_step x.kind x.threads x.draft x.part t offset) (sym same) ∙ none in
-      subst (λ (x : State). Says (CanFollow IsThreadText (tokens_of ps)) g (ruling g t) (rule_at x.kind x.draft.table x.stage t)) (sym same)
-      (by_stage (CanFollow IsThreadText (tokens_of ps)) u g t there (cell_says ps u r g (e ∙ ap (λ (x : State). Ok x) same) t offset there still))
-  says_by ps s t offset fine e none (Ended u qs n whole r ended draft) = absurd (inner_no_end qs n (subst (λ (l : List TokenAt). AreInner (tokens_of l)) whole fine))
+      subst
+      (λ (x : State). Says (CanFollow IsThreadText (tokens_of ps)) g (ruling g t)
+      (rule_at x.kind x.draft.table x.stage t))
+      (sym same)
+      (by_stage (CanFollow IsThreadText (tokens_of ps)) u g t there (cell_says ps u r g
+      (e ∙ ap (λ (x : State). Ok x) same) t offset there still))
+  says_by ps s t offset fine e none (Ended u qs n whole r ended draft) =
+      absurd (inner_no_end qs n (subst (λ (l : List TokenAt). AreInner (tokens_of l)) whole fine))
 
   pub thread_reading : ReadingWhere AreInner IsThreadText kinds.Thread threads
   thread_reading = record {
     begins = λ ps s e. begins_by ps s (stands_there ps stages.CellBegins first_draft s tt e);
     takes = takes;
-    says = λ ps s t offset fine e none. says_by ps s t offset fine e none (stands_there ps stages.CellBegins first_draft s tt e);
+    says =
+        λ ps s t offset fine e none.
+        says_by ps s t offset fine e none (stands_there ps stages.CellBegins first_draft s tt e);
   }

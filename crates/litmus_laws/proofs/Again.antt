@@ -21,24 +21,30 @@ joins_meant (Pair op a b) =
     omega arith
 joins_meant (Group a) = joins_meant a
 
-few_joins : (threads : ℕ) (t : FormulaTree) → IsFormula limits threads t → joins (meaning t) ≤ limits.operators
+few_joins : (threads : ℕ) (t : FormulaTree) → IsFormula limits threads t
+    → joins (meaning t) ≤ limits.operators
 few_joins threads t h =
     let x = joins_meant t in
     let y = h.short in
     omega arith
 
-within : (bytes : List ℕ) (f : Formula) → StaysWithin bytes f → joins f ≤ limits.operators → IsWithinLimits bytes f
+within : (bytes : List ℕ) (f : Formula) → StaysWithin bytes f → joins f ≤ limits.operators
+    → IsWithinLimits bytes f
 within bytes f s few = record { short = s.short; shallow = s.shallow; few = few }
 
-pub test_again : (bytes : List ℕ) (v : Content) → ReadsTest bytes v → StaysWithin (printed v) v.condition → ReadsTest (printed v) v
+pub test_again : (bytes : List ℕ) (v : Content) → ReadsTest bytes v
+    → StaysWithin (printed v) v.condition → ReadsTest (printed v) v
 test_again bytes v r s =
     let t = r.text.tree in
     let same = ap (λ (c : Content). joins c.condition) r.meant in
     let few = few_joins (t.others + 1) t.condition r.text.fine.condition in
     test_reads v (test_reads_written bytes v r) (within (printed v) v.condition s (omega arith))
 
-pub condition_again : (threads : ℕ) (bytes : List ℕ) (q : Quantifier) (f : Formula) → threads < 18446744073709551616 → ReadsCondition threads bytes (q, f) → StaysWithin (condition_text q f) f → ReadsCondition threads (condition_text q f) (q, f)
+pub condition_again : (threads : ℕ) (bytes : List ℕ) (q : Quantifier) (f : Formula)
+    → threads < 18446744073709551616 → ReadsCondition threads bytes (q, f)
+    → StaysWithin (condition_text q f) f → ReadsCondition threads (condition_text q f) (q, f)
 condition_again threads bytes q f few r s =
     let same = ap (λ (p : Quantifier × Formula). joins p.1) r.meant in
     let less = few_joins threads r.text.condition r.text.fine in
-    condition_reads threads few q f (condition_reads_written threads bytes q f r) (within (condition_text q f) f s (omega arith))
+    condition_reads threads few q f (condition_reads_written threads bytes q f r)
+    (within (condition_text q f) f s (omega arith))

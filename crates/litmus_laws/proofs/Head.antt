@@ -24,7 +24,8 @@ printable : (b : ℕ) → is_printable b ≡ true → (is_space b ≡ false) × 
 printable b h = (grind (arith, nat_tests), grind (arith, nat_tests))
 
 -- a name's line goes on with no comment
-no_star : (b : ℕ) (bs rest : List ℕ) → begins_comment (b ∷ bs) ≡ false → (b == 40 && slice_index (bs ++ 10 ∷ rest) 0 == 42) ≡ false
+no_star : (b : ℕ) (bs rest : List ℕ) → begins_comment (b ∷ bs) ≡ false
+    → (b == 40 && slice_index (bs ++ 10 ∷ rest) 0 == 42) ≡ false
 no_star b [] rest h = and_false (b == 40)
   where
     and_false : (x : Bool) → (x && false) ≡ false
@@ -32,23 +33,28 @@ no_star b [] rest h = and_false (b == 40)
     and_false false = refl
 no_star b (c ∷ cs) rest h = h
 
-goes_on : (b : ℕ) (bs rest : List ℕ) → is_printable b ≡ true → begins_comment (b ∷ bs) ≡ false → ends_raw b (slice_index (bs ++ 10 ∷ rest) 0) ≡ false
+goes_on : (b : ℕ) (bs rest : List ℕ) → is_printable b ≡ true → begins_comment (b ∷ bs) ≡ false
+    → ends_raw b (slice_index (bs ++ 10 ∷ rest) 0) ≡ false
 goes_on b bs rest p c =
     or_from (is_space b || is_not_ascii b) (b == 40 && slice_index (bs ++ 10 ∷ rest) 0 == 42)
     (or_from (is_space b) (is_not_ascii b) (printable b p).0 (printable b p).1)
     (no_star b bs rest c)
 
-raw_len : (m : ℕ) (n rest : List ℕ) → are_printable n ≡ true → holds_comment n ≡ false → raw_from m (n ++ 10 ∷ rest) ≡ m + length n
+raw_len : (m : ℕ) (n rest : List ℕ) → are_printable n ≡ true → holds_comment n ≡ false
+    → raw_from m (n ++ 10 ∷ rest) ≡ m + length n
 unfolding raw_from
 raw_len m [] rest p c = omega arith
 raw_len m (b ∷ bs) rest p c =
     let both = and_parts (is_printable b) (are_printable bs) p in
     let none = or_parts (begins_comment (b ∷ bs)) (holds_comment bs) c in
     let sum : m + 1 + length bs ≡ m + length (b ∷ bs) = omega arith in
-    ap (λ (t : Bool). if t then m else raw_from (m + 1) (bs ++ 10 ∷ rest)) (goes_on b bs rest both.0 none.0)
+    ap (λ (t : Bool). if t then m else raw_from (m + 1) (bs ++ 10 ∷ rest))
+    (goes_on b bs rest both.0 none.0)
     ∙ raw_len (m + 1) bs rest both.1 none.1 ∙ sum
 
-name_here : (c : ℕ) (cs rest : List ℕ) → are_printable (c ∷ cs) ≡ true → holds_comment (c ∷ cs) ≡ false → front Title false (c ∷ (cs ++ 10 ∷ rest)) ≡ Lexeme (tokens.Word (c ∷ cs)) (length (c ∷ cs))
+name_here : (c : ℕ) (cs rest : List ℕ) → are_printable (c ∷ cs) ≡ true
+    → holds_comment (c ∷ cs) ≡ false
+    → front Title false (c ∷ (cs ++ 10 ∷ rest)) ≡ Lexeme (tokens.Word (c ∷ cs)) (length (c ∷ cs))
 unfolding front
 name_here c cs rest p h =
     let whole = (c ∷ cs) ++ 10 ∷ rest in
@@ -56,42 +62,69 @@ name_here c cs rest p h =
     let blank = or_parts (is_blank c) (is_line_end c) one.0 in
     let none = or_parts (begins_comment (c ∷ cs)) (holds_comment cs) h in
     let from_none : 0 + length (c ∷ cs) ≡ length (c ∷ cs) = omega arith in
-    three_tests (is_not_ascii c) (is_blank c) (begins_comment whole) (Lexeme (tokens.Broken _) 1) (Layout 1) (comment_front (length whole) (comment_of whole)) (raw_front whole (raw_from 0 whole))
+    three_tests (is_not_ascii c) (is_blank c) (begins_comment whole) (Lexeme (tokens.Broken _) 1)
+    (Layout 1) (comment_front (length whole) (comment_of whole))
+    (raw_front whole (raw_from 0 whole))
     one.1 blank.0 (no_star c cs rest none.0)
     ∙ ap (raw_front whole) (raw_len 0 (c ∷ cs) rest p h ∙ from_none)
-    ∙ ap (λ (t : Bool). if t then Layout 1 else Lexeme (tokens.Word (take (length (c ∷ cs)) whole)) (length (c ∷ cs))) blank.1
-    ∙ ap (λ (x : List ℕ). Lexeme (tokens.Word x) (length (c ∷ cs))) (take_at (c ∷ cs) (10 ∷ rest) (length (c ∷ cs)) refl)
+    ∙ ap
+    (λ (t : Bool). if t then Layout 1
+    else Lexeme (tokens.Word (take (length (c ∷ cs)) whole)) (length (c ∷ cs))) blank.1
+    ∙ ap (λ (x : List ℕ). Lexeme (tokens.Word x) (length (c ∷ cs)))
+    (take_at (c ∷ cs) (10 ∷ rest) (length (c ∷ cs)) refl)
 
 -- a token, wherever it stands
-turn : (s : Stage) (f : Bool) (p b : ℕ) (word rest : List ℕ) (t : Token) → front s f (b ∷ (word ++ rest)) ≡ Lexeme t (length (b ∷ word))
-    → tokens_of (tokens_from s f 0 p (b ∷ (word ++ rest))) ≡ t ∷ tokens_of (tokens_from (after s t) (ends_line t) 0 (p + 1 + length word) rest)
+turn : (s : Stage) (f : Bool) (p b : ℕ) (word rest : List ℕ) (t : Token)
+    → front s f (b ∷ (word ++ rest)) ≡ Lexeme t (length (b ∷ word))
+    → tokens_of (tokens_from s f 0 p (b ∷ (word ++ rest)))
+    ≡ t ∷ tokens_of (tokens_from (after s t) (ends_line t) 0 (p + 1 + length word) rest)
 unfolding tokens_from
 turn s f p b word rest t e =
     let l = length-append word rest in
-    ap (λ (x : Front). tokens_of (after_front s f p b x (λ u g k. tokens_from u g k (p + 1) (word ++ rest)))) e
-    ∙ ap (λ (k : ℕ). t ∷ tokens_of (tokens_from (after s t) (ends_line t) k (p + 1) (word ++ rest))) (omega arith)
-    ∙ ap (λ (ps : List TokenAt). t ∷ tokens_of ps) (tokens_skip (after s t) (ends_line t) (length word) (p + 1) (word ++ rest) (omega arith))
-    ∙ ap (λ (x : List ℕ). t ∷ tokens_of (tokens_from (after s t) (ends_line t) 0 (p + 1 + length word) x)) (drop_at word rest (length word) refl)
+    ap
+    (λ (x : Front).
+    tokens_of (after_front s f p b x (λ u g k. tokens_from u g k (p + 1) (word ++ rest)))) e
+    ∙ ap (λ (k : ℕ). t ∷ tokens_of (tokens_from (after s t) (ends_line t) k (p + 1) (word ++ rest)))
+    (omega arith)
+    ∙ ap (λ (ps : List TokenAt). t ∷ tokens_of ps) (tokens_skip (after s t) (ends_line t)
+    (length word) (p + 1) (word ++ rest) (omega arith))
+    ∙ ap
+    (λ (x : List ℕ). t
+    ∷ tokens_of (tokens_from (after s t) (ends_line t) 0 (p + 1 + length word) x))
+    (drop_at word rest (length word) refl)
 
-magic : (bs : List ℕ) → tokens_of (tokens_from Magic false 0 0 (codes "PPC " ++ bs)) ≡ tokens.Word (codes "PPC") ∷ tokens_of (tokens_from Title false 0 4 bs)
+magic : (bs : List ℕ)
+    → tokens_of (tokens_from Magic false 0 0 (codes "PPC " ++ bs))
+    ≡ tokens.Word (codes "PPC") ∷ tokens_of (tokens_from Title false 0 4 bs)
 unfolding tokens_from front raw_from
 magic bs = refl
 
-block_begins : (p : ℕ) (bs : List ℕ) → tokens_of (tokens_from TitleEnd false 0 p (10 ∷ 123 ∷ 10 ∷ bs)) ≡ tokens.LineEnd ∷ tokens.Mark marks.OpenBrace ∷ inner Entries bs
+block_begins : (p : ℕ) (bs : List ℕ)
+    → tokens_of (tokens_from TitleEnd false 0 p (10 ∷ 123 ∷ 10 ∷ bs))
+    ≡ tokens.LineEnd ∷ tokens.Mark marks.OpenBrace ∷ inner Entries bs
 unfolding tokens_from front
-block_begins p bs = ap (λ (ts : List Token). tokens.LineEnd ∷ tokens.Mark marks.OpenBrace ∷ ts) (free (Init false false) _ 0 _ bs refl)
+block_begins p bs =
+    ap (λ (ts : List Token). tokens.LineEnd ∷ tokens.Mark marks.OpenBrace ∷ ts)
+    (free (Init false false) _ 0 _ bs refl)
 
-name_back : (p : ℕ) (n rest : List ℕ) → is_empty n ≡ false → are_printable n ≡ true → holds_comment n ≡ false
-    → tokens_of (tokens_from Title false 0 p (n ++ 10 ∷ 123 ∷ 10 ∷ rest)) ≡ tokens.Word n ∷ tokens.LineEnd ∷ tokens.Mark marks.OpenBrace ∷ inner Entries rest
+name_back : (p : ℕ) (n rest : List ℕ) → is_empty n ≡ false → are_printable n ≡ true
+    → holds_comment n ≡ false
+    → tokens_of (tokens_from Title false 0 p (n ++ 10 ∷ 123 ∷ 10 ∷ rest))
+    ≡ tokens.Word n ∷ tokens.LineEnd ∷ tokens.Mark marks.OpenBrace ∷ inner Entries rest
 name_back p [] rest e h c = absurd cc
 name_back p (b ∷ bs) rest e h c =
-    turn Title false p b bs (10 ∷ 123 ∷ 10 ∷ rest) (tokens.Word (b ∷ bs)) (name_here b bs (123 ∷ 10 ∷ rest) h c)
+    turn Title false p b bs (10 ∷ 123 ∷ 10 ∷ rest) (tokens.Word (b ∷ bs))
+    (name_here b bs (123 ∷ 10 ∷ rest) h c)
     ∙ ap (λ (ts : List Token). tokens.Word (b ∷ bs) ∷ ts) (block_begins (p + 1 + length bs) rest)
 
 pub head_back : (n rest : List ℕ) → is_test_name n ≡ true → holds_comment n ≡ false
-    → tokens_of (tokens_from Magic false 0 0 (codes "PPC " ++ (n ++ 10 ∷ 123 ∷ 10 ∷ rest))) ≡ tokens.Word (codes "PPC") ∷ tokens.Word n ∷ tokens.LineEnd ∷ tokens.Mark marks.OpenBrace ∷ inner Entries rest
+    → tokens_of (tokens_from Magic false 0 0 (codes "PPC " ++ (n ++ 10 ∷ 123 ∷ 10 ∷ rest)))
+    ≡ tokens.Word (codes "PPC") ∷ tokens.Word n ∷ tokens.LineEnd ∷ tokens.Mark marks.OpenBrace
+    ∷ inner Entries rest
 head_back n rest h c =
     let some = (and_parts (not (is_empty n) && nat_le (length n) 255) (are_printable n) h).0 in
     let filled = (and_parts (not (is_empty n)) (nat_le (length n) 255) some).0 in
     magic (n ++ 10 ∷ 123 ∷ 10 ∷ rest)
-    ∙ ap (λ (ts : List Token). tokens.Word (codes "PPC") ∷ ts) (name_back 4 n rest (not-true (is_empty n) filled) (and_parts (not (is_empty n) && nat_le (length n) 255) (are_printable n) h).1 c)
+    ∙ ap (λ (ts : List Token). tokens.Word (codes "PPC") ∷ ts) (name_back 4 n rest
+    (not-true (is_empty n) filled)
+    (and_parts (not (is_empty n) && nat_le (length n) 255) (are_printable n) h).1 c)

@@ -52,7 +52,8 @@ puts (Go l ∷ ms) = puts ms
 
 -- ---- the notes of a column
 
-opcode_marks : (i : Instruction) (before : List Token) → marks_of (branch_notes (Some (opcode i)) (tree_of i).operands before) ≡ gone (target i)
+opcode_marks : (i : Instruction) (before : List Token)
+    → marks_of (branch_notes (Some (opcode i)) (tree_of i).operands before) ≡ gone (target i)
 opcode_marks (instructions.LoadImmediate d n) before = refl
 opcode_marks (instructions.Move d s) before = refl
 opcode_marks (instructions.AddImmediate d a n) before = refl
@@ -67,10 +68,14 @@ opcode_marks (instructions.BranchIf c l) before = refl
 opcode_marks (instructions.Branch l) before = refl
 opcode_marks (instructions.Fence f) before = refl
 
-step_noted : (s : Step) (before : List Token) → IsStep s → marks_of (cell_notes (step_tree s) before) ≡ step_marks s
+step_noted : (s : Step) (before : List Token) → IsStep s
+    → marks_of (cell_notes (step_tree s) before) ≡ step_marks s
 step_noted (steps.Label l) before h = refl
 step_noted (steps.Instruction i) before h =
-    ap (λ (o : Option Opcode). marks_of (branch_notes o (tree_of i).operands ((before ++ []) ++ tokens.Word (tree_of i).word ∷ []))) (instruction_read i h).known
+    ap
+    (λ (o : Option Opcode). marks_of (branch_notes o (tree_of i).operands
+    ((before ++ []) ++ tokens.Word (tree_of i).word ∷ [])))
+    (instruction_read i h).known
     ∙ opcode_marks i ((before ++ []) ++ tokens.Word (tree_of i).word ∷ [])
 
 -- the marks of the step of this number
@@ -79,25 +84,31 @@ nth_marks k [] = []
 nth_marks zero (s ∷ ss) = step_marks s
 nth_marks (suc k) (s ∷ ss) = nth_marks k ss
 
-cell_noted : (k : ℕ) (ss : List Step) (before : List Token) → AreSteps ss → marks_of (cell_notes (cell_tree k ss) before) ≡ nth_marks k ss
+cell_noted : (k : ℕ) (ss : List Step) (before : List Token) → AreSteps ss
+    → marks_of (cell_notes (cell_tree k ss) before) ≡ nth_marks k ss
 cell_noted k [] before h = refl
 cell_noted zero (s ∷ ss) before h = step_noted s before h.0
 cell_noted (suc k) (s ∷ ss) before h = cell_noted k ss before h.1
 
-nth_noted : (k : ℕ) (left : List (List Step)) (s : List Step) (right : List (List Step)) (before : List Token) → AreSteps s
-    → marks_of (nth_notes (length left) before (map (cell_tree k) (left ++ s ∷ right))) ≡ nth_marks k s
+nth_noted : (k : ℕ) (left : List (List Step)) (s : List Step) (right : List (List Step))
+    (before : List Token) → AreSteps s
+    → marks_of (nth_notes (length left) before (map (cell_tree k) (left ++ s ∷ right)))
+    ≡ nth_marks k s
 nth_noted k [] s right before h = cell_noted k s before h
-nth_noted k (u ∷ us) s right before h = nth_noted k us s right (before ++ spelled_cell (cell_tree k u) (tokens.Mark marks.Bar ∷ [])) h
+nth_noted k (u ∷ us) s right before h =
+    nth_noted k us s right (before ++ spelled_cell (cell_tree k u) (tokens.Mark marks.Bar ∷ [])) h
 
 abbrev column_marks : ℕ → ℕ → List Step → List Mark
 column_marks k zero ss = []
 column_marks k (suc n) ss = nth_marks k ss ++ column_marks (k + 1) n ss
 
-shifted : (n k : ℕ) (s : Step) (ss : List Step) → column_marks (suc k) n (s ∷ ss) ≡ column_marks k n ss
+shifted : (n k : ℕ) (s : Step) (ss : List Step)
+    → column_marks (suc k) n (s ∷ ss) ≡ column_marks k n ss
 shifted zero k s ss = refl
 shifted (suc n) k s ss =
     let next : suc k + 1 ≡ suc (k + 1) = omega arith in
-    ap (λ (j : ℕ). nth_marks k ss ++ column_marks j n (s ∷ ss)) next ∙ ap (λ (ms : List Mark). nth_marks k ss ++ ms) (shifted n (k + 1) s ss)
+    ap (λ (j : ℕ). nth_marks k ss ++ column_marks j n (s ∷ ss)) next
+    ∙ ap (λ (ms : List Mark). nth_marks k ss ++ ms) (shifted n (k + 1) s ss)
 
 nothing : (k n : ℕ) → column_marks k n [] ≡ []
 nothing k zero = refl
@@ -106,7 +117,8 @@ nothing k (suc n) = nothing (k + 1) n
 column_all : (n : ℕ) (ss : List Step) → length ss ≤ n → column_marks 0 n ss ≡ all_marks ss
 column_all n [] le = nothing 0 n
 column_all zero (s ∷ ss) le = absurd (omega arith)
-column_all (suc n) (s ∷ ss) le = ap (λ (ms : List Mark). step_marks s ++ ms) (shifted n 0 s ss ∙ column_all n ss (omega arith))
+column_all (suc n) (s ∷ ss) le =
+    ap (λ (ms : List Mark). step_marks s ++ ms) (shifted n 0 s ss ∙ column_all n ss (omega arith))
 
 -- ---- what the check makes of them
 
@@ -120,13 +132,22 @@ defined_puts [] = refl
 defined_puts (Defines w before ∷ ns) = ap (λ (l : List (List ℕ)). w ∷ l) (defined_puts ns)
 defined_puts (Branches w before ∷ ns) = defined_puts ns
 
-fine_notes : (above : List (List ℕ)) (ns : List Note) → AreFine above (marks_of ns) → late_notes above ns ≡ None
+fine_notes : (above : List (List ℕ)) (ns : List Note) → AreFine above (marks_of ns)
+    → late_notes above ns ≡ None
 fine_notes above [] h = refl
 fine_notes above (Defines w before ∷ ns) h =
-    ap (λ (b : Bool). if b then Some (record { rule = rules.Label; before = before }) else late_notes (w ∷ above) ns) h.0 ∙ fine_notes (w ∷ above) ns h.1
+    ap
+    (λ (b : Bool). if b then Some (record { rule = rules.Label; before = before })
+    else late_notes (w ∷ above) ns) h.0 ∙ fine_notes (w ∷ above) ns h.1
 fine_notes above (Branches w before ∷ ns) h =
-    ap (λ (b : Bool). if b then Some (record { rule = rules.BackwardBranch; before = before }) else (if is_in w (defined ns) then late_notes above ns else Some (record { rule = rules.Label; before = before }))) h.0
-    ∙ ap (λ (b : Bool). if b then late_notes above ns else Some (record { rule = rules.Label; before = before })) (ap (is_in w) (defined_puts ns) ∙ h.1)
+    ap
+    (λ (b : Bool). if b then Some (record { rule = rules.BackwardBranch; before = before })
+    else (if is_in w (defined ns) then late_notes above ns
+    else Some (record { rule = rules.Label; before = before }))) h.0
+    ∙ ap
+    (λ (b : Bool). if b then late_notes above ns
+    else Some (record { rule = rules.Label; before = before }))
+    (ap (is_in w) (defined_puts ns) ∙ h.1)
     ∙ fine_notes above ns h.2
 
 pub puts_gone : (o : Option (List ℕ)) (ms : List Mark) → puts (gone o ++ ms) ≡ puts ms
@@ -138,14 +159,18 @@ labels_put [] = refl
 labels_put (steps.Label l ∷ ss) = ap (λ (x : List (List ℕ)). l ∷ x) (labels_put ss)
 labels_put (steps.Instruction i ∷ ss) = labels_put ss ∙ sym (puts_gone (target i) (all_marks ss))
 
-fine_gone : (above : List (List ℕ)) (o : Option (List ℕ)) (ss : List Step) → IsBelow above (labels ss) o → AreFine above (all_marks ss) → AreFine above (gone o ++ all_marks ss)
+fine_gone : (above : List (List ℕ)) (o : Option (List ℕ)) (ss : List Step)
+    → IsBelow above (labels ss) o → AreFine above (all_marks ss)
+    → AreFine above (gone o ++ all_marks ss)
 fine_gone above None ss b h = h
 fine_gone above (Some l) ss b h = (b.0, ap (is_in l) (sym (labels_put ss)) ∙ b.1, h)
 
-fine_marks : (above : List (List ℕ)) (ss : List Step) → AreLabelled above ss → AreFine above (all_marks ss)
+fine_marks : (above : List (List ℕ)) (ss : List Step) → AreLabelled above ss
+    → AreFine above (all_marks ss)
 fine_marks above [] h = tt
 fine_marks above (steps.Label l ∷ ss) h = (h.0, fine_marks (l ∷ above) ss h.1)
-fine_marks above (steps.Instruction i ∷ ss) h = fine_gone above (target i) ss h.0 (fine_marks above ss h.1)
+fine_marks above (steps.Instruction i ∷ ss) h =
+    fine_gone above (target i) ss h.0 (fine_marks above ss h.1)
 
 -- ---- all columns
 
@@ -154,35 +179,50 @@ AreAllLabelled [] = Unit {0}
 AreAllLabelled (t ∷ ts) = AreLabelled [] t × AreAllLabelled ts
 
 module _ (t : List Step) (ts : List (List Step)) (h : AreAllSteps (t ∷ ts)) where
-  column_noted : (left : List (List Step)) (s : List Step) (right : List (List Step)) → left ++ s ∷ right ≡ t ∷ ts → AreSteps s → (k n : ℕ) (before : List Token)
+  column_noted : (left : List (List Step)) (s : List Step) (right : List (List Step))
+      → left ++ s ∷ right ≡ t ∷ ts → AreSteps s → (k n : ℕ) (before : List Token)
       → marks_of (column_notes (length left) before (rows_of t ts h k n)) ≡ column_marks k n s
   column_noted left s right e a k zero before = refl
   column_noted left s right e a k (suc n) before =
       let behind = before ++ spelled_rows (row_tree t ts h k ∷ []) [] in
       let others = column_notes (length left) behind (rows_of t ts h (k + 1) n) in
-      ap (λ (l : List (List Step)). marks_of (nth_notes (length left) before (map (cell_tree k) l) ++ others)) (sym e)
+      ap
+      (λ (l : List (List Step)).
+      marks_of (nth_notes (length left) before (map (cell_tree k) l) ++ others))
+      (sym e)
       ∙ marks-append (nth_notes (length left) before (map (cell_tree k) (left ++ s ∷ right))) others
       ∙ ap (λ (ms : List Mark). ms ++ marks_of others) (nth_noted k left s right before a)
-      ∙ ap (λ (ms : List Mark). nth_marks k s ++ ms) (column_noted left s right e a (k + 1) n behind)
+      ∙ ap (λ (ms : List Mark). nth_marks k s ++ ms)
+      (column_noted left s right e a (k + 1) n behind)
 
-  column_in_time : (left : List (List Step)) (s : List Step) (right : List (List Step)) → left ++ s ∷ right ≡ t ∷ ts → AreSteps s → AreLabelled [] s → (n : ℕ) → length s ≤ n → (before : List Token)
+  column_in_time : (left : List (List Step)) (s : List Step) (right : List (List Step))
+      → left ++ s ∷ right ≡ t ∷ ts → AreSteps s → AreLabelled [] s → (n : ℕ) → length s ≤ n
+      → (before : List Token)
       → late_notes [] (column_notes (length left) before (rows_of t ts h 0 n)) ≡ None
   column_in_time left s right e a l n le before =
       fine_notes [] (column_notes (length left) before (rows_of t ts h 0 n))
-      (subst (AreFine []) (sym (column_noted left s right e a 0 n before ∙ column_all n s le)) (fine_marks [] s l))
+      (subst (AreFine []) (sym (column_noted left s right e a 0 n before ∙ column_all n s le))
+      (fine_marks [] s l))
 
-  columns_in_time : (left right : List (List Step)) (n : ℕ) (before : List Token) → left ++ right ≡ t ∷ ts → AreAllSteps right → AreAllLabelled right → AreShort n right
+  columns_in_time : (left right : List (List Step)) (n : ℕ) (before : List Token)
+      → left ++ right ≡ t ∷ ts → AreAllSteps right → AreAllLabelled right → AreShort n right
       → first_late (columns_notes (length left) (length right) before (rows_of t ts h 0 n)) ≡ None
   columns_in_time left [] n before e a l short = refl
   columns_in_time left (s ∷ right) n before e a l short =
       let one = length-append left (s ∷ []) in
       let next : length left + 1 ≡ length (left ++ s ∷ []) = omega arith in
-      ap (λ (o : Option Late). or_else o (first_late (columns_notes (length left + 1) (length right) before (rows_of t ts h 0 n)))) (column_in_time left s right e a.0 l.0 n short.0 before)
+      ap
+      (λ (o : Option Late). or_else o (first_late (columns_notes (length left + 1)
+      (length right) before (rows_of t ts h 0 n))))
+      (column_in_time left s right e a.0 l.0 n short.0 before)
       ∙ ap (λ (j : ℕ). first_late (columns_notes j (length right) before (rows_of t ts h 0 n))) next
-      ∙ columns_in_time (left ++ s ∷ []) right n before (append_assoc left (s ∷ []) right ∙ e) a.1 l.1 short.1
+      ∙ columns_in_time (left ++ s ∷ []) right n before (append_assoc left (s ∷ []) right ∙ e) a.1
+      l.1 short.1
 
-  pub table_in_time : (before : List Token) → AreAllLabelled (t ∷ ts) → late_columns 0 (length ts + 1) before (rows_of t ts h 0 (longest (t ∷ ts))) ≡ None
+  pub table_in_time : (before : List Token) → AreAllLabelled (t ∷ ts)
+      → late_columns 0 (length ts + 1) before (rows_of t ts h 0 (longest (t ∷ ts))) ≡ None
   table_in_time before l =
       let count : length ts + 1 ≡ length (t ∷ ts) = omega arith in
-      ap (λ (n : ℕ). first_late (columns_notes 0 n before (rows_of t ts h 0 (longest (t ∷ ts))))) count
+      ap (λ (n : ℕ). first_late (columns_notes 0 n before (rows_of t ts h 0 (longest (t ∷ ts)))))
+      count
       ∙ columns_in_time [] (t ∷ ts) (longest (t ∷ ts)) before refl h l (all_short (t ∷ ts))

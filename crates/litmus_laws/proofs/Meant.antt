@@ -20,11 +20,13 @@ number_small : (n : ℕ) → n ≤ 2147483648 → IsNumber (signed true n)
 number_small zero h = omega arith
 number_small (suc n) h = omega arith
 
-pub number_is : (negative : Bool) (ds : List ℕ) → is_int negative ds ≡ true → IsNumber (signed negative (words.decimal ds))
+pub number_is : (negative : Bool) (ds : List ℕ) → is_int negative ds ≡ true
+    → IsNumber (signed negative (words.decimal ds))
 number_is false ds h = ltb-true (words.decimal ds) 2147483648 h
 number_is true ds h = number_small (words.decimal ds) (leb-true (words.decimal ds) 2147483648 h)
 
-known_small : (c : Bool) (n : ℕ) → (c ≡ true → n < 32) → is_known (if c then Some n else None) ≡ true → or_zero (if c then Some n else None) < 32
+known_small : (c : Bool) (n : ℕ) → (c ≡ true → n < 32)
+    → is_known (if c then Some n else None) ≡ true → or_zero (if c then Some n else None) < 32
 known_small true n h k = h refl
 known_small false n h k = absurd cc
 
@@ -32,22 +34,27 @@ pub register_small : (w : List ℕ) → is_register w ≡ true → or_zero (regi
 register_small [] h = absurd cc
 register_small (r ∷ ds) h =
     known_small (r == 114 && is_plain ds && nat_lt (words.decimal ds) 32) (words.decimal ds)
-    (λ e. ltb-true (words.decimal ds) 32 (and_parts (r == 114 && is_plain ds) (nat_lt (words.decimal ds) 32) e).1) h
+    (λ e. ltb-true (words.decimal ds) 32 (and_parts (r == 114 && is_plain ds)
+    (nat_lt (words.decimal ds) 32) e).1) h
 
 module _ (threads : ℕ) where
-  pub place_meant : (p : PlaceTree) (rest : List Token) → grammar.IsPlace p → HasThread threads p → AllFine (spelled_place p rest) → IsPlace threads (place_meaning p) × AllFine rest
+  pub place_meant : (p : PlaceTree) (rest : List Token) → grammar.IsPlace p → HasThread threads p
+      → AllFine (spelled_place p rest) → IsPlace threads (place_meaning p) × AllFine rest
   place_meant (Location false n) rest i h a = (a.0, a.1)
   place_meant (Location true n) rest i h a = (a.1.0, a.1.1.1)
   place_meant (Register t r) rest i h a = ((h, register_small r i), a.1.1.1)
 
-  pub value_meant : (v : ValueTree) (rest : List Token) → grammar.IsValue v → AllFine (spelled_value v rest) → IsValue (value_meaning v) × AllFine rest
+  pub value_meant : (v : ValueTree) (rest : List Token) → grammar.IsValue v
+      → AllFine (spelled_value v rest) → IsValue (value_meaning v) × AllFine rest
   value_meant (Number negative ds) rest i a = (number_is negative ds i, a.1)
   value_meant (Address n) rest i a = (a.0, a.1)
 
-  behind_prefix : (tilde : Bool) (rest : List Token) → AllFine (prefix_token tilde ∷ rest) → AllFine rest
+  behind_prefix : (tilde : Bool) (rest : List Token) → AllFine (prefix_token tilde ∷ rest)
+      → AllFine rest
   behind_prefix tilde rest a = a.1
 
-  pub formula_meant : (f : FormulaTree) (rest : List Token) → HasAtoms threads f → AllFine (spelled f rest) → IsFormula threads (meaning f) × AllFine rest
+  pub formula_meant : (f : FormulaTree) (rest : List Token) → HasAtoms threads f
+      → AllFine (spelled f rest) → IsFormula threads (meaning f) × AllFine rest
   formula_meant (Word b) rest h a = (tt, a.1)
   formula_meant (Atom p v) rest h a =
       let one = place_meant p _ h.0 h.1 a in
@@ -62,17 +69,26 @@ module _ (threads : ℕ) where
       let one = formula_meant f _ h a.1 in
       (one.0, one.1.1)
 
-  pub behind_quantifier : (q : Quantifier) (rest : List Token) → AllFine (spelled_quantifier q rest) → AllFine rest
+  pub behind_quantifier : (q : Quantifier) (rest : List Token) → AllFine (spelled_quantifier q rest)
+      → AllFine rest
   behind_quantifier Exists rest a = a.1
   behind_quantifier NotExists rest a = a.1.1
   behind_quantifier Forall rest a = a.1
 
-pub condition_is_written : (threads : ℕ) (bytes : List ℕ) (q : Quantifier) (f : Formula) → IsTextOfCondition threads bytes q f → IsFormula threads f
+pub condition_is_written : (threads : ℕ) (bytes : List ℕ) (q : Quantifier) (f : Formula)
+    → IsTextOfCondition threads bytes q f → IsFormula threads f
 condition_is_written threads bytes q f h =
     let all = subst AllFine h.text.whole (all_fine Tail (tokens_of (lexed Tail bytes)) refl (tokens_fine Tail false 0 0 bytes)) in
     let inside = behind_quantifier threads h.text.quantifier _ all in
-    subst (IsFormula threads) h.meant (formula_meant threads h.text.condition _ h.text.fine.atoms inside).0
+    subst (IsFormula threads) h.meant (formula_meant threads h.text.condition _ h.text.fine.atoms
+    inside).0
 
-pub condition_reads_written : (threads : ℕ) (bytes : List ℕ) (q : Quantifier) (f : Formula) → ReadsCondition threads bytes (q, f) → IsFormula threads f
+pub condition_reads_written : (threads : ℕ) (bytes : List ℕ) (q : Quantifier) (f : Formula)
+    → ReadsCondition threads bytes (q, f) → IsFormula threads f
 condition_reads_written threads bytes q f h =
-    condition_is_written threads bytes q f (record { most = limits; text = h.text; asked = ap (λ (p : Quantifier × Formula). p.0) h.meant; meant = ap (λ (p : Quantifier × Formula). p.1) h.meant })
+    condition_is_written threads bytes q f (record {
+      most = limits;
+      text = h.text;
+      asked = ap (λ (p : Quantifier × Formula). p.0) h.meant;
+      meant = ap (λ (p : Quantifier × Formula). p.1) h.meant;
+    })

@@ -34,10 +34,12 @@ use Rattle.text_laws.proofs.Runs.{other}
 
 -- ---- places as they are written
 
-canon : (ds : List ℕ) → AreDigits ds → words.decimal ds < 2 ^ 64 → significant (decimal (words.decimal ds)) ≡ ds
+canon : (ds : List ℕ) → AreDigits ds → words.decimal ds < 2 ^ 64
+    → significant (decimal (words.decimal ds)) ≡ ds
 canon [] h small = ap significant (decimal_digit 0 (omega arith))
 canon (d ∷ ds) h small =
-    ap significant (decimal-digits_value own (d ∷ ds) h.digits (omega arith) (λ e. absurd (h.no_zero e)) small)
+    ap significant (decimal-digits_value own (d ∷ ds) h.digits (omega arith)
+    (λ e. absurd (h.no_zero e)) small)
     ∙ ap (λ (b : Bool). if b then significant ds else d ∷ ds) (other d 48 h.no_zero)
 
 abbrev rewritten : Place → WrittenPlace
@@ -51,9 +53,12 @@ abbrev AreCanon : List PlaceTree → Type 0
 AreCanon [] = Unit {0}
 AreCanon (p ∷ ps) = IsCanon p × AreCanon ps
 
-lacks_meant : (before : List PlaceTree) (p : PlaceTree) → AreCanon before → IsCanon p → grammar.Lacks (map written_place before) (written_place p) → Lacks (map place_meaning before) (place_meaning p)
+lacks_meant : (before : List PlaceTree) (p : PlaceTree) → AreCanon before → IsCanon p
+    → grammar.Lacks (map written_place before) (written_place p)
+    → Lacks (map place_meaning before) (place_meaning p)
 lacks_meant [] p all h l = tt
-lacks_meant (q ∷ qs) p all h l = (λ e. l.0 (sym all.0 ∙ ap rewritten e ∙ h), lacks_meant qs p all.1 h l.1)
+lacks_meant (q ∷ qs) p all h l =
+    (λ e. l.0 (sym all.0 ∙ ap rewritten e ∙ h), lacks_meant qs p all.1 h l.1)
 
 -- ---- entries
 
@@ -62,12 +67,18 @@ module _ (threads : ℕ) (few : threads ≤ 8) where
   has_thread (Location b n) e = tt
   has_thread (Register t r) e = ltb-true (words.decimal t) threads e
 
-  is_canon : (p : PlaceTree) (rest : List Token) → HasThread threads p → AllFine (spelled_place p rest) → IsCanon p
+  is_canon : (p : PlaceTree) (rest : List Token) → HasThread threads p
+      → AllFine (spelled_place p rest) → IsCanon p
   is_canon (Location b n) rest h a = refl
-  is_canon (Register t r) rest h a = ap (λ (ds : List ℕ). written.Register ds (words.or_zero (words.register_of r))) (canon t a.0 (omega arith))
+  is_canon (Register t r) rest h a =
+      ap (λ (ds : List ℕ). written.Register ds (words.or_zero (words.register_of r)))
+      (canon t a.0 (omega arith))
 
-  others_written : (closed : Bool) (es : List EntryTree) (rest ts : List Token) (before : List PlaceTree) → AreCanon before → AllFine (spelled_others spelled_entry closed es rest)
-      → grammar.AreEntries (map written_place before) es → late_entries threads ts es ≡ None → AreEntries threads (map place_meaning before) (map entry_meaning es) × AllFine rest
+  others_written : (closed : Bool) (es : List EntryTree) (rest ts : List Token)
+      (before : List PlaceTree) → AreCanon before
+      → AllFine (spelled_others spelled_entry closed es rest)
+      → grammar.AreEntries (map written_place before) es → late_entries threads ts es ≡ None
+      → AreEntries threads (map place_meaning before) (map entry_meaning es) × AllFine rest
   others_written true [] rest ts before all a h late = (tt, a.1)
   others_written false [] rest ts before all a h late = (tt, a)
   others_written closed (e ∷ es) rest ts before all a h late =
@@ -80,12 +91,17 @@ module _ (threads : ℕ) (few : threads ≤ 8) where
       let more = others_written closed es rest behind (e.place ∷ before) (same, all) two.1 h.3 there.1 in
       ((one.0, two.0, lacks_meant before e.place all same h.2, more.0), more.1)
 
-  entries_written : (o : Option (Listed EntryTree)) (rest ts : List Token) → AllFine (spelled_listed spelled_entry o rest) → grammar.AreEntries [] (members o) → late_entries threads ts (members o) ≡ None
+  entries_written : (o : Option (Listed EntryTree)) (rest ts : List Token)
+      → AllFine (spelled_listed spelled_entry o rest) → grammar.AreEntries [] (members o)
+      → late_entries threads ts (members o) ≡ None
       → AreEntries threads [] (map entry_meaning (members o)) × AllFine rest
   entries_written None rest ts a h late = (tt, a)
-  entries_written (Some l) rest ts a h late = others_written l.closed (l.first ∷ l.others) rest ts [] tt (tt, a) h late
+  entries_written (Some l) rest ts a h late =
+      others_written l.closed (l.first ∷ l.others) rest ts [] tt (tt, a) h late
 
-  places_written : (closed : Bool) (ps : List PlaceTree) (rest : List Token) → AreItems threads ps → AllFine (spelled_others spelled_place closed ps rest) → ArePlaces threads (map place_meaning ps) × AllFine rest
+  places_written : (closed : Bool) (ps : List PlaceTree) (rest : List Token) → AreItems threads ps
+      → AllFine (spelled_others spelled_place closed ps rest)
+      → ArePlaces threads (map place_meaning ps) × AllFine rest
   places_written true [] rest h a = (tt, a.1)
   places_written false [] rest h a = (tt, a)
   places_written closed (p ∷ ps) rest h a =
@@ -93,7 +109,9 @@ module _ (threads : ℕ) (few : threads ≤ 8) where
       let more = places_written closed ps rest h.2 one.1 in
       ((one.0, more.0), more.1)
 
-  observed_written : (o : Option (Listed PlaceTree)) (rest : List Token) → AreItems threads (members o) → AllFine (spelled_observed o rest) → ArePlaces threads (map place_meaning (members o)) × AllFine rest
+  observed_written : (o : Option (Listed PlaceTree)) (rest : List Token)
+      → AreItems threads (members o) → AllFine (spelled_observed o rest)
+      → ArePlaces threads (map place_meaning (members o)) × AllFine rest
   observed_written None rest h a = (tt, a)
   observed_written (Some l) rest h a =
       let all = places_written l.closed (l.first ∷ l.others) (tokens.Mark CloseBracket ∷ rest) h (tt, a.1.1) in
@@ -101,35 +119,43 @@ module _ (threads : ℕ) (few : threads ≤ 8) where
 
 -- ---- how many threads
 
-behind_place : (w : Bool) (p : PlaceTree) (rest : List Token) → AreFine (Init false w) (spelled_place p rest) → (u : Bool) × AreFine (Init false u) rest
+behind_place : (w : Bool) (p : PlaceTree) (rest : List Token)
+    → AreFine (Init false w) (spelled_place p rest) → (u : Bool) × AreFine (Init false u) rest
 behind_place w (Location false n) rest a = (true, a.1)
 behind_place w (Location true n) rest a = (false, a.1.1.1)
 behind_place w (Register t r) rest a = (true, a.1.1.1)
 
-behind_value : (w : Bool) (v : ValueTree) (rest : List Token) → AreFine (Init false w) (spelled_value v rest) → (u : Bool) × AreFine (Init false u) rest
+behind_value : (w : Bool) (v : ValueTree) (rest : List Token)
+    → AreFine (Init false w) (spelled_value v rest) → (u : Bool) × AreFine (Init false u) rest
 behind_value w (Number negative ds) rest a = (false, a.1)
 behind_value w (Address n) rest a = (true, a.1)
 
-behind_entry : (w : Bool) (e : EntryTree) (rest : List Token) → AreFine (Init false w) (spelled_entry e rest) → (u : Bool) × AreFine (Init false u) rest
+behind_entry : (w : Bool) (e : EntryTree) (rest : List Token)
+    → AreFine (Init false w) (spelled_entry e rest) → (u : Bool) × AreFine (Init false u) rest
 behind_entry w e rest a =
     let one = behind_place w e.place (tokens.Mark Equals ∷ spelled_value e.value rest) a in
     behind_value false e.value rest one.1.1
 
-behind_others : (w closed : Bool) (es : List EntryTree) (rest : List Token) → AreFine (Init false w) (spelled_others spelled_entry closed es rest) → (u : Bool) × AreFine (Init false u) rest
+behind_others : (w closed : Bool) (es : List EntryTree) (rest : List Token)
+    → AreFine (Init false w) (spelled_others spelled_entry closed es rest)
+    → (u : Bool) × AreFine (Init false u) rest
 behind_others w true [] rest a = (false, a.1)
 behind_others w false [] rest a = (w, a)
 behind_others w closed (e ∷ es) rest a =
     let one = behind_entry false e (spelled_others spelled_entry closed es rest) a.1 in
     behind_others one.0 closed es rest one.1
 
-behind_listed : (o : Option (Listed EntryTree)) (rest : List Token) → AreFine (Init false false) (spelled_listed spelled_entry o rest) → (u : Bool) × AreFine (Init false u) rest
+behind_listed : (o : Option (Listed EntryTree)) (rest : List Token)
+    → AreFine (Init false false) (spelled_listed spelled_entry o rest)
+    → (u : Bool) × AreFine (Init false u) rest
 behind_listed None rest a = (false, a)
 behind_listed (Some l) rest a =
     let one = behind_entry false l.first (spelled_others spelled_entry l.closed l.others rest) a in
     behind_others one.0 l.closed l.others rest one.1
 
 -- the ninth name is no word
-names_few : (n k left : ℕ) (rest : List Token) → k + left ≡ 9 → 0 < left → AreFine (Header left) (spelled_names k n rest) → n < left
+names_few : (n k left : ℕ) (rest : List Token) → k + left ≡ 9 → 0 < left
+    → AreFine (Header left) (spelled_names k n rest) → n < left
 names_few n k zero rest e some a = absurd (omega arith)
 names_few zero k left rest e some a = some
 names_few (suc n) k (suc zero) rest e some a =
@@ -153,15 +179,18 @@ behind_names k (suc n) rest a = behind_names (k + 1) n rest a.1.1
 
 -- ---- tests
 
-behind_text : (b : Bool) (rest : List Token) → AreFine Head (spelled_text b rest) → AreFine Head rest
+behind_text : (b : Bool) (rest : List Token) → AreFine Head (spelled_text b rest)
+    → AreFine Head rest
 behind_text true rest a = a.1
 behind_text false rest a = a
 
-behind_keylines : (n : ℕ) (rest : List Token) → AreFine Head (spelled_keylines n rest) → AreFine Head rest
+behind_keylines : (n : ℕ) (rest : List Token) → AreFine Head (spelled_keylines n rest)
+    → AreFine Head rest
 behind_keylines zero rest a = a
 behind_keylines (suc n) rest a = behind_keylines n rest a.1
 
-test_written : (most : Limits) (t : TestTree) → grammar.IsTest most t → AreFine Magic (spelled_test t) → late_test t ≡ None → IsTest (test_meaning t)
+test_written : (most : Limits) (t : TestTree) → grammar.IsTest most t
+    → AreFine Magic (spelled_test t) → late_test t ≡ None → IsTest (test_meaning t)
 test_written most t h a late =
     let Tail = spelled_observed t.observed (spelled_condition t.quantifier t.condition) in
     let Rows = spelled_rows t.rows Tail in
@@ -182,15 +211,25 @@ test_written most t h a late =
       no_comment = a.1.0;
       some = subst (λ (k : ℕ). 0 < k) count (omega arith);
       few = subst (λ (k : ℕ). k ≤ 8) count few;
-      init = subst (λ (k : ℕ). AreEntries k [] (map entry_meaning (members t.init))) count entries.0;
-      threads = columns_written 0 (t.others + 1) t.others t.rows (before_rows t) h.rows rows.0 checks.1;
-      observed = subst (λ (k : ℕ). ArePlaces k (map place_meaning (members t.observed))) count observed.0;
+      init =
+          subst (λ (k : ℕ). AreEntries k [] (map entry_meaning (members t.init))) count entries.0;
+      threads =
+          columns_written 0 (t.others + 1) t.others t.rows (before_rows t) h.rows rows.0 checks.1;
+      observed =
+          subst (λ (k : ℕ). ArePlaces k (map place_meaning (members t.observed))) count observed.0;
       condition = subst (λ (k : ℕ). IsFormula k (test_meaning t).condition) count condition.0;
     }
 
 pub test_is_written : (bytes : List ℕ) (v : Content) → IsTextOfTest bytes v → IsTest v
 test_is_written bytes v h =
-    subst IsTest h.meant (test_written h.most h.text.tree h.text.fine (subst (AreFine Magic) h.text.whole (tokens_fine Magic false 0 0 bytes)) h.in_time)
+    subst IsTest h.meant (test_written h.most h.text.tree h.text.fine
+    (subst (AreFine Magic) h.text.whole (tokens_fine Magic false 0 0 bytes)) h.in_time)
 
 pub test_reads_written : (bytes : List ℕ) (v : Content) → ReadsTest bytes v → IsTest v
-test_reads_written bytes v h = test_is_written bytes v (record { most = limits; text = h.text; in_time = h.in_time; meant = h.meant })
+test_reads_written bytes v h =
+    test_is_written bytes v (record {
+      most = limits;
+      text = h.text;
+      in_time = h.in_time;
+      meant = h.meant;
+    })

@@ -224,7 +224,8 @@ core_after CellBegins t = refl
 core_after InCell t = refl
 core_after Tail t = refl
 
-core_front : (s : Stage) (f : Bool) (bs : List ℕ) → is_past s ≡ true → front s f bs ≡ front (core s) false bs
+core_front : (s : Stage) (f : Bool) (bs : List ℕ) → is_past s ≡ true
+    → front s f bs ≡ front (core s) false bs
 unfolding front
 core_front Magic f bs h = absurd cc
 core_front Title f bs h = absurd cc
@@ -236,38 +237,58 @@ core_front CellBegins f bs h = refl
 core_front InCell f bs h = refl
 core_front Tail f bs h = refl
 
-after_free : (s : Stage) (f g : Bool) (p q b : ℕ) (x : Front) (later other : Stage → Bool → ℕ → List TokenAt)
+after_free : (s : Stage) (f g : Bool) (p q b : ℕ) (x : Front)
+    (later other : Stage → Bool → ℕ → List TokenAt)
     → ((u v : Bool) (k : ℕ) → tokens_of (later s u k) ≡ tokens_of (other (core s) v k))
-    → ((t : Token) (v : Bool) (k : ℕ) → tokens_of (later (after s t) v k) ≡ tokens_of (other (after (core s) t) v k))
+    → ((t : Token) (v : Bool) (k : ℕ)
+    → tokens_of (later (after s t) v k) ≡ tokens_of (other (after (core s) t) v k))
     → tokens_of (after_front s f p b x later) ≡ tokens_of (after_front (core s) g q b x other)
-after_free s f g p q b (Layout n) later other same next = same (fresh_after f b) (fresh_after g b) (n - 1)
-after_free s f g p q b (Lexeme t n) later other same next = ap (λ (ts : List Token). t ∷ ts) (next t (ends_line t) (n - 1))
+after_free s f g p q b (Layout n) later other same next =
+    same (fresh_after f b) (fresh_after g b) (n - 1)
+after_free s f g p q b (Lexeme t n) later other same next =
+    ap (λ (ts : List Token). t ∷ ts) (next t (ends_line t) (n - 1))
 
 -- the places, the lines and what was read last in the init block do not bear on the tokens
-pub free : (s : Stage) (f : Bool) (k p : ℕ) (bs : List ℕ) → is_past s ≡ true → tokens_of (tokens_from s f k p bs) ≡ tokens_of (tokens_from (core s) false k 0 bs)
+pub free : (s : Stage) (f : Bool) (k p : ℕ) (bs : List ℕ) → is_past s ≡ true
+    → tokens_of (tokens_from s f k p bs) ≡ tokens_of (tokens_from (core s) false k 0 bs)
 unfolding tokens_from
 free s f k p [] h = refl
 free s f (suc k) p (b ∷ bs) h =
-    free s f k (p + 1) bs h ∙ sym (free (core s) false k 1 bs (past_core s h) ∙ ap (λ (u : Stage). tokens_of (tokens_from u false k 0 bs)) (core_core s))
+    free s f k (p + 1) bs h
+    ∙ sym (free (core s) false k 1 bs (past_core s h)
+    ∙ ap (λ (u : Stage). tokens_of (tokens_from u false k 0 bs)) (core_core s))
 free s f zero p (b ∷ bs) h =
-    ap (λ (x : Front). tokens_of (after_front s f p b x (λ u g k. tokens_from u g k (p + 1) bs))) (core_front s f (b ∷ bs) h)
-    ∙ after_free s f false p 0 b (front (core s) false (b ∷ bs)) (λ u g k. tokens_from u g k (p + 1) bs) (λ u g k. tokens_from u g k 1 bs)
-    (λ u v k. free s u k (p + 1) bs h ∙ sym (free (core s) v k 1 bs (past_core s h) ∙ ap (λ (u : Stage). tokens_of (tokens_from u false k 0 bs)) (core_core s)))
+    ap (λ (x : Front). tokens_of (after_front s f p b x (λ u g k. tokens_from u g k (p + 1) bs)))
+    (core_front s f (b ∷ bs) h)
+    ∙ after_free s f false p 0 b (front (core s) false (b ∷ bs))
+    (λ u g k. tokens_from u g k (p + 1) bs) (λ u g k. tokens_from u g k 1 bs)
+    (λ u v k. free s u k (p + 1) bs h
+    ∙ sym (free (core s) v k 1 bs (past_core s h)
+    ∙ ap (λ (u : Stage). tokens_of (tokens_from u false k 0 bs)) (core_core s)))
     (λ t v k. free (after s t) v k (p + 1) bs (past_after s t h)
     ∙ ap (λ (u : Stage). tokens_of (tokens_from u false k 0 bs)) (core_after s t)
     ∙ sym (free (after (core s) t) v k 1 bs (past_after (core s) t (past_core s h))))
 
 -- a token, in a part from the init block on
-pub turn : (s : Stage) (b : ℕ) (word rest : List ℕ) (t : Token) → is_past s ≡ true → front s false (b ∷ (word ++ rest)) ≡ Lexeme t (length (b ∷ word))
+pub turn : (s : Stage) (b : ℕ) (word rest : List ℕ) (t : Token) → is_past s ≡ true
+    → front s false (b ∷ (word ++ rest)) ≡ Lexeme t (length (b ∷ word))
     → read s (b ∷ (word ++ rest)) ≡ t ∷ read (core (after s t)) rest
 unfolding tokens_from
 turn s b word rest t h e =
     let l = length-append word rest in
-    ap (λ (x : Front). tokens_of (after_front s false 0 b x (λ u g k. tokens_from u g k 1 (word ++ rest)))) e
-    ∙ ap (λ (k : ℕ). t ∷ tokens_of (tokens_from (after s t) (ends_line t) k 1 (word ++ rest))) (omega arith)
-    ∙ ap (λ (ps : List TokenAt). t ∷ tokens_of ps) (tokens_skip (after s t) (ends_line t) (length word) 1 (word ++ rest) (omega arith))
-    ∙ ap (λ (x : List ℕ). t ∷ tokens_of (tokens_from (after s t) (ends_line t) 0 (1 + length word) x)) (drop_at word rest (length word) refl)
-    ∙ ap (λ (ts : List Token). t ∷ ts) (free (after s t) (ends_line t) 0 (1 + length word) rest (past_after s t h))
+    ap
+    (λ (x : Front).
+    tokens_of (after_front s false 0 b x (λ u g k. tokens_from u g k 1 (word ++ rest)))) e
+    ∙ ap (λ (k : ℕ). t ∷ tokens_of (tokens_from (after s t) (ends_line t) k 1 (word ++ rest)))
+    (omega arith)
+    ∙ ap (λ (ps : List TokenAt). t ∷ tokens_of ps) (tokens_skip (after s t) (ends_line t)
+    (length word) 1 (word ++ rest) (omega arith))
+    ∙ ap
+    (λ (x : List ℕ). t
+    ∷ tokens_of (tokens_from (after s t) (ends_line t) 0 (1 + length word) x))
+    (drop_at word rest (length word) refl)
+    ∙ ap (λ (ts : List Token). t ∷ ts) (free (after s t) (ends_line t) 0 (1 + length word) rest
+    (past_after s t h))
 
 -- ---- three parts that a token of their own does not end
 
@@ -297,17 +318,21 @@ part_front Operands bs = refl
 part_front Condition bs = refl
 
 -- a token that ends no part
-pub inner_turn : (w : Within) (b : ℕ) (word rest : List ℕ) (t : Token) → core (after (part w) t) ≡ part w → front Tail false (b ∷ (word ++ rest)) ≡ Lexeme t (length (b ∷ word))
+pub inner_turn : (w : Within) (b : ℕ) (word rest : List ℕ) (t : Token)
+    → core (after (part w) t) ≡ part w
+    → front Tail false (b ∷ (word ++ rest)) ≡ Lexeme t (length (b ∷ word))
     → inner w (b ∷ (word ++ rest)) ≡ t ∷ inner w rest
 inner_turn w b word rest t stays e =
-    turn (part w) b word rest t (past_part w) (part_front w (b ∷ (word ++ rest)) ∙ e) ∙ ap (λ (s : Stage). t ∷ read s rest) stays
+    turn (part w) b word rest t (past_part w) (part_front w (b ∷ (word ++ rest)) ∙ e)
+    ∙ ap (λ (s : Stage). t ∷ read s rest) stays
 
 pub word_stays : (w : Within) (n : List ℕ) → core (after (part w) (tokens.Word n)) ≡ part w
 word_stays Entries n = refl
 word_stays Operands n = refl
 word_stays Condition n = refl
 
-pub number_stays : (w : Within) (b : Bool) (n : List ℕ) → core (after (part w) (tokens.Number b n)) ≡ part w
+pub number_stays : (w : Within) (b : Bool) (n : List ℕ)
+    → core (after (part w) (tokens.Number b n)) ≡ part w
 number_stays Entries b n = refl
 number_stays Operands b n = refl
 number_stays Condition b n = refl
@@ -331,15 +356,19 @@ no_blank b h = let l = h.low in grind (arith, nat_tests)
 ascii : (b : ℕ) → IsOfWord b → nat_le 128 b ≡ false
 ascii b h = let l = h.high in grind (arith, nat_tests)
 
-pub three_tests : {A : Type 0} (x y z : Bool) (a b c d : A) → x ≡ false → y ≡ false → z ≡ false → (if x then a else (if y then b else (if z then c else d))) ≡ d
+pub three_tests : {A : Type 0} (x y z : Bool) (a b c d : A) → x ≡ false → y ≡ false → z ≡ false
+    → (if x then a else (if y then b else (if z then c else d))) ≡ d
 three_tests x y z a b c d e f g =
     ap (λ (t : Bool). if t then a else (if y then b else (if z then c else d))) e
     ∙ ap (λ (t : Bool). if t then b else (if z then c else d)) f
     ∙ ap (λ (t : Bool). if t then c else d) g
 
 -- what such a byte begins is looked at as in every part
-pub word_byte : (s : Stage) (b : ℕ) (bs : List ℕ) → IsOfWord b → front s false (b ∷ bs) ≡ stage_front s false (b ∷ bs)
+pub word_byte : (s : Stage) (b : ℕ) (bs : List ℕ) → IsOfWord b
+    → front s false (b ∷ bs) ≡ stage_front s false (b ∷ bs)
 unfolding front
 word_byte s b bs h =
     let l = h.low in
-    three_tests (nat_le 128 b) (is_blank b) (begins_comment (b ∷ bs)) _ _ _ _ (ascii b h) (no_blank b h) (and_left (b == 40) (slice_index bs 0 == 42) (other b 40 (λ e. absurd (omega arith))))
+    three_tests (nat_le 128 b) (is_blank b) (begins_comment (b ∷ bs)) _ _ _ _ (ascii b h)
+    (no_blank b h) (and_left (b == 40) (slice_index bs 0 == 42)
+    (other b 40 (λ e. absurd (omega arith))))

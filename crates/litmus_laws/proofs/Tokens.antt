@@ -88,48 +88,64 @@ word_span : (bs : List ℕ) → all_of_word (take (position_or_len ends_word bs)
 word_span [] = refl
 word_span (b ∷ bs) = one (is_word_byte b) refl (word_span bs)
   where
-    one : (c : Bool) → is_word_byte b ≡ c → all_of_word (take (position_or_len ends_word bs) bs) ≡ true → all_of_word (take (if not (not c) then 1 + position_or_len ends_word bs else 0) (b ∷ bs)) ≡ true
+    one : (c : Bool) → is_word_byte b ≡ c
+        → all_of_word (take (position_or_len ends_word bs) bs) ≡ true
+        → all_of_word (take (if not (not c) then 1 + position_or_len ends_word bs else 0) (b ∷ bs))
+        ≡ true
     one true e h =
         let next : 1 + position_or_len ends_word bs ≡ suc (position_or_len ends_word bs) = omega arith in
-        ap (λ (k : ℕ). all_of_word (take k (b ∷ bs))) next ∙ and_from (is_word_byte b) (all_of_word (take (position_or_len ends_word bs) bs)) e h
+        ap (λ (k : ℕ). all_of_word (take k (b ∷ bs))) next
+        ∙ and_from (is_word_byte b) (all_of_word (take (position_or_len ends_word bs) bs)) e h
     one false e h = refl
 
 digit_span : (bs : List ℕ) → are_digits (take (position_or_len ends_digits bs) bs) ≡ true
 digit_span [] = refl
 digit_span (b ∷ bs) = one (is_digit b) refl (digit_span bs)
   where
-    one : (c : Bool) → is_digit b ≡ c → are_digits (take (position_or_len ends_digits bs) bs) ≡ true → are_digits (take (if not (not c) then 1 + position_or_len ends_digits bs else 0) (b ∷ bs)) ≡ true
+    one : (c : Bool) → is_digit b ≡ c → are_digits (take (position_or_len ends_digits bs) bs) ≡ true
+        → are_digits (take (if not (not c) then 1 + position_or_len ends_digits bs else 0) (b ∷ bs))
+        ≡ true
     one true e h =
         let next : 1 + position_or_len ends_digits bs ≡ suc (position_or_len ends_digits bs) = omega arith in
-        ap (λ (k : ℕ). are_digits (take k (b ∷ bs))) next ∙ and_from (is_digit b) (are_digits (take (position_or_len ends_digits bs) bs)) e h
+        ap (λ (k : ℕ). are_digits (take k (b ∷ bs))) next
+        ∙ and_from (is_digit b) (are_digits (take (position_or_len ends_digits bs) bs)) e h
     one false e h = refl
 
 begins_of : (b : ℕ) → begins_word b ≡ true → is_word_byte b ≡ true
 begins_of b h = grind (arith, nat_tests)
 
-word_taken : (b : ℕ) (bs : List ℕ) → begins_word b ≡ true → IsWord (take (position_or_len ends_word (b ∷ bs)) (b ∷ bs))
+word_taken : (b : ℕ) (bs : List ℕ) → begins_word b ≡ true
+    → IsWord (take (position_or_len ends_word (b ∷ bs)) (b ∷ bs))
 word_taken b bs h =
     let next : 1 + position_or_len ends_word bs ≡ suc (position_or_len ends_word bs) = omega arith in
     let more : position_or_len ends_word (b ∷ bs) ≡ suc (position_or_len ends_word bs) =
-    ap (λ (c : Bool). if not (not c) then 1 + position_or_len ends_word bs else 0) (begins_of b h) ∙ next in
-    is_word (take (position_or_len ends_word (b ∷ bs)) (b ∷ bs)) (ap (λ (k : ℕ). begins_word (slice_index (take k (b ∷ bs)) 0)) more ∙ h) (word_span (b ∷ bs))
+    ap (λ (c : Bool). if not (not c) then 1 + position_or_len ends_word bs else 0) (begins_of b h)
+    ∙ next in
+    is_word (take (position_or_len ends_word (b ∷ bs)) (b ∷ bs))
+    (ap (λ (k : ℕ). begins_word (slice_index (take k (b ∷ bs)) 0)) more ∙ h)
+    (word_span (b ∷ bs))
 
-leading : (c : Bool) (d : ℕ) (ds : List ℕ) → (d == 48) ≡ c → are_digits (d ∷ ds) ≡ true → AreDigits (significant ds) → AreDigits (if c then significant ds else d ∷ ds)
+leading : (c : Bool) (d : ℕ) (ds : List ℕ) → (d == 48) ≡ c → are_digits (d ∷ ds) ≡ true
+    → AreDigits (significant ds) → AreDigits (if c then significant ds else d ∷ ds)
 leading true d ds e h s = s
 leading false d ds e h s = record { digits = h; no_zero = eqb-false d 48 e }
 
 significant_digits : (ds : List ℕ) → are_digits ds ≡ true → AreDigits (significant ds)
 significant_digits [] h = record { digits = refl; no_zero = λ e. absurd (omega arith) }
-significant_digits (d ∷ ds) h = leading (d == 48) d ds refl h (significant_digits ds (and_parts (is_digit d) (are_digits ds) h).1)
+significant_digits (d ∷ ds) h =
+    leading (d == 48) d ds refl h (significant_digits ds
+    (and_parts (is_digit d) (are_digits ds) h).1)
 
 -- ---- the front of a text
 
-raw_taken : (m : ℕ) (bs : List ℕ) → (n : ℕ) × (raw_from m bs ≡ m + n) × (holds_comment (take n bs) ≡ false)
+raw_taken : (m : ℕ) (bs : List ℕ)
+    → (n : ℕ) × (raw_from m bs ≡ m + n) × (holds_comment (take n bs) ≡ false)
 unfolding raw_from
 raw_taken m [] = (0, omega arith, refl)
 raw_taken m (b ∷ bs) = one (ends_raw b (slice_index bs 0)) refl (raw_taken (m + 1) bs)
   where
-    no_begin : (k : ℕ) → (b == 40 && slice_index bs 0 == 42) ≡ false → (b == 40 && slice_index (take k bs) 0 == 42) ≡ false
+    no_begin : (k : ℕ) → (b == 40 && slice_index bs 0 == 42) ≡ false
+        → (b == 40 && slice_index (take k bs) 0 == 42) ≡ false
     no_begin zero e = and_none (b == 40)
       where
         and_none : (x : Bool) → (x && false) ≡ false
@@ -137,17 +153,24 @@ raw_taken m (b ∷ bs) = one (ends_raw b (slice_index bs 0)) refl (raw_taken (m 
         and_none false = refl
     no_begin (suc k) e = same bs e
       where
-        same : (cs : List ℕ) → (b == 40 && slice_index cs 0 == 42) ≡ false → (b == 40 && slice_index (take (suc k) cs) 0 == 42) ≡ false
+        same : (cs : List ℕ) → (b == 40 && slice_index cs 0 == 42) ≡ false
+            → (b == 40 && slice_index (take (suc k) cs) 0 == 42) ≡ false
         same [] h = h
         same (c ∷ cs) h = h
 
-    one : (c : Bool) → ends_raw b (slice_index bs 0) ≡ c → ((n : ℕ) × (raw_from (m + 1) bs ≡ m + 1 + n) × (holds_comment (take n bs) ≡ false))
-        → (n : ℕ) × ((if c then m else raw_from (m + 1) bs) ≡ m + n) × (holds_comment (take n (b ∷ bs)) ≡ false)
+    one : (c : Bool) → ends_raw b (slice_index bs 0) ≡ c
+        → ((n : ℕ) × (raw_from (m + 1) bs ≡ m + 1 + n) × (holds_comment (take n bs) ≡ false))
+        → (n : ℕ) × ((if c then m else raw_from (m + 1) bs) ≡ m + n)
+        × (holds_comment (take n (b ∷ bs)) ≡ false)
     one true e (n, is, none) = (0, omega arith, refl)
     one false e (n, is, none) =
         let parts = or_parts (is_space b || is_not_ascii b) (b == 40 && slice_index bs 0 == 42) e in
-        let sum : m + 1 + n ≡ m + suc n = omega arith in
-        (suc n, is ∙ sum, or_from (begins_comment (b ∷ take n bs)) (holds_comment (take n bs)) (no_begin n parts.1) none)
+        let sum : m + 1 + n ≡ m + suc n = omega arith in (
+          suc n,
+          is ∙ sum,
+          or_from (begins_comment (b ∷ take n bs)) (holds_comment (take n bs))
+              (no_begin n parts.1) none,
+        )
 
 raw_word : (bs : List ℕ) → holds_comment (take (raw_from 0 bs) bs) ≡ false
 raw_word bs =
@@ -167,12 +190,16 @@ sign_fine : (s : Stage) (b next : ℕ) → FrontFine s (sign_front b next)
 sign_fine s b next =
     tested (FrontFine s) (b == 47 && next == 92) _ _ (λ _. fine_in s (tokens.Mark _) tt tt tt)
     (λ _. tested (FrontFine s) (b == 92 && next == 47) _ _ (λ _. fine_in s (tokens.Mark _) tt tt tt)
-    (λ _. tested (FrontFine s) (b == 61 && next == 62) _ _ (λ _. fine_in s (tokens.Mark _) tt tt tt) (λ _. mark_fine s (mark_of b))))
+    (λ _. tested (FrontFine s) (b == 61 && next == 62) _ _ (λ _. fine_in s (tokens.Mark _) tt tt tt)
+    (λ _. mark_fine s (mark_of b))))
 
 ninth_fine : (w : List ℕ) → IsWord w → FineIn (Header zero) (word_token (Header zero) w)
-ninth_fine w h = tested (FineIn (Header zero)) (bytes_eq w (codes "P8")) (tokens.Broken rules.TooManyThreads) (tokens.Word w) (λ _. (tt, tt)) (λ e. (h, e))
+ninth_fine w h =
+    tested (FineIn (Header zero)) (bytes_eq w (codes "P8")) (tokens.Broken rules.TooManyThreads)
+    (tokens.Word w) (λ _. (tt, tt)) (λ e. (h, e))
 
-word_fine : (s : Stage) (bs : List ℕ) (n : ℕ) → is_raw s ≡ false → IsWord (take n bs) → FrontFine s (word_front s bs n)
+word_fine : (s : Stage) (bs : List ℕ) (n : ℕ) → is_raw s ≡ false → IsWord (take n bs)
+    → FrontFine s (word_front s bs n)
 word_fine Magic bs n r h = absurd cc
 word_fine Title bs n r h = absurd cc
 word_fine TitleEnd bs n r h = h
@@ -182,38 +209,62 @@ word_fine (Header zero) bs n r h = ninth_fine (take n bs) h
 word_fine (Header (suc k)) bs n r h = h
 word_fine CellBegins bs n r h =
     let gap = gap_from 0 0 (drop n bs) in
-    tested (FrontFine CellBegins) (slice_index bs (n + gap) == 58) (Lexeme (tokens.Label (take n bs)) (n + gap + 1)) (Lexeme (tokens.Word (take n bs)) n) (λ _. h) (λ _. h)
+    tested (FrontFine CellBegins) (slice_index bs (n + gap) == 58)
+    (Lexeme (tokens.Label (take n bs)) (n + gap + 1)) (Lexeme (tokens.Word (take n bs)) n)
+    (λ _. h) (λ _. h)
 word_fine InCell bs n r h = h
 word_fine Tail bs n r h = h
 
-number_fine : (s : Stage) (negative : Bool) (ds : List ℕ) → is_raw s ≡ false → AreDigits ds → FineIn s (tokens.Number negative ds)
+number_fine : (s : Stage) (negative : Bool) (ds : List ℕ) → is_raw s ≡ false → AreDigits ds
+    → FineIn s (tokens.Number negative ds)
 number_fine s negative ds r h = fine_in s (tokens.Number negative ds) h tt tt
 
-plain_fine : (s : Stage) (b : ℕ) (bs : List ℕ) → is_raw s ≡ false → FrontFine s (plain_front s (b ∷ bs))
+plain_fine : (s : Stage) (b : ℕ) (bs : List ℕ) → is_raw s ≡ false
+    → FrontFine s (plain_front s (b ∷ bs))
 plain_fine s b bs r =
     tested (FrontFine s) (is_line_end b) (Layout 1) _ (λ _. tt)
-    (λ _. tested (FrontFine s) (begins_word b) (word_front s (b ∷ bs) (position_or_len ends_word (b ∷ bs))) _ (λ e. word_fine s (b ∷ bs) (position_or_len ends_word (b ∷ bs)) r (word_taken b bs e))
-    (λ _. tested (FrontFine s) (is_digit b) (number_front (b ∷ bs) (position_or_len ends_digits (b ∷ bs))) _ (λ _. number_fine s false (significant (take (position_or_len ends_digits (b ∷ bs)) (b ∷ bs))) r (significant_digits (take (position_or_len ends_digits (b ∷ bs)) (b ∷ bs)) (digit_span (b ∷ bs))))
-    (λ _. tested (FrontFine s) (b == 45 && is_digit (slice_index bs 0)) (minus_front bs (position_or_len ends_digits bs)) (sign_front b (slice_index bs 0)) (λ _. number_fine s true (significant (take (position_or_len ends_digits bs) bs)) r (significant_digits (take (position_or_len ends_digits bs) bs) (digit_span bs)))
+    (λ _. tested (FrontFine s) (begins_word b)
+    (word_front s (b ∷ bs) (position_or_len ends_word (b ∷ bs))) _
+    (λ e. word_fine s (b ∷ bs) (position_or_len ends_word (b ∷ bs)) r (word_taken b bs e))
+    (λ _. tested (FrontFine s) (is_digit b)
+    (number_front (b ∷ bs) (position_or_len ends_digits (b ∷ bs))) _ (λ _. number_fine s false
+    (significant (take (position_or_len ends_digits (b ∷ bs)) (b ∷ bs))) r
+    (significant_digits (take (position_or_len ends_digits (b ∷ bs)) (b ∷ bs))
+    (digit_span (b ∷ bs))))
+    (λ _. tested (FrontFine s) (b == 45 && is_digit (slice_index bs 0))
+    (minus_front bs (position_or_len ends_digits bs)) (sign_front b (slice_index bs 0))
+    (λ _. number_fine s true (significant (take (position_or_len ends_digits bs) bs)) r
+    (significant_digits (take (position_or_len ends_digits bs) bs) (digit_span bs)))
     (λ _. sign_fine s b (slice_index bs 0)))))
 
 line_fine : (line : List ℕ) → FrontFine Head (line_front line)
-line_fine line = tested (FrontFine Head) (position_or_len is_equals line == length line) (Lexeme tokens.Bad 1) (Lexeme tokens.Keyline (position_or_len is_not_ascii line)) (λ _. tt) (λ _. tt)
+line_fine line =
+    tested (FrontFine Head) (position_or_len is_equals line == length line) (Lexeme tokens.Bad 1)
+    (Lexeme tokens.Keyline (position_or_len is_not_ascii line)) (λ _. tt) (λ _. tt)
 
 quoted_fine : (o : Option ℕ) → FrontFine Head (quoted_front o)
 quoted_fine (Some n) = tt
 quoted_fine None = tt
 
-raw_fine : (s : Stage) (bs : List ℕ) → IsRaw (tokens.Word (take (raw_from 0 bs) bs)) → ((t : Token) → IsRaw t → FineIn s t) → FrontFine s (raw_front bs (raw_from 0 bs))
-raw_fine s bs h is = tested (FrontFine s) (is_line_end (slice_index bs 0)) (Layout 1) (Lexeme (tokens.Word (take (raw_from 0 bs) bs)) (raw_from 0 bs)) (λ _. tt) (λ _. is (tokens.Word (take (raw_from 0 bs) bs)) h)
+raw_fine : (s : Stage) (bs : List ℕ) → IsRaw (tokens.Word (take (raw_from 0 bs) bs))
+    → ((t : Token) → IsRaw t → FineIn s t) → FrontFine s (raw_front bs (raw_from 0 bs))
+raw_fine s bs h is =
+    tested (FrontFine s) (is_line_end (slice_index bs 0)) (Layout 1)
+    (Lexeme (tokens.Word (take (raw_from 0 bs) bs)) (raw_from 0 bs)) (λ _. tt)
+    (λ _. is (tokens.Word (take (raw_from 0 bs) bs)) h)
 
 stage_fine : (s : Stage) (f : Bool) (b : ℕ) (bs : List ℕ) → FrontFine s (stage_front s f (b ∷ bs))
 stage_fine Magic f b bs = raw_fine Magic (b ∷ bs) (raw_word (b ∷ bs)) (λ t h. h)
 stage_fine Title f b bs = raw_fine Title (b ∷ bs) (raw_word (b ∷ bs)) (λ t h. h)
-stage_fine TitleEnd f b bs = tested (FrontFine TitleEnd) (is_line_end b) (Lexeme tokens.LineEnd 1) (Lexeme tokens.Bad 1) (λ _. tt) (λ _. tt)
+stage_fine TitleEnd f b bs =
+    tested (FrontFine TitleEnd) (is_line_end b) (Lexeme tokens.LineEnd 1) (Lexeme tokens.Bad 1)
+    (λ _. tt) (λ _. tt)
 stage_fine Head f b bs =
-    tested (FrontFine Head) (f && is_letter b) _ _ (λ _. line_fine (take (position_or_len is_line_end (b ∷ bs)) (b ∷ bs)))
-    (λ _. tested (FrontFine Head) (b == 34) (quoted_front (quoted_from (b ∷ bs))) (plain_front Head (b ∷ bs)) (λ _. quoted_fine (quoted_from (b ∷ bs))) (λ _. plain_fine Head b bs refl))
+    tested (FrontFine Head) (f && is_letter b) _ _ (λ _.
+    line_fine (take (position_or_len is_line_end (b ∷ bs)) (b ∷ bs)))
+    (λ _. tested (FrontFine Head) (b == 34) (quoted_front (quoted_from (b ∷ bs)))
+    (plain_front Head (b ∷ bs)) (λ _. quoted_fine (quoted_from (b ∷ bs)))
+    (λ _. plain_fine Head b bs refl))
 stage_fine (Init a w) f b bs = plain_fine (Init a w) b bs refl
 stage_fine (Header n) f b bs = plain_fine (Header n) b bs refl
 stage_fine CellBegins f b bs = plain_fine CellBegins b bs refl
@@ -223,20 +274,28 @@ stage_fine Tail f b bs = plain_fine Tail b bs refl
 front_fine : (s : Stage) (f : Bool) (b : ℕ) (bs : List ℕ) → FrontFine s (front s f (b ∷ bs))
 unfolding front
 front_fine s f b bs =
-    tested (FrontFine s) (is_not_ascii b) (Lexeme (tokens.Broken rules.NotAscii) 1) _ (λ _. fine_in s (tokens.Broken rules.NotAscii) tt tt tt)
+    tested (FrontFine s) (is_not_ascii b) (Lexeme (tokens.Broken rules.NotAscii) 1) _
+    (λ _. fine_in s (tokens.Broken rules.NotAscii) tt tt tt)
     (λ _. tested (FrontFine s) (is_blank b) (Layout 1) _ (λ _. tt)
-    (λ _. tested (FrontFine s) (begins_comment (b ∷ bs)) (comment_front (length (b ∷ bs)) (comment_of (b ∷ bs))) (stage_front s f (b ∷ bs)) (λ _. comment_fine s _ (comment_of (b ∷ bs))) (λ _. stage_fine s f b bs)))
+    (λ _. tested (FrontFine s) (begins_comment (b ∷ bs))
+    (comment_front (length (b ∷ bs)) (comment_of (b ∷ bs))) (stage_front s f (b ∷ bs))
+    (λ _. comment_fine s _ (comment_of (b ∷ bs))) (λ _. stage_fine s f b bs)))
 
-after_fine : (s : Stage) (f : Bool) (p b : ℕ) (x : Front) (later : Stage → Bool → ℕ → List TokenAt) → FrontFine s x → ((u : Stage) (g : Bool) (k : ℕ) → AreFine u (tokens_of (later u g k))) → AreFine s (tokens_of (after_front s f p b x later))
+after_fine : (s : Stage) (f : Bool) (p b : ℕ) (x : Front) (later : Stage → Bool → ℕ → List TokenAt)
+    → FrontFine s x → ((u : Stage) (g : Bool) (k : ℕ) → AreFine u (tokens_of (later u g k)))
+    → AreFine s (tokens_of (after_front s f p b x later))
 after_fine s f p b (Layout n) later h all = all s (fresh_after f b) (n - 1)
 after_fine s f p b (Lexeme t n) later h all = (h, all (after s t) (ends_line t) (n - 1))
 
 -- the tokens of a text
-pub tokens_fine : (s : Stage) (f : Bool) (k p : ℕ) (bs : List ℕ) → AreFine s (tokens_of (tokens_from s f k p bs))
+pub tokens_fine : (s : Stage) (f : Bool) (k p : ℕ) (bs : List ℕ)
+    → AreFine s (tokens_of (tokens_from s f k p bs))
 unfolding tokens_from
 tokens_fine s f k p [] = (fine_in s tokens.End tt tt tt, tt)
 tokens_fine s f (suc k) p (b ∷ bs) = tokens_fine s f k (p + 1) bs
-tokens_fine s f zero p (b ∷ bs) = after_fine s f p b (front s f (b ∷ bs)) (λ u g k. tokens_from u g k (p + 1) bs) (front_fine s f b bs) (λ u g k. tokens_fine u g k (p + 1) bs)
+tokens_fine s f zero p (b ∷ bs) =
+    after_fine s f p b (front s f (b ∷ bs)) (λ u g k. tokens_from u g k (p + 1) bs)
+    (front_fine s f b bs) (λ u g k. tokens_fine u g k (p + 1) bs)
 
 -- ---- from the init block on
 

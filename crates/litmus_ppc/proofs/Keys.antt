@@ -15,16 +15,25 @@ use Rattle.litmus_ppc.specs.InitReading.{bytes_of}
 abbrev pub order : Vec ℕ Global → Vec ℕ Global → Ordering
 order x y = slice_cmp nat_cmp x.items y.items
 
-pub inserted : (ks : List (Vec ℕ Global)) (k : Vec ℕ Global) → map bytes_of (insert_key order ks k) ≡ insert_key (slice_cmp nat_cmp) (map bytes_of ks) (bytes_of k)
+pub inserted : (ks : List (Vec ℕ Global)) (k : Vec ℕ Global)
+    → map bytes_of (insert_key order ks k)
+    ≡ insert_key (slice_cmp nat_cmp) (map bytes_of ks) (bytes_of k)
 inserted [] k = refl
 inserted (x ∷ xs) k = by_order (order k x) (inserted xs k)
   where
-    by_order : (o : Ordering) → map bytes_of (insert_key order xs k) ≡ insert_key (slice_cmp nat_cmp) (map bytes_of xs) (bytes_of k) → map bytes_of (match_ordering o (k ∷ x ∷ xs) (x ∷ xs) (x ∷ insert_key order xs k)) ≡ match_ordering o (bytes_of k ∷ bytes_of x ∷ map bytes_of xs) (bytes_of x ∷ map bytes_of xs) (bytes_of x ∷ insert_key (slice_cmp nat_cmp) (map bytes_of xs) (bytes_of k))
+    by_order : (o : Ordering)
+        → map bytes_of (insert_key order xs k)
+        ≡ insert_key (slice_cmp nat_cmp) (map bytes_of xs) (bytes_of k)
+        → map bytes_of (match_ordering o (k ∷ x ∷ xs) (x ∷ xs) (x ∷ insert_key order xs k))
+        ≡ match_ordering o (bytes_of k ∷ bytes_of x ∷ map bytes_of xs)
+        (bytes_of x ∷ map bytes_of xs) (bytes_of x
+        ∷ insert_key (slice_cmp nat_cmp) (map bytes_of xs) (bytes_of k))
     by_order Less e = refl
     by_order Equal e = refl
     by_order Greater e = ap (λ l. bytes_of x ∷ l) e
 
-pub found : (ks : List (Vec ℕ Global)) (k : Vec ℕ Global) → list_any (is_at (order k)) ks ≡ has_key (map bytes_of ks) (bytes_of k)
+pub found : (ks : List (Vec ℕ Global)) (k : Vec ℕ Global)
+    → list_any (is_at (order k)) ks ≡ has_key (map bytes_of ks) (bytes_of k)
 found [] k = refl
 found (x ∷ xs) k = ap (λ b. is_at (order k) x || b) (found xs k)
 
@@ -39,11 +48,16 @@ was_there : (d x : Bool) → d ≡ not x → d ≡ false → x ≡ true
 was_there d true e f = refl
 was_there d false e f = cc
 
-module _ (es : List InitEntry) (ss : List ℕ) (ks : List (Vec ℕ Global)) (k : Vec ℕ Global) (d : Bool) (says : d ≡ not (list_any (is_at (order k)) ks)) where
-  pub adds : (ks' : List (Vec ℕ Global)) → d ≡ true → ks' ≡ insert_key order ks k → added (block es ss (map bytes_of ks)) (bytes_of k) ≡ Some (block es ss (map bytes_of ks'))
+module _ (es : List InitEntry) (ss : List ℕ) (ks : List (Vec ℕ Global)) (k : Vec ℕ Global)
+    (d : Bool) (says : d ≡ not (list_any (is_at (order k)) ks)) where
+  pub adds : (ks' : List (Vec ℕ Global)) → d ≡ true → ks' ≡ insert_key order ks k
+      → added (block es ss (map bytes_of ks)) (bytes_of k) ≡ Some (block es ss (map bytes_of ks'))
   adds ks' new e =
-      ap (λ b. if b then None else Some (with_key (block es ss (map bytes_of ks)) (bytes_of k))) (sym (found ks k) ∙ was_new d _ says new)
+      ap (λ b. if b then None else Some (with_key (block es ss (map bytes_of ks)) (bytes_of k)))
+      (sym (found ks k) ∙ was_new d _ says new)
       ∙ ap (λ ns. Some (block es ss ns)) (sym (inserted ks k) ∙ ap (map bytes_of) (sym e))
 
   pub repeats : d ≡ false → added (block es ss (map bytes_of ks)) (bytes_of k) ≡ None
-  repeats there = ap (λ b. if b then None else Some (with_key (block es ss (map bytes_of ks)) (bytes_of k))) (sym (found ks k) ∙ was_there d _ says there)
+  repeats there =
+      ap (λ b. if b then None else Some (with_key (block es ss (map bytes_of ks)) (bytes_of k)))
+      (sym (found ks k) ∙ was_there d _ says there)

@@ -29,31 +29,45 @@ module _ (threads : ℕ) (few : threads < 18446744073709551616) (bytes : List �
   text_of : (s : State) → made ≡ Ok s → IsLocationsText threads (tokens_of (lexed Tail bytes))
   text_of s e =
       let l = ends_last Tail false 0 0 bytes in
-      list_whole threads (lexed Tail bytes) Tail (nothing kinds.Locations) s e (ends_done (start kinds.Locations threads) s l.0 l.1 (ap (run (start kinds.Locations threads)) (sym l.2) ∙ e))
+      list_whole threads (lexed Tail bytes) Tail (nothing kinds.Locations) s e (ends_done
+      (start kinds.Locations threads) s l.0 l.1
+      (ap (run (start kinds.Locations threads)) (sym l.2) ∙ e))
 
-  meant_by : (s : State) → made ≡ Ok s → (x : IsLocationsText threads (tokens_of (lexed Tail bytes))) → map place_meaning (members x.items) ≡ s.draft.observed
+  meant_by : (s : State) → made ≡ Ok s
+      → (x : IsLocationsText threads (tokens_of (lexed Tail bytes)))
+      → map place_meaning (members x.items) ≡ s.draft.observed
   meant_by s e x =
       let t = list_taken threads few (lexed Tail bytes) x in
       let same : t.0 ≡ s = same_state t.0 s (sym t.1 ∙ e) in
       sym t.2 ∙ ap (λ (y : State). y.draft.observed) same
 
-  pub locations_found : (s : State) → (length bytes ≤ 65536 → made ≡ Ok s) → (65536 < length bytes → ⊥) → ReadsLocations threads bytes s.draft.observed
+  pub locations_found : (s : State) → (length bytes ≤ 65536 → made ≡ Ok s)
+      → (65536 < length bytes → ⊥) → ReadsLocations threads bytes s.draft.observed
   locations_found s h bounded =
       let le = is_short bytes bounded in
       let x = text_of s (h le) in
       record { short = le; text = x; in_time = refl; meant = meant_by s (h le) x }
 
-  pub locations_only : (s : State) → (length bytes ≤ 65536 → made ≡ Ok s) → (v : List Place) → ReadsLocations threads bytes v → s.draft.observed ≡ v
+  pub locations_only : (s : State) → (length bytes ≤ 65536 → made ≡ Ok s) → (v : List Place)
+      → ReadsLocations threads bytes v → s.draft.observed ≡ v
   locations_only s h v r = sym (meant_by s (h r.short) r.text) ∙ r.meant
 
-  pub locations_only_memory : (d : LitmusFault) → (length bytes ≤ 65536 → FailsAt d made) → (v : List Place) → ReadsLocations threads bytes v → faults_of.IsMemory d
+  pub locations_only_memory : (d : LitmusFault) → (length bytes ≤ 65536 → FailsAt d made)
+      → (v : List Place) → ReadsLocations threads bytes v → faults_of.IsMemory d
   locations_only_memory (faults.OutOfMemory e) h v r = tt
-  locations_only_memory (faults.Refused rule offset) h v r = no_fault (IsLocationsText threads) kinds.Locations threads (list_reading threads few) (lexed Tail bytes) rule offset r.text (h r.short)
+  locations_only_memory (faults.Refused rule offset) h v r =
+      no_fault (IsLocationsText threads) kinds.Locations threads (list_reading threads few)
+      (lexed Tail bytes) rule offset r.text (h r.short)
 
-  pub locations_fault : (d : LitmusFault) → (length bytes ≤ 65536 → FailsAt d made) → (65536 < length bytes → faults_of.IsTooLong d) → IsFaultOf (IsLocationsFault threads bytes) d
+  pub locations_fault : (d : LitmusFault) → (length bytes ≤ 65536 → FailsAt d made)
+      → (65536 < length bytes → faults_of.IsTooLong d)
+      → IsFaultOf (IsLocationsFault threads bytes) d
   locations_fault (faults.OutOfMemory e) h long = tt
   locations_fault (faults.Refused rule offset) h long = choose (cases_lt 65536 (length bytes))
     where
-      choose : (65536 < length bytes) ⊎ (length bytes ≤ 65536) → IsLocationsFault threads bytes rule offset
+      choose : (65536 < length bytes) ⊎ (length bytes ≤ 65536)
+          → IsLocationsFault threads bytes rule offset
       choose (inl lt) = texts.IsTooLong lt (long lt).0 (long lt).1
-      choose (inr le) = texts.IsGrammar le (fault_found (IsLocationsText threads) kinds.Locations threads (list_reading threads few) (lexed Tail bytes) rule offset (h le))
+      choose (inr le) =
+          texts.IsGrammar le (fault_found (IsLocationsText threads) kinds.Locations threads
+          (list_reading threads few) (lexed Tail bytes) rule offset (h le))

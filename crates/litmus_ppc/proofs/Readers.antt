@@ -28,34 +28,53 @@ module _ (threads : ℕ) (few : threads < 18446744073709551616) (bytes : List �
   abbrev made : Ran
   made = run (start kinds.Condition threads) (lexed Tail bytes)
 
-  text_of : (s : State) → made ≡ Ok s → IsConditionText limits threads (tokens_of (lexed Tail bytes))
+  text_of : (s : State) → made ≡ Ok s
+      → IsConditionText limits threads (tokens_of (lexed Tail bytes))
   text_of s e =
       let l = ends_last Tail false 0 0 bytes in
-      condition_whole threads few (lexed Tail bytes) s e (ends_done (start kinds.Condition threads) s l.0 l.1 (ap (run (start kinds.Condition threads)) (sym l.2) ∙ e))
+      condition_whole threads few (lexed Tail bytes) s e (ends_done (start kinds.Condition threads)
+      s l.0 l.1 (ap (run (start kinds.Condition threads)) (sym l.2) ∙ e))
 
-  meant_by : (s : State) → made ≡ Ok s → (x : IsConditionText limits threads (tokens_of (lexed Tail bytes))) → pair x.quantifier (meaning x.condition) ≡ pair s.draft.quantifier s.draft.formula
+  meant_by : (s : State) → made ≡ Ok s
+      → (x : IsConditionText limits threads (tokens_of (lexed Tail bytes)))
+      → pair x.quantifier (meaning x.condition) ≡ pair s.draft.quantifier s.draft.formula
   meant_by s e x =
       let t = condition_taken threads few (lexed Tail bytes) x in
       let same : t.0 ≡ s = same_state t.0 s (sym t.1 ∙ e) in
-      ap (λ (q : Quantifier). pair q (meaning x.condition)) (sym t.2 ∙ ap (λ (y : State). y.draft.quantifier) same) ∙ ap (λ (a : Formula). pair s.draft.quantifier a) (sym t.3 ∙ ap (λ (y : State). y.draft.formula) same)
+      ap (λ (q : Quantifier). pair q (meaning x.condition))
+      (sym t.2 ∙ ap (λ (y : State). y.draft.quantifier) same)
+      ∙ ap (λ (a : Formula). pair s.draft.quantifier a)
+      (sym t.3 ∙ ap (λ (y : State). y.draft.formula) same)
 
-  pub condition_found : (s : State) → (length bytes ≤ 65536 → made ≡ Ok s) → (65536 < length bytes → ⊥) → ReadsCondition threads bytes (s.draft.quantifier, s.draft.formula)
+  pub condition_found : (s : State) → (length bytes ≤ 65536 → made ≡ Ok s)
+      → (65536 < length bytes → ⊥)
+      → ReadsCondition threads bytes (s.draft.quantifier, s.draft.formula)
   condition_found s h bounded =
       let le = is_short bytes bounded in
       let x = text_of s (h le) in
       record { short = le; text = x; in_time = refl; meant = meant_by s (h le) x }
 
-  pub condition_only : (s : State) → (length bytes ≤ 65536 → made ≡ Ok s) → (v : Quantifier × Formula) → ReadsCondition threads bytes v → pair s.draft.quantifier s.draft.formula ≡ v
+  pub condition_only : (s : State) → (length bytes ≤ 65536 → made ≡ Ok s)
+      → (v : Quantifier × Formula) → ReadsCondition threads bytes v
+      → pair s.draft.quantifier s.draft.formula ≡ v
   condition_only s h v r = sym (meant_by s (h r.short) r.text) ∙ r.meant
 
-  pub condition_only_memory : (d : LitmusFault) → (length bytes ≤ 65536 → FailsAt d made) → (v : Quantifier × Formula) → ReadsCondition threads bytes v → faults_of.IsMemory d
+  pub condition_only_memory : (d : LitmusFault) → (length bytes ≤ 65536 → FailsAt d made)
+      → (v : Quantifier × Formula) → ReadsCondition threads bytes v → faults_of.IsMemory d
   condition_only_memory (faults.OutOfMemory e) h v r = tt
-  condition_only_memory (faults.Refused rule offset) h v r = no_fault (IsConditionText limits threads) kinds.Condition threads (condition_reading threads few) (lexed Tail bytes) rule offset r.text (h r.short)
+  condition_only_memory (faults.Refused rule offset) h v r =
+      no_fault (IsConditionText limits threads) kinds.Condition threads
+      (condition_reading threads few) (lexed Tail bytes) rule offset r.text (h r.short)
 
-  pub condition_fault : (d : LitmusFault) → (length bytes ≤ 65536 → FailsAt d made) → (65536 < length bytes → faults_of.IsTooLong d) → IsFaultOf (IsConditionFault threads bytes) d
+  pub condition_fault : (d : LitmusFault) → (length bytes ≤ 65536 → FailsAt d made)
+      → (65536 < length bytes → faults_of.IsTooLong d)
+      → IsFaultOf (IsConditionFault threads bytes) d
   condition_fault (faults.OutOfMemory e) h long = tt
   condition_fault (faults.Refused rule offset) h long = choose (cases_lt 65536 (length bytes))
     where
-      choose : (65536 < length bytes) ⊎ (length bytes ≤ 65536) → IsConditionFault threads bytes rule offset
+      choose : (65536 < length bytes) ⊎ (length bytes ≤ 65536)
+          → IsConditionFault threads bytes rule offset
       choose (inl lt) = texts.IsTooLong lt (long lt).0 (long lt).1
-      choose (inr le) = texts.IsGrammar le (fault_found (IsConditionText limits threads) kinds.Condition threads (condition_reading threads few) (lexed Tail bytes) rule offset (h le))
+      choose (inr le) =
+          texts.IsGrammar le (fault_found (IsConditionText limits threads) kinds.Condition threads
+          (condition_reading threads few) (lexed Tail bytes) rule offset (h le))

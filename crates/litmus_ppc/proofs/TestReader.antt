@@ -33,11 +33,14 @@ use Rattle.litmus_grammar.proofs.TestFaults.{test_fault_where}
 use Rattle.litmus_grammar.proofs.Runs.{same_state}
 
 abbrev pub missing_in : State → Option ℕ
-missing_in s = missing (threads_in s.kind s.threads s.draft) s.draft.init.entries s.draft.init.starts
+missing_in s =
+    missing (threads_in s.kind s.threads s.draft) s.draft.init.entries s.draft.init.starts
 
 -- what the check of labels answered
 abbrev pub Answered : State → Result (Unit {0}) LitmusFault → Type 0
-Answered s r = (given : List TokenAt) (notes : List (List Note)) → AreNoted given notes s.draft.table.threads → IsLateFound given r (first_late notes)
+Answered s r =
+    (given : List TokenAt) (notes : List (List Note)) → AreNoted given notes s.draft.table.threads
+    → IsLateFound given r (first_late notes)
 
 abbrev late_init : TestTree → Option Late
 late_init t = late_entries (t.others + 1) (before_entries t) (members t.init)
@@ -57,12 +60,14 @@ none_both : (a b : Option Late) → a ≡ None → b ≡ None → or_else a b �
 none_both None b e f = f
 none_both (Some l) b e f = absurd cc
 
-no_late : (ps : List TokenAt) (l : Option Late) (n : Option ℕ) → Matches ps l n → n ≡ None → l ≡ None
+no_late : (ps : List TokenAt) (l : Option Late) (n : Option ℕ) → Matches ps l n → n ≡ None
+    → l ≡ None
 no_late ps None n m e = refl
 no_late ps (Some l) None m e = absurd m
 no_late ps (Some l) (Some n) m e = absurd cc
 
-not_there : (ps : List TokenAt) (l : Option Late) (n : Option ℕ) (k : ℕ) → Matches ps l n → n ≡ Some k → l ≡ None → ⊥
+not_there : (ps : List TokenAt) (l : Option Late) (n : Option ℕ) (k : ℕ) → Matches ps l n
+    → n ≡ Some k → l ≡ None → ⊥
 not_there ps None None k m e f = absurd cc
 not_there ps None (Some n) k m e f = m
 not_there ps (Some l) n k m e f = absurd cc
@@ -91,34 +96,55 @@ module _ (bytes : List ℕ) where
   -- what the machine keeps of a test
   record Keeps (s : State) (t : TestTree) : Type 0 where
     matches : Matches ps (late_init t) (missing_in s)
-    labels : AreNoted ps (columns_notes 0 (t.others + 1) (before_rows t) t.rows) s.draft.table.threads
+    labels : AreNoted ps (columns_notes 0 (t.others + 1) (before_rows t) t.rows)
+        s.draft.table.threads
     content : late_init t ≡ None → test_of s.draft ≡ test_meaning t
 
-  keeps_by : (t : TestTree) → t.others + 1 < 18446744073709551616 → (r : TakesTest ps t) → Keeps (test_at r.stage text.Done (with_all t.name r.block r.reached (map place_meaning (members t.observed)) t.quantifier (meaning t.condition))) t
+  keeps_by : (t : TestTree) → t.others + 1 < 18446744073709551616 → (r : TakesTest ps t)
+      → Keeps
+      (test_at r.stage text.Done (with_all t.name r.block r.reached
+      (map place_meaning (members t.observed)) t.quantifier (meaning t.condition))) t
   keeps_by t few r =
       let many : t.others + 1 ≡ length r.reached.threads = sym (sym (length-steps r.reached.threads) ∙ ap (λ (l : List (List Step)). length l) r.meant ∙ length-meaning 0 (t.others + 1) t.rows) in
       let m = late_matches (t.others + 1) few ps (before_entries t) (members t.init) r.block.starts r.stand in
       record {
         matches =
-            subst (λ (n : ℕ). Matches ps (late_init t) (missing n r.block.entries r.block.starts)) many
-            (subst (λ (es : List InitEntry). Matches ps (late_init t) (missing (t.others + 1) es r.block.starts)) (sym r.entries) m);
+            subst (λ (n : ℕ). Matches ps (late_init t) (missing n r.block.entries r.block.starts))
+            many
+            (subst
+            (λ (es : List InitEntry).
+            Matches ps (late_init t) (missing (t.others + 1) es r.block.starts))
+            (sym r.entries) m);
         labels = r.noted;
         content = λ e.
-            ap (λ (es : List InitEntry). with_entries es (steps_of r.reached.threads)) (r.entries ∙ kept_means (t.others + 1) few (before_entries t) (members t.init) e)
-            ∙ ap (λ (l : List (List Step)). with_entries (map entry_meaning (members t.init)) l) r.meant;
+            ap (λ (es : List InitEntry). with_entries es (steps_of r.reached.threads))
+            (r.entries ∙ kept_means (t.others + 1) few (before_entries t) (members t.init) e)
+            ∙ ap (λ (l : List (List Step)). with_entries (map entry_meaning (members t.init)) l)
+            r.meant;
       }
     where
       with_entries : List InitEntry → List (List Step) → Content
-      with_entries es l = record { name = t.name; init = es; threads = l; observed = map place_meaning (members t.observed); quantifier = t.quantifier; condition = meaning t.condition }
+      with_entries es l =
+          record {
+            name = t.name;
+            init = es;
+            threads = l;
+            observed = map place_meaning (members t.observed);
+            quantifier = t.quantifier;
+            condition = meaning t.condition;
+          }
 
-  keeps : (s : State) → length bytes ≤ 65536 → made ≡ Ok s → (x : IsTestText limits (tokens_of ps)) → Keeps s x.tree
+  keeps : (s : State) → length bytes ≤ 65536 → made ≡ Ok s → (x : IsTestText limits (tokens_of ps))
+      → Keeps s x.tree
   keeps s le e x =
       let few = few_of x.tree ps x.whole (few_tokens le) in
       let r = test_led x.tree x.fine few ps x.whole in
       let same = same_state _ s (sym r.by ∙ e) in
       subst (λ (y : State). Keeps y x.tree) same (keeps_by x.tree few r)
 
-  pub test_found : (s : State) (u : Unit {0}) → (length bytes ≤ 65536 → made ≡ Ok s) → (65536 < length bytes → ⊥) → missing_in s ≡ None → Answered s (Ok u) → ReadsTest bytes (test_of s.draft)
+  pub test_found : (s : State) (u : Unit {0}) → (length bytes ≤ 65536 → made ≡ Ok s)
+      → (65536 < length bytes → ⊥) → missing_in s ≡ None → Answered s (Ok u)
+      → ReadsTest bytes (test_of s.draft)
   test_found s u h bounded none answered =
       let le = is_short bytes bounded in
       let x = text_of s le (h le) in
@@ -127,31 +153,42 @@ module _ (bytes : List ℕ) where
       let b = nothing_found ps (late_labels x.tree) (answered ps (columns_notes 0 (x.tree.others + 1) (before_rows x.tree) x.tree.rows) k.labels) in
       record { short = le; text = x; in_time = none_both (late_init x.tree) (late_labels x.tree) a b; meant = sym (k.content a) }
 
-  pub test_only : (s : State) → (length bytes ≤ 65536 → made ≡ Ok s) → (v : Content) → ReadsTest bytes v → test_of s.draft ≡ v
-  test_only s h v r = (keeps s r.short (h r.short) r.text).content (none_first (late_init r.text.tree) (late_labels r.text.tree) r.in_time) ∙ r.meant
+  pub test_only : (s : State) → (length bytes ≤ 65536 → made ≡ Ok s) → (v : Content)
+      → ReadsTest bytes v → test_of s.draft ≡ v
+  test_only s h v r =
+      (keeps s r.short (h r.short) r.text).content (none_first (late_init r.text.tree)
+      (late_labels r.text.tree) r.in_time) ∙ r.meant
 
-  pub test_only_memory : (d : LitmusFault) → (length bytes ≤ 65536 → FailsAt d made) → (v : Content) → ReadsTest bytes v → IsMemory d
+  pub test_only_memory : (d : LitmusFault) → (length bytes ≤ 65536 → FailsAt d made) → (v : Content)
+      → ReadsTest bytes v → IsMemory d
   test_only_memory (faults.OutOfMemory e) h v r = tt
   test_only_memory (faults.Refused rule offset) h v r =
       let x = r.text in
       let t = test_led x.tree x.fine (few_of x.tree ps x.whole (few_tokens r.short)) ps x.whole in
       absurd (not_both (rule, offset) _ (sym (h r.short) ∙ t.by))
 
-  pub test_only_missing : (s : State) (d : LitmusFault) → (length bytes ≤ 65536 → made ≡ Ok s) → IsMissingFound (Err d) (missing_in s) → (v : Content) → ReadsTest bytes v → IsMemory d
+  pub test_only_missing : (s : State) (d : LitmusFault) → (length bytes ≤ 65536 → made ≡ Ok s)
+      → IsMissingFound (Err d) (missing_in s) → (v : Content) → ReadsTest bytes v → IsMemory d
   test_only_missing s (faults.OutOfMemory e) h f v r = tt
   test_only_missing s (faults.Refused rule offset) h f v r =
-      not_there ps (late_init r.text.tree) (missing_in s) offset (keeps s r.short (h r.short) r.text).matches f.1 (none_first (late_init r.text.tree) (late_labels r.text.tree) r.in_time)
+      not_there ps (late_init r.text.tree) (missing_in s) offset
+      (keeps s r.short (h r.short) r.text).matches f.1 (none_first (late_init r.text.tree)
+      (late_labels r.text.tree) r.in_time)
 
-  pub test_only_labels : (s : State) (d : LitmusFault) → (length bytes ≤ 65536 → made ≡ Ok s) → Answered s (Err d) → (v : Content) → ReadsTest bytes v → IsMemory d
+  pub test_only_labels : (s : State) (d : LitmusFault) → (length bytes ≤ 65536 → made ≡ Ok s)
+      → Answered s (Err d) → (v : Content) → ReadsTest bytes v → IsMemory d
   test_only_labels s (faults.OutOfMemory e) h answered v r = tt
   test_only_labels s (faults.Refused rule offset) h answered v r =
       let t = r.text.tree in
       let k = keeps s r.short (h r.short) r.text in
-      subst (IsFoundAt ps (Some (record { rule = rule; offset = offset }))) (none_second (late_init t) (late_labels t) r.in_time) (answered ps (columns_notes 0 (t.others + 1) (before_rows t) t.rows) k.labels)
+      subst (IsFoundAt ps (Some (record { rule = rule; offset = offset })))
+      (none_second (late_init t) (late_labels t) r.in_time) (answered ps
+      (columns_notes 0 (t.others + 1) (before_rows t) t.rows) k.labels)
 
   -- ---- the fault
 
-  pub test_fault : (d : LitmusFault) → (length bytes ≤ 65536 → FailsAt d made) → (65536 < length bytes → IsTooLong d) → IsFaultOf (IsTestFault bytes) d
+  pub test_fault : (d : LitmusFault) → (length bytes ≤ 65536 → FailsAt d made)
+      → (65536 < length bytes → IsTooLong d) → IsFaultOf (IsTestFault bytes) d
   test_fault (faults.OutOfMemory e) h long = tt
   test_fault (faults.Refused rule offset) h long = choose (cases_lt 65536 (length bytes))
     where
@@ -159,9 +196,13 @@ module _ (bytes : List ℕ) where
       choose (inl lt) = texts.IsTooLong lt (long lt).0 (long lt).1
       choose (inr le) = texts.IsGrammar le (test_fault_where ps rule offset (few_tokens le) (h le))
 
-  pub test_fault_missing : (s : State) (d : LitmusFault) → (length bytes ≤ 65536 → made ≡ Ok s) → (65536 < length bytes → ⊥) → IsMissingFound (Err d) (missing_in s) → IsFaultOf (IsTestFault bytes) d
+  pub test_fault_missing : (s : State) (d : LitmusFault) → (length bytes ≤ 65536 → made ≡ Ok s)
+      → (65536 < length bytes → ⊥) → IsMissingFound (Err d) (missing_in s)
+      → IsFaultOf (IsTestFault bytes) d
   test_fault_missing s (faults.OutOfMemory e) h bounded f = tt
-  test_fault_missing s (faults.Refused rule offset) h bounded f = by_found (late_init x.tree) refl (subst (Matches ps (late_init x.tree)) f.1 (keeps s le (h le) x).matches)
+  test_fault_missing s (faults.Refused rule offset) h bounded f =
+      by_found (late_init x.tree) refl (subst (Matches ps (late_init x.tree)) f.1
+      (keeps s le (h le) x).matches)
     where
       le : length bytes ≤ 65536
       le = is_short bytes bounded
@@ -169,15 +210,27 @@ module _ (bytes : List ℕ) where
       x : IsTestText limits (tokens_of ps)
       x = text_of s le (h le)
 
-      by_found : (o : Option Late) → late_init x.tree ≡ o → Matches ps o (Some offset) → IsTestFault bytes rule offset
+      by_found : (o : Option Late) → late_init x.tree ≡ o → Matches ps o (Some offset)
+          → IsTestFault bytes rule offset
       by_found None e m = absurd m
-      by_found (Some l) e m = texts.IsLater le (record { text = IsWhole x; found = l; is_found = ap (λ (o : Option Late). or_else o (late_labels x.tree)) e; rule_is = m.0 ∙ sym f.0; stands = m.1 })
+      by_found (Some l) e m =
+          texts.IsLater le (record {
+            text = IsWhole x;
+            found = l;
+            is_found = ap (λ (o : Option Late). or_else o (late_labels x.tree)) e;
+            rule_is = m.0 ∙ sym f.0;
+            stands = m.1;
+          })
 
-  pub test_fault_labels : (s : State) (d : LitmusFault) → (length bytes ≤ 65536 → made ≡ Ok s) → (65536 < length bytes → ⊥) → missing_in s ≡ None → Answered s (Err d) → IsFaultOf (IsTestFault bytes) d
+  pub test_fault_labels : (s : State) (d : LitmusFault) → (length bytes ≤ 65536 → made ≡ Ok s)
+      → (65536 < length bytes → ⊥) → missing_in s ≡ None → Answered s (Err d)
+      → IsFaultOf (IsTestFault bytes) d
   test_fault_labels s (faults.OutOfMemory e) h bounded none answered = tt
   test_fault_labels s (faults.Refused rule offset) h bounded none answered =
       let k = keeps s le (h le) x in
-      by_found (no_late ps (late_init x.tree) (missing_in s) k.matches none) (late_labels x.tree) refl (answered ps (columns_notes 0 (x.tree.others + 1) (before_rows x.tree) x.tree.rows) k.labels)
+      by_found (no_late ps (late_init x.tree) (missing_in s) k.matches none) (late_labels x.tree)
+      refl (answered ps (columns_notes 0 (x.tree.others + 1) (before_rows x.tree) x.tree.rows)
+      k.labels)
     where
       le : length bytes ≤ 65536
       le = is_short bytes bounded
@@ -185,6 +238,15 @@ module _ (bytes : List ℕ) where
       x : IsTestText limits (tokens_of ps)
       x = text_of s le (h le)
 
-      by_found : late_init x.tree ≡ None → (o : Option Late) → late_labels x.tree ≡ o → IsFoundAt ps (Some (record { rule = rule; offset = offset })) o → IsTestFault bytes rule offset
+      by_found : late_init x.tree ≡ None → (o : Option Late) → late_labels x.tree ≡ o
+          → IsFoundAt ps (Some (record { rule = rule; offset = offset })) o
+          → IsTestFault bytes rule offset
       by_found a None e f = absurd f
-      by_found a (Some l) e f = texts.IsLater le (record { text = IsWhole x; found = l; is_found = ap (λ (o : Option Late). or_else o (late_labels x.tree)) a ∙ e; rule_is = sym f.0; stands = f.1 })
+      by_found a (Some l) e f =
+          texts.IsLater le (record {
+            text = IsWhole x;
+            found = l;
+            is_found = ap (λ (o : Option Late). or_else o (late_labels x.tree)) a ∙ e;
+            rule_is = sym f.0;
+            stands = f.1;
+          })

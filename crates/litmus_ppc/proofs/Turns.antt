@@ -18,7 +18,8 @@ use Rattle.litmus_grammar.specs.TextMachine.{Next, State, stepped, part_step, st
 use Rattle.litmus_ppc.specs.TextReading.{state_of, FailsAt, StepsAt}
 
 -- the part behind a token that was taken
-stage_after_step : (s s' : State) (t : Token) (p : ℕ) → with_offset p (step s t p) ≡ Ok s' → s'.stage ≡ after s.stage t
+stage_after_step : (s s' : State) (t : Token) (p : ℕ) → with_offset p (step s t p) ≡ Ok s'
+    → s'.stage ≡ after s.stage t
 stage_after_step s s' t p e = by_next (part_step s.kind s.threads s.draft s.part t p) e
   where
     by_next : (o : Option Next) → with_offset p (stepped s t o) ≡ Ok s' → s'.stage ≡ after s.stage t
@@ -26,37 +27,63 @@ stage_after_step s s' t p e = by_next (part_step s.kind s.threads s.draft s.part
     by_next None h = absurd cc
 
 -- the reader's turns
-module _ (bytes : List ℕ) (s : State) (fresh : Bool) (p n q : ℕ) (all : Ran) (so_far : all ≡ run s (tokens_from s.stage fresh 0 p (drop p bytes))) where
-  whole_rest : (f : Front) → f ≡ front s.stage fresh (take (length bytes - p) (drop p bytes)) → f ≡ front s.stage fresh (drop p bytes)
-  whole_rest f e = e ∙ ap (front s.stage fresh) (take_all (length bytes - p) (drop p bytes) (let l = length-drop p bytes in omega arith))
+module _ (bytes : List ℕ) (s : State) (fresh : Bool) (p n q : ℕ) (all : Ran)
+    (so_far : all ≡ run s (tokens_from s.stage fresh 0 p (drop p bytes))) where
+  whole_rest : (f : Front) → f ≡ front s.stage fresh (take (length bytes - p) (drop p bytes))
+      → f ≡ front s.stage fresh (drop p bytes)
+  whole_rest f e =
+      e
+      ∙ ap (front s.stage fresh) (take_all (length bytes - p) (drop p bytes)
+      (let l = length-drop p bytes in omega arith))
 
-  pub layout_run : (f : Front) (fresh' : Bool) → p < length bytes → q ≡ p + min (max n 1) (length bytes - p) → f ≡ front s.stage fresh (take (length bytes - p) (drop p bytes)) → f ≡ Layout n → fresh' ≡ fresh_after fresh (get_or bytes p 0) → all ≡ run s (tokens_from s.stage fresh' 0 q (drop q bytes))
+  pub layout_run : (f : Front) (fresh' : Bool) → p < length bytes
+      → q ≡ p + min (max n 1) (length bytes - p)
+      → f ≡ front s.stage fresh (take (length bytes - p) (drop p bytes)) → f ≡ Layout n
+      → fresh' ≡ fresh_after fresh (get_or bytes p 0)
+      → all ≡ run s (tokens_from s.stage fresh' 0 q (drop q bytes))
   layout_run f fresh' lt is e k now =
-      so_far ∙ ap (run s) (layout_turn bytes p n q lt is s.stage fresh f (whole_rest f e) k) ∙ ap (λ b. run s (tokens_from s.stage b 0 q (drop q bytes))) (sym now)
+      so_far ∙ ap (run s) (layout_turn bytes p n q lt is s.stage fresh f (whole_rest f e) k)
+      ∙ ap (λ b. run s (tokens_from s.stage b 0 q (drop q bytes))) (sym now)
 
-  pub lexeme_run : (f : Front) (t : Token) (s' : State) (fresh' : Bool) → p < length bytes → q ≡ p + min (max n 1) (length bytes - p) → f ≡ front s.stage fresh (take (length bytes - p) (drop p bytes)) → f ≡ Lexeme t n → fresh' ≡ ends_line t → with_offset p (step s t p) ≡ Ok s' → all ≡ run s' (tokens_from s'.stage fresh' 0 q (drop q bytes))
+  pub lexeme_run : (f : Front) (t : Token) (s' : State) (fresh' : Bool) → p < length bytes
+      → q ≡ p + min (max n 1) (length bytes - p)
+      → f ≡ front s.stage fresh (take (length bytes - p) (drop p bytes)) → f ≡ Lexeme t n
+      → fresh' ≡ ends_line t → with_offset p (step s t p) ≡ Ok s'
+      → all ≡ run s' (tokens_from s'.stage fresh' 0 q (drop q bytes))
   lexeme_run f t s' fresh' lt is e k now goes =
       so_far ∙ ap (run s) (lexeme_turn bytes p n q lt is s.stage fresh f t (whole_rest f e) k)
-      ∙ ap (λ (r : Ran). and_then r (λ x. run x (tokens_from (after s.stage t) (ends_line t) 0 q (drop q bytes)))) goes
+      ∙ ap
+      (λ (r : Ran). and_then r (λ x.
+      run x (tokens_from (after s.stage t) (ends_line t) 0 q (drop q bytes)))) goes
       ∙ ap (λ b. run s' (tokens_from (after s.stage t) b 0 q (drop q bytes))) (sym now)
-      ∙ ap (λ (g : Stage). run s' (tokens_from g fresh' 0 q (drop q bytes))) (sym (stage_after_step s s' t p goes))
+      ∙ ap (λ (g : Stage). run s' (tokens_from g fresh' 0 q (drop q bytes)))
+      (sym (stage_after_step s s' t p goes))
 
-  pub lexeme_fails : (f : Front) (t : Token) (d : LitmusFault) → p < length bytes → f ≡ front s.stage fresh (take (length bytes - p) (drop p bytes)) → f ≡ Lexeme t n → FailsAt d (with_offset p (step s t p)) → FailsAt d all
+  pub lexeme_fails : (f : Front) (t : Token) (d : LitmusFault) → p < length bytes
+      → f ≡ front s.stage fresh (take (length bytes - p) (drop p bytes)) → f ≡ Lexeme t n
+      → FailsAt d (with_offset p (step s t p)) → FailsAt d all
   lexeme_fails f t (faults.OutOfMemory x) lt e k fails = tt
   lexeme_fails f t (faults.Refused rule offset) lt e k fails =
       let r = p + min (max n 1) (length bytes - p) in
       so_far ∙ ap (run s) (lexeme_turn bytes p n r lt refl s.stage fresh f t (whole_rest f e) k)
-      ∙ ap (λ (y : Ran). and_then y (λ x. run x (tokens_from (after s.stage t) (ends_line t) 0 r (drop r bytes)))) fails
+      ∙ ap
+      (λ (y : Ran). and_then y (λ x.
+      run x (tokens_from (after s.stage t) (ends_line t) 0 r (drop r bytes)))) fails
 
-  end_run : (s' : State) → length bytes ≤ p → with_offset p (step s tokens.End p) ≡ Ok s' → all ≡ Ok s'
+  end_run : (s' : State) → length bytes ≤ p → with_offset p (step s tokens.End p) ≡ Ok s'
+      → all ≡ Ok s'
   end_run s' high goes =
-      so_far ∙ ap (run s) (at_end s.stage fresh bytes p high) ∙ ap (λ (r : Ran). and_then r (λ x. Ok x)) goes
+      so_far ∙ ap (run s) (at_end s.stage fresh bytes p high)
+      ∙ ap (λ (r : Ran). and_then r (λ x. Ok x)) goes
 
-  end_fails : (d : LitmusFault) → length bytes ≤ p → FailsAt d (with_offset p (step s tokens.End p)) → FailsAt d all
+  end_fails : (d : LitmusFault) → length bytes ≤ p → FailsAt d (with_offset p (step s tokens.End p))
+      → FailsAt d all
   end_fails (faults.OutOfMemory x) high fails = tt
   end_fails (faults.Refused rule offset) high fails =
-      so_far ∙ ap (run s) (at_end s.stage fresh bytes p high) ∙ ap (λ (r : Ran). and_then r (λ x. Ok x)) fails
+      so_far ∙ ap (run s) (at_end s.stage fresh bytes p high)
+      ∙ ap (λ (r : Ran). and_then r (λ x. Ok x)) fails
 
-  pub end_steps : (r : Result (Unit {0}) LitmusFault) (now : Reader) → length bytes ≤ p → StepsAt r now (with_offset p (step s tokens.End p)) → StepsAt r now all
+  pub end_steps : (r : Result (Unit {0}) LitmusFault) (now : Reader) → length bytes ≤ p
+      → StepsAt r now (with_offset p (step s tokens.End p)) → StepsAt r now all
   end_steps (Ok u) now high h = end_run (state_of now) high h
   end_steps (Err d) now high h = end_fails d high h

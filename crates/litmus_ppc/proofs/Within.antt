@@ -13,10 +13,15 @@ use Rattle.litmus_ppc.specs.TextReading.{FailsAt, Runs}
 use Rattle.litmus_ppc.specs.Faults.{IsWithin}
 
 module _ (kind : TextKind) (threads : ℕ) (bytes : List ℕ) where
-  fails_within : (d : LitmusFault) → FailsAt d (run (start kind threads) (lexed (first_stage kind) bytes)) → IsWithin (length bytes) d
+  fails_within : (d : LitmusFault)
+      → FailsAt d (run (start kind threads) (lexed (first_stage kind) bytes))
+      → IsWithin (length bytes) d
   fails_within (faults.OutOfMemory e) h = tt
-  fails_within (faults.Refused rule offset) h = subst (IsKept (length bytes)) h (all_kept kind threads bytes)
+  fails_within (faults.Refused rule offset) h =
+      subst (IsKept (length bytes)) h (all_kept kind threads bytes)
 
-  pub fails_within_all : (r : Result Reader LitmusFault) → Runs r (run (start kind threads) (lexed (first_stage kind) bytes)) → IfErr r (λ e. IsWithin (length bytes) e)
+  pub fails_within_all : (r : Result Reader LitmusFault)
+      → Runs r (run (start kind threads) (lexed (first_stage kind) bytes))
+      → IfErr r (λ e. IsWithin (length bytes) e)
   fails_within_all (Ok s) h = tt
   fails_within_all (Err d) h = fails_within d h

@@ -11,20 +11,24 @@ use Rattle.litmus_printing.specs.Printing.{names, cell_text, step_text, row_text
 
 -- ---- the header
 
-pub header_begins : (n : ℕ) → from (codes " | ") 0 (names 0 (n - 0)) ≡ joined (codes " | ") (names 0 n)
+pub header_begins : (n : ℕ)
+    → from (codes " | ") 0 (names 0 (n - 0)) ≡ joined (codes " | ") (names 0 n)
 header_begins n =
     let all : n - 0 ≡ n = omega arith in
     ap (λ m. from (codes " | ") 0 (names 0 m)) all ∙ from_first (codes " | ") (names 0 n)
 
 pub header_more : (text : List ℕ) (i n : ℕ) → i < n
-    → (((text ++ between (codes " | ") i) ++ codes "P") ++ decimal i) ++ from (codes " | ") (i + 1) (names (i + 1) (n - (i + 1))) ≡ text ++ from (codes " | ") i (names i (n - i))
+    → (((text ++ between (codes " | ") i) ++ codes "P") ++ decimal i)
+    ++ from (codes " | ") (i + 1) (names (i + 1) (n - (i + 1)))
+    ≡ text ++ from (codes " | ") i (names i (n - i))
 header_more text i n lt =
     let more : n - i ≡ suc (n - (i + 1)) = omega arith in
     simp append_assoc (ap (λ m. text ++ from (codes " | ") i (names i m)) (sym more))
 
 -- ---- rows
 
-pub cell_there : (k : ℕ) (ss : List Step) (s : Step) → k < length ss → cell_text k ss ≡ step_text (get_or ss k s)
+pub cell_there : (k : ℕ) (ss : List Step) (s : Step) → k < length ss
+    → cell_text k ss ≡ step_text (get_or ss k s)
 cell_there k [] s lt = absurd (omega arith)
 cell_there zero (x ∷ xs) s lt = refl
 cell_there (suc k) (x ∷ xs) s lt = cell_there k xs s (omega arith)
@@ -38,7 +42,9 @@ abbrev pub cells : ℕ → List Thread → List (List ℕ)
 cells number ts = map (cell_text number) (map steps_of ts)
 
 pub rows_more : (text : List ℕ) (i n : ℕ) (ts : List (List Step)) → i < n
-    → (text ++ row_text (map (cell_text i) ts)) ++ rows_text (i + 1) (n - (i + 1)) ts ≡ text ++ rows_text i (n - i) ts
+    → (text ++ row_text (map (cell_text i) ts)) ++ rows_text (i + 1) (n - (i + 1)) ts
+    ≡ text ++ rows_text i (n - i) ts
 rows_more text i n ts lt =
     let more : n - i ≡ suc (n - (i + 1)) = omega arith in
-    append_assoc text (row_text (map (cell_text i) ts)) (rows_text (i + 1) (n - (i + 1)) ts) ∙ ap (λ m. text ++ rows_text i m ts) (sym more)
+    append_assoc text (row_text (map (cell_text i) ts)) (rows_text (i + 1) (n - (i + 1)) ts)
+    ∙ ap (λ m. text ++ rows_text i m ts) (sym more)

@@ -17,32 +17,54 @@ use Rattle.litmus_table.specs.Laws.{then_on, run, steps_of, AreMarks, IsNoted, A
 use Rattle.litmus_table.proofs.Cells.{stand, run_from, Adds, adds_none, adds_both, cell_run}
 use Rattle.litmus_table.proofs.Finishes.{separator}
 
-pub label-append : (l : Option (List ℕ)) (xs ys : List Token) → spelled_label l xs ++ ys ≡ spelled_label l (xs ++ ys)
+pub label-append : (l : Option (List ℕ)) (xs ys : List Token)
+    → spelled_label l xs ++ ys ≡ spelled_label l (xs ++ ys)
 label-append None xs ys = refl
 label-append (Some l) xs ys = refl
 
-pub cell-append : (c : CellTree) (xs ys : List Token) → spelled_cell c xs ++ ys ≡ spelled_cell c (xs ++ ys)
-cell-append c xs ys = label-append c.label (spelled_instruction c.instruction xs) ys ∙ ap (spelled_label c.label) (by_instruction c.instruction)
+pub cell-append : (c : CellTree) (xs ys : List Token)
+    → spelled_cell c xs ++ ys ≡ spelled_cell c (xs ++ ys)
+cell-append c xs ys =
+    label-append c.label (spelled_instruction c.instruction xs) ys
+    ∙ ap (spelled_label c.label) (by_instruction c.instruction)
   where
-    by_instruction : (i : Option InstructionTree) → spelled_instruction i xs ++ ys ≡ spelled_instruction i (xs ++ ys)
+    by_instruction : (i : Option InstructionTree)
+        → spelled_instruction i xs ++ ys ≡ spelled_instruction i (xs ++ ys)
     by_instruction None = refl
-    by_instruction (Some i) = ap (λ (l : List Token). tokens.Word i.word ∷ l) (append_assoc i.operands xs ys)
+    by_instruction (Some i) =
+        ap (λ (l : List Token). tokens.Word i.word ∷ l) (append_assoc i.operands xs ys)
 
-pub cells-append : (cs : List CellTree) (xs ys : List Token) → spelled_cells cs xs ++ ys ≡ spelled_cells cs (xs ++ ys)
+pub cells-append : (cs : List CellTree) (xs ys : List Token)
+    → spelled_cells cs xs ++ ys ≡ spelled_cells cs (xs ++ ys)
 cells-append [] xs ys = refl
-cells-append (c ∷ cs) xs ys = ap (λ (l : List Token). tokens.Mark marks.Bar ∷ l) (cell-append c (spelled_cells cs xs) ys ∙ ap (spelled_cell c) (cells-append cs xs ys))
+cells-append (c ∷ cs) xs ys =
+    ap (λ (l : List Token). tokens.Mark marks.Bar ∷ l) (cell-append c (spelled_cells cs xs) ys
+    ∙ ap (spelled_cell c) (cells-append cs xs ys))
 
 -- a separator behind a cell
-pub passes : (b : List Token) (c : CellTree) (t : Token) (ts : List Token) → (b ++ spelled_cell c (t ∷ [])) ++ ts ≡ b ++ spelled_cell c (t ∷ ts)
-passes b c t ts = append_assoc b (spelled_cell c (t ∷ [])) ts ∙ ap (λ (l : List Token). b ++ l) (cell-append c (t ∷ []) ts)
+pub passes : (b : List Token) (c : CellTree) (t : Token) (ts : List Token)
+    → (b ++ spelled_cell c (t ∷ [])) ++ ts ≡ b ++ spelled_cell c (t ∷ ts)
+passes b c t ts =
+    append_assoc b (spelled_cell c (t ∷ [])) ts
+    ∙ ap (λ (l : List Token). b ++ l) (cell-append c (t ∷ []) ts)
 
-closes : (b : List Token) (c : CellTree) (t : Token) → (b ++ spelled_cell c []) ++ t ∷ [] ≡ b ++ spelled_cell c (t ∷ [])
-closes b c t = append_assoc b (spelled_cell c []) (t ∷ []) ∙ ap (λ (l : List Token). b ++ l) (cell-append c [] (t ∷ []))
+closes : (b : List Token) (c : CellTree) (t : Token)
+    → (b ++ spelled_cell c []) ++ t ∷ [] ≡ b ++ spelled_cell c (t ∷ [])
+closes b c t =
+    append_assoc b (spelled_cell c []) (t ∷ [])
+    ∙ ap (λ (l : List Token). b ++ l) (cell-append c [] (t ∷ []))
 
-row-append : (b : List Token) (r : RowTree) (ts : List Token) → (b ++ spelled_cell r.first (spelled_cells r.others [])) ++ ts ≡ b ++ spelled_cell r.first (spelled_cells r.others ts)
-row-append b r ts = append_assoc b (spelled_cell r.first (spelled_cells r.others [])) ts ∙ ap (λ (l : List Token). b ++ l) (cell-append r.first (spelled_cells r.others []) ts ∙ ap (spelled_cell r.first) (cells-append r.others [] ts))
+row-append : (b : List Token) (r : RowTree) (ts : List Token)
+    → (b ++ spelled_cell r.first (spelled_cells r.others [])) ++ ts
+    ≡ b ++ spelled_cell r.first (spelled_cells r.others ts)
+row-append b r ts =
+    append_assoc b (spelled_cell r.first (spelled_cells r.others [])) ts
+    ∙ ap (λ (l : List Token). b ++ l) (cell-append r.first (spelled_cells r.others []) ts
+    ∙ ap (spelled_cell r.first) (cells-append r.others [] ts))
 
-module _ (text : List texts.TokenAt) (whole : List Token) (byte : List Token → ℕ) (stands : (b : List Token) (t : Token) (ts : List Token) → whole ≡ b ++ (t ∷ ts) → StandsAt text b (byte b)) where
+module _ (text : List texts.TokenAt) (whole : List Token) (byte : List Token → ℕ)
+    (stands : (b : List Token) (t : Token) (ts : List Token) → whole ≡ b ++ (t ∷ ts)
+    → StandsAt text b (byte b)) where
   abbrev pub runs : List Token → State → List Token → Option State
   runs b s ts = run_from text whole byte stands b s ts
 
@@ -52,54 +74,75 @@ module _ (text : List texts.TokenAt) (whole : List Token) (byte : List Token →
   -- each thread with these steps more
   abbrev AllAdd : (ℕ → List Step) → (ℕ → List Note) → List ThreadSteps → List ThreadSteps → Type 0
   AllAdd f g [] [] = Unit {0}
-  AllAdd f g (t ∷ ts) (u ∷ us) = Grows t u (f zero) (g zero) × AllAdd (λ k. f (suc k)) (λ k. g (suc k)) ts us
+  AllAdd f g (t ∷ ts) (u ∷ us) =
+      Grows t u (f zero) (g zero) × AllAdd (λ k. f (suc k)) (λ k. g (suc k)) ts us
   AllAdd f g ts us = ⊥
 
   all_none : (ts : List ThreadSteps) → AllAdd (λ k. []) (λ k. []) ts ts
   all_none [] = tt
   all_none (t ∷ ts) = (adds_none text whole byte stands t, all_none ts)
 
-  all_both : (f f' : ℕ → List Step) (g g' : ℕ → List Note) (ts us vs : List ThreadSteps) → AllAdd f g ts us → AllAdd f' g' us vs → AllAdd (λ k. f k ++ f' k) (λ k. g k ++ g' k) ts vs
+  all_both : (f f' : ℕ → List Step) (g g' : ℕ → List Note) (ts us vs : List ThreadSteps)
+      → AllAdd f g ts us → AllAdd f' g' us vs → AllAdd (λ k. f k ++ f' k) (λ k. g k ++ g' k) ts vs
   all_both f f' g g' [] [] [] a z = tt
-  all_both f f' g g' (t ∷ ts) (u ∷ us) (v ∷ vs) a z =
-      (adds_both text whole byte stands t u v (f zero) (f' zero) (g zero) (g' zero) a.0 z.0, all_both (λ k. f (suc k)) (λ k. f' (suc k)) (λ k. g (suc k)) (λ k. g' (suc k)) ts us vs a.1 z.1)
+  all_both f f' g g' (t ∷ ts) (u ∷ us) (v ∷ vs) a z = (
+    adds_both text whole byte stands t u v (f zero) (f' zero) (g zero) (g' zero) a.0 z.0,
+    all_both (λ k. f (suc k)) (λ k. f' (suc k)) (λ k. g (suc k)) (λ k. g' (suc k)) ts us
+        vs a.1 z.1,
+  )
   all_both f f' g g' [] [] (v ∷ vs) a z = absurd z
   all_both f f' g g' [] (u ∷ us) vs a z = absurd a
   all_both f f' g g' (t ∷ ts) [] vs a z = absurd a
   all_both f f' g g' (t ∷ ts) (u ∷ us) [] a z = absurd z
 
-  all_length : (f : ℕ → List Step) (g : ℕ → List Note) (ts us : List ThreadSteps) → AllAdd f g ts us → length us ≡ length ts
+  all_length : (f : ℕ → List Step) (g : ℕ → List Note) (ts us : List ThreadSteps) → AllAdd f g ts us
+      → length us ≡ length ts
   all_length f g [] [] a = refl
-  all_length f g (t ∷ ts) (u ∷ us) a = let e = all_length (λ k. f (suc k)) (λ k. g (suc k)) ts us a.1 in omega arith
+  all_length f g (t ∷ ts) (u ∷ us) a =
+      let e = all_length (λ k. f (suc k)) (λ k. g (suc k)) ts us a.1 in omega arith
   all_length f g [] (u ∷ us) a = absurd a
   all_length f g (t ∷ ts) [] a = absurd a
 
   -- a separator leads from the cell to where it leads from any that may end
-  separated : (threads : List ThreadSteps) (c : ℕ) (h : Expectation) (b : List Token) (m : declared_mark.Mark) (after : State) (ts : List Token) → expected_step threads c h (tokens.Mark m) (byte b) ≡ Some after
+  separated : (threads : List ThreadSteps) (c : ℕ) (h : Expectation) (b : List Token)
+      (m : declared_mark.Mark) (after : State) (ts : List Token)
+      → expected_step threads c h (tokens.Mark m) (byte b) ≡ Some after
       → runs b (stand threads c h) (tokens.Mark m ∷ ts) ≡ runs (b ++ tokens.Mark m ∷ []) after ts
   separated threads c h b m after ts e = ap (then_on (λ u. runs (b ++ tokens.Mark m ∷ []) u ts)) e
 
   -- ---- rows
 
-  record RowRun (done todo : List ThreadSteps) (cells : List CellTree) (b ts by rest : List Token) : Type 0 where
+  record RowRun (done todo : List ThreadSteps) (cells : List CellTree) (b ts by rest : List Token)
+      : Type 0 where
     after : List ThreadSteps
     adds : AllAdd (λ k. cells_steps (nth_cell k cells)) (λ k. nth_notes k b cells) todo after
-    leads : runs b (stand (done ++ todo) (length done) Begins) ts ≡ runs (b ++ by) (stand (done ++ after) 0 Begins) rest
+    leads : runs b (stand (done ++ todo) (length done) Begins) ts
+        ≡ runs (b ++ by) (stand (done ++ after) 0 Begins) rest
 
-  row_run : (c : CellTree) (cs : List CellTree) (done : List ThreadSteps) (t : ThreadSteps) (todo : List ThreadSteps) (b rest : List Token) → AreCells (c ∷ cs) → length todo ≡ length cs → whole ≡ b ++ spelled_cell c (spelled_cells cs rest)
-      → RowRun done (t ∷ todo) (c ∷ cs) b (spelled_cell c (spelled_cells cs rest)) (spelled_cell c (spelled_cells cs [])) rest
+  row_run : (c : CellTree) (cs : List CellTree) (done : List ThreadSteps) (t : ThreadSteps)
+      (todo : List ThreadSteps) (b rest : List Token) → AreCells (c ∷ cs)
+      → length todo ≡ length cs → whole ≡ b ++ spelled_cell c (spelled_cells cs rest)
+      → RowRun done (t ∷ todo) (c ∷ cs) b (spelled_cell c (spelled_cells cs rest))
+      (spelled_cell c (spelled_cells cs [])) rest
   row_run c [] done t [] b rest fine size all =
       let r = cell_run text whole byte stands done t [] c b (tokens.Mark marks.Semicolon ∷ rest) fine.0 all in
       let threads = done ++ r.after ∷ [] in
       let last : is_last threads (length done) ≡ true = le-leb (length threads) (length done + 1) (omega (arith, length-append done (r.after ∷ []))) in
       record {
         after = r.after ∷ [];
-        adds = (subst (λ (ss : List Step). Grows t r.after ss (cell_notes c b)) (sym (append-nil (cell_steps c))) r.adds, tt);
+        adds = (
+          subst (λ (ss : List Step). Grows t r.after ss (cell_notes c b))
+              (sym (append-nil (cell_steps c))) r.adds,
+          tt,
+        );
         leads =
             r.leads
-            ∙ separated threads (length done) r.expected (b ++ spelled_cell c []) marks.Semicolon (stand threads 0 Begins) rest
-            ((separator threads (length done) (byte (b ++ spelled_cell c [])) r.expected r.ended).0 ∙ ap (λ (x : Bool). if x then at threads 0 Begins else None) last)
-            ∙ ap (λ (l : List Token). runs l (stand threads 0 Begins) rest) (closes b c (tokens.Mark marks.Semicolon));
+            ∙ separated threads (length done) r.expected (b ++ spelled_cell c []) marks.Semicolon
+            (stand threads 0 Begins) rest
+            ((separator threads (length done) (byte (b ++ spelled_cell c [])) r.expected r.ended).0
+            ∙ ap (λ (x : Bool). if x then at threads 0 Begins else None) last)
+            ∙ ap (λ (l : List Token). runs l (stand threads 0 Begins) rest)
+            (closes b c (tokens.Mark marks.Semicolon));
       }
   row_run c (d ∷ cs) done t (u ∷ todo) b rest fine size all =
       let bar = tokens.Mark marks.Bar in
@@ -115,17 +158,29 @@ module _ (text : List texts.TokenAt) (whole : List Token) (byte : List Token →
       let q = row_run d cs done' u todo b' rest fine.1 fewer (all ∙ sym (passes b c bar more)) in
       record {
         after = r.after ∷ q.after;
-        adds = (subst (λ (ss : List Step). Grows t r.after ss (cell_notes c b)) (sym (append-nil (cell_steps c))) r.adds, q.adds);
+        adds = (
+          subst (λ (ss : List Step). Grows t r.after ss (cell_notes c b))
+              (sym (append-nil (cell_steps c))) r.adds,
+          q.adds,
+        );
         leads =
             r.leads
-            ∙ separated threads (length done) r.expected (b ++ spelled_cell c []) marks.Bar (stand threads (length done + 1) Begins) more
-            ((separator threads (length done) (byte (b ++ spelled_cell c [])) r.expected r.ended).1 ∙ ap (λ (x : Bool). if x then None else at threads (length done + 1) Begins) further)
-            ∙ ap (λ (l : List Token). runs l (stand threads (length done + 1) Begins) more) (closes b c bar)
+            ∙ separated threads (length done) r.expected (b ++ spelled_cell c []) marks.Bar
+            (stand threads (length done + 1) Begins) more
+            ((separator threads (length done) (byte (b ++ spelled_cell c [])) r.expected r.ended).1
+            ∙ ap (λ (x : Bool). if x then None else at threads (length done + 1) Begins)
+            further)
+            ∙ ap (λ (l : List Token). runs l (stand threads (length done + 1) Begins) more)
+            (closes b c bar)
             ∙ ap (λ (k : ℕ). runs b' (stand threads k Begins) more) next
             ∙ ap (λ (l : List ThreadSteps). runs b' (stand l (length done') Begins) more) split
             ∙ q.leads
-            ∙ ap (λ (l : List ThreadSteps). runs (b' ++ spelled_cell d (spelled_cells cs [])) (stand l 0 Begins) rest) (append_assoc done (r.after ∷ []) q.after)
-            ∙ ap (λ (l : List Token). runs l (stand (done ++ r.after ∷ q.after) 0 Begins) rest) (passes b c bar (spelled_cell d (spelled_cells cs [])));
+            ∙ ap
+            (λ (l : List ThreadSteps).
+            runs (b' ++ spelled_cell d (spelled_cells cs [])) (stand l 0 Begins) rest)
+            (append_assoc done (r.after ∷ []) q.after)
+            ∙ ap (λ (l : List Token). runs l (stand (done ++ r.after ∷ q.after) 0 Begins) rest)
+            (passes b c bar (spelled_cell d (spelled_cells cs [])));
       }
   row_run c [] done t (u ∷ todo) b rest fine size all = absurd (omega arith)
   row_run c (d ∷ cs) done t [] b rest fine size all = absurd (omega arith)
@@ -135,13 +190,17 @@ module _ (text : List texts.TokenAt) (whole : List Token) (byte : List Token →
   rows_steps [] k = []
   rows_steps (r ∷ rs) k = cells_steps (nth_cell k (r.first ∷ r.others)) ++ rows_steps rs k
 
-  pub record TableRun (threads : List ThreadSteps) (rows : List RowTree) (b : List Token) : Type 0 where
+  pub record TableRun (threads : List ThreadSteps) (rows : List RowTree) (b : List Token)
+      : Type 0 where
     pub after : List ThreadSteps
     pub adds : AllAdd (rows_steps rows) (λ k. column_notes k b rows) threads after
     pub leads : runs b (stand threads 0 Begins) (spelled_rows rows []) ≡ Some (stand after 0 Begins)
 
-  pub table_run : (n : ℕ) (rows : List RowTree) (threads : List ThreadSteps) (b : List Token) → AreRows n rows → length threads ≡ n + 1 → whole ≡ b ++ spelled_rows rows [] → TableRun threads rows b
-  table_run n [] threads b fine size all = record { after = threads; adds = all_none threads; leads = refl }
+  pub table_run : (n : ℕ) (rows : List RowTree) (threads : List ThreadSteps) (b : List Token)
+      → AreRows n rows → length threads ≡ n + 1 → whole ≡ b ++ spelled_rows rows []
+      → TableRun threads rows b
+  table_run n [] threads b fine size all =
+      record { after = threads; adds = all_none threads; leads = refl }
   table_run n (r ∷ rs) [] b fine size all = absurd (omega arith)
   table_run n (r ∷ rs) (t ∷ todo) b fine size all =
       let many : length todo ≡ length r.others = omega (arith, fine.2) in
@@ -154,26 +213,36 @@ module _ (text : List texts.TokenAt) (whole : List Token) (byte : List Token →
       record {
         after = z.after;
         adds =
-            all_both (λ k. cells_steps (nth_cell k (r.first ∷ r.others))) (rows_steps rs) (λ k. nth_notes k b (r.first ∷ r.others)) (λ k. column_notes k b' rs) (t ∷ todo) q.after z.after q.adds z.adds;
+            all_both (λ k. cells_steps (nth_cell k (r.first ∷ r.others))) (rows_steps rs)
+            (λ k. nth_notes k b (r.first ∷ r.others)) (λ k. column_notes k b' rs) (t ∷ todo)
+            q.after z.after q.adds z.adds;
         leads = q.leads ∙ z.leads;
       }
 
-  cells_steps-append : (cs ds : List CellTree) → cells_steps (cs ++ ds) ≡ cells_steps cs ++ cells_steps ds
+  cells_steps-append : (cs ds : List CellTree)
+      → cells_steps (cs ++ ds) ≡ cells_steps cs ++ cells_steps ds
   cells_steps-append [] ds = refl
-  cells_steps-append (c ∷ cs) ds = ap (λ (l : List Step). cell_steps c ++ l) (cells_steps-append cs ds) ∙ sym (append_assoc (cell_steps c) (cells_steps cs) (cells_steps ds))
+  cells_steps-append (c ∷ cs) ds =
+      ap (λ (l : List Step). cell_steps c ++ l) (cells_steps-append cs ds)
+      ∙ sym (append_assoc (cell_steps c) (cells_steps cs) (cells_steps ds))
 
   pub rows_steps-column : (rs : List RowTree) (k : ℕ) → rows_steps rs k ≡ cells_steps (column k rs)
   rows_steps-column [] k = refl
   rows_steps-column (r ∷ rs) k =
-      ap (λ (l : List Step). cells_steps (nth_cell k (r.first ∷ r.others)) ++ l) (rows_steps-column rs k) ∙ sym (cells_steps-append (nth_cell k (r.first ∷ r.others)) (column k rs))
+      ap (λ (l : List Step). cells_steps (nth_cell k (r.first ∷ r.others)) ++ l)
+      (rows_steps-column rs k)
+      ∙ sym (cells_steps-append (nth_cell k (r.first ∷ r.others)) (column k rs))
 
   -- what a thread has that had nothing
-  pub fresh_steps : (u : ThreadSteps) (ss : List Step) (ns : List Note) → Grows fresh u ss ns → (u.steps ≡ ss) × IsNoted text ns u
+  pub fresh_steps : (u : ThreadSteps) (ss : List Step) (ns : List Note) → Grows fresh u ss ns
+      → (u.steps ≡ ss) × IsNoted text ns u
   fresh_steps u ss ns a = (
     a.steps_are,
     record {
       each = ap length a.steps_are ∙ a.many ∙ ap length (sym a.offsets_are);
-      marked = subst (λ (l : List Step). AreMarks text ns (marks_of l u.offsets)) (sym a.steps_are) (subst (λ (l : List ℕ). AreMarks text ns (marks_of ss l)) (sym a.offsets_are) a.marked);
+      marked =
+          subst (λ (l : List Step). AreMarks text ns (marks_of l u.offsets)) (sym a.steps_are)
+          (subst (λ (l : List ℕ). AreMarks text ns (marks_of ss l)) (sym a.offsets_are) a.marked);
     },
   )
 
@@ -181,7 +250,10 @@ module _ (text : List texts.TokenAt) (whole : List Token) (byte : List Token →
   freshes zero = []
   freshes (suc n) = fresh ∷ freshes n
 
-  pub gathered : (n k : ℕ) (rs : List RowTree) (b : List Token) (f : ℕ → List Step) (g : ℕ → List Note) (us : List ThreadSteps) → ((j : ℕ) → f j ≡ cells_steps (column (k + j) rs)) → ((j : ℕ) → g j ≡ column_notes (k + j) b rs) → AllAdd f g (freshes n) us
+  pub gathered : (n k : ℕ) (rs : List RowTree) (b : List Token) (f : ℕ → List Step)
+      (g : ℕ → List Note) (us : List ThreadSteps)
+      → ((j : ℕ) → f j ≡ cells_steps (column (k + j) rs))
+      → ((j : ℕ) → g j ≡ column_notes (k + j) b rs) → AllAdd f g (freshes n) us
       → (steps_of us ≡ columns_meaning k n rs) × AreNoted text (columns_notes k n b rs) us
   gathered zero k rs b f g [] ef eg a = (refl, tt)
   gathered (suc n) k rs b f g (u ∷ us) ef eg a =
@@ -191,7 +263,8 @@ module _ (text : List texts.TokenAt) (whole : List Token) (byte : List Token →
       let r = gathered n (k + 1) rs b (λ j. f (suc j)) (λ j. g (suc j)) us (λ j. ef (suc j) ∙ ap (λ (i : ℕ). cells_steps (column i rs)) (next j)) (λ j. eg (suc j) ∙ ap (λ (i : ℕ). column_notes i b rs) (next j)) a.1 in
       let first : u.steps ≡ cells_steps (column k rs) = h.0 ∙ ef zero ∙ ap (λ (i : ℕ). cells_steps (column i rs)) here in
       let notes : g zero ≡ column_notes k b rs = eg zero ∙ ap (λ (i : ℕ). column_notes i b rs) here in (
-        ap (λ (l : List Step). l ∷ steps_of us) first ∙ ap (λ (l : List (List Step)). cells_steps (column k rs) ∷ l) r.0,
+        ap (λ (l : List Step). l ∷ steps_of us) first
+            ∙ ap (λ (l : List (List Step)). cells_steps (column k rs) ∷ l) r.0,
         (subst (λ (ns : List Note). IsNoted text ns u) notes h.1, r.1),
       )
   gathered zero k rs b f g (u ∷ us) ef eg a = absurd a
@@ -206,14 +279,18 @@ module _ (text : List texts.TokenAt) (whole : List Token) (byte : List Token →
     pub adds : Grows t after (cells_steps cells) (thread_notes b cells)
     pub leads : runs b (stand (t ∷ []) 0 Begins) ts ≡ Some (stand (after ∷ []) 0 expected)
 
-  pub thread_run : (c : CellTree) (cs : List CellTree) (t : ThreadSteps) (b : List Token) → AreCells (c ∷ cs) → whole ≡ b ++ spelled_cell c (spelled_steps cs []) → ThreadRun t (c ∷ cs) b (spelled_cell c (spelled_steps cs []))
+  pub thread_run : (c : CellTree) (cs : List CellTree) (t : ThreadSteps) (b : List Token)
+      → AreCells (c ∷ cs) → whole ≡ b ++ spelled_cell c (spelled_steps cs [])
+      → ThreadRun t (c ∷ cs) b (spelled_cell c (spelled_steps cs []))
   thread_run c [] t b fine all =
       let r = cell_run text whole byte stands [] t [] c b [] fine.0 all in
       record {
         after = r.after;
         expected = r.expected;
         ended = r.ended;
-        adds = adds_both text whole byte stands t r.after r.after (cell_steps c) [] (cell_notes c b) [] r.adds (adds_none text whole byte stands r.after);
+        adds =
+            adds_both text whole byte stands t r.after r.after (cell_steps c) [] (cell_notes c b) []
+            r.adds (adds_none text whole byte stands r.after);
         leads = r.leads;
       }
   thread_run c (d ∷ cs) t b fine all =
@@ -226,11 +303,16 @@ module _ (text : List texts.TokenAt) (whole : List Token) (byte : List Token →
         after = q.after;
         expected = q.expected;
         ended = q.ended;
-        adds = adds_both text whole byte stands t r.after q.after (cell_steps c) (cells_steps (d ∷ cs)) (cell_notes c b) (thread_notes b' (d ∷ cs)) r.adds q.adds;
+        adds =
+            adds_both text whole byte stands t r.after q.after (cell_steps c) (cells_steps (d ∷ cs))
+            (cell_notes c b) (thread_notes b' (d ∷ cs)) r.adds q.adds;
         leads =
             r.leads
-            ∙ separated (r.after ∷ []) 0 r.expected (b ++ spelled_cell c []) marks.Semicolon (stand (r.after ∷ []) 0 Begins) more ((separator (r.after ∷ []) 0 (byte (b ++ spelled_cell c [])) r.expected r.ended).0)
-            ∙ ap (λ (l : List Token). runs l (stand (r.after ∷ []) 0 Begins) more) (closes b c semicolon)
+            ∙ separated (r.after ∷ []) 0 r.expected (b ++ spelled_cell c []) marks.Semicolon
+            (stand (r.after ∷ []) 0 Begins) more ((separator (r.after ∷ []) 0
+            (byte (b ++ spelled_cell c [])) r.expected r.ended).0)
+            ∙ ap (λ (l : List Token). runs l (stand (r.after ∷ []) 0 Begins) more)
+            (closes b c semicolon)
             ∙ q.leads;
       }
 
@@ -240,11 +322,16 @@ module _ (text : List texts.TokenAt) (whole : List Token) (byte : List Token →
   Bytes b [] = Unit {0}
   Bytes b (p ∷ ps) = (byte b ≡ p.offset) × Bytes (b ++ p.token ∷ []) ps
 
-  pub run_is : (ps : List texts.TokenAt) (b : List Token) (s : State) → Bytes b ps → run s ps ≡ runs b s (tokens_of ps)
+  pub run_is : (ps : List texts.TokenAt) (b : List Token) (s : State) → Bytes b ps
+      → run s ps ≡ runs b s (tokens_of ps)
   run_is [] b s h = refl
-  run_is (p ∷ ps) b s h = ap (λ (k : ℕ). then_on (λ u. run u ps) (step s p.token k)) (sym h.0) ∙ by_step (step s p.token (byte b)) (λ u. run_is ps (b ++ p.token ∷ []) u h.1)
+  run_is (p ∷ ps) b s h =
+      ap (λ (k : ℕ). then_on (λ u. run u ps) (step s p.token k)) (sym h.0)
+      ∙ by_step (step s p.token (byte b)) (λ u. run_is ps (b ++ p.token ∷ []) u h.1)
     where
-      by_step : (o : Option State) → ((u : State) → run u ps ≡ runs (b ++ p.token ∷ []) u (tokens_of ps)) → then_on (λ u. run u ps) o ≡ then_on (λ u. runs (b ++ p.token ∷ []) u (tokens_of ps)) o
+      by_step : (o : Option State)
+          → ((u : State) → run u ps ≡ runs (b ++ p.token ∷ []) u (tokens_of ps))
+          → then_on (λ u. run u ps) o ≡ then_on (λ u. runs (b ++ p.token ∷ []) u (tokens_of ps)) o
       by_step None later = refl
       by_step (Some u) later = later u
 
@@ -254,14 +341,17 @@ byte_at [] b = 0
 byte_at (p ∷ ps) [] = p.offset
 byte_at (p ∷ ps) (t ∷ b) = byte_at ps b
 
-pub tokens-append : (ps qs : List texts.TokenAt) → tokens_of (ps ++ qs) ≡ tokens_of ps ++ tokens_of qs
+pub tokens-append : (ps qs : List texts.TokenAt)
+    → tokens_of (ps ++ qs) ≡ tokens_of ps ++ tokens_of qs
 tokens-append [] qs = refl
 tokens-append (p ∷ ps) qs = ap (λ (l : List Token). p.token ∷ l) (tokens-append ps qs)
 
-pub stands_at : (ps rs : List texts.TokenAt) (b : List Token) (t : Token) (ts : List Token) → tokens_of ps ≡ b ++ (t ∷ ts) → StandsAt (ps ++ rs) b (byte_at (ps ++ rs) b)
+pub stands_at : (ps rs : List texts.TokenAt) (b : List Token) (t : Token) (ts : List Token)
+    → tokens_of ps ≡ b ++ (t ∷ ts) → StandsAt (ps ++ rs) b (byte_at (ps ++ rs) b)
 stands_at [] rs [] t ts e = absurd cc
 stands_at [] rs (u ∷ b) t ts e = absurd cc
-stands_at (p ∷ ps) rs [] t ts e = record { before = []; here = p; behind = ps ++ rs; split = refl; same = refl; at_place = refl }
+stands_at (p ∷ ps) rs [] t ts e =
+    record { before = []; here = p; behind = ps ++ rs; split = refl; same = refl; at_place = refl }
 stands_at (p ∷ ps) rs (u ∷ b) t ts e =
     let first : p.token ≡ u = cc in
     let others : tokens_of ps ≡ b ++ (t ∷ ts) = cc in
@@ -271,10 +361,12 @@ stands_at (p ∷ ps) rs (u ∷ b) t ts e =
       here = r.here;
       behind = r.behind;
       split = ap (λ (l : List texts.TokenAt). p ∷ l) r.split;
-      same = ap (λ (x : Token). x ∷ tokens_of r.before) first ∙ ap (λ (l : List Token). u ∷ l) r.same;
+      same =
+          ap (λ (x : Token). x ∷ tokens_of r.before) first ∙ ap (λ (l : List Token). u ∷ l) r.same;
       at_place = r.at_place;
     }
 
-pub byte_there : (qs : List texts.TokenAt) (p : texts.TokenAt) (zs : List texts.TokenAt) → byte_at (qs ++ p ∷ zs) (tokens_of qs) ≡ p.offset
+pub byte_there : (qs : List texts.TokenAt) (p : texts.TokenAt) (zs : List texts.TokenAt)
+    → byte_at (qs ++ p ∷ zs) (tokens_of qs) ≡ p.offset
 byte_there [] p zs = refl
 byte_there (q ∷ qs) p zs = byte_there qs p zs

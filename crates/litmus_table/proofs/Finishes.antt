@@ -46,13 +46,16 @@ form_wants data_opcodes.Compare = tt
 form_wants data_opcodes.CompareImmediate = tt
 
 module _ (threads : List ThreadSteps) (c offset : ℕ) where
-  either_way : (b : Bool) (a z : Option State) → IsOpenAt a → IsOpenAt z → IsOpenAt (if b then a else z)
+  either_way : (b : Bool) (a z : Option State) → IsOpenAt a → IsOpenAt z
+      → IsOpenAt (if b then a else z)
   either_way true a z x y = x
   either_way false a z x y = y
 
   open_end : (t : Token) → IsOpenAt (ended threads c t)
-  open_end (tokens.Mark marks.Semicolon) = either_way (is_last threads c) (at threads 0 Begins) None tt tt
-  open_end (tokens.Mark marks.Bar) = either_way (is_last threads c) None (at threads (c + 1) Begins) tt tt
+  open_end (tokens.Mark marks.Semicolon) =
+      either_way (is_last threads c) (at threads 0 Begins) None tt tt
+  open_end (tokens.Mark marks.Bar) =
+      either_way (is_last threads c) None (at threads (c + 1) Begins) tt tt
   open_end t = tt
 
   open_word : (o : Option Opcode) → IsOpenAt (operation threads c offset o)
@@ -69,7 +72,9 @@ module _ (threads : List ThreadSteps) (c offset : ℕ) where
   open_cell (tokens.Label w) = tt
   open_cell t = open_begin t
 
-  open_going : (op : DataOpcode) (ws : List Want) (rs : List ℕ) (v : ℤ) → let q : Pending = record { opcode = op; wants = ws; registers = rs; value = v } in IsOpenAt (goes_on threads c q (first_of ws) offset)
+  open_going : (op : DataOpcode) (ws : List Want) (rs : List ℕ) (v : ℤ) → let q : Pending =
+      record { opcode = op; wants = ws; registers = rs; value = v } in IsOpenAt
+      (goes_on threads c q (first_of ws) offset)
   open_going op [] rs v = tt
   open_going op (w ∷ ws) rs v = tt
 
@@ -77,7 +82,8 @@ module _ (threads : List ThreadSteps) (c offset : ℕ) where
   open_operand (Some q) = open_going q.opcode q.wants q.registers q.value
   open_operand None = tt
 
-  open_target : (condition : Option BranchCondition) (t : Token) → IsOpenAt (target_read threads c condition t offset)
+  open_target : (condition : Option BranchCondition) (t : Token)
+      → IsOpenAt (target_read threads c condition t offset)
   open_target condition (tokens.Word w) = tt
   open_target condition t = tt
 
@@ -88,14 +94,19 @@ module _ (threads : List ThreadSteps) (c offset : ℕ) where
   open_expectation (WantsLabel condition) t = open_target condition t
   open_expectation Whole t = open_end t
 
-stays_open : (ps : List texts.TokenAt) (s f : State) → IsOpen s.expected → run s ps ≡ Some f → IsOpen f.expected
+stays_open : (ps : List texts.TokenAt) (s f : State) → IsOpen s.expected → run s ps ≡ Some f
+    → IsOpen f.expected
 stays_open [] s f o e = subst (λ (x : State). IsOpen x.expected) same o
   where
     same : s ≡ f
     same = cc
-stays_open (p ∷ ps) s f o e = by_step (step s p.token p.offset) (open_expectation s.threads s.column p.offset s.expected p.token) e (λ u. stays_open ps u f)
+stays_open (p ∷ ps) s f o e =
+    by_step (step s p.token p.offset)
+    (open_expectation s.threads s.column p.offset s.expected p.token) e (λ u. stays_open ps u f)
   where
-    by_step : (x : Option State) → IsOpenAt x → then_on (λ u. run u ps) x ≡ Some f → ((u : State) → IsOpen u.expected → run u ps ≡ Some f → IsOpen f.expected) → IsOpen f.expected
+    by_step : (x : Option State) → IsOpenAt x → then_on (λ u. run u ps) x ≡ Some f
+        → ((u : State) → IsOpen u.expected → run u ps ≡ Some f → IsOpen f.expected)
+        → IsOpen f.expected
     by_step None k m later = absurd cc
     by_step (Some u) k m later = later u k m
 
@@ -131,13 +142,15 @@ record CellEnds (s : State) : Type 0 where
   threads : List ThreadSteps
   expected : Expectation
   ended : can_end expected ≡ true
-  leads : (rest : List texts.TokenAt) → run s (by ++ rest) ≡ run (stand threads s.column expected) rest
+  leads : (rest : List texts.TokenAt)
+      → run s (by ++ rest) ≡ run (stand threads s.column expected) rest
 
 module _ (threads : List ThreadSteps) (c : ℕ) where
   abbrev pending : DataOpcode → List Want → List ℕ → ℤ → Pending
   pending op ws rs v = record { opcode = op; wants = ws; registers = rs; value = v }
 
-  filled : (op : DataOpcode) (w : Want) (ws : List Want) (rs : List ℕ) (v : ℤ) → CellEnds (stand threads c (Within (pending op (w ∷ ws) rs v)))
+  filled : (op : DataOpcode) (w : Want) (ws : List Want) (rs : List ℕ) (v : ℤ)
+      → CellEnds (stand threads c (Within (pending op (w ∷ ws) rs v)))
   filled op w [] rs v =
       let t = filler w in
       let q = pending_with (pending op (w ∷ []) rs v) [] t in
@@ -146,7 +159,11 @@ module _ (threads : List ThreadSteps) (c : ℕ) where
         threads = put_at c (steps.Instruction (instruction_of q)) 0 threads;
         expected = Whole;
         ended = refl;
-        leads = λ rest. ap (λ (b : Bool). then_on (λ u. run u rest) (operand threads c (if b then Some q else None) 0)) (filler_fits w);
+        leads =
+            λ rest. ap
+            (λ (b : Bool).
+            then_on (λ u. run u rest) (operand threads c (if b then Some q else None) 0))
+            (filler_fits w);
       }
   filled op w (w' ∷ ws) rs v =
       let t = filler w in
@@ -157,10 +174,15 @@ module _ (threads : List ThreadSteps) (c : ℕ) where
         threads = r.threads;
         expected = r.expected;
         ended = r.ended;
-        leads = λ rest. ap (λ (b : Bool). then_on (λ u. run u (r.by ++ rest)) (operand threads c (if b then Some q else None) 0)) (filler_fits w) ∙ r.leads rest;
+        leads =
+            λ rest. ap
+            (λ (b : Bool). then_on (λ u. run u (r.by ++ rest))
+            (operand threads c (if b then Some q else None) 0))
+            (filler_fits w) ∙ r.leads rest;
       }
 
-  pending_ends : (op : DataOpcode) (ws : List Want) (rs : List ℕ) (v : ℤ) → Wants ws → CellEnds (stand threads c (Within (pending op ws rs v)))
+  pending_ends : (op : DataOpcode) (ws : List Want) (rs : List ℕ) (v : ℤ) → Wants ws
+      → CellEnds (stand threads c (Within (pending op ws rs v)))
   pending_ends op [] rs v o = absurd o
   pending_ends op (w ∷ ws) rs v o = filled op w ws rs v
 
@@ -177,30 +199,41 @@ module _ (threads : List ThreadSteps) (c : ℕ) where
 
 -- ---- to the end of the row
 
-pub separator : (threads : List ThreadSteps) (c offset : ℕ) (h : Expectation) → can_end h ≡ true → (expected_step threads c h (tokens.Mark marks.Semicolon) offset ≡ ended threads c (tokens.Mark marks.Semicolon)) × (expected_step threads c h (tokens.Mark marks.Bar) offset ≡ ended threads c (tokens.Mark marks.Bar))
+pub separator : (threads : List ThreadSteps) (c offset : ℕ) (h : Expectation) → can_end h ≡ true
+    → (expected_step threads c h (tokens.Mark marks.Semicolon) offset
+    ≡ ended threads c (tokens.Mark marks.Semicolon))
+    × (expected_step threads c h (tokens.Mark marks.Bar) offset
+    ≡ ended threads c (tokens.Mark marks.Bar))
 separator threads c offset Begins e = (refl, refl)
 separator threads c offset Labelled e = (refl, refl)
 separator threads c offset (Within p) e = absurd cc
 separator threads c offset (WantsLabel condition) e = absurd cc
 separator threads c offset Whole e = (refl, refl)
 
-row_ends : (left : ℕ) (threads : List ThreadSteps) (c : ℕ) (h : Expectation) → can_end h ≡ true → length threads ≤ c + 1 + left → Finishes is_row_start (stand threads c h)
+row_ends : (left : ℕ) (threads : List ThreadSteps) (c : ℕ) (h : Expectation) → can_end h ≡ true
+    → length threads ≤ c + 1 + left → Finishes is_row_start (stand threads c h)
 row_ends zero threads c h e le =
     record {
       rest = first_token (tokens.Mark marks.Semicolon) ∷ [];
       after = stand threads 0 Begins;
       by =
           ap (then_on (λ u. run u [])) ((separator threads c 0 h e).0)
-          ∙ ap (λ (b : Bool). then_on (λ u. run u []) (if b then at threads 0 Begins else None)) (le-leb (length threads) (c + 1) (omega arith));
+          ∙ ap (λ (b : Bool). then_on (λ u. run u []) (if b then at threads 0 Begins else None))
+          (le-leb (length threads) (c + 1) (omega arith));
       ended = refl;
     }
-row_ends (suc left) threads c h e le = choose (is_last threads c) refl (row_ends left threads (c + 1) Begins refl (omega arith))
+row_ends (suc left) threads c h e le =
+    choose (is_last threads c) refl (row_ends left threads (c + 1) Begins refl (omega arith))
   where
-    choose : (b : Bool) → is_last threads c ≡ b → Finishes is_row_start (stand threads (c + 1) Begins) → Finishes is_row_start (stand threads c h)
+    choose : (b : Bool) → is_last threads c ≡ b
+        → Finishes is_row_start (stand threads (c + 1) Begins)
+        → Finishes is_row_start (stand threads c h)
     choose true k later = record {
       rest = first_token (tokens.Mark marks.Semicolon) ∷ [];
       after = stand threads 0 Begins;
-      by = ap (then_on (λ u. run u [])) ((separator threads c 0 h e).0) ∙ ap (λ (b : Bool). then_on (λ u. run u []) (if b then at threads 0 Begins else None)) k;
+      by =
+          ap (then_on (λ u. run u [])) ((separator threads c 0 h e).0)
+          ∙ ap (λ (b : Bool). then_on (λ u. run u []) (if b then at threads 0 Begins else None)) k;
       ended = refl;
     }
     choose false k later = record {
@@ -208,7 +241,9 @@ row_ends (suc left) threads c h e le = choose (is_last threads c) refl (row_ends
       after = later.after;
       by =
           ap (then_on (λ u. run u later.rest)) ((separator threads c 0 h e).1)
-          ∙ ap (λ (b : Bool). then_on (λ u. run u later.rest) (if b then None else at threads (c + 1) Begins)) k
+          ∙ ap
+          (λ (b : Bool).
+          then_on (λ u. run u later.rest) (if b then None else at threads (c + 1) Begins)) k
           ∙ later.by;
       ended = later.ended;
     }
@@ -216,13 +251,15 @@ row_ends (suc left) threads c h e le = choose (is_last threads c) refl (row_ends
 columns_open : (n : ℕ) → IsOpen (columns n).expected
 columns_open n = subst IsOpen (sym (columns-expected n)) tt
 
-pub table_finishes : (n : ℕ) (ps : List texts.TokenAt) (s : State) → run (columns n) ps ≡ Some s → Finishes is_row_start s
+pub table_finishes : (n : ℕ) (ps : List texts.TokenAt) (s : State) → run (columns n) ps ≡ Some s
+    → Finishes is_row_start s
 table_finishes n ps s e =
     let k = cell_ends s.threads s.column s.expected (stays_open ps (columns n) s (columns_open n) e) in
     let r = row_ends (length k.threads) k.threads s.column k.expected k.ended (omega arith) in
     record { rest = k.by ++ r.rest; after = r.after; by = k.leads r.rest ∙ r.by; ended = r.ended }
 
-pub thread_finishes : (ps : List texts.TokenAt) (s : State) → run (columns 0) ps ≡ Some s → Finishes is_whole s
+pub thread_finishes : (ps : List texts.TokenAt) (s : State) → run (columns 0) ps ≡ Some s
+    → Finishes is_whole s
 thread_finishes ps s e =
     let k = cell_ends s.threads s.column s.expected (stays_open ps (columns 0) s tt e) in
     record { rest = k.by ++ []; after = stand k.threads s.column k.expected; by = k.leads []; ended = k.ended }

@@ -36,7 +36,11 @@ within ws k w e = choose (cases_lt k (length ws))
 abbrev pending : DataOpcode → List Want → List ℕ → ℤ → Pending
 pending op ws rs n = record { opcode = op; wants = ws; registers = rs; value = n }
 
-pub takes : (op : DataOpcode) (k m : ℕ) (rs rs' : List ℕ) (n n' : ℤ) (w : Want) (t : Token) → first_of (drop k (data_form op)) ≡ Some w → m ≡ min (k + 1) 18446744073709551615 → fits w t ≡ true → rs' ≡ registers_with t rs → n' ≡ value_with t n → pending_after (pending op (drop k (data_form op)) rs n) t ≡ Some (pending op (drop m (data_form op)) rs' n')
+pub takes : (op : DataOpcode) (k m : ℕ) (rs rs' : List ℕ) (n n' : ℤ) (w : Want) (t : Token)
+    → first_of (drop k (data_form op)) ≡ Some w → m ≡ min (k + 1) 18446744073709551615
+    → fits w t ≡ true → rs' ≡ registers_with t rs → n' ≡ value_with t n
+    → pending_after (pending op (drop k (data_form op)) rs n) t
+    ≡ Some (pending op (drop m (data_form op)) rs' n')
 takes op k m rs rs' n n' w t first more fit registers value =
     let ws = drop k (data_form op) in
     let lt = within (data_form op) k w first in

@@ -24,9 +24,11 @@ pushed n p [] le all (suc k) lt = absurd (omega arith)
 pushed n p (q ∷ ps) le all zero lt = let h : 0 < length (q ∷ ps) = omega arith in all 0 h
 pushed n p (q ∷ ps) le all (suc k) lt =
     let fewer : k < length (ps ++ p ∷ []) = omega arith in
-    pushed n p ps le (λ i less. let more : suc i < length (q ∷ ps) = omega arith in all (suc i) more) k fewer
+    pushed n p ps le
+    (λ i less. let more : suc i < length (q ∷ ps) = omega arith in all (suc i) more) k fewer
 
-put_within : (n k : ℕ) (s : Step) (p : ℕ) (ts : List ThreadSteps) → p ≤ n → AreWithin n ts → AreWithin n (put_at k s p ts)
+put_within : (n k : ℕ) (s : Step) (p : ℕ) (ts : List ThreadSteps) → p ≤ n → AreWithin n ts
+    → AreWithin n (put_at k s p ts)
 put_within n k s p [] le h = tt
 put_within n zero s p (t ∷ ts) le h = (pushed n p t.offsets le h.0, h.1)
 put_within n (suc k) s p (t ∷ ts) le h = (h.0, put_within n k s p ts le h.1)
@@ -39,7 +41,8 @@ module _ (n p : ℕ) (le : p ≤ n) (ts : List ThreadSteps) (c : ℕ) (h : AreWi
   done : (i : Instruction) → WithinSome n (finished ts c i p)
   done i = put_within n c (steps.Instruction i) p ts le h
 
-  either_way : (b : Bool) (a z : Option State) → WithinSome n a → WithinSome n z → WithinSome n (if b then a else z)
+  either_way : (b : Bool) (a z : Option State) → WithinSome n a → WithinSome n z
+      → WithinSome n (if b then a else z)
   either_way true a z x y = x
   either_way false a z x y = y
 
@@ -70,7 +73,8 @@ module _ (n p : ℕ) (le : p ≤ n) (ts : List ThreadSteps) (c : ℕ) (h : AreWi
   after_operand (Some q) = after_going q (first_of q.wants)
   after_operand None = tt
 
-  after_target : (condition : Option BranchCondition) (t : Token) → WithinSome n (target_read ts c condition t p)
+  after_target : (condition : Option BranchCondition) (t : Token)
+      → WithinSome n (target_read ts c condition t p)
   after_target condition (tokens.Word w) = done (branch_meaning condition w)
   after_target condition t = tt
 
@@ -81,15 +85,21 @@ module _ (n p : ℕ) (le : p ≤ n) (ts : List ThreadSteps) (c : ℕ) (h : AreWi
   after_expectation (WantsLabel condition) t = after_target condition t
   after_expectation Whole t = after_end t
 
-pub expectation_within : (n p : ℕ) → p ≤ n → (ts : List ThreadSteps) (c : ℕ) → AreWithin n ts → (o : Expectation) (t : Token) (x : State) → expected_step ts c o t p ≡ Some x → AreWithin n x.threads
-expectation_within n p le ts c h o t x e = subst (WithinSome n) e (after_expectation n p le ts c h o t)
+pub expectation_within : (n p : ℕ) → p ≤ n → (ts : List ThreadSteps) (c : ℕ) → AreWithin n ts
+    → (o : Expectation) (t : Token) (x : State) → expected_step ts c o t p ≡ Some x
+    → AreWithin n x.threads
+expectation_within n p le ts c h o t x e =
+    subst (WithinSome n) e (after_expectation n p le ts c h o t)
 
 -- a thread of the table
-pub thread_within : (n : ℕ) (ts : List PlacedThread) (k : ℕ) (d : PlacedThread) → AreWithin n (threads_of ts) → k < length ts → AllAtMost n (thread_of (get_or ts k d)).offsets
+pub thread_within : (n : ℕ) (ts : List PlacedThread) (k : ℕ) (d : PlacedThread)
+    → AreWithin n (threads_of ts) → k < length ts → AllAtMost n (thread_of (get_or ts k d)).offsets
 thread_within n [] k d h lt = absurd (omega arith)
 thread_within n (t ∷ ts) zero d h lt = h.0
-thread_within n (t ∷ ts) (suc k) d h lt = let less : k < length ts = omega arith in thread_within n ts k d h.1 less
+thread_within n (t ∷ ts) (suc k) d h lt =
+    let less : k < length ts = omega arith in thread_within n ts k d h.1 less
 
-pub widened_within : (n : ℕ) (ts : List ThreadSteps) → AreWithin n ts → AreWithin n (ts ++ fresh ∷ [])
+pub widened_within : (n : ℕ) (ts : List ThreadSteps) → AreWithin n ts
+    → AreWithin n (ts ++ fresh ∷ [])
 widened_within n [] h = (λ k lt. absurd (omega (arith, lt)), tt)
 widened_within n (t ∷ ts) h = (h.0, widened_within n ts h.1)

@@ -12,9 +12,11 @@ use Rattle.litmus_table.specs.declared.opcode.Want.TheVariants as wants
 use Rattle.litmus_table.specs.Words.{data_form, fits, all_fit, registers, immediate}
 use Rattle.litmus_table.specs.Machine.{registers_with, or_value, value_with}
 
-pub registers-with : (t : Token) (ts : List Token) (rs : List ℕ) → registers_with t rs ++ registers ts ≡ rs ++ registers (t ∷ ts)
+pub registers-with : (t : Token) (ts : List Token) (rs : List ℕ)
+    → registers_with t rs ++ registers ts ≡ rs ++ registers (t ∷ ts)
 registers-with (tokens.Word w) ts [] = refl
-registers-with (tokens.Word w) ts (r ∷ rs) = ap (λ (l : List ℕ). r ∷ l) (registers-with (tokens.Word w) ts rs)
+registers-with (tokens.Word w) ts (r ∷ rs) =
+    ap (λ (l : List ℕ). r ∷ l) (registers-with (tokens.Word w) ts rs)
 registers-with t ts rs = refl
 
 -- the number that is kept after these tokens
@@ -75,7 +77,8 @@ is_other wants.Immediate (tokens.Number negative ds) e f = absurd cc
 is_other wants.Zero (tokens.Number negative ds) e f = absurd cc
 is_other w t e f = tt
 
-none_after : (ws : List Want) (ts : List Token) (v : ℤ) → AreNone ws → all_fit ws ts ≡ true → (value_after v ts ≡ v) × (immediate ts ≡ pos 0)
+none_after : (ws : List Want) (ts : List Token) (v : ℤ) → AreNone ws → all_fit ws ts ≡ true
+    → (value_after v ts ≡ v) × (immediate ts ≡ pos 0)
 none_after [] [] v n f = (refl, refl)
 none_after [] (t ∷ ts) v n f = absurd cc
 none_after (wants.Immediate ∷ ws) ts v n f = absurd n
@@ -88,20 +91,25 @@ none_after (w ∷ ws) (t ∷ ts) v n f =
     (r.0 ∙ other_value t v o, other_immediate t ts o ∙ r.1)
 
 -- digits of a number that fits
-immediate_value : (t : Token) (v : ℤ) (ts : List Token) → fits wants.Immediate t ≡ true → value_with t v ≡ immediate (t ∷ ts)
-immediate_value (tokens.Number negative ds) v ts f = ap (λ (b : Bool). or_value (if b then Some (signed negative (decimal ds)) else None) v) f
+immediate_value : (t : Token) (v : ℤ) (ts : List Token) → fits wants.Immediate t ≡ true
+    → value_with t v ≡ immediate (t ∷ ts)
+immediate_value (tokens.Number negative ds) v ts f =
+    ap (λ (b : Bool). or_value (if b then Some (signed negative (decimal ds)) else None) v) f
 immediate_value t v ts f = absurd cc
 
-signed_zero : (negative : Bool) → (value_with (tokens.Number negative []) (pos 0) ≡ pos 0) × (signed negative 0 ≡ pos 0)
+signed_zero : (negative : Bool)
+    → (value_with (tokens.Number negative []) (pos 0) ≡ pos 0) × (signed negative 0 ≡ pos 0)
 signed_zero true = (refl, refl)
 signed_zero false = (refl, refl)
 
-zero_value : (t : Token) (ts : List Token) → fits wants.Zero t ≡ true → value_with t (pos 0) ≡ immediate (t ∷ ts)
+zero_value : (t : Token) (ts : List Token) → fits wants.Zero t ≡ true
+    → value_with t (pos 0) ≡ immediate (t ∷ ts)
 zero_value (tokens.Number negative []) ts f = let z = signed_zero negative in z.0 ∙ sym z.1
 zero_value (tokens.Number negative (d ∷ ds)) ts f = absurd cc
 zero_value t ts f = absurd cc
 
-one_after : (ws : List Want) (ts : List Token) → IsOne ws → all_fit ws ts ≡ true → value_after (pos 0) ts ≡ immediate ts
+one_after : (ws : List Want) (ts : List Token) → IsOne ws → all_fit ws ts ≡ true
+    → value_after (pos 0) ts ≡ immediate ts
 one_after [] [] n f = refl
 one_after [] (t ∷ ts) n f = absurd cc
 one_after (w ∷ ws) [] n f = absurd cc
@@ -114,7 +122,9 @@ one_after (wants.Zero ∷ ws) (t ∷ ts) n f =
 one_after (w ∷ ws) (t ∷ ts) n f =
     let b = and_parts (fits w t) (all_fit ws ts) f in
     let o = is_other w t refl b.0 in
-    ap (λ (v : ℤ). value_after v ts) (other_value t (pos 0) o) ∙ one_after ws ts n b.1 ∙ sym (other_immediate t ts o)
+    ap (λ (v : ℤ). value_after v ts) (other_value t (pos 0) o) ∙ one_after ws ts n b.1
+    ∙ sym (other_immediate t ts o)
 
-pub value_of : (op : DataOpcode) (ts : List Token) → all_fit (data_form op) ts ≡ true → value_after (pos 0) ts ≡ immediate ts
+pub value_of : (op : DataOpcode) (ts : List Token) → all_fit (data_form op) ts ≡ true
+    → value_after (pos 0) ts ≡ immediate ts
 value_of op ts f = one_after (data_form op) ts (form_one op) f

@@ -56,7 +56,8 @@ Fine most threads [] = Unit {0}
 Fine most threads (BGroup ∷ bs) = (opens bs < most.nesting) × Fine most threads bs
 Fine most threads (BPrefix tilde ∷ bs) = (opens bs < most.nesting) × Fine most threads bs
 Fine most threads (BLeft op a ∷ bs) =
-    IsGrouped a × (level op + 1 ≤ tightness a) × (need bs ≤ level op) × (opens bs + depth a ≤ most.nesting) × HasAtoms threads a × Fine most threads bs
+    IsGrouped a × (level op + 1 ≤ tightness a) × (need bs ≤ level op)
+    × (opens bs + depth a ≤ most.nesting) × HasAtoms threads a × Fine most threads bs
 
 abbrev pub Stops : ℕ → List Branch → Type 0
 Stops l [] = Unit {0}
@@ -81,14 +82,16 @@ need-le (BGroup ∷ bs) = omega arith
 need-le (BPrefix tilde ∷ bs) = omega arith
 need-le (BLeft op a ∷ bs) = let h = level-le op in omega arith
 
-pub opens-le : (most : Limits) (threads : ℕ) (bs : List Branch) → Fine most threads bs → opens bs ≤ most.nesting
+pub opens-le : (most : Limits) (threads : ℕ) (bs : List Branch) → Fine most threads bs
+    → opens bs ≤ most.nesting
 opens-le most threads [] h = omega arith
 opens-le most threads (BGroup ∷ bs) h = omega (arith, h.0)
 opens-le most threads (BPrefix tilde ∷ bs) h = omega (arith, h.0)
 opens-le most threads (BLeft op a ∷ bs) h = omega (arith, h.3)
 
 -- what is still open once everything that binds this tightly is joined
-pub record Folded (most : Limits) (threads l : ℕ) (whole rest : List Token) (p : List Frame × Formula) (used : ℕ) : Type 0 where
+pub record Folded (most : Limits) (threads l : ℕ) (whole rest : List Token)
+    (p : List Frame × Formula) (used : ℕ) : Type 0 where
   pub bs : List Branch
   pub t : FormulaTree
   pub is : p ≡ (frames bs, meaning t)
@@ -108,19 +111,33 @@ test_true l n h = grind (arith, nat_tests)
 test_false : (l n : ℕ) → nat_le l n ≡ false → n < l
 test_false l n h = grind (arith, nat_tests)
 
-pub folded : (most : Limits) (threads l : ℕ) (whole rest : List Token) (used : ℕ) (bs : List Branch) (t : FormulaTree) → l ≤ 4 → l ≤ tightness t → Fine most threads bs → IsGrouped t → HasAtoms threads t → need bs ≤ tightness t → opens bs + depth t ≤ most.nesting → count bs + operators t ≡ used → whole ≡ before bs (spelled t rest)
+pub folded : (most : Limits) (threads l : ℕ) (whole rest : List Token) (used : ℕ) (bs : List Branch)
+    (t : FormulaTree) → l ≤ 4 → l ≤ tightness t → Fine most threads bs → IsGrouped t
+    → HasAtoms threads t → need bs ≤ tightness t → opens bs + depth t ≤ most.nesting
+    → count bs + operators t ≡ used → whole ≡ before bs (spelled t rest)
     → Folded most threads l whole rest (fold_to l (frames bs) (meaning t)) used
 folded most threads l whole rest used [] t low tight fine grouped atoms needed shallow counted is =
     record { bs = []; t = t; is = refl; fine = tt; grouped = grouped; atoms = atoms; needed = needed; tight = tight; shallow = shallow; counted = counted; whole_is = is; stops = tt }
-folded most threads l whole rest used (BGroup ∷ bs) t low tight fine grouped atoms needed shallow counted is =
+folded most threads l whole rest used (BGroup ∷ bs) t low tight fine grouped atoms needed shallow
+    counted is =
     record { bs = BGroup ∷ bs; t = t; is = refl; fine = fine; grouped = grouped; atoms = atoms; needed = needed; tight = tight; shallow = shallow; counted = counted; whole_is = is; stops = tt }
-folded most threads l whole rest used (BPrefix tilde ∷ bs) t low tight fine grouped atoms needed shallow counted is =
-    folded most threads l whole rest used bs (Prefix tilde t) low low fine.1 (needed, grouped) atoms (need-le bs) (omega arith) (omega arith) is
-folded most threads l whole rest used (BLeft op a ∷ bs) t low tight fine grouped atoms needed shallow counted is =
-    choose (nat_le l (level op)) refl (λ le. folded most threads l whole rest used bs (Pair op a t) low le fine.5 (fine.1, needed, fine.0, grouped) (fine.4, atoms) fine.2 (omega (arith, fine.3)) (omega arith) is)
+folded most threads l whole rest used (BPrefix tilde ∷ bs) t low tight fine grouped atoms needed
+    shallow counted is =
+    folded most threads l whole rest used bs (Prefix tilde t) low low fine.1 (needed, grouped) atoms
+    (need-le bs) (omega arith) (omega arith) is
+folded most threads l whole rest used (BLeft op a ∷ bs) t low tight fine grouped atoms needed
+    shallow counted is =
+    choose (nat_le l (level op)) refl (λ le. folded most threads l whole rest used bs (Pair op a t)
+    low le fine.5 (fine.1, needed, fine.0, grouped) (fine.4, atoms) fine.2
+    (omega (arith, fine.3)) (omega arith) is)
   where
-    choose : (b : Bool) → nat_le l (level op) ≡ b → (l ≤ level op → Folded most threads l whole rest (fold_to l (frames bs) (Join op (meaning a) (meaning t))) used)
-        → Folded most threads l whole rest (if b then fold_to l (frames bs) (Join op (meaning a) (meaning t)) else (LeftOf op (meaning a) ∷ frames bs, meaning t)) used
+    choose : (b : Bool) → nat_le l (level op) ≡ b
+        → (l ≤ level op
+        → Folded most threads l whole rest
+        (fold_to l (frames bs) (Join op (meaning a) (meaning t))) used)
+        → Folded most threads l whole rest
+        (if b then fold_to l (frames bs) (Join op (meaning a) (meaning t))
+        else (LeftOf op (meaning a) ∷ frames bs, meaning t)) used
     choose true e joined = joined (test_true l (level op) e)
     choose false e joined =
         record { bs = BLeft op a ∷ bs; t = t; is = refl; fine = fine; grouped = grouped; atoms = atoms; needed = needed; tight = tight; shallow = shallow; counted = counted; whole_is = is; stops = test_false l (level op) e }

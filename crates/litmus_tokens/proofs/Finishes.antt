@@ -40,20 +40,31 @@ closers_close (InPrefix ∷ fs) = closers_close fs
 closers_close (LeftOf op a ∷ fs) = closers_close fs
 
 module _ (most : Limits) (threads : ℕ) where
-  same_end : (fs gs : List Frame) (used : ℕ) (v w : Formula) (ts : List Token) → Closes ts → fold_to 0 gs v ≡ fold_to 0 fs w → run most threads gs used (Has v) ts ≡ run most threads fs used (Has w) ts
-  same_end fs gs used v w (tokens.End ∷ ts) c e = ap (λ (p : List Frame × Formula). from most threads (ended p) ts) e
-  same_end fs gs used v w (tokens.Mark marks.Close ∷ ts) c e = ap (λ (p : List Frame × Formula). from most threads (closed used p) ts) e
+  same_end : (fs gs : List Frame) (used : ℕ) (v w : Formula) (ts : List Token) → Closes ts
+      → fold_to 0 gs v ≡ fold_to 0 fs w
+      → run most threads gs used (Has v) ts ≡ run most threads fs used (Has w) ts
+  same_end fs gs used v w (tokens.End ∷ ts) c e =
+      ap (λ (p : List Frame × Formula). from most threads (ended p) ts) e
+  same_end fs gs used v w (tokens.Mark marks.Close ∷ ts) c e =
+      ap (λ (p : List Frame × Formula). from most threads (closed used p) ts) e
   same_end fs gs used v w [] c e = absurd c
   same_end fs gs used v w (_ ∷ ts) c e = absurd c
 
-  has_finishes : (fs : List Frame) (used : ℕ) (v : Formula) → (w : Formula) × (run most threads fs used (Has v) (closers fs) ≡ Some w)
+  has_finishes : (fs : List Frame) (used : ℕ) (v : Formula)
+      → (w : Formula) × (run most threads fs used (Has v) (closers fs) ≡ Some w)
   has_finishes [] used v = (v, refl)
   has_finishes (InGroup ∷ fs) used v = has_finishes fs used v
   has_finishes (InPrefix ∷ fs) used v =
       let r = has_finishes fs used (Not v) in (r.0, same_end fs (InPrefix ∷ fs) used v (Not v) (closers fs) (closers_close fs) refl ∙ r.1)
   has_finishes (LeftOf op a ∷ fs) used v =
-      let r = has_finishes fs used (Join op a v) in
-      (r.0, same_end fs (LeftOf op a ∷ fs) used v (Join op a v) (closers fs) (closers_close fs) (ap (λ (x : Bool). if x then fold_to 0 fs (Join op a v) else (LeftOf op a ∷ fs, v)) (le_zero (level op))) ∙ r.1)
+      let r = has_finishes fs used (Join op a v) in (
+        r.0,
+        same_end fs (LeftOf op a ∷ fs) used v (Join op a v) (closers fs) (closers_close fs)
+            (ap
+            (λ (x : Bool).
+            if x then fold_to 0 fs (Join op a v) else (LeftOf op a ∷ fs, v))
+            (le_zero (level op))) ∙ r.1,
+      )
 
   abbrev letter : List ℕ
   letter = 120 ∷ []
@@ -69,21 +80,39 @@ module _ (most : Limits) (threads : ℕ) where
   equals fs = tokens.Mark marks.Equals ∷ last fs
 
   -- these tokens lead to an atom
-  by_atom : (fs : List Frame) (used : ℕ) (expected : Expectation) (p : Place) (ts : List Token) → run most threads fs used expected ts ≡ run most threads fs used (Has (atom p)) (closers fs) → Finishes most threads fs used expected
-  by_atom fs used expected p ts e = let r = has_finishes fs used (atom p) in record { rest = ts; value = r.0; by = e ∙ r.1 }
+  by_atom : (fs : List Frame) (used : ℕ) (expected : Expectation) (p : Place) (ts : List Token)
+      → run most threads fs used expected ts ≡ run most threads fs used (Has (atom p)) (closers fs)
+      → Finishes most threads fs used expected
+  by_atom fs used expected p ts e =
+      let r = has_finishes fs used (atom p) in record { rest = ts; value = r.0; by = e ∙ r.1 }
 
-  place_finishes : (fs : List Frame) (used : ℕ) (expected : PlaceExpectation) → Finishes most threads fs used (InPlace expected)
-  place_finishes fs used Begins = by_atom fs used (InPlace Begins) (places.Location letter) (tokens.Word letter ∷ equals fs) refl
-  place_finishes fs used WantsName = by_atom fs used (InPlace WantsName) (places.Location letter) (tokens.Word letter ∷ tokens.Mark marks.CloseBracket ∷ equals fs) refl
-  place_finishes fs used (WantsBracket n) = by_atom fs used (InPlace (WantsBracket n)) (places.Location n) (tokens.Mark marks.CloseBracket ∷ equals fs) refl
-  place_finishes fs used (WantsColon t) = by_atom fs used (InPlace (WantsColon t)) (place_of (written.Register t 0)) (tokens.Mark marks.Colon ∷ tokens.Word (codes "r0") ∷ equals fs) refl
-  place_finishes fs used (WantsRegister t) = by_atom fs used (InPlace (WantsRegister t)) (place_of (written.Register t 0)) (tokens.Word (codes "r0") ∷ equals fs) refl
+  place_finishes : (fs : List Frame) (used : ℕ) (expected : PlaceExpectation)
+      → Finishes most threads fs used (InPlace expected)
+  place_finishes fs used Begins =
+      by_atom fs used (InPlace Begins) (places.Location letter) (tokens.Word letter ∷ equals fs)
+      refl
+  place_finishes fs used WantsName =
+      by_atom fs used (InPlace WantsName) (places.Location letter)
+      (tokens.Word letter ∷ tokens.Mark marks.CloseBracket ∷ equals fs) refl
+  place_finishes fs used (WantsBracket n) =
+      by_atom fs used (InPlace (WantsBracket n)) (places.Location n)
+      (tokens.Mark marks.CloseBracket ∷ equals fs) refl
+  place_finishes fs used (WantsColon t) =
+      by_atom fs used (InPlace (WantsColon t)) (place_of (written.Register t 0))
+      (tokens.Mark marks.Colon ∷ tokens.Word (codes "r0") ∷ equals fs) refl
+  place_finishes fs used (WantsRegister t) =
+      by_atom fs used (InPlace (WantsRegister t)) (place_of (written.Register t 0))
+      (tokens.Word (codes "r0") ∷ equals fs) refl
 
-  pub finishes : (fs : List Frame) (used : ℕ) (expected : Expectation) → Finishes most threads fs used expected
-  finishes fs used Wants = by_atom fs used Wants (places.Location letter) (tokens.Word letter ∷ equals fs) refl
-  finishes fs used (HasConstant b) = by_atom fs used (HasConstant b) (places.Location (constant_word b)) (equals fs) refl
+  pub finishes : (fs : List Frame) (used : ℕ) (expected : Expectation)
+      → Finishes most threads fs used expected
+  finishes fs used Wants =
+      by_atom fs used Wants (places.Location letter) (tokens.Word letter ∷ equals fs) refl
+  finishes fs used (HasConstant b) =
+      by_atom fs used (HasConstant b) (places.Location (constant_word b)) (equals fs) refl
   finishes fs used HasNot = by_atom fs used HasNot (places.Location (codes "not")) (equals fs) refl
   finishes fs used (InPlace expected) = place_finishes fs used expected
   finishes fs used (WantsEquals p) = by_atom fs used (WantsEquals p) p (equals fs) refl
   finishes fs used (WantsValue p) = by_atom fs used (WantsValue p) p (last fs) refl
-  finishes fs used (Has v) = let r = has_finishes fs used v in record { rest = closers fs; value = r.0; by = r.1 }
+  finishes fs used (Has v) =
+      let r = has_finishes fs used v in record { rest = closers fs; value = r.0; by = r.1 }

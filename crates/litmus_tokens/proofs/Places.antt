@@ -37,22 +37,27 @@ StepStands whole rest (Some (steps.Goes expected)) = whole ≡ within expected r
 StepStands whole rest (Some (steps.Ends w)) = PlaceRead whole rest w
 StepStands whole rest None = Unit {0}
 
-register_read : (t w : List ℕ) (rest : List Token) (r : Option ℕ) → register_of w ≡ r → StepStands (tokens.Number false t ∷ tokens.Mark Colon ∷ tokens.Word w ∷ rest) rest (register_ends t r)
+register_read : (t w : List ℕ) (rest : List Token) (r : Option ℕ) → register_of w ≡ r
+    → StepStands (tokens.Number false t ∷ tokens.Mark Colon ∷ tokens.Word w ∷ rest) rest
+    (register_ends t r)
 register_read t w rest (Some r) e =
     record { tree = Register t w; fine = ap is_known e; means = ap (λ (o : Option ℕ). written.Register t (or_zero o)) e; whole_is = refl }
 register_read t w rest None e = tt
 
 start_step : (t : Token) (rest : List Token) → StepStands (t ∷ rest) rest (place_start t)
-start_step (tokens.Word n) rest = record { tree = Location false n; fine = tt; means = refl; whole_is = refl }
+start_step (tokens.Word n) rest =
+    record { tree = Location false n; fine = tt; means = refl; whole_is = refl }
 start_step (tokens.Mark OpenBracket) rest = refl
 start_step (tokens.Number false t) rest = refl
 start_step _ rest = tt
 
-pub place_stands : (expected : PlaceExpectation) (t : Token) (rest : List Token) → StepStands (within expected (t ∷ rest)) rest (place_step expected t)
+pub place_stands : (expected : PlaceExpectation) (t : Token) (rest : List Token)
+    → StepStands (within expected (t ∷ rest)) rest (place_step expected t)
 place_stands Begins t rest = start_step t rest
 place_stands WantsName (tokens.Word n) rest = refl
 place_stands WantsName _ rest = tt
-place_stands (WantsBracket n) (tokens.Mark CloseBracket) rest = record { tree = Location true n; fine = tt; means = refl; whole_is = refl }
+place_stands (WantsBracket n) (tokens.Mark CloseBracket) rest =
+    record { tree = Location true n; fine = tt; means = refl; whole_is = refl }
 place_stands (WantsBracket n) _ rest = tt
 place_stands (WantsColon n) (tokens.Mark Colon) rest = refl
 place_stands (WantsColon n) _ rest = tt
@@ -78,11 +83,13 @@ StepThread threads (Some (steps.Goes expected)) = ExpectationThread threads expe
 StepThread threads (Some (steps.Ends w)) = WrittenThread threads w
 StepThread threads None = Unit {0}
 
-register_thread : (threads : ℕ) (t : List ℕ) (r : Option ℕ) → decimal t < threads → StepThread threads (register_ends t r)
+register_thread : (threads : ℕ) (t : List ℕ) (r : Option ℕ) → decimal t < threads
+    → StepThread threads (register_ends t r)
 register_thread threads t (Some r) h = h
 register_thread threads t None h = tt
 
-pub place_thread : (threads : ℕ) (expected : PlaceExpectation) (t : Token) → ExpectationThread threads expected → StepThread threads (place_step expected t)
+pub place_thread : (threads : ℕ) (expected : PlaceExpectation) (t : Token)
+    → ExpectationThread threads expected → StepThread threads (place_step expected t)
 place_thread threads Begins t h = absurd h
 place_thread threads WantsName (tokens.Word n) h = tt
 place_thread threads WantsName _ h = tt
@@ -90,15 +97,18 @@ place_thread threads (WantsBracket n) (tokens.Mark CloseBracket) h = tt
 place_thread threads (WantsBracket n) _ h = tt
 place_thread threads (WantsColon n) (tokens.Mark Colon) h = h
 place_thread threads (WantsColon n) _ h = tt
-place_thread threads (WantsRegister n) (tokens.Word w) h = register_thread threads n (register_of w) h
+place_thread threads (WantsRegister n) (tokens.Word w) h =
+    register_thread threads n (register_of w) h
 place_thread threads (WantsRegister n) _ h = tt
 
-pub has_thread : (threads : ℕ) (p : PlaceTree) → WrittenThread threads (written_place p) → HasThread threads p
+pub has_thread : (threads : ℕ) (p : PlaceTree) → WrittenThread threads (written_place p)
+    → HasThread threads p
 has_thread threads (Location b n) h = tt
 has_thread threads (Register t r) h = h
 
 -- a thread's number that is there is no greater than what fits
-pub place_of_written : (threads : ℕ) (p : PlaceTree) → threads < 18446744073709551616 → HasThread threads p → place_of (written_place p) ≡ place_meaning p
+pub place_of_written : (threads : ℕ) (p : PlaceTree) → threads < 18446744073709551616
+    → HasThread threads p → place_of (written_place p) ≡ place_meaning p
 place_of_written threads (Location b n) few h = refl
 place_of_written threads (Register t r) few h =
     let le : decimal t ≤ 18446744073709551615 = omega arith in
@@ -118,10 +128,13 @@ ValueStands whole rest (Some v) = ValueRead whole rest v
 ValueStands whole rest None = Unit {0}
 
 pub value_stands : (t : Token) (rest : List Token) → ValueStands (t ∷ rest) rest (value_read t)
-value_stands (tokens.Word n) rest = record { tree = Address n; fine = tt; means = refl; whole_is = refl }
+value_stands (tokens.Word n) rest =
+    record { tree = Address n; fine = tt; means = refl; whole_is = refl }
 value_stands (tokens.Number negative ds) rest = choose (is_int negative ds) refl
   where
-    choose : (b : Bool) → is_int negative ds ≡ b → ValueStands (tokens.Number negative ds ∷ rest) rest (number_read (if b then Some (signed negative (decimal ds)) else None))
+    choose : (b : Bool) → is_int negative ds ≡ b
+        → ValueStands (tokens.Number negative ds ∷ rest) rest (number_read
+        (if b then Some (signed negative (decimal ds)) else None))
     choose true e = record { tree = Number negative ds; fine = e; means = refl; whole_is = refl }
     choose false e = tt
 value_stands _ rest = tt

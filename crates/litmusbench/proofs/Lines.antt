@@ -9,13 +9,17 @@ use Rattle.text_values.specs.Layout.{is_line_end}
 rest : (bs : List ℕ) (i : ℕ) → take (length bs - i) (drop i bs) ≡ drop i bs
 rest bs i = take_all (length bs - i) (drop i bs) (let l = length-drop i bs in omega arith)
 
-line_is : (bs : List ℕ) (i n : ℕ) → n ≡ position_or_len is_line_end (take (length bs - i) (drop i bs)) → n ≡ position_or_len is_line_end (drop i bs)
+line_is : (bs : List ℕ) (i n : ℕ)
+    → n ≡ position_or_len is_line_end (take (length bs - i) (drop i bs))
+    → n ≡ position_or_len is_line_end (drop i bs)
 line_is bs i n h = h ∙ ap (λ (l : List ℕ). position_or_len is_line_end l) (rest bs i)
 
 ten_is_end : (b : ℕ) → b ≡ 10 → is_line_end b ≡ false → ⊥
 ten_is_end b e h = grind (arith, common_steps)
 
-pub inside_line : (bs : List ℕ) (i n : ℕ) → i < length bs → n ≡ position_or_len is_line_end (take (length bs - i) (drop i bs)) → (k : ℕ) → i ≤ k → k < i + n → get_or bs k 0 ≢ 10
+pub inside_line : (bs : List ℕ) (i n : ℕ) → i < length bs
+    → n ≡ position_or_len is_line_end (take (length bs - i) (drop i bs)) → (k : ℕ) → i ≤ k
+    → k < i + n → get_or bs k 0 ≢ 10
 inside_line bs i n inside h k low high e =
     let at_k : get_or (drop i bs) (k - i) 0 ≡ get_or bs k 0 = grind (arith, common_steps) in
     let before : k - i < position_or_len is_line_end (drop i bs) = let p = line_is bs i n h in omega arith in
@@ -26,7 +30,9 @@ inside_line bs i n inside h k low high e =
 end_is_ten : (b : ℕ) → is_line_end b ≡ true → b ≡ 10
 end_is_ten b h = grind (arith, common_steps)
 
-pub end_of_line : (bs : List ℕ) (i n : ℕ) → i < length bs → n ≡ position_or_len is_line_end (take (length bs - i) (drop i bs)) → i + n < length bs → get_or bs (i + n) 0 ≡ 10
+pub end_of_line : (bs : List ℕ) (i n : ℕ) → i < length bs
+    → n ≡ position_or_len is_line_end (take (length bs - i) (drop i bs)) → i + n < length bs
+    → get_or bs (i + n) 0 ≡ 10
 end_of_line bs i n inside h more =
     let p = line_is bs i n h in
     let l = length-drop i bs in

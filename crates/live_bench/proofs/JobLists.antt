@@ -83,7 +83,8 @@ module _ {T E V G F : Type 0} (means : Meaning T E V G) (refuses : Refusing T E 
     answered_step old new given after events.Claim (replies.Lost answer) job h = absurd h
     answered_step old new given after events.Claim replies.Renewed job h = absurd h
     answered_step old new given after (events.Return claim) (replies.Edited answer) job h = absurd h
-    answered_step old new given after (events.Return claim) (replies.Claimed answer) job h = absurd h
+    answered_step old new given after (events.Return claim) (replies.Claimed answer) job h =
+        absurd h
     answered_step old new given after (events.Return claim) (replies.Returned answer) job h =
         returned_step old new (task_given claim given) answer h.0
     answered_step old new given after (events.Return claim) (replies.Lost answer) job h = absurd h

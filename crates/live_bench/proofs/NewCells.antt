@@ -304,7 +304,8 @@ module _ (h : Held) (b : BoardContent) (named : IsNamed b.rows b.columns h)
 
     -- a model that is put and was not there
     model_added : (at index next : ℕ) (name items : _) (new : NamedModel) (cells : List CellIndex)
-        → at ≡ index → at ≤ length h.models → HeldKept h (held_with (made.PutModel index new next) h)
+        → at ≡ index → at ≤ length h.models
+        → HeldKept h (held_with (made.PutModel index new next) h)
         → AreThere (held_with (made.PutModel index new next) h) test model
         → slice_get h.models (model_at h model) ≡ None
         → IsOpenNow (PutModel at name items) cells (made.PutModel index new next)
@@ -329,7 +330,8 @@ module _ (h : Held) (b : BoardContent) (named : IsNamed b.rows b.columns h)
               let wider : cell_at (map wider_row b.rows) (test_at g test) k ≡ Some None =
               subst (λ (n : ℕ). cell_at (map wider_row b.rows) (test_at g test) n ≡ Some None)
               (sym end) (wider_last (length b.columns) b.rows (test_at g test) wide row_lt) in
-              stays_open cells (rows_after (PutModel at name items) b.columns b.rows) (test_at g test)
+              stays_open cells (rows_after (PutModel at name items) b.columns b.rows)
+              (test_at g test)
               k (rw full wider))
         ]
 

@@ -143,7 +143,8 @@ module _ (h : Held) (b : BoardContent) (named : IsNamed b.rows b.columns h)
           → ShownAfter change cells r (cell_at b.rows i j)
       kept_put part same =
           let not_reached : IsReached h whole r i j → ⊥ = elim [ inl put ↦ part put | inr differ ↦ differ (same ∙ sym moved.slice_is) ] in
-          at_moved (cell_at b.rows i j) (opened_other cells (rows_after change b.columns b.rows) here
+          at_moved (cell_at b.rows i j) (opened_other cells (rows_after change b.columns b.rows)
+          here
           (λ k. not_reached ((lists.exact here).0 k).1) ∙ moved.cell)
 
       opened_put : (x : Option Outcome) → cell_at b.rows i j ≡ Some x
@@ -163,7 +164,8 @@ module _ (h : Held) (b : BoardContent) (named : IsNamed b.rows b.columns h)
         → skip index (test_at (held_with (made.DropTest index) h) test) ≡ i
     test_dropped index before now =
         let now_name : (now.content).name ≡ test = found_name (λ t. t.name) test (remove h.tests index) now.content now.test_is in
-        removed_index (λ t. t.name) h.tests index i (test_at (held_with (made.DropTest index) h) test)
+        removed_index (λ t. t.name) h.tests index i
+        (test_at (held_with (made.DropTest index) h) test)
         was.content now.content before.tests was.test_is now.test_is (test_name ∙ sym now_name)
 
     model_dropped : (index : ℕ) → HasNamesApart h
@@ -179,7 +181,8 @@ module _ (h : Held) (b : BoardContent) (named : IsNamed b.rows b.columns h)
         → HasNamesApart h → AreThere (held_with (made.DropTest index) h) test model
         → ShownAfter (DropTest at) cells (made.DropTest index) (cell_at b.rows i j)
     kept_test_drop at index cells same none before now =
-        rw (none, same) (dropped_row index b.rows (test_at (held_with (made.DropTest index) h) test) j
+        rw (none, same) (dropped_row index b.rows (test_at (held_with (made.DropTest index) h) test)
+        j
         ∙ ap (λ (n : ℕ). cell_at b.rows n j) (test_dropped index before now))
 
     kept_model_drop : (at index : ℕ) (cells : List CellIndex) → at ≡ index → cells ≡ []
@@ -211,9 +214,11 @@ module _ (h : Held) (b : BoardContent) (named : IsNamed b.rows b.columns h)
         absurd a
     kept_cell whole (DropTest at) cells (made.DropTest index) a before after now part same =
         kept_test_drop at index cells a.0 a.2 before now
-    kept_cell whole (DropTest at) cells (made.PutModel index new next) a before after now part same =
+    kept_cell whole (DropTest at) cells (made.PutModel index new next) a before after now part same
+        =
         absurd a
-    kept_cell whole (DropTest at) cells (made.DropModel index) a before after now part same = absurd a
+    kept_cell whole (DropTest at) cells (made.DropModel index) a before after now part same =
+        absurd a
     kept_cell whole (PutModel at name items) cells (made.PutTest index new) a before after now part
         same = absurd a
     kept_cell whole (PutModel at name items) cells (made.DropTest index) a before after now part
@@ -227,8 +232,10 @@ module _ (h : Held) (b : BoardContent) (named : IsNamed b.rows b.columns h)
         same = absurd a
     kept_cell whole (DropModel at) cells (made.PutTest index new) a before after now part same =
         absurd a
-    kept_cell whole (DropModel at) cells (made.DropTest index) a before after now part same = absurd a
-    kept_cell whole (DropModel at) cells (made.PutModel index new next) a before after now part same =
+    kept_cell whole (DropModel at) cells (made.DropTest index) a before after now part same =
+        absurd a
+    kept_cell whole (DropModel at) cells (made.PutModel index new next) a before after now part same
+        =
         absurd a
     kept_cell whole (DropModel at) cells (made.DropModel index) a before after now part same =
         kept_model_drop at index cells a.0 a.2 before now
@@ -289,7 +296,8 @@ module _ (h : Held) (b : BoardContent) (named : IsNamed b.rows b.columns h)
         (subst (λ (n : ℕ). n < length (held_with r h).tests) moved.test_same test_lt)
         (subst (λ (n : ℕ). n < length (held_with r h).models) moved.model_same model_lt) reached
 
-    pub reached_cell : (whole : Bool) (change : NameChange) (cells : List CellIndex) (r : Replacement)
+    pub reached_cell : (whole : Bool) (change : NameChange) (cells : List CellIndex)
+        (r : Replacement)
         → Announces h whole change cells r → HasNamesApart h → HasNamesApart (held_with r h)
         → AreThere (held_with r h) test model
         → IsTrue (whole && is_of r i j)
@@ -308,7 +316,8 @@ module _ (h : Held) (b : BoardContent) (named : IsNamed b.rows b.columns h)
         absurd a
     reached_cell whole (DropTest at) cells (made.DropTest index) a before after now reached =
         absurd (opened_test_drop whole index before now reached)
-    reached_cell whole (DropTest at) cells (made.PutModel index new next) a before after now reached =
+    reached_cell whole (DropTest at) cells (made.PutModel index new next) a before after now reached
+        =
         absurd a
     reached_cell whole (DropTest at) cells (made.DropModel index) a before after now reached =
         absurd a

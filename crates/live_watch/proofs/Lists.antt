@@ -11,12 +11,14 @@ one_more n = omega arith
 
 -- ---- an element put
 
-pub put_same : {A : Type 0} (i : ℕ) (x : A) (xs : List A) → slice_get xs i ≡ Some x → put_at i x xs ≡ xs
+pub put_same : {A : Type 0} (i : ℕ) (x : A) (xs : List A) → slice_get xs i ≡ Some x
+    → put_at i x xs ≡ xs
 put_same i x [] e = absurd cc
 put_same zero x (y ∷ ys) e = ap (λ z. z ∷ ys) (sym (same_Some y x e))
 put_same (suc i) x (y ∷ ys) e = ap (λ zs. y ∷ zs) (put_same i x ys e)
 
-pub put_twice : {A : Type 0} (i : ℕ) (x y : A) (xs : List A) → i < length xs → put_at i y (put_at i x xs) ≡ put_at i y xs
+pub put_twice : {A : Type 0} (i : ℕ) (x y : A) (xs : List A) → i < length xs
+    → put_at i y (put_at i x xs) ≡ put_at i y xs
 put_twice i x y [] lt = absurd (omega (arith, lt))
 put_twice zero x y (z ∷ zs) lt = refl
 put_twice (suc i) x y (z ∷ zs) lt = ap (λ l. z ∷ l) (put_twice i x y zs (omega (arith, lt)))
@@ -36,37 +38,44 @@ changed_is_put f (suc i) (y ∷ ys) lt =
 
 -- ---- the first element that passes
 
-pub index_put : {A : Type 0} (p : A → Bool) (x : A) (xs : List A) → p x ≡ true → position_or_len p xs < length xs
+pub index_put : {A : Type 0} (p : A → Bool) (x : A) (xs : List A) → p x ≡ true
+    → position_or_len p xs < length xs
     → position_or_len p (put_at (position_or_len p xs) x xs) ≡ position_or_len p xs
 index_put p x [] passes lt = absurd (omega (arith, lt))
 index_put p x (y ∷ ys) passes lt = elim (cases_Bool (p y)) [
   | inl t ↦ rw t (rw passes refl)
   | inr t ↦ (let inside : 1 + position_or_len p ys < suc (length ys) = rw t at lt in
-      rw t (rw (one_more (position_or_len p ys)) (rw t (one_more _ ∙ ap suc (index_put p x ys passes (omega (arith, inside)))))))
+      rw t (rw (one_more (position_or_len p ys)) (rw t (one_more _
+      ∙ ap suc (index_put p x ys passes (omega (arith, inside)))))))
 ]
 
 pub found_mapped : {A B : Type 0} (f : A → B) (p : B → Bool) (xs : List A)
-    → slice_get (map f xs) (position_or_len p (map f xs)) ≡ option_map f (slice_get xs (position_or_len (λ x. p (f x)) xs))
+    → slice_get (map f xs) (position_or_len p (map f xs))
+    ≡ option_map f (slice_get xs (position_or_len (λ x. p (f x)) xs))
 found_mapped f p [] = refl
 found_mapped f p (x ∷ xs) = elim (cases_Bool (p (f x))) [
   | inl t ↦ rw t refl
-  | inr t ↦ rw t (rw (one_more (position_or_len p (map f xs))) (rw (one_more (position_or_len (λ y. p (f y)) xs)) (found_mapped f p xs)))
+  | inr t ↦ rw t (rw (one_more (position_or_len p (map f xs))) (rw
+      (one_more (position_or_len (λ y. p (f y)) xs)) (found_mapped f p xs)))
 ]
 
 -- ---- an element set
 
-pub changed_set : {A : Type 0} (i : ℕ) (y : A) (xs : List A) → i < length xs → set xs i y ≡ changed_at i (λ x. y) xs
+pub changed_set : {A : Type 0} (i : ℕ) (y : A) (xs : List A) → i < length xs
+    → set xs i y ≡ changed_at i (λ x. y) xs
 changed_set i y [] lt = absurd (omega (arith, lt))
 changed_set zero y (x ∷ xs) lt = refl
 changed_set (suc i) y (x ∷ xs) lt = ap (λ l. x ∷ l) (changed_set i y xs (omega (arith, lt)))
 
-pub changed_past : {A : Type 0} (i : ℕ) (y : A) (xs : List A) → length xs ≤ i → xs ≡ changed_at i (λ x. y) xs
+pub changed_past : {A : Type 0} (i : ℕ) (y : A) (xs : List A) → length xs ≤ i
+    → xs ≡ changed_at i (λ x. y) xs
 changed_past i y [] le = refl
 changed_past zero y (x ∷ xs) le = absurd (omega (arith, le))
 changed_past (suc i) y (x ∷ xs) le = ap (λ l. x ∷ l) (changed_past i y xs (omega (arith, le)))
 
 -- what is there at an index, with any default
-pub got_set : {A : Type 0} (i : ℕ) (x d e : A) (xs : List A) → i < length xs → x ≡ get_or xs i e → x ≡ get_or xs i d
+pub got_set : {A : Type 0} (i : ℕ) (x d e : A) (xs : List A) → i < length xs → x ≡ get_or xs i e
+    → x ≡ get_or xs i d
 got_set i x d e [] lt is = absurd (omega (arith, lt))
 got_set zero x d e (y ∷ ys) lt is = is
 got_set (suc i) x d e (y ∷ ys) lt is = got_set i x d e ys (omega (arith, lt)) is

@@ -14,34 +14,45 @@ use Rattle.memo_core.specs.Views.{Slot, as_memo, as_memos, tokens_of}
 use Rattle.memo_core.specs.Marks.{mark_in, mark_of, with_mark_at, without_mark}
 
 -- what is found at a node is its memo
-pub memo_found_at : {V : Type 0} (n : Node) (ks : List (Slot V)) → option_map (λ k. as_memo (n, k)) (lookup (same_node n) ks) ≡ memo_of n (as_memos ks)
+pub memo_found_at : {V : Type 0} (n : Node) (ks : List (Slot V))
+    → option_map (λ k. as_memo (n, k)) (lookup (same_node n) ks) ≡ memo_of n (as_memos ks)
 memo_found_at n [] = refl
 memo_found_at {V} n (k ∷ ks) = elim (cases_Bool (same_node n k.0)) [
-  | inl t ↦ rw t (ap (λ (m : Node). let o : Option (Memo V) = Some (as_memo (m, k.1)) in o) (same_node_exact n k.0 t))
+  | inl t ↦ rw t (ap (λ (m : Node). let o : Option (Memo V) = Some (as_memo (m, k.1)) in o)
+      (same_node_exact n k.0 t))
   | inr f ↦ rw f (memo_found_at n ks)
 ]
 
-pub mark_found_at : {V : Type 0} (n : Node) (ks : List (Slot V)) → mark_in (lookup (same_node n) ks) ≡ mark_of ks n
+pub mark_found_at : {V : Type 0} (n : Node) (ks : List (Slot V))
+    → mark_in (lookup (same_node n) ks) ≡ mark_of ks n
 mark_found_at n [] = refl
-mark_found_at n (k ∷ ks) = elim (cases_Bool (same_node n k.0)) [ inl t ↦ rw t refl | inr f ↦ rw f (mark_found_at n ks) ]
+mark_found_at n (k ∷ ks) =
+    elim (cases_Bool (same_node n k.0)) [ inl t ↦ rw t refl | inr f ↦ rw f (mark_found_at n ks) ]
 
 -- a found share of what is kept shows its memo
-pub found_memo : {V : Type 0} (n : Node) (ks : List (Slot V)) (o : Option (Bor (Kept (Shown V)))) → option_copied o ≡ lookup (same_node n) ks → option_map (λ k. as_memo (n, k.now)) o ≡ memo_of n (as_memos ks)
-found_memo {V} n ks o h = go o ∙ ap (option_map (λ (k : Kept (Shown V)). as_memo (n, k))) h ∙ memo_found_at n ks
+pub found_memo : {V : Type 0} (n : Node) (ks : List (Slot V)) (o : Option (Bor (Kept (Shown V))))
+    → option_copied o ≡ lookup (same_node n) ks
+    → option_map (λ k. as_memo (n, k.now)) o ≡ memo_of n (as_memos ks)
+found_memo {V} n ks o h =
+    go o ∙ ap (option_map (λ (k : Kept (Shown V)). as_memo (n, k))) h ∙ memo_found_at n ks
   where
-    go : (o : Option (Bor (Kept (Shown V)))) → option_map (λ k. as_memo (n, k.now)) o ≡ option_map (λ (k : Kept (Shown V)). as_memo (n, k)) (option_copied o)
+    go : (o : Option (Bor (Kept (Shown V))))
+        → option_map (λ k. as_memo (n, k.now)) o
+        ≡ option_map (λ (k : Kept (Shown V)). as_memo (n, k)) (option_copied o)
     go None = refl
     go (Some k) = refl
 
 -- what is found at a node holds its tokens
-pub tokens_found : {V : Type 0} (n : Node) (ks : List (Slot V)) (k : Kept (Shown V)) → Some k ≡ lookup (same_node n) ks → k.outputs.items ≡ tokens_of n ks
+pub tokens_found : {V : Type 0} (n : Node) (ks : List (Slot V)) (k : Kept (Shown V))
+    → Some k ≡ lookup (same_node n) ks → k.outputs.items ≡ tokens_of n ks
 tokens_found n [] k h = cc
 tokens_found {V} n (x ∷ ks) k h = elim (cases_Bool (same_node n x.0)) [
   | inl t ↦ rw t (ap (λ (k : Kept (Shown V)). k.outputs.items) (same_Some k x.1 (rw t at h)))
   | inr f ↦ rw f (tokens_found n ks k (rw f at h))
 ]
 
-pub no_tokens : {V : Type 0} (n : Node) (ks : List (Slot V)) → None ≡ lookup (same_node n) ks → tokens_of n ks ≡ []
+pub no_tokens : {V : Type 0} (n : Node) (ks : List (Slot V)) → None ≡ lookup (same_node n) ks
+    → tokens_of n ks ≡ []
 no_tokens n [] h = refl
 no_tokens {V} n (x ∷ ks) h = elim (cases_Bool (same_node n x.0)) [
   | inl t ↦ absurd (none_some x.1 (rw t at h))
@@ -52,14 +63,24 @@ no_tokens {V} n (x ∷ ks) h = elim (cases_Bool (same_node n x.0)) [
     none_some k h = cc
 
 -- what is written at a node is its mark
-pub mark_written : {V : Type 0} (n : Node) (ks : List (Slot V)) (k : Kept (Shown V)) → Some k ≡ lookup (same_node n) ks → set_value (same_node n) ks (record { inputs = k.inputs; outputs = k.outputs; settled = true }) ≡ with_mark_at n ks
+pub mark_written : {V : Type 0} (n : Node) (ks : List (Slot V)) (k : Kept (Shown V))
+    → Some k ≡ lookup (same_node n) ks
+    → set_value (same_node n) ks (record { inputs = k.inputs; outputs = k.outputs; settled = true })
+    ≡ with_mark_at n ks
 mark_written n [] k h = cc
 mark_written {V} n (x ∷ ks) k h = elim (cases_Bool (same_node n x.0)) [
-  | inl t ↦ (let q : Some k ≡ Some x.1 = rw t at h in rw t (ap (λ (k : Kept (Shown V)). let s : Slot V = (x.0, record { inputs = k.inputs; outputs = k.outputs; settled = true }) in s ∷ ks) (same_Some k x.1 q)))
+  | inl t ↦ (let q : Some k ≡ Some x.1 = rw t at h in
+      rw t (ap
+      (λ (k : Kept (Shown V)).
+      let s : Slot V =
+      (x.0, record { inputs = k.inputs; outputs = k.outputs; settled = true }) in
+      s ∷ ks)
+      (same_Some k x.1 q)))
   | inr f ↦ rw f (ap (λ (r : List (Slot V)). x ∷ r) (mark_written n ks k (rw f at h)))
 ]
 
-pub nothing_marked : {V : Type 0} (n : Node) (ks : List (Slot V)) → None ≡ lookup (same_node n) ks → ks ≡ with_mark_at n ks
+pub nothing_marked : {V : Type 0} (n : Node) (ks : List (Slot V)) → None ≡ lookup (same_node n) ks
+    → ks ≡ with_mark_at n ks
 nothing_marked n [] h = refl
 nothing_marked {V} n (x ∷ ks) h = elim (cases_Bool (same_node n x.0)) [
   | inl t ↦ absurd (none_some x.1 (rw t at h))
@@ -70,32 +91,41 @@ nothing_marked {V} n (x ∷ ks) h = elim (cases_Bool (same_node n x.0)) [
     none_some k h = cc
 
 -- what is inserted is put
-pub memo_inserted : {V : Type 0} (n : Node) (k : Kept (Shown V)) (ks : List (Slot V)) → as_memos (insert_entry same_node ks n k) ≡ put_memo (as_memo (n, k)) (as_memos ks)
+pub memo_inserted : {V : Type 0} (n : Node) (k : Kept (Shown V)) (ks : List (Slot V))
+    → as_memos (insert_entry same_node ks n k) ≡ put_memo (as_memo (n, k)) (as_memos ks)
 memo_inserted n k [] = refl
 memo_inserted {V} n k (x ∷ ks) = elim (cases_Bool (same_node n x.0)) [
   | inl t ↦ rw t (ap (λ (m : Node). as_memo (m, k) ∷ as_memos ks) (sym (same_node_exact n x.0 t)))
   | inr f ↦ rw f (ap (λ (r : List (Memo V)). as_memo x ∷ r) (memo_inserted n k ks))
 ]
 
-pub mark_inserted : {V : Type 0} (n : Node) (k : Kept (Shown V)) (ks : List (Slot V)) (m : Node) → mark_of (insert_entry same_node ks n k) m ≡ (if same_node m n then k.settled else mark_of ks m)
+pub mark_inserted : {V : Type 0} (n : Node) (k : Kept (Shown V)) (ks : List (Slot V)) (m : Node)
+    → mark_of (insert_entry same_node ks n k) m
+    ≡ (if same_node m n then k.settled else mark_of ks m)
 mark_inserted n k [] m = refl
 mark_inserted {V} n k (x ∷ ks) m = elim (cases_Bool (same_node n x.0)) [
-  | inl t ↦ rw t (ap (λ (y : Node). if same_node m y then k.settled else mark_of ks m) (sym (same_node_exact n x.0 t)) ∙ under m (same_node_exact n x.0 t))
+  | inl t ↦ rw t (ap (λ (y : Node). if same_node m y then k.settled else mark_of ks m)
+      (sym (same_node_exact n x.0 t)) ∙ under m (same_node_exact n x.0 t))
   | inr f ↦ rw f (elim (cases_Bool (same_node m x.0)) [
     | inl s ↦ rw s (rw (apart (same_node_exact m x.0 s) f) refl)
     | inr g ↦ rw g (mark_inserted n k ks m)
   ])
 ]
   where
-    under : (m : Node) → n ≡ x.0 → (if same_node m n then k.settled else mark_of ks m) ≡ (if same_node m n then k.settled else (if same_node m x.0 then x.1.settled else mark_of ks m))
+    under : (m : Node) → n ≡ x.0
+        → (if same_node m n then k.settled else mark_of ks m) ≡ (if same_node m n then k.settled
+        else (if same_node m x.0 then x.1.settled else mark_of ks m))
     under m e = elim (cases_Bool (same_node m n)) [
       | inl t ↦ rw t refl
-      | inr f ↦ (let g : same_node m x.0 ≡ false = subst (λ (y : Node). same_node m y ≡ false) e f in rw f (rw g refl))
+      | inr f ↦ (
+          let g : same_node m x.0 ≡ false = subst (λ (y : Node). same_node m y ≡ false) e f in
+          rw f (rw g refl))
     ]
 
     apart : m ≡ x.0 → same_node n x.0 ≡ false → same_node m n ≡ false
     apart e f = elim (cases_Bool (same_node m n)) [
-      | inl t ↦ absurd (clash (subst (λ (y : Node). same_node y x.0 ≡ false) (sym (same_node_exact m n t) ∙ e) f))
+      | inl t ↦ absurd (clash (subst (λ (y : Node). same_node y x.0 ≡ false)
+          (sym (same_node_exact m n t) ∙ e) f))
       | inr g ↦ g
     ]
       where
@@ -103,8 +133,10 @@ mark_inserted {V} n k (x ∷ ks) m = elim (cases_Bool (same_node n x.0)) [
         clash h = let c : true ≡ false = sym (same_node_refl x.0) ∙ h in cc
 
 -- what is retained, with every mark taken away
-module _ {V F : Type 0} (S : F → Node → Kept (Shown V) → Bool → Kept (Shown V) → F → Type 0) (keep : Node → Bool) (f : F)
-    (says : (n : Node) (k : Kept (Shown V)) (b : Bool) (w : Kept (Shown V)) (g : F) → S f n k b w g → (b ≡ keep n) × (w ≡ without_mark k) × (g ≡ f)) where
+module _ {V F : Type 0} (S : F → Node → Kept (Shown V) → Bool → Kept (Shown V) → F → Type 0)
+    (keep : Node → Bool) (f : F)
+    (says : (n : Node) (k : Kept (Shown V)) (b : Bool) (w : Kept (Shown V)) (g : F) → S f n k b w g
+    → (b ≡ keep n) × (w ≡ without_mark k) × (g ≡ f)) where
   abbrev cleared : List (Slot V) → List (Slot V)
   cleared [] = []
   cleared (k ∷ ks) = if keep k.0 then (k.0, without_mark k.1) ∷ cleared ks else cleared ks
@@ -116,7 +148,8 @@ module _ {V F : Type 0} (S : F → Node → Kept (Shown V) → Bool → Kept (Sh
       let rest = retained_cleared ks h.3 (subst (λ g. RetainsPairs S g ks h.3) s.2 h.5) in
       h.6 ∙ rw (s.0, s.1, rest) refl
 
-  cleared_memos : (ks : List (Slot V)) → as_memos (cleared ks) ≡ filter (λ m. keep m.node) (as_memos ks)
+  cleared_memos : (ks : List (Slot V))
+      → as_memos (cleared ks) ≡ filter (λ m. keep m.node) (as_memos ks)
   cleared_memos [] = refl
   cleared_memos (k ∷ ks) = elim (cases_Bool (keep k.0)) [
     | inl t ↦ rw t (ap (λ (r : List (Memo V)). as_memo k ∷ r) (cleared_memos ks))
@@ -126,12 +159,16 @@ module _ {V F : Type 0} (S : F → Node → Kept (Shown V) → Bool → Kept (Sh
   cleared_marks : (ks : List (Slot V)) (n : Node) → mark_of (cleared ks) n ≡ false
   cleared_marks [] n = refl
   cleared_marks (k ∷ ks) n = elim (cases_Bool (keep k.0)) [
-    | inl t ↦ rw t (elim (cases_Bool (same_node n k.0)) [ inl s ↦ rw s refl | inr g ↦ rw g (cleared_marks ks n) ])
+    | inl t ↦ rw t (elim (cases_Bool (same_node n k.0))
+        [ inl s ↦ rw s refl | inr g ↦ rw g (cleared_marks ks n) ])
     | inr g ↦ rw g (cleared_marks ks n)
   ]
 
-  pub retained_memos : (ks kept : List (Slot V)) → RetainsPairs S f ks kept → as_memos kept ≡ filter (λ m. keep m.node) (as_memos ks)
+  pub retained_memos : (ks kept : List (Slot V)) → RetainsPairs S f ks kept
+      → as_memos kept ≡ filter (λ m. keep m.node) (as_memos ks)
   retained_memos ks kept h = ap as_memos (retained_cleared ks kept h) ∙ cleared_memos ks
 
-  pub retained_marks : (ks kept : List (Slot V)) → RetainsPairs S f ks kept → (n : Node) → mark_of kept n ≡ false
-  retained_marks ks kept h n = ap (λ (ks : List (Slot V)). mark_of ks n) (retained_cleared ks kept h) ∙ cleared_marks ks n
+  pub retained_marks : (ks kept : List (Slot V)) → RetainsPairs S f ks kept → (n : Node)
+      → mark_of kept n ≡ false
+  retained_marks ks kept h n =
+      ap (λ (ks : List (Slot V)). mark_of ks n) (retained_cleared ks kept h) ∙ cleared_marks ks n

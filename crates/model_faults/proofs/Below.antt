@@ -9,14 +9,20 @@ use Rattle.binding_kinds.specs.Faults.{IsFault, extended, senses_after}
 use Rattle.fault_places.specs.declared.place.ItemFault.{ItemFault}
 use Rattle.fault_places.specs.Found.{outermost, IsPlace}
 
-item_below : (ss : List Sense) (names : List Naming) (from : ℕ) (cs : List Clause) (i p : ℕ) (k : ModelFault) → IsFault ss names from cs i p k → i < length cs
+item_below : (ss : List Sense) (names : List Naming) (from : ℕ) (cs : List Clause) (i p : ℕ)
+    (k : ModelFault) → IsFault ss names from cs i p k → i < length cs
 item_below ss names from [] i p k h = absurd h
 item_below ss names from (c ∷ cs) i p k h = elim h [
   | inl (e, f) ↦ omega (arith, e)
-  | inr (after, e, f) ↦ let r = item_below (senses_after ss names c) (extended ss names from c) (from + 1) cs after p k f in omega (arith, e, r)
+  | inr (after, e, f) ↦
+      let r =
+      item_below (senses_after ss names c) (extended ss names from c) (from + 1) cs after p k
+      f in
+      omega (arith, e, r)
 ]
 
-pub place_below : (items : List Item) (place : ItemFault) → IsPlace (map clause_of items) place → place.item < length items
+pub place_below : (items : List Item) (place : ItemFault) → IsPlace (map clause_of items) place
+    → place.item < length items
 place_below items place h =
     let b = item_below [] outermost 0 (map clause_of items) h.first.item h.first.index place.fault h.first.there in
     let e = h.item_is in

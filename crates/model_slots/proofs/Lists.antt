@@ -5,19 +5,24 @@ use Rattle.std.specs.List.{AllByRecursion as Each}
 use Rattle.std.proofs.lemmas.List.{reverse-append}
 use Rattle.memo_core.specs.Step.{Has}
 
-pub each_append : {X : Type 0} (P : X → Type 0) (xs ys : List X) → Each P xs → Each P ys → Each P (xs ++ ys)
+pub each_append : {X : Type 0} (P : X → Type 0) (xs ys : List X) → Each P xs → Each P ys
+    → Each P (xs ++ ys)
 each_append P [] ys h g = g
 each_append P (x ∷ xs) ys h g = (h.0, each_append P xs ys h.1 g)
 
 pub each_reverse : {X : Type 0} (P : X → Type 0) (xs : List X) → Each P xs → Each P (reverse xs)
 each_reverse P [] h = tt
-each_reverse P (x ∷ xs) h = rw (reverse-append (x ∷ []) xs) (each_append P (reverse xs) (x ∷ []) (each_reverse P xs h.1) (h.0, tt))
+each_reverse P (x ∷ xs) h =
+    rw (reverse-append (x ∷ []) xs) (each_append P (reverse xs) (x ∷ []) (each_reverse P xs h.1)
+    (h.0, tt))
 
-pub each_map : {X Y : Type 0} (f : X → Y) (P : Y → Type 0) (xs : List X) → Each (λ x. P (f x)) xs → Each P (map f xs)
+pub each_map : {X Y : Type 0} (f : X → Y) (P : Y → Type 0) (xs : List X) → Each (λ x. P (f x)) xs
+    → Each P (map f xs)
 each_map f P [] h = tt
 each_map f P (x ∷ xs) h = (h.0, each_map f P xs h.1)
 
-pub each_to : {X : Type 0} (P Q : X → Type 0) → ((x : X) → P x → Q x) → (xs : List X) → Each P xs → Each Q xs
+pub each_to : {X : Type 0} (P Q : X → Type 0) → ((x : X) → P x → Q x) → (xs : List X) → Each P xs
+    → Each Q xs
 each_to P Q f [] h = tt
 each_to P Q f (x ∷ xs) h = (f x h.0, each_to P Q f xs h.1)
 
@@ -32,8 +37,10 @@ has_behind (z ∷ xs) ys x h = inr (has_behind xs ys x h)
 
 pub has_reverse : {X : Type 0} (xs : List X) (x : X) → Has xs x → Has (reverse xs) x
 has_reverse [] x h = absurd h
-has_reverse (z ∷ xs) x (inl e) = rw (reverse-append (z ∷ []) xs) (has_behind (reverse xs) (z ∷ []) x (inl e))
-has_reverse (z ∷ xs) x (inr h) = rw (reverse-append (z ∷ []) xs) (has_append (reverse xs) (z ∷ []) x (has_reverse xs x h))
+has_reverse (z ∷ xs) x (inl e) =
+    rw (reverse-append (z ∷ []) xs) (has_behind (reverse xs) (z ∷ []) x (inl e))
+has_reverse (z ∷ xs) x (inr h) =
+    rw (reverse-append (z ∷ []) xs) (has_append (reverse xs) (z ∷ []) x (has_reverse xs x h))
 
 pub has_map : {X Y : Type 0} (f : X → Y) (xs : List X) (x : X) → Has xs x → Has (map f xs) (f x)
 has_map f [] x h = absurd h
@@ -60,6 +67,7 @@ each_has P [] h x i = absurd i
 each_has P (y ∷ xs) h x (inl e) = subst P e h.0
 each_has P (y ∷ xs) h x (inr i) = each_has P xs h.1 x i
 
-pub each_from_has : {X : Type 0} (P : X → Type 0) (xs : List X) → ((x : X) → Has xs x → P x) → Each P xs
+pub each_from_has : {X : Type 0} (P : X → Type 0) (xs : List X) → ((x : X) → Has xs x → P x)
+    → Each P xs
 each_from_has P [] h = tt
 each_from_has P (x ∷ xs) h = (h x (inl refl), each_from_has P xs (λ y i. h y (inr i)))

@@ -8,9 +8,11 @@ use Rattle.ppc_semantics.specs.declared.fault.DomainFault.TheVariants.{Refused, 
 use Rattle.ppc_semantics.specs.Domain.{AreProper, IsDomain, IsFault}
 use Rattle.ppc_semantics.specs.Lowering.{IsProgram, IsTestDomain, IsTestFault}
 
-pub test_domain : (t : Test) (p : Program) (V : List Value) → IsProgram t p → AreProper p → (AreProper p → IsDomain p V) → IsTestDomain t V
+pub test_domain : (t : Test) (p : Program) (V : List Value) → IsProgram t p → AreProper p
+    → (AreProper p → IsDomain p V) → IsTestDomain t V
 test_domain t p V is proper h = (p, is, h proper)
 
-pub test_fault : (t : Test) (p : Program) (e : DomainFault) → IsProgram t p → AreProper p → (AreProper p → IsFault p e) → IsTestFault t e
+pub test_fault : (t : Test) (p : Program) (e : DomainFault) → IsProgram t p → AreProper p
+    → (AreProper p → IsFault p e) → IsTestFault t e
 test_fault t p (Refused r) is proper h = (p, is, h proper)
 test_fault t p (OutOfMemory e) is proper h = tt

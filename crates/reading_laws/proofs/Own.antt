@@ -10,23 +10,34 @@ use Rattle.binding_kinds.specs.Faults.{naming_at, with_own}
 
 -- the name at that position of the group
 abbrev pub own_found : ℕ → ℕ → ℕ → ℕ → Found
-own_found from item at d = record { slot = from + d; kind = OfRelation; binder = binders.Bound (record { item = item; position = at + d }) }
+own_found from item at d =
+    record {
+      slot = from + d;
+      kind = OfRelation;
+      binder = binders.Bound (record { item = item; position = at + d });
+    }
 
 -- the group binds the name, at one position in both
-pub record IsOwn (names others : List Naming) (item other at count : ℕ) (bs : List Bound) (x : List ℕ) : Type 0 where
+pub record IsOwn (names others : List Naming) (item other at count : ℕ) (bs : List Bound)
+    (x : List ℕ) : Type 0 where
   pub position : ℕ
   pub below : position < count
   pub left : found (with_own names item at bs) x ≡ Some (own_found (length names) item at position)
-  pub right : found (with_own others other at bs) x ≡ Some (own_found (length others) other at position)
+  pub right : found (with_own others other at bs) x
+      ≡ Some (own_found (length others) other at position)
 
 -- it does not
-pub record IsOuterName (names others : List Naming) (item other at : ℕ) (bs : List Bound) (x : List ℕ) : Type 0 where
+pub record IsOuterName (names others : List Naming) (item other at : ℕ) (bs : List Bound)
+    (x : List ℕ) : Type 0 where
   pub left : found (with_own names item at bs) x ≡ found names x
   pub right : found (with_own others other at bs) x ≡ found others x
 
-pub own_or_outer : (names others : List Naming) (item other at : ℕ) (bs : List Bound) (x : List ℕ) → IsOwn names others item other at (length bs) bs x ⊎ IsOuterName names others item other at bs x
+pub own_or_outer : (names others : List Naming) (item other at : ℕ) (bs : List Bound) (x : List ℕ)
+    → IsOwn names others item other at (length bs) bs x
+    ⊎ IsOuterName names others item other at bs x
 own_or_outer names others item other at [] x = inr (record { left = refl; right = refl })
-own_or_outer names others item other at (b ∷ bs) x = at_rest (own_or_outer (n ∷ names) (m ∷ others) item other (suc at) bs x)
+own_or_outer names others item other at (b ∷ bs) x =
+    at_rest (own_or_outer (n ∷ names) (m ∷ others) item other (suc at) bs x)
   where
     n : Naming
     n = naming_at item at b OfRelation
@@ -38,15 +49,32 @@ own_or_outer names others item other at (b ∷ bs) x = at_rest (own_or_outer (n 
     moved from i d =
         let slot : suc from + d ≡ from + suc d = omega arith in
         let position : suc at + d ≡ at + suc d = omega arith in
-        λ e. record { slot = slot e; kind = OfRelation; binder = binders.Bound (record { item = i; position = position e }) }
+        λ e. record {
+          slot = slot e;
+          kind = OfRelation;
+          binder = binders.Bound (record { item = i; position = position e });
+        }
 
-    here : (from i : ℕ) → record { slot = from; kind = OfRelation; binder = binders.Bound (record { item = i; position = at }) } ≡ own_found from i at 0
+    here : (from i : ℕ)
+        → record {
+          slot = from;
+          kind = OfRelation;
+          binder = binders.Bound (record { item = i; position = at });
+        }
+        ≡ own_found from i at 0
     here from i =
         let slot : from ≡ from + 0 = omega arith in
         let position : at ≡ at + 0 = omega arith in
-        λ e. record { slot = slot e; kind = OfRelation; binder = binders.Bound (record { item = i; position = position e }) }
+        λ e. record {
+          slot = slot e;
+          kind = OfRelation;
+          binder = binders.Bound (record { item = i; position = position e });
+        }
 
-    at_test : IsOuterName (n ∷ names) (m ∷ others) item other (suc at) bs x → (t : Bool) → bytes_eq b.name x ≡ t → IsOwn names others item other at (length (b ∷ bs)) (b ∷ bs) x ⊎ IsOuterName names others item other at (b ∷ bs) x
+    at_test : IsOuterName (n ∷ names) (m ∷ others) item other (suc at) bs x → (t : Bool)
+        → bytes_eq b.name x ≡ t
+        → IsOwn names others item other at (length (b ∷ bs)) (b ∷ bs) x
+        ⊎ IsOuterName names others item other at (b ∷ bs) x
     at_test h true e = inl (record {
       position = 0;
       below = omega arith;
@@ -55,7 +83,10 @@ own_or_outer names others item other at (b ∷ bs) x = at_rest (own_or_outer (n 
     })
     at_test h false e = inr (record { left = h.left ∙ rw e refl; right = h.right ∙ rw e refl })
 
-    at_rest : IsOwn (n ∷ names) (m ∷ others) item other (suc at) (length bs) bs x ⊎ IsOuterName (n ∷ names) (m ∷ others) item other (suc at) bs x → IsOwn names others item other at (length (b ∷ bs)) (b ∷ bs) x ⊎ IsOuterName names others item other at (b ∷ bs) x
+    at_rest : IsOwn (n ∷ names) (m ∷ others) item other (suc at) (length bs) bs x
+        ⊎ IsOuterName (n ∷ names) (m ∷ others) item other (suc at) bs x
+        → IsOwn names others item other at (length (b ∷ bs)) (b ∷ bs) x
+        ⊎ IsOuterName names others item other at (b ∷ bs) x
     at_rest (inl h) =
         let low = h.below in
         inl (record {

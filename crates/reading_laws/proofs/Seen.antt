@@ -33,7 +33,8 @@ use Rattle.reading_laws.proofs.Known.{known_at, known_outermost, recursive_kind,
 
 -- ---- lists of one length
 
-pub beside : {X Y : Type 0} (xs : List X) (ys : List Y) (k : ℕ) (x : X) → length ys ≡ length xs → slice_get xs k ≡ Some x → (y : Y) × (slice_get ys k ≡ Some y)
+pub beside : {X Y : Type 0} (xs : List X) (ys : List Y) (k : ℕ) (x : X) → length ys ≡ length xs
+    → slice_get xs k ≡ Some x → (y : Y) × (slice_get ys k ≡ Some y)
 beside [] ys k x e h = absurd (none-some x h)
 beside (z ∷ xs) [] k x e h = absurd (omega (arith, e))
 beside (z ∷ xs) (y ∷ ys) zero x e h = (y, refl)
@@ -41,11 +42,13 @@ beside (z ∷ xs) (y ∷ ys) (suc k) x e h = beside xs ys k x (omega (arith, e))
 
 -- ---- the names that the first item sees
 
-told_each : (P : Naming → Type 0) (names : List Naming) (slot : ℕ) (n : Naming) → Each P names → told names slot ≡ Some n → P n
+told_each : (P : Naming → Type 0) (names : List Naming) (slot : ℕ) (n : Naming) → Each P names
+    → told names slot ≡ Some n → P n
 told_each P [] slot n h e = absurd (none-some n e)
 told_each P (m ∷ ms) slot n h e = at_test (λ f. told_each P ms slot n h.1 f) (length ms == slot) e
   where
-    at_test : (told ms slot ≡ Some n → P n) → (b : Bool) → (if b then Some m else told ms slot) ≡ Some n → P n
+    at_test : (told ms slot ≡ Some n → P n) → (b : Bool)
+        → (if b then Some m else told ms slot) ≡ Some n → P n
     at_test rest true f = subst P (same_Some m n f) h.0
     at_test rest false f = rest f
 
@@ -53,8 +56,11 @@ each_outer : (ps : List Predefined) → Each IsOuter (map naming_of ps)
 each_outer [] = tt
 each_outer (p ∷ ps) = (record { predefined = p; is = refl }, each_outer ps)
 
-pub outer_names : (ps : List Predefined) (slot : ℕ) (n : Naming) → told (outermost ps) slot ≡ Some n → IsOuter n
-outer_names ps slot n h = told_each IsOuter (outermost ps) slot n (each_reverse IsOuter (map naming_of ps) (each_outer ps)) h
+pub outer_names : (ps : List Predefined) (slot : ℕ) (n : Naming) → told (outermost ps) slot ≡ Some n
+    → IsOuter n
+outer_names ps slot n h =
+    told_each IsOuter (outermost ps) slot n
+    (each_reverse IsOuter (map naming_of ps) (each_outer ps)) h
 
 -- ---- the bodies of a group
 
@@ -62,7 +68,9 @@ module _ (ss : List Sense) (us : List Usage) (names : List Naming) (from : ℕ) 
   abbrev as_seen : Bound → SeenName
   as_seen b = record { name = b.name; kind = kind_in ss names b.body }
 
-  bodies_seen : (bs : List Bound) (rs : List Body) (vs : List Used) (p : ℕ) (b : Bound) → AreBodies ss us names from vs bs rs → slice_get bs p ≡ Some b → option_map seen_body (slice_get rs p) ≡ Some (as_seen b)
+  bodies_seen : (bs : List Bound) (rs : List Body) (vs : List Used) (p : ℕ) (b : Bound)
+      → AreBodies ss us names from vs bs rs → slice_get bs p ≡ Some b
+      → option_map seen_body (slice_get rs p) ≡ Some (as_seen b)
   bodies_seen [] rs vs p b h e = absurd (none-some b e)
   bodies_seen (c ∷ bs) [] vs p b h e = absurd h
   bodies_seen (c ∷ bs) (r ∷ rs) vs zero b h e =
@@ -71,9 +79,12 @@ module _ (ss : List Sense) (us : List Usage) (names : List Naming) (from : ℕ) 
       let kind : r.code.kind ≡ kind_in ss names c.body = h.1.0 in
       let here : seen_body r ≡ as_seen c = λ i. record { name = name i; kind = kind i } in
       ap (λ (s : SeenName). Some s) (here ∙ ap as_seen same)
-  bodies_seen (c ∷ bs) (r ∷ rs) vs (suc p) b h e = bodies_seen bs rs (with_values us names [] from c.body vs) p b h.2 e
+  bodies_seen (c ∷ bs) (r ∷ rs) vs (suc p) b h e =
+      bodies_seen bs rs (with_values us names [] from c.body vs) p b h.2 e
 
-  role_seen : (recursive : Bool) (bs : List Bound) (role : Role) (p : ℕ) (b : Bound) → IsGroupRole ss us names from recursive bs role → slice_get bs p ≡ Some b → option_map seen_body (slice_get (bodies_of role) p) ≡ Some (as_seen b)
+  role_seen : (recursive : Bool) (bs : List Bound) (role : Role) (p : ℕ) (b : Bound)
+      → IsGroupRole ss us names from recursive bs role → slice_get bs p ≡ Some b
+      → option_map seen_body (slice_get (bodies_of role) p) ≡ Some (as_seen b)
   role_seen recursive bs (roles.Group r bodies) p b h e = bodies_seen bs bodies.items [] p b h.1 e
   role_seen recursive bs (roles.Check c) p b h e = absurd h
   role_seen recursive bs roles.Silent p b h e = absurd h
@@ -86,7 +97,8 @@ bounds_of (Defined n ps b) = []
 
 -- ---- names that are expected
 
--- each name of an item stands for something of its sort: the bodies of a recursive group see its own names too
+-- each name of an item stands for something of its sort: the bodies of a recursive group see its
+-- own names too
 abbrev pub HasNamesIn : Scope → List Naming → Clause → Type 0
 HasNamesIn s own (Group true bs) = Each (λ b. HasNames (with_names s own) [] b.body) bs
 HasNamesIn s own (Group false bs) = Each (λ b. HasNames s [] b.body) bs
@@ -94,12 +106,19 @@ HasNamesIn s own (Check w e) = HasNames s [] e
 HasNamesIn s own Mute = Unit {0}
 HasNamesIn s own (Defined n ps b) = HasNames s ps b
 
-sound_item : (s : Scope) (at : ℕ) (c : Clause) → HasCounts s → ((i : ℕ) (k : ModelFault) → IsFaultOfItem s.senses s.names at c i k → ⊥) → HasNamesIn s (extended s.senses s.names at c) c
-sound_item s at (Group true bs) counts none = sound_group (with_names s (extended s.senses s.names at (Group true bs))) counts (length s.names) true [] bs none
-sound_item s at (Group false bs) counts none = sound_group s counts (length s.names) false [] bs none
-sound_item s at (Check w e) counts none = sound_term s counts (length s.names) false e (λ i k f. none (1 + i) k (inr (i, refl, f)))
+sound_item : (s : Scope) (at : ℕ) (c : Clause) → HasCounts s
+    → ((i : ℕ) (k : ModelFault) → IsFaultOfItem s.senses s.names at c i k → ⊥)
+    → HasNamesIn s (extended s.senses s.names at c) c
+sound_item s at (Group true bs) counts none =
+    sound_group (with_names s (extended s.senses s.names at (Group true bs))) counts
+    (length s.names) true [] bs none
+sound_item s at (Group false bs) counts none =
+    sound_group s counts (length s.names) false [] bs none
+sound_item s at (Check w e) counts none =
+    sound_term s counts (length s.names) false e (λ i k f. none (1 + i) k (inr (i, refl, f)))
 sound_item s at Mute counts none = tt
-sound_item s at (Defined n ps b) counts none = sound_body s counts ps b (λ i k f. none (length ps + i) k (inr (i, refl, f)))
+sound_item s at (Defined n ps b) counts none =
+    sound_body s counts ps b (λ i k f. none (length ps + i) k (inr (i, refl, f)))
 
 -- ---- models
 
@@ -107,28 +126,41 @@ module _ (ps : List Predefined) (m : ReadModel) (well : IsSound (outermost ps) m
   abbrev pub seen_by : ℕ → Scope
   seen_by k = sees (outermost ps) m.items k
 
-  pub faultless : (k : ℕ) (x : Item) → slice_get m.items k ≡ Some x → (i : ℕ) (l : ModelFault) → IsFaultOfItem (seen_by k).senses (seen_by k).names k (clause_of x) i l → ⊥
+  pub faultless : (k : ℕ) (x : Item) → slice_get m.items k ≡ Some x → (i : ℕ) (l : ModelFault)
+      → IsFaultOfItem (seen_by k).senses (seen_by k).names k (clause_of x) i l → ⊥
   faultless k x h i l f =
       let left : k ≡ 0 + k = omega arith in
-      no_fault_at (first_scope (outermost ps)) 0 m.items k x well.no_fault h i l (subst (λ (n : ℕ). IsFaultOfItem (seen_by k).senses (seen_by k).names n (clause_of x) i l) left f)
+      no_fault_at (first_scope (outermost ps)) 0 m.items k x well.no_fault h i l
+      (subst (λ (n : ℕ). IsFaultOfItem (seen_by k).senses (seen_by k).names n (clause_of x) i l)
+      left f)
 
-  pub own_is : (k : ℕ) (x : Item) → slice_get m.items k ≡ Some x → extended (seen_by k).senses (seen_by k).names k (clause_of x) ≡ (seen_by (suc k)).names
+  pub own_is : (k : ℕ) (x : Item) → slice_get m.items k ≡ Some x
+      → extended (seen_by k).senses (seen_by k).names k (clause_of x) ≡ (seen_by (suc k)).names
   own_is k x h =
       let left : k ≡ 0 + k = omega arith in
-      ap (λ (n : ℕ). extended (seen_by k).senses (seen_by k).names n (clause_of x)) left ∙ sym (next_names (first_scope (outermost ps)) 0 m.items k x h)
+      ap (λ (n : ℕ). extended (seen_by k).senses (seen_by k).names n (clause_of x)) left
+      ∙ sym (next_names (first_scope (outermost ps)) 0 m.items k x h)
 
   -- the names of an item stand for something
-  pub names_expected : (k : ℕ) (x : Item) → slice_get m.items k ≡ Some x → HasNamesIn (seen_by k) (seen_by (suc k)).names (clause_of x)
+  pub names_expected : (k : ℕ) (x : Item) → slice_get m.items k ≡ Some x
+      → HasNamesIn (seen_by k) (seen_by (suc k)).names (clause_of x)
   names_expected k x h =
       subst (λ (own : List Naming). HasNamesIn (seen_by k) own (clause_of x)) (own_is k x h)
-      (sound_item (seen_by k) k (clause_of x) (counts_at (first_scope (outermost ps)) 0 m.items k refl) (faultless k x h))
+      (sound_item (seen_by k) k (clause_of x)
+      (counts_at (first_scope (outermost ps)) 0 m.items k refl) (faultless k x h))
 
-  pub resolved_at : (k : ℕ) (x : Item) (r : ResolvedItem) → slice_get m.items k ≡ Some x → slice_get m.resolved k ≡ Some r
-      → IsResolvedIn (seen_by k).senses (seen_by k).usages (seen_by k).names (seen_by (suc k)).names (length (seen_by k).names) (clause_of x) r
+  pub resolved_at : (k : ℕ) (x : Item) (r : ResolvedItem) → slice_get m.items k ≡ Some x
+      → slice_get m.resolved k ≡ Some r
+      → IsResolvedIn (seen_by k).senses (seen_by k).usages (seen_by k).names (seen_by (suc k)).names
+      (length (seen_by k).names) (clause_of x) r
   resolved_at k x r h g =
       let s = seen_by k in
-      subst (λ (own : List Naming). IsResolvedIn s.senses s.usages s.names own (length s.names) (clause_of x) r) (own_names (first_scope (outermost ps)) 0 m.items k x h)
-      (item_at (first_scope (outermost ps)) 0 m.items m.resolved k x r well.as_resolved well.labelled h g).0
+      subst
+      (λ (own : List Naming).
+      IsResolvedIn s.senses s.usages s.names own (length s.names) (clause_of x) r)
+      (own_names (first_scope (outermost ps)) 0 m.items k x h)
+      (item_at (first_scope (outermost ps)) 0 m.items m.resolved k x r well.as_resolved
+      well.labelled h g).0
 
   -- ---- inputs
 
@@ -136,21 +168,33 @@ module _ (ps : List Predefined) (m : ReadModel) (well : IsSound (outermost ps) m
   pub record IsSeenAs (i : Input) (x : List ℕ) (kind : Kind) : Type 0 where
     pub number : ℕ
     pub has_number : HasNumber m i.item number
-    pub seen : seen_at (slice_get m.resolved i.item) i.position ≡ Some (record { name = x; kind = kind })
+    pub seen : seen_at (slice_get m.resolved i.item) i.position
+        ≡ Some (record { name = x; kind = kind })
 
-  group_seen : (k : ℕ) (recursive : Bool) (bs : List Bound) (r : ResolvedItem) (p : ℕ) (b : Bound) → (own : List Naming) → own ≡ extended (seen_by k).senses (seen_by k).names k (Group recursive bs) → ((i : ℕ) (l : ModelFault) → IsFaultOfItem (seen_by k).senses (seen_by k).names k (Group recursive bs) i l → ⊥)
-      → IsResolvedIn (seen_by k).senses (seen_by k).usages (seen_by k).names own (length (seen_by k).names) (Group recursive bs) r → slice_get bs p ≡ Some b
-      → option_map seen_body (slice_get (bodies_of r.role) p) ≡ Some (record { name = b.name; kind = kind_seen (seen_by k).senses (seen_by k).names recursive b })
+  group_seen : (k : ℕ) (recursive : Bool) (bs : List Bound) (r : ResolvedItem) (p : ℕ) (b : Bound)
+      → (own : List Naming)
+      → own ≡ extended (seen_by k).senses (seen_by k).names k (Group recursive bs)
+      → ((i : ℕ) (l : ModelFault)
+      → IsFaultOfItem (seen_by k).senses (seen_by k).names k (Group recursive bs) i l → ⊥)
+      → IsResolvedIn (seen_by k).senses (seen_by k).usages (seen_by k).names own
+      (length (seen_by k).names) (Group recursive bs) r → slice_get bs p ≡ Some b
+      → option_map seen_body (slice_get (bodies_of r.role) p)
+      ≡ Some (record {
+        name = b.name;
+        kind = kind_seen (seen_by k).senses (seen_by k).names recursive b;
+      })
   group_seen k true bs r p b own is none h e =
       let s = seen_by k in
       let known = known_at (first_scope (outermost ps)) 0 m.items k (record { sound = tt; known = known_outermost ps }) well.no_fault in
       let kind = ap (λ (ns : List Naming). kind_in s.senses ns b.body) is ∙ recursive_kind s k bs p b known none e in
-      role_seen s.senses s.usages own (length s.names) true bs r.role p b h.0 e ∙ (λ d. Some (record { name = b.name; kind = kind d }))
+      role_seen s.senses s.usages own (length s.names) true bs r.role p b h.0 e
+      ∙ (λ d. Some (record { name = b.name; kind = kind d }))
   group_seen k false bs r p b own is none h e =
       let s = seen_by k in
       role_seen s.senses s.usages s.names (length s.names) false bs r.role p b h.0 e
 
-  pub input_seen : (i : Input) (x : List ℕ) (kind : Kind) → IsInput (outermost ps) m.items i x kind → IsSeenAs i x kind
+  pub input_seen : (i : Input) (x : List ℕ) (kind : Kind) → IsInput (outermost ps) m.items i x kind
+      → IsSeenAs i x kind
   input_seen i x kind h =
       let s = seen_by i.item in
       let number = beside m.items m.numbers i.item h.item well.numbered h.there in
@@ -158,28 +202,48 @@ module _ (ps : List Predefined) (m : ReadModel) (well : IsSound (outermost ps) m
       let is = resolved_at i.item h.item resolved.0 h.there resolved.1 in
       let own : (seen_by (suc i.item)).names ≡ extended s.senses s.names i.item (Group h.recursive h.bounds) = sym (own_is i.item h.item h.there) ∙ ap (extended s.senses s.names i.item) h.clause in
       let none : (j : ℕ) (l : ModelFault) → IsFaultOfItem s.senses s.names i.item (Group h.recursive h.bounds) j l → ⊥ =
-      λ j l f. faultless i.item h.item h.there j l (subst (λ (c : Clause). IsFaultOfItem s.senses s.names i.item c j l) (sym h.clause) f) in
+      λ j l f. faultless i.item h.item h.there j l
+      (subst (λ (c : Clause). IsFaultOfItem s.senses s.names i.item c j l) (sym h.clause) f) in
       let group : IsResolvedIn s.senses s.usages s.names (seen_by (suc i.item)).names (length s.names) (Group h.recursive h.bounds) resolved.0 =
-      subst (λ (c : Clause). IsResolvedIn s.senses s.usages s.names (seen_by (suc i.item)).names (length s.names) c resolved.0) h.clause is in
+      subst
+      (λ (c : Clause). IsResolvedIn s.senses s.usages s.names (seen_by (suc i.item)).names
+      (length s.names) c resolved.0) h.clause is in
       let seen = group_seen i.item h.recursive h.bounds resolved.0 i.position h.bound (seen_by (suc i.item)).names own none group h.has_bound in
       record {
         number = number.0;
         has_number = number.1;
-        seen = ap (λ (o : Option ResolvedItem). seen_at o i.position) resolved.1 ∙ (seen ∙ (λ d. Some (record { name = h.name d; kind = h.is_kind d })));
+        seen =
+            ap (λ (o : Option ResolvedItem). seen_at o i.position) resolved.1
+            ∙ (seen ∙ (λ d. Some (record { name = h.name d; kind = h.is_kind d })));
       }
 
   -- two names of an item that are spelt alike are one
-  pub input_apart : (i j : Input) (x : List ℕ) (kind other : Kind) → IsInput (outermost ps) m.items i x kind → IsInput (outermost ps) m.items j x other → i.item ≡ j.item → i ≡ j
+  pub input_apart : (i j : Input) (x : List ℕ) (kind other : Kind)
+      → IsInput (outermost ps) m.items i x kind → IsInput (outermost ps) m.items j x other
+      → i.item ≡ j.item → i ≡ j
   input_apart i j x kind other h g e =
       let s = seen_by i.item in
       let item : h.item ≡ g.item = same_Some h.item g.item (sym h.there ∙ (ap (slice_get m.items) e ∙ g.there)) in
       let clause : Group g.recursive g.bounds ≡ Group h.recursive h.bounds = sym g.clause ∙ (ap clause_of (sym item) ∙ h.clause) in
       let bounds : g.bounds ≡ h.bounds = ap bounds_of clause in
       let none : (k : ℕ) (l : ModelFault) → IsFaultOfItem s.senses s.names i.item (Group h.recursive h.bounds) k l → ⊥ =
-      λ k l f. faultless i.item h.item h.there k l (subst (λ (c : Clause). IsFaultOfItem s.senses s.names i.item c k l) (sym h.clause) f) in
+      λ k l f. faultless i.item h.item h.there k l
+      (subst (λ (c : Clause). IsFaultOfItem s.senses s.names i.item c k l) (sym h.clause) f) in
       let position : i.position ≡ j.position = positions h.recursive none h.has_bound (ap (λ (bs : List Bound). slice_get bs j.position) (sym bounds) ∙ g.has_bound) (h.name ∙ sym g.name) in
       λ d. record { item = e d; position = position d }
     where
-      positions : (recursive : Bool) → ((k : ℕ) (l : ModelFault) → IsFaultOfItem (seen_by i.item).senses (seen_by i.item).names i.item (Group recursive h.bounds) k l → ⊥) → slice_get h.bounds i.position ≡ Some h.bound → slice_get h.bounds j.position ≡ Some g.bound → h.bound.name ≡ g.bound.name → i.position ≡ j.position
-      positions true none a b same = group_apart (seen_by i.item).senses (extended (seen_by i.item).senses (seen_by i.item).names i.item (Group true h.bounds)) (length (seen_by i.item).names) true [] h.bounds i.position j.position h.bound g.bound none a b same
-      positions false none a b same = group_apart (seen_by i.item).senses (seen_by i.item).names (length (seen_by i.item).names) false [] h.bounds i.position j.position h.bound g.bound none a b same
+      positions : (recursive : Bool)
+          → ((k : ℕ) (l : ModelFault)
+          → IsFaultOfItem (seen_by i.item).senses (seen_by i.item).names i.item
+          (Group recursive h.bounds) k l → ⊥)
+          → slice_get h.bounds i.position ≡ Some h.bound
+          → slice_get h.bounds j.position ≡ Some g.bound → h.bound.name ≡ g.bound.name
+          → i.position ≡ j.position
+      positions true none a b same =
+          group_apart (seen_by i.item).senses
+          (extended (seen_by i.item).senses (seen_by i.item).names i.item (Group true h.bounds))
+          (length (seen_by i.item).names) true [] h.bounds i.position j.position h.bound g.bound
+          none a b same
+      positions false none a b same =
+          group_apart (seen_by i.item).senses (seen_by i.item).names (length (seen_by i.item).names)
+          false [] h.bounds i.position j.position h.bound g.bound none a b same

@@ -28,7 +28,9 @@ module _ (ps : List Predefined) (m : ReadModel) (sound : IsSound (outermost ps) 
       let is = input_seen ps m sound i h.name h.kind h.input in
       record { number = is.number; name = record { name = h.name; kind = h.kind }; seen = λ d. (is.has_number d, is.seen d) }
 
-  function_visible : (f : ℕ) → IsKeptFunction (outermost ps) m.items (outer_names ps) Anything Anywhere f → IsSeenFunction m f
+  function_visible : (f : ℕ)
+      → IsKeptFunction (outermost ps) m.items (outer_names ps) Anything Anywhere f
+      → IsSeenFunction m f
   function_visible f h =
       let number = beside m.items m.numbers f h.item sound.numbered h.there in
       let text = ap (option_map clause_of) h.there in
@@ -40,6 +42,11 @@ uses_seen ps m number k x r sound at =
     let names = item_inputs (outermost ps) m.items (outer_names ps) k (clause_of x) r resolved in
     let kept = item_kept (outermost ps) m.items (outer_names ps) k (Anything ps m sound) (Anywhere ps m sound) (clause_of x) r resolved (each_unit r.inputs.items) (each_unit r.functions.items) in
     let functions = item_functions (outermost ps) m.items (outer_names ps) k (Anything ps m sound) (Anywhere ps m sound) (clause_of x) r resolved kept in (
-      each_to (IsNameOfGroup (outermost ps) m.items k) (IsSeenInput m) (input_visible ps m sound k) r.inputs.items names,
-      each_to (IsKeptFunction (outermost ps) m.items (outer_names ps) (Anything ps m sound) (Anywhere ps m sound)) (IsSeenFunction m) (function_visible ps m sound) r.functions.items functions,
+      each_to (IsNameOfGroup (outermost ps) m.items k) (IsSeenInput m) (input_visible ps m sound k)
+          r.inputs.items names,
+      each_to
+          (IsKeptFunction (outermost ps) m.items (outer_names ps) (Anything ps m sound)
+          (Anywhere ps m sound))
+          (IsSeenFunction m)
+          (function_visible ps m sound) r.functions.items functions,
     )

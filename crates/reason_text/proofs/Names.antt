@@ -17,11 +17,17 @@ number_behind : (n : ℕ) → n < 2 ^ 64 → 0 < length (decimal (n / 26))
 number_behind n lt = decimal_nonempty (n / 26) (omega arith)
 
 -- what stands behind the letters
-behind_is : (m n : ℕ) (a b : Bool) → nat_lt m 26 ≡ a → nat_lt n 26 ≡ b → m < 2 ^ 64 → n < 2 ^ 64 → (if a then [] else decimal (m / 26)) ≡ (if b then [] else decimal (n / 26)) → m / 26 ≡ n / 26
+behind_is : (m n : ℕ) (a b : Bool) → nat_lt m 26 ≡ a → nat_lt n 26 ≡ b → m < 2 ^ 64 → n < 2 ^ 64
+    → (if a then [] else decimal (m / 26)) ≡ (if b then [] else decimal (n / 26)) → m / 26 ≡ n / 26
 behind_is m n true true s t lm ln e = below_26 m s ∙ sym (below_26 n t)
-behind_is m n true false s t lm ln e = let some = number_behind n ln in let none : 0 ≡ length (decimal (n / 26)) = ap length e in omega arith
-behind_is m n false true s t lm ln e = let some = number_behind m lm in let none : length (decimal (m / 26)) ≡ 0 = ap length e in omega arith
-behind_is m n false false s t lm ln e = decimal_injective (m / 26) (n / 26) (omega arith) (omega arith) e
+behind_is m n true false s t lm ln e =
+    let some = number_behind n ln in
+    let none : 0 ≡ length (decimal (n / 26)) = ap length e in omega arith
+behind_is m n false true s t lm ln e =
+    let some = number_behind m lm in
+    let none : length (decimal (m / 26)) ≡ 0 = ap length e in omega arith
+behind_is m n false false s t lm ln e =
+    decimal_injective (m / 26) (n / 26) (omega arith) (omega arith) e
 
 lettered_apart : (m n : ℕ) → m < 2 ^ 64 → n < 2 ^ 64 → lettered m ≡ lettered n → m ≡ n
 lettered_apart m n lm ln e =
@@ -33,13 +39,20 @@ lettered_apart m n lm ln e =
 no_letter : (j k n : ℕ) (xs : List ℕ) → 73 ∷ xs ≡ lettered n → j ≡ k
 no_letter j k n xs e = let same : 73 ≡ 97 + n % 26 = head_is _ _ _ _ e in omega arith
 
-named_apart : (initial m n : ℕ) (a b : Bool) → nat_lt m initial ≡ a → nat_lt n initial ≡ b → m < 2 ^ 64 → n < 2 ^ 64
-    → (if a then codes "I" ++ decimal m else lettered (m - initial)) ≡ (if b then codes "I" ++ decimal n else lettered (n - initial)) → m ≡ n
-named_apart initial m n true true s t lm ln e = decimal_injective m n lm ln (tail_is 73 73 (decimal m) (decimal n) e)
+named_apart : (initial m n : ℕ) (a b : Bool) → nat_lt m initial ≡ a → nat_lt n initial ≡ b
+    → m < 2 ^ 64 → n < 2 ^ 64
+    → (if a then codes "I" ++ decimal m else lettered (m - initial))
+    ≡ (if b then codes "I" ++ decimal n else lettered (n - initial)) → m ≡ n
+named_apart initial m n true true s t lm ln e =
+    decimal_injective m n lm ln (tail_is 73 73 (decimal m) (decimal n) e)
 named_apart initial m n true false s t lm ln e = no_letter m n (n - initial) (decimal m) e
 named_apart initial m n false true s t lm ln e = no_letter m n (m - initial) (decimal n) (sym e)
-named_apart initial m n false false s t lm ln e = let same = lettered_apart (m - initial) (n - initial) (omega arith) (omega arith) e in grind arith
+named_apart initial m n false false s t lm ln e =
+    let same = lettered_apart (m - initial) (n - initial) (omega arith) (omega arith) e in
+    grind arith
 
-pub names_apart : (initial m n : ℕ) → m < 2 ^ 64 → n < 2 ^ 64 → event_name initial m ≡ event_name initial n → m ≡ n
+pub names_apart : (initial m n : ℕ) → m < 2 ^ 64 → n < 2 ^ 64
+    → event_name initial m ≡ event_name initial n → m ≡ n
 unfolding event_name
-names_apart initial m n lm ln e = named_apart initial m n (nat_lt m initial) (nat_lt n initial) refl refl lm ln e
+names_apart initial m n lm ln e =
+    named_apart initial m n (nat_lt m initial) (nat_lt n initial) refl refl lm ln e

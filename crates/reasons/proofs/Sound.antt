@@ -15,11 +15,15 @@ use Rattle.memo_graph.proofs.Ordered.{resolved_ordered}
 use Rattle.memo_graph.proofs.Rising.{resolved_rising}
 
 -- each item uses names of earlier items alone, and the bodies of each recursive group rise
-pub sound_items : (model : ModelText) (items : List ResolvedItem) → IsFaultless model → AreItemsOf model items → AreSound items
-sound_items model items none resolved =
-    (resolved_ordered PREDEFINED (clauses_of model) items resolved.0, resolved_rising outermost 0 (clauses_of model) items none resolved.0)
+pub sound_items : (model : ModelText) (items : List ResolvedItem) → IsFaultless model
+    → AreItemsOf model items → AreSound items
+sound_items model items none resolved = (
+  resolved_ordered PREDEFINED (clauses_of model) items resolved.0,
+  resolved_rising outermost 0 (clauses_of model) items none resolved.0,
+)
 
-pub few_candidates : (test : Test) (space : Space) → ListsExecutions test space → candidate_count space ≤ 16384
+pub few_candidates : (test : Test) (space : Space) → ListsExecutions test space
+    → candidate_count space ≤ 16384
 few_candidates test space lists =
     let as_many : length (shown_in space) ≡ length lists.all = AllZip-long (Shows lists.initial) lists.all (shown_in space) lists.shown in
     let long : length (shown_in space) ≡ candidate_count space = length-map (candidates_in space.combinations.items) (shown_of space.registers.items) in

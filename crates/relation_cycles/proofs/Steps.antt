@@ -10,23 +10,32 @@ use Rattle.bit_relations.proofs.Laws.{grows}
 use Rattle.bit_relations.proofs.Paths.{Path-append}
 use Rattle.relation_cycles.specs.Cycles.{IsPathFrom, IsShortestPath, IsCycle, IsCycleFrom, IsShortestCycle, IsShortestThrough, IsReachableIn, AreLevels, IsWhole, IsNoLater, IsFirstWithin, IsFirstReflexive}
 
-pub IsReachableIn-more : (R : ℕ → ℕ → Type 0) (k a b : ℕ) → IsReachableIn R k a b → IsReachableIn R (k + 1) a b
-IsReachableIn-more R k a b w = let lt : length w.through < k = w.short in record { through = w.through; short = omega arith; path = w.path }
+pub IsReachableIn-more : (R : ℕ → ℕ → Type 0) (k a b : ℕ) → IsReachableIn R k a b
+    → IsReachableIn R (k + 1) a b
+IsReachableIn-more R k a b w =
+    let lt : length w.through < k = w.short in
+    record { through = w.through; short = omega arith; path = w.path }
 
 -- a path of a step more is a step, or a step and a path
-pub IsReachableIn-split : (R : ℕ → ℕ → Type 0) (k a b : ℕ) → IsReachableIn R (k + 1) a b → R a b ⊎ Composed R (IsReachableIn R k) a b
+pub IsReachableIn-split : (R : ℕ → ℕ → Type 0) (k a b : ℕ) → IsReachableIn R (k + 1) a b
+    → R a b ⊎ Composed R (IsReachableIn R k) a b
 IsReachableIn-split R k a b w = go w.through w.short w.path
   where
-    go : (xs : List ℕ) → length xs < k + 1 → Path R a xs b → R a b ⊎ Composed R (IsReachableIn R k) a b
+    go : (xs : List ℕ) → length xs < k + 1 → Path R a xs b
+        → R a b ⊎ Composed R (IsReachableIn R k) a b
     go [] lt p = inl p
     go (c ∷ cs) lt p = inr (c, p.0, record { through = cs; short = omega (arith, lt); path = p.1 })
 
-pub IsReachableIn-join : (R : ℕ → ℕ → Type 0) (k a b : ℕ) → R a b ⊎ Composed R (IsReachableIn R k) a b → IsReachableIn R (k + 1) a b
+pub IsReachableIn-join : (R : ℕ → ℕ → Type 0) (k a b : ℕ)
+    → R a b ⊎ Composed R (IsReachableIn R k) a b → IsReachableIn R (k + 1) a b
 IsReachableIn-join R k a b (inl r) = record { through = []; short = omega arith; path = r }
-IsReachableIn-join R k a b (inr (c, r, w)) = let lt : length w.through < k = w.short in record { through = c ∷ w.through; short = omega arith; path = (r, w.path) }
+IsReachableIn-join R k a b (inr (c, r, w)) =
+    let lt : length w.through < k = w.short in
+    record { through = c ∷ w.through; short = omega arith; path = (r, w.path) }
 
 -- where no pair is gained by a step more, none is by any number
-pub whole : (R : ℕ → ℕ → Type 0) (k : ℕ) → ((a b : ℕ) → IsReachableIn R (k + 1) a b → IsReachableIn R k a b) → IsWhole R k
+pub whole : (R : ℕ → ℕ → Type 0) (k : ℕ)
+    → ((a b : ℕ) → IsReachableIn R (k + 1) a b → IsReachableIn R k a b) → IsWhole R k
 whole R k closed a b p = go a p.0 p.1
   where
     go : (a : ℕ) (xs : List ℕ) → Path R a xs b → IsReachableIn R k a b
@@ -55,12 +64,14 @@ no_later_front [] ys = tt
 no_later_front (x ∷ xs) ys = inr (refl, no_later_front xs ys)
 
 -- a smaller event behind the same ones
-smaller_behind : (xs : List ℕ) (a b : ℕ) (ys zs : List ℕ) → a < b → IsNoLater (xs ++ a ∷ ys) (xs ++ b ∷ zs)
+smaller_behind : (xs : List ℕ) (a b : ℕ) (ys zs : List ℕ) → a < b
+    → IsNoLater (xs ++ a ∷ ys) (xs ++ b ∷ zs)
 smaller_behind [] a b ys zs lt = inl lt
 smaller_behind (x ∷ xs) a b ys zs lt = inr (refl, smaller_behind xs a b ys zs lt)
 
 -- of two lists of one length each comes no later than the other
-pub same_place : (xs ys : List ℕ) → length xs ≡ length ys → IsNoLater xs ys → IsNoLater ys xs → xs ≡ ys
+pub same_place : (xs ys : List ℕ) → length xs ≡ length ys → IsNoLater xs ys → IsNoLater ys xs
+    → xs ≡ ys
 same_place [] [] long p q = refl
 same_place [] (y ∷ ys) long p q = absurd q
 same_place (x ∷ xs) [] long p q = absurd p
@@ -71,66 +82,102 @@ same_place (x ∷ xs) (y ∷ ys) long (inr p) (inr q) =
     let rest : xs ≡ ys = same_place xs ys (omega (arith, long)) p.1 q.1 in
     ap (λ (z : ℕ). z ∷ xs) p.0 ∙ ap (λ (zs : List ℕ). y ∷ zs) rest
 
-pub one_cycle : (R : ℕ → ℕ → Type 0) (xs ys : List ℕ) → IsShortestCycle R xs → IsShortestCycle R ys → xs ≡ ys
+pub one_cycle : (R : ℕ → ℕ → Type 0) (xs ys : List ℕ) → IsShortestCycle R xs → IsShortestCycle R ys
+    → xs ≡ ys
 one_cycle R xs ys p q =
     let less : length xs ≤ length ys = p.least ys q.cycle in
     let more : length ys ≤ length xs = q.least xs p.cycle in
-    same_place xs ys (omega arith) (p.first ys q.cycle (omega arith)) (q.first xs p.cycle (omega arith))
+    same_place xs ys (omega arith) (p.first ys q.cycle (omega arith))
+    (q.first xs p.cycle (omega arith))
 
 -- however the events go on, they come before the others
 abbrev pub ComesBefore : List ℕ → List ℕ → Type 0
 ComesBefore events others = (more : List ℕ) → IsNoLater (events ++ more) others
 
 -- the others go on from these events, in less than so many steps
-pub record GoesOn (R : ℕ → ℕ → Type 0) (events : List ℕ) (at left to : ℕ) (others : List ℕ) : Type 0 where
+pub record GoesOn (R : ℕ → ℕ → Type 0) (events : List ℕ) (at left to : ℕ) (others : List ℕ)
+    : Type 0 where
   pub rest : List ℕ
   pub parts : others ≡ events ++ rest
   pub short : length rest < left
   pub path : Path R at rest to
 
--- what stands in the list leads from the event to the present one, from which so many steps lead to the other
-pub record IsTraced (R : ℕ → ℕ → Type 0) (event to steps : ℕ) (events : List ℕ) (at left : ℕ) : Type 0 where
+-- what stands in the list leads from the event to the present one, from which so many steps lead to
+-- the other
+pub record IsTraced (R : ℕ → ℕ → Type 0) (event to steps : ℕ) (events : List ℕ) (at left : ℕ)
+    : Type 0 where
   pub ahead : IsReachableIn R left at to
   pub short : length events + left ≤ steps + 1
   pub tail : List ℕ
   pub begins : events ≡ event ∷ tail
   pub leads : (rest : List ℕ) → Path R at rest to → Path R event (tail ++ rest) to
-  pub first : (others : List ℕ) → IsPathFrom R event to others → length others ≤ steps → ComesBefore events others ⊎ GoesOn R events at left to others
+  pub first : (others : List ℕ) → IsPathFrom R event to others → length others ≤ steps
+      → ComesBefore events others ⊎ GoesOn R events at left to others
 
 -- the event alone
-pub begun : (R : ℕ → ℕ → Type 0) (event to steps : ℕ) → IsReachableIn R steps event to → IsTraced R event to steps (event ∷ []) event steps
-begun R event to steps w = record { ahead = w; short = omega arith; tail = []; begins = refl; leads = λ rest p. p; first = λ others p lt. inr (started others p lt) }
+pub begun : (R : ℕ → ℕ → Type 0) (event to steps : ℕ) → IsReachableIn R steps event to
+    → IsTraced R event to steps (event ∷ []) event steps
+begun R event to steps w =
+    record {
+      ahead = w;
+      short = omega arith;
+      tail = [];
+      begins = refl;
+      leads = λ rest p. p;
+      first = λ others p lt. inr (started others p lt);
+    }
   where
-    started : (others : List ℕ) → IsPathFrom R event to others → length others ≤ steps → GoesOn R (event ∷ []) event steps to others
+    started : (others : List ℕ) → IsPathFrom R event to others → length others ≤ steps
+        → GoesOn R (event ∷ []) event steps to others
     started [] p lt = absurd p
-    started (x ∷ xs) p lt = record { rest = xs; parts = ap (λ (y : ℕ). y ∷ xs) p.0; short = omega (arith, lt); path = subst (λ (y : ℕ). Path R y xs to) p.0 p.1 }
+    started (x ∷ xs) p lt =
+        record {
+          rest = xs;
+          parts = ap (λ (y : ℕ). y ∷ xs) p.0;
+          short = omega (arith, lt);
+          path = subst (λ (y : ℕ). Path R y xs to) p.0 p.1;
+        }
 
 -- a level and the step after it
-pub next_is : (r level product next : Relation) → IsRelation product r.count (Composed (Has r) (Has level)) → IsRelation next product.count (Union (Has product) (Has r)) → (k : ℕ) → IsRelation level r.count (IsReachableIn (Has r) k) → IsRelation next r.count (IsReachableIn (Has r) (k + 1))
+pub next_is : (r level product next : Relation)
+    → IsRelation product r.count (Composed (Has r) (Has level))
+    → IsRelation next product.count (Union (Has product) (Has r)) → (k : ℕ)
+    → IsRelation level r.count (IsReachableIn (Has r) k)
+    → IsRelation next r.count (IsReachableIn (Has r) (k + 1))
 next_is r level product next composed joined k this = record {
   count = joined.count ∙ composed.count;
   regular = joined.regular;
-  pairs = λ a b. ((λ h. IsReachableIn-join (Has r) k a b (to a b ((joined.pairs a b).0 h))), (λ w. (joined.pairs a b).1 (from a b (IsReachableIn-split (Has r) k a b w))));
+  pairs =
+      λ a b. (
+        (λ h. IsReachableIn-join (Has r) k a b (to a b ((joined.pairs a b).0 h))),
+        (λ w. (joined.pairs a b).1 (from a b (IsReachableIn-split (Has r) k a b w))),
+      );
 }
   where
-    to : (a b : ℕ) → Union (Has product) (Has r) a b → Has r a b ⊎ Composed (Has r) (IsReachableIn (Has r) k) a b
+    to : (a b : ℕ) → Union (Has product) (Has r) a b
+        → Has r a b ⊎ Composed (Has r) (IsReachableIn (Has r) k) a b
     to a b (inr h) = inl h
     to a b (inl h) = let m = (composed.pairs a b).0 h in inr (m.0, m.1, (this.pairs m.0 b).0 m.2)
 
-    from : (a b : ℕ) → Has r a b ⊎ Composed (Has r) (IsReachableIn (Has r) k) a b → Union (Has product) (Has r) a b
+    from : (a b : ℕ) → Has r a b ⊎ Composed (Has r) (IsReachableIn (Has r) k) a b
+        → Union (Has product) (Has r) a b
     from a b (inl h) = inr h
     from a b (inr (m, h, w)) = inl ((composed.pairs a b).1 (m, h, (this.pairs m b).1 w))
 
 module _ (r level : Relation) (levels : List Relation) (g : IsGrowing r level levels) where
   pub level_count : level.count ≡ r.count
-  level_count = let some : 0 < length levels = g.some in (g.last (length levels - 1) (omega arith)).count
+  level_count =
+      let some : 0 < length levels = g.some in (g.last (length levels - 1) (omega arith)).count
 
-  module _ (next : Relation) (step : (k : ℕ) → IsRelation level r.count (IsReachableIn (Has r) k) → IsRelation next r.count (IsReachableIn (Has r) (k + 1))) where
+  module _ (next : Relation)
+      (step : (k : ℕ) → IsRelation level r.count (IsReachableIn (Has r) k)
+      → IsRelation next r.count (IsReachableIn (Has r) (k + 1))) where
     pub all_there : next ≡ level → (k : ℕ) → k + 1 ≡ length levels → IsWhole (Has r) k
     all_there same k e =
         let this : IsRelation level r.count (IsReachableIn (Has r) k) = g.last k e in
         let that : IsRelation next r.count (IsReachableIn (Has r) (k + 1)) = step k this in
-        whole (Has r) k (λ a b w. (this.pairs a b).0 (subst (λ (s : Relation). Has s a b) same ((that.pairs a b).1 w)))
+        whole (Has r) k (λ a b w. (this.pairs a b).0 (subst (λ (s : Relation). Has s a b) same
+        ((that.pairs a b).1 w)))
 
     pub less_room : (next ≡ level → ⊥) → room_of next < room_of level
     less_room other =
@@ -138,7 +185,10 @@ module _ (r level : Relation) (levels : List Relation) (g : IsGrowing r level le
         let k : ℕ = length levels - 1 in
         let this : IsRelation level r.count (IsReachableIn (Has r) k) = g.last k (omega arith) in
         let that : IsRelation next r.count (IsReachableIn (Has r) (k + 1)) = step k this in
-        elim (grows level next this.regular that.regular (this.count ∙ sym that.count) (λ a b h. (that.pairs a b).1 (IsReachableIn-more (Has r) k a b ((this.pairs a b).0 h)))) [
+        elim
+        (grows level next this.regular that.regular (this.count ∙ sym that.count)
+        (λ a b h.
+        (that.pairs a b).1 (IsReachableIn-more (Has r) k a b ((this.pairs a b).0 h)))) [
           | inl same ↦ absurd (other (sym same))
           | inr less ↦ less
         ]
@@ -153,24 +203,39 @@ module _ (r level : Relation) (levels : List Relation) (g : IsGrowing r level le
     pub grown : IsGrowing r next (levels ++ next ∷ [])
     grown = record {
       each = record { each = each };
-      some = let e : length (levels ++ next ∷ []) ≡ length levels + 1 = length-append levels (next ∷ []) in omega arith;
+      some =
+          let e : length (levels ++ next ∷ []) ≡ length levels + 1 =
+          length-append levels (next ∷ []) in
+          omega arith;
       last = last;
     }
       where
-        each : (k : ℕ) → k < length (levels ++ next ∷ []) → IsRelation (get_or (levels ++ next ∷ []) k no_slot) r.count (IsReachableIn (Has r) k)
+        each : (k : ℕ) → k < length (levels ++ next ∷ [])
+            → IsRelation (get_or (levels ++ next ∷ []) k no_slot) r.count (IsReachableIn (Has r) k)
         each k lt = elim (cases_lt k (length levels)) [
-          | inr le ↦ let e : length levels ≡ k = let l : length (levels ++ next ∷ []) ≡ length levels + 1 = length-append levels (next ∷ []) in omega arith in
-              subst (λ (n : ℕ). IsRelation (get_or (levels ++ next ∷ []) n no_slot) r.count (IsReachableIn (Has r) n)) e (rw (get_or-append_seam levels next [] no_slot) next_last)
+          | inr le ↦
+              let e : length levels ≡ k =
+              let l : length (levels ++ next ∷ []) ≡ length levels + 1 =
+              length-append levels (next ∷ []) in
+              omega arith in
+              subst
+              (λ (n : ℕ). IsRelation (get_or (levels ++ next ∷ []) n no_slot) r.count
+              (IsReachableIn (Has r) n)) e
+              (rw (get_or-append_seam levels next [] no_slot) next_last)
           | inl gt ↦ rw (get_or_append_left levels (next ∷ []) no_slot k gt) (g.each.each k gt)
         ]
 
-        last : (k : ℕ) → k + 1 ≡ length (levels ++ next ∷ []) → IsRelation next r.count (IsReachableIn (Has r) k)
-        last k e = let l : length (levels ++ next ∷ []) ≡ length levels + 1 = length-append levels (next ∷ []) in
+        last : (k : ℕ) → k + 1 ≡ length (levels ++ next ∷ [])
+            → IsRelation next r.count (IsReachableIn (Has r) k)
+        last k e =
+            let l : length (levels ++ next ∷ []) ≡ length levels + 1 =
+            length-append levels (next ∷ []) in
             let same : length levels ≡ k = omega arith in
             subst (λ (n : ℕ). IsRelation next r.count (IsReachableIn (Has r) n)) same next_last
 
 -- a path begins at an event of the relation
-pub begins_inside : (r : Relation) → IsRegular r → (k a b : ℕ) → IsReachableIn (Has r) k a b → a < r.count
+pub begins_inside : (r : Relation) → IsRegular r → (k a b : ℕ) → IsReachableIn (Has r) k a b
+    → a < r.count
 begins_inside r regular k a b w = go w.through w.path
   where
     go : (xs : List ℕ) → Path (Has r) a xs b → a < r.count
@@ -178,14 +243,22 @@ begins_inside r regular k a b w = go w.through w.path
     go (c ∷ cs) h = (regular.within a c h.0).0
 
 -- the level of a number of steps less
-module _ (r : Relation) (levels : List Relation) (all : AreLevels (Has r) r.count levels) (level : Relation) (k : ℕ) (lt : k < length levels) (is : level ≡ get_or levels k level) where
+module _ (r : Relation) (levels : List Relation) (all : AreLevels (Has r) r.count levels)
+    (level : Relation) (k : ℕ) (lt : k < length levels) (is : level ≡ get_or levels k level) where
   pub level_is : IsRelation level r.count (IsReachableIn (Has r) k)
-  level_is = subst (λ (s : Relation). IsRelation s r.count (IsReachableIn (Has r) k)) (sym (get_or_read levels k level lt is no_slot)) (all.each k lt)
+  level_is =
+      subst (λ (s : Relation). IsRelation s r.count (IsReachableIn (Has r) k))
+      (sym (get_or_read levels k level lt is no_slot)) (all.each k lt)
 
-  pub none_at : ((j : ℕ) → j < k → (a : ℕ) → IsReachableIn (Has r) j a a → ⊥) → ((a : ℕ) → Has level a a → ⊥) → (j : ℕ) → j < k + 1 → (a : ℕ) → IsReachableIn (Has r) j a a → ⊥
-  none_at before here = below_more (λ (j : ℕ). (a : ℕ) → IsReachableIn (Has r) j a a → ⊥) k before (λ a w. here a ((level_is.pairs a a).1 w))
+  pub none_at : ((j : ℕ) → j < k → (a : ℕ) → IsReachableIn (Has r) j a a → ⊥)
+      → ((a : ℕ) → Has level a a → ⊥) → (j : ℕ) → j < k + 1 → (a : ℕ) → IsReachableIn (Has r) j a a
+      → ⊥
+  none_at before here =
+      below_more (λ (j : ℕ). (a : ℕ) → IsReachableIn (Has r) j a a → ⊥) k before
+      (λ a w. here a ((level_is.pairs a a).1 w))
 
-module _ (R : ℕ → ℕ → Type 0) (event to steps : ℕ) (events : List ℕ) (at left : ℕ) (t : IsTraced R event to steps events at left) where
+module _ (R : ℕ → ℕ → Type 0) (event to steps : ℕ) (events : List ℕ) (at left : ℕ)
+    (t : IsTraced R event to steps events at left) where
   pub left_below : left ≤ steps
   left_below =
       let e : length events ≡ length (event ∷ t.tail) = ap length t.begins in
@@ -200,35 +273,48 @@ module _ (R : ℕ → ℕ → Type 0) (event to steps : ℕ) (events : List ℕ)
     steps_on =
         let some : 0 < left = left_some in
         let e : left ≡ (left - 1) + 1 = omega arith in
-        elim (IsReachableIn-split R (left - 1) at to (subst (λ (n : ℕ). IsReachableIn R n at to) e t.ahead)) [
+        elim
+        (IsReachableIn-split R (left - 1) at to
+        (subst (λ (n : ℕ). IsReachableIn R n at to) e t.ahead)) [
           | inl here ↦ absurd (other here)
           | inr on ↦ on
         ]
 
-  module _ (other : R at to → ⊥) (next : ℕ) (none : (c : ℕ) → c < next → R at c → IsReachableIn R (left - 1) c to → ⊥) where
+  module _ (other : R at to → ⊥) (next : ℕ)
+      (none : (c : ℕ) → c < next → R at c → IsReachableIn R (left - 1) c to → ⊥) where
     -- those that go on by a greater event come later
-    goes_on : (others : List ℕ) → GoesOn R events at left to others → ComesBefore (events ++ next ∷ []) others ⊎ GoesOn R (events ++ next ∷ []) next (left - 1) to others
+    goes_on : (others : List ℕ) → GoesOn R events at left to others
+        → ComesBefore (events ++ next ∷ []) others
+        ⊎ GoesOn R (events ++ next ∷ []) next (left - 1) to others
     goes_on others on = go on.rest on.parts on.short on.path
       where
-        go : (rest : List ℕ) → others ≡ events ++ rest → length rest < left → Path R at rest to → ComesBefore (events ++ next ∷ []) others ⊎ GoesOn R (events ++ next ∷ []) next (left - 1) to others
+        go : (rest : List ℕ) → others ≡ events ++ rest → length rest < left → Path R at rest to
+            → ComesBefore (events ++ next ∷ []) others
+            ⊎ GoesOn R (events ++ next ∷ []) next (left - 1) to others
         go [] parts short path = absurd (other path)
         go (c ∷ cs) parts short path =
             let reach : IsReachableIn R (left - 1) c to = record { through = cs; short = omega (arith, short); path = path.1 } in
             elim (cases_lt c next) [
               | inl lt ↦ absurd (none c lt path.0 reach)
               | inr le ↦ elim (cases_lt next c) [
-                | inl gt ↦ inl (λ more. subst (λ (xs : List ℕ). IsNoLater ((events ++ next ∷ []) ++ more) xs) (sym parts) (rw append_assoc (smaller_behind events next c more cs gt)))
+                | inl gt ↦ inl (λ more. subst
+                    (λ (xs : List ℕ). IsNoLater ((events ++ next ∷ []) ++ more) xs) (sym parts)
+                    (rw append_assoc (smaller_behind events next c more cs gt)))
                 | inr ge ↦ let same : c ≡ next = omega arith in
                     inr (record {
                       rest = cs;
-                      parts = parts ∙ ap (λ (y : ℕ). events ++ y ∷ cs) same ∙ sym (append_assoc events (next ∷ []) cs);
+                      parts =
+                          parts ∙ ap (λ (y : ℕ). events ++ y ∷ cs) same
+                          ∙ sym (append_assoc events (next ∷ []) cs);
                       short = omega (arith, short);
                       path = subst (λ (y : ℕ). Path R y cs to) same path.1;
                     })
               ]
             ]
 
-  pub traced : (next : ℕ) → R at next → IsReachableIn R (left - 1) next to → (R at to → ⊥) → ((c : ℕ) → c < next → R at c → IsReachableIn R (left - 1) c to → ⊥) → IsTraced R event to steps (events ++ next ∷ []) next (left - 1)
+  pub traced : (next : ℕ) → R at next → IsReachableIn R (left - 1) next to → (R at to → ⊥)
+      → ((c : ℕ) → c < next → R at c → IsReachableIn R (left - 1) c to → ⊥)
+      → IsTraced R event to steps (events ++ next ∷ []) next (left - 1)
   traced next r ahead other none = record {
     ahead = ahead;
     short =
@@ -246,12 +332,17 @@ module _ (R : ℕ → ℕ → Type 0) (event to steps : ℕ) (events : List ℕ)
   }
 
   pub closes : R at to → IsPathFrom R event to events
-  closes r = rw t.begins (refl, subst (λ (xs : List ℕ). Path R event xs to) (append-nil t.tail) (t.leads [] r))
+  closes r =
+      rw t.begins (
+        refl,
+        subst (λ (xs : List ℕ). Path R event xs to) (append-nil t.tail) (t.leads [] r),
+      )
 
   pub comes_first : IsFirstWithin R event to steps events
   comes_first others p lt = elim (t.first others p lt) [
     | inl before ↦ subst (λ (xs : List ℕ). IsNoLater xs others) (append-nil events) (before [])
-    | inr on ↦ subst (λ (xs : List ℕ). IsNoLater events xs) (sym on.parts) (no_later_front events on.rest)
+    | inr on ↦ subst (λ (xs : List ℕ). IsNoLater events xs) (sym on.parts)
+        (no_later_front events on.rest)
   ]
 
 -- a list with an event has a front and a back
@@ -267,19 +358,31 @@ cut (x ∷ xs) (suc k) a lt e =
     let rest : IsCut xs a = cut xs k a (omega (arith, lt)) e in
     record { front = x ∷ rest.front; back = rest.back; parts = ap (λ (ys : List ℕ). x ∷ ys) rest.parts }
 
-Path-split : (R : ℕ → ℕ → Type 0) (a : ℕ) (xs : List ℕ) (c : ℕ) (ys : List ℕ) (b : ℕ) → Path R a (xs ++ c ∷ ys) b → Path R a xs c × Path R c ys b
+Path-split : (R : ℕ → ℕ → Type 0) (a : ℕ) (xs : List ℕ) (c : ℕ) (ys : List ℕ) (b : ℕ)
+    → Path R a (xs ++ c ∷ ys) b → Path R a xs c × Path R c ys b
 Path-split R a [] c ys b p = p
-Path-split R a (x ∷ xs) c ys b p = let rest = Path-split R x xs c ys b p.1 in ((p.0, rest.0), rest.1)
+Path-split R a (x ∷ xs) c ys b p =
+    let rest = Path-split R x xs c ys b p.1 in ((p.0, rest.0), rest.1)
 
 -- a cycle through an event can begin there
-rotated : (R : ℕ → ℕ → Type 0) (front : List ℕ) (a : ℕ) (back : List ℕ) → IsCycle R (front ++ a ∷ back) → Path R a (back ++ front) a
+rotated : (R : ℕ → ℕ → Type 0) (front : List ℕ) (a : ℕ) (back : List ℕ)
+    → IsCycle R (front ++ a ∷ back) → Path R a (back ++ front) a
 rotated R [] a back p = rw append-nil p
-rotated R (x ∷ xs) a back p = let parts = Path-split R x xs a back x p in Path-append R a back x xs a parts.1 parts.0
+rotated R (x ∷ xs) a back p =
+    let parts = Path-split R x xs a back x p in Path-append R a back x xs a parts.1 parts.0
 
-pub shortest_through : (R : ℕ → ℕ → Type 0) (event steps : ℕ) (events : List ℕ) → IsCycleFrom R event events → length events ≤ steps → IsFirstWithin R event event steps events → ((k : ℕ) → k < steps → IsReachableIn R k event event → ⊥) → IsShortestThrough R event events
-shortest_through R event steps events cycle short first none = record { cycle = cycle; least = least; first = λ others other same. first others other (omega (arith, same, short)) }
+pub shortest_through : (R : ℕ → ℕ → Type 0) (event steps : ℕ) (events : List ℕ)
+    → IsCycleFrom R event events → length events ≤ steps → IsFirstWithin R event event steps events
+    → ((k : ℕ) → k < steps → IsReachableIn R k event event → ⊥) → IsShortestThrough R event events
+shortest_through R event steps events cycle short first none =
+    record {
+      cycle = cycle;
+      least = least;
+      first = λ others other same. first others other (omega (arith, same, short));
+    }
   where
-    least : (others : List ℕ) → IsCycle R others → Contains others event → length events ≤ length others
+    least : (others : List ℕ) → IsCycle R others → Contains others event
+        → length events ≤ length others
     least others other at =
         let parts : IsCut others event = cut others at.0 event at.1 at.2 in
         let same : length others ≡ length (parts.front ++ event ∷ parts.back) = ap length parts.parts in
@@ -287,17 +390,35 @@ shortest_through R event steps events cycle short first none = record { cycle = 
         let round : length (parts.back ++ parts.front) ≡ length parts.back + length parts.front = length-append parts.back parts.front in
         elim (cases_lt (length others) (length events)) [
           | inr le ↦ le
-          | inl gt ↦ absurd (none (length others) (omega arith) (record { through = parts.back ++ parts.front; short = omega arith; path = rotated R parts.front event parts.back (subst (λ (xs : List ℕ). IsCycle R xs) parts.parts other) }))
+          | inl gt ↦ absurd (none (length others) (omega arith) (record {
+            through =
+                parts.back ++ parts.front;
+            short = omega arith;
+            path =
+                rotated R parts.front event parts.back
+                (subst (λ (xs : List ℕ). IsCycle R xs) parts.parts other);
+          }))
         ]
 
-pub shortest_path : (R : ℕ → ℕ → Type 0) (from to steps : ℕ) (events : List ℕ) → IsPathFrom R from to events → length events ≤ steps → IsFirstWithin R from to steps events → ((k : ℕ) → k < steps → IsReachableIn R k from to → ⊥) → IsShortestPath R from to events
-shortest_path R from to steps events path short first none = record { path = path; least = least; first = λ others other same. first others other (omega (arith, same, short)) }
+pub shortest_path : (R : ℕ → ℕ → Type 0) (from to steps : ℕ) (events : List ℕ)
+    → IsPathFrom R from to events → length events ≤ steps → IsFirstWithin R from to steps events
+    → ((k : ℕ) → k < steps → IsReachableIn R k from to → ⊥) → IsShortestPath R from to events
+shortest_path R from to steps events path short first none =
+    record {
+      path = path;
+      least = least;
+      first = λ others other same. first others other (omega (arith, same, short));
+    }
   where
     least : (others : List ℕ) → IsPathFrom R from to others → length events ≤ length others
     least [] other = absurd other
     least (x ∷ xs) other = elim (cases_lt (length (x ∷ xs)) (length events)) [
       | inr le ↦ le
-      | inl gt ↦ absurd (none (length (x ∷ xs)) (omega arith) (record { through = xs; short = omega arith; path = subst (λ (y : ℕ). Path R y xs to) other.0 other.1 }))
+      | inl gt ↦ absurd (none (length (x ∷ xs)) (omega arith) (record {
+        through = xs;
+        short = omega arith;
+        path = subst (λ (y : ℕ). Path R y xs to) other.0 other.1;
+      }))
     ]
 
 -- no cycle has fewer steps, and no smaller event lies on one of as many
@@ -306,11 +427,18 @@ pub record IsLeastStart (R : ℕ → ℕ → Type 0) (event steps : ℕ) : Type 
   pub before : (a : ℕ) → a < event → IsReachableIn R steps a a → ⊥
 
 -- the least event that the level relates to itself
-pub least_start : (R : ℕ → ℕ → Type 0) (n : ℕ) (level : Relation) (event steps : ℕ) → IsRelation level n (IsReachableIn R steps) → ((k : ℕ) → k < steps → (a : ℕ) → IsReachableIn R k a a → ⊥) → IsFirstReflexive (Has level) event → IsLeastStart R event steps
-least_start R n level event steps are none first = record { none = none; before = λ a lt w. first.least a lt ((are.pairs a a).1 w) }
+pub least_start : (R : ℕ → ℕ → Type 0) (n : ℕ) (level : Relation) (event steps : ℕ)
+    → IsRelation level n (IsReachableIn R steps)
+    → ((k : ℕ) → k < steps → (a : ℕ) → IsReachableIn R k a a → ⊥)
+    → IsFirstReflexive (Has level) event → IsLeastStart R event steps
+least_start R n level event steps are none first =
+    record { none = none; before = λ a lt w. first.least a lt ((are.pairs a a).1 w) }
 
-pub shortest : (R : ℕ → ℕ → Type 0) (event steps : ℕ) (events : List ℕ) → IsCycleFrom R event events → length events ≤ steps → IsFirstWithin R event event steps events → IsLeastStart R event steps → IsShortestCycle R events
-shortest R event steps events cycle short within start = record { cycle = is_cycle events cycle; least = least; first = first }
+pub shortest : (R : ℕ → ℕ → Type 0) (event steps : ℕ) (events : List ℕ) → IsCycleFrom R event events
+    → length events ≤ steps → IsFirstWithin R event event steps events → IsLeastStart R event steps
+    → IsShortestCycle R events
+shortest R event steps events cycle short within start =
+    record { cycle = is_cycle events cycle; least = least; first = first }
   where
     is_cycle : (xs : List ℕ) → IsCycleFrom R event xs → IsCycle R xs
     is_cycle [] c = c
@@ -320,19 +448,29 @@ shortest R event steps events cycle short within start = record { cycle = is_cyc
     least [] other = absurd other
     least (x ∷ xs) other = elim (cases_lt (length (x ∷ xs)) (length events)) [
       | inr le ↦ le
-      | inl gt ↦ absurd (start.none (length (x ∷ xs)) (omega arith) x (record { through = xs; short = omega arith; path = other }))
+      | inl gt ↦ absurd (start.none (length (x ∷ xs)) (omega arith) x
+          (record { through = xs; short = omega arith; path = other }))
     ]
 
-    smaller : (xs : List ℕ) (y : ℕ) (ys : List ℕ) → IsCycleFrom R event xs → event < y → IsNoLater xs (y ∷ ys)
+    smaller : (xs : List ℕ) (y : ℕ) (ys : List ℕ) → IsCycleFrom R event xs → event < y
+        → IsNoLater xs (y ∷ ys)
     smaller [] y ys c lt = tt
     smaller (x ∷ xs) y ys c lt = inl (subst (λ (z : ℕ). z < y) (sym c.0) lt)
 
-    first : (others : List ℕ) → IsCycle R others → length others ≡ length events → IsNoLater events others
+    first : (others : List ℕ) → IsCycle R others → length others ≡ length events
+        → IsNoLater events others
     first [] other same = absurd other
     first (x ∷ xs) other same = elim (cases_lt x event) [
-      | inl lt ↦ absurd (start.before x lt (record { through = xs; short = omega (arith, same, short); path = other }))
+      | inl lt ↦ absurd (start.before x lt (record {
+        through = xs;
+        short = omega (arith, same, short);
+        path = other;
+      }))
       | inr le ↦ elim (cases_lt event x) [
         | inl gt ↦ smaller events x xs cycle gt
-        | inr ge ↦ let e : x ≡ event = omega arith in within (x ∷ xs) (e, subst (λ (y : ℕ). Path R x xs y) e other) (omega (arith, same, short))
+        | inr ge ↦
+            let e : x ≡ event = omega arith in
+            within (x ∷ xs) (e, subst (λ (y : ℕ). Path R x xs y) e other)
+            (omega (arith, same, short))
       ]
     ]

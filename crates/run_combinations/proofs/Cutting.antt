@@ -20,24 +20,39 @@ piece : {A : Type 0} (xs ys : List A) (n : ℕ) → n ≡ length xs → take n (
 piece xs ys n e = ap (λ (k : ℕ). take k (xs ++ ys)) e ∙ take-append_seam xs ys
 
 -- a prefix with a run more, cut back to where it ended
-cut_run : (f : Prefix) (e : PrefixEnd) (i : ℕ) (p : Part) → IsEndOf f e → cut_lists e (with_run i p (prefix_lists f)) ≡ prefix_lists f
+cut_run : (f : Prefix) (e : PrefixEnd) (i : ℕ) (p : Part) → IsEndOf f e
+    → cut_lists e (with_run i p (prefix_lists f)) ≡ prefix_lists f
 cut_run f e i p h =
     rw (
       piece f.runs.events.items p.events.items e.events h.events,
-      piece f.runs.dependencies.addr_pairs.items (renumbered_pairs (length f.runs.events.items) p.links.dependencies.addr_pairs.items) e.addr_pairs h.addr_pairs,
-      piece f.runs.dependencies.data_pairs.items (renumbered_pairs (length f.runs.events.items) p.links.dependencies.data_pairs.items) e.data_pairs h.data_pairs,
-      piece f.runs.dependencies.ctrl_pairs.items (renumbered_pairs (length f.runs.events.items) p.links.dependencies.ctrl_pairs.items) e.ctrl_pairs h.ctrl_pairs,
-      piece f.runs.dependencies.ctrlisync_pairs.items (renumbered_pairs (length f.runs.events.items) p.links.dependencies.ctrlisync_pairs.items) e.ctrlisync_pairs h.ctrlisync_pairs,
+      piece f.runs.dependencies.addr_pairs.items
+          (renumbered_pairs (length f.runs.events.items) p.links.dependencies.addr_pairs.items)
+          e.addr_pairs h.addr_pairs,
+      piece f.runs.dependencies.data_pairs.items
+          (renumbered_pairs (length f.runs.events.items) p.links.dependencies.data_pairs.items)
+          e.data_pairs h.data_pairs,
+      piece f.runs.dependencies.ctrl_pairs.items
+          (renumbered_pairs (length f.runs.events.items) p.links.dependencies.ctrl_pairs.items)
+          e.ctrl_pairs h.ctrl_pairs,
+      piece f.runs.dependencies.ctrlisync_pairs.items
+          (renumbered_pairs (length f.runs.events.items) p.links.dependencies.ctrlisync_pairs.items)
+          e.ctrlisync_pairs h.ctrlisync_pairs,
       piece f.runs.runs.items (i ∷ []) e.runs h.runs,
-      piece f.needs.items (renumbered_pairs (length f.runs.events.items) p.links.need_pairs.items) e.needs h.needs,
+      piece f.needs.items (renumbered_pairs (length f.runs.events.items) p.links.need_pairs.items)
+          e.needs h.needs,
       h.faulted,
     ) refl
 
-pub cut_back : (f g longer searched cut : Prefix) (e : PrefixEnd) (i : ℕ) (p : Part) → IsEndOf f e → IsBack f g → prefix_lists longer ≡ with_run i p (prefix_lists g) → prefix_lists searched ≡ prefix_lists longer → prefix_lists cut ≡ cut_lists e (prefix_lists searched) → (cut.reads ≡ e.reads) × (cut.writes ≡ e.writes) → IsBack f cut
+pub cut_back : (f g longer searched cut : Prefix) (e : PrefixEnd) (i : ℕ) (p : Part) → IsEndOf f e
+    → IsBack f g → prefix_lists longer ≡ with_run i p (prefix_lists g)
+    → prefix_lists searched ≡ prefix_lists longer
+    → prefix_lists cut ≡ cut_lists e (prefix_lists searched)
+    → (cut.reads ≡ e.reads) × (cut.writes ≡ e.writes) → IsBack f cut
 cut_back f g longer searched cut e i p end back more same lists keys = record {
   lists =
       lists
-      ∙ ap (λ (b : PrefixLists). cut_lists e b) (same ∙ more ∙ ap (λ (b : PrefixLists). with_run i p b) back.lists)
+      ∙ ap (λ (b : PrefixLists). cut_lists e b) (same ∙ more
+      ∙ ap (λ (b : PrefixLists). with_run i p b) back.lists)
       ∙ cut_run f e i p end;
   reads = keys.0 ∙ end.reads;
   writes = keys.1 ∙ end.writes;
@@ -45,17 +60,28 @@ cut_back f g longer searched cut e i p end back more same lists keys = record {
 
 pub joined_back : (f g h : Prefix) (p : Part) → IsBack f g → HasJoined g p h → HasJoined f p h
 joined_back f g h p back j = (
-  (λ a b. subst (λ (s : KeySet). HasKey h.reads a b ↔ (HasKey s a b ⊎ HasKey p.reads a b)) back.reads (j.0 a b)),
-  (λ a b. subst (λ (s : KeySet). HasKey h.writes a b ↔ (HasKey s a b ⊎ HasKey p.writes a b)) back.writes (j.1 a b)),
+  (λ a b. subst (λ (s : KeySet). HasKey h.reads a b ↔ (HasKey s a b ⊎ HasKey p.reads a b))
+      back.reads (j.0 a b)),
+  (λ a b. subst (λ (s : KeySet). HasKey h.writes a b ↔ (HasKey s a b ⊎ HasKey p.writes a b))
+      back.writes (j.1 a b)),
 )
 
-pub told_back : (f g : Prefix) (p : Part) (after : KeySet) (is : Bool) → IsBack f g → TellsWithin is (IsRead g p) (IsStored g p after) → TellsWithin is (IsRead f p) (IsStored f p after)
+pub told_back : (f g : Prefix) (p : Part) (after : KeySet) (is : Bool) → IsBack f g
+    → TellsWithin is (IsRead g p) (IsStored g p after)
+    → TellsWithin is (IsRead f p) (IsStored f p after)
 told_back f g p after is back told =
-    subst (λ (s : KeySet). TellsWithin is (λ a b. HasKey s a b ⊎ HasKey p.reads a b) (IsStored f p after)) back.reads
-    (subst (λ (s : KeySet). TellsWithin is (IsRead g p) (λ a b. (HasKey after a b ⊎ HasKey s a b) ⊎ HasKey p.writes a b)) back.writes told)
+    subst
+    (λ (s : KeySet).
+    TellsWithin is (λ a b. HasKey s a b ⊎ HasKey p.reads a b) (IsStored f p after))
+    back.reads
+    (subst
+    (λ (s : KeySet). TellsWithin is (IsRead g p) (λ a b. (HasKey after a b ⊎ HasKey s a b)
+    ⊎ HasKey p.writes a b)) back.writes told)
 
 -- where a run goes on, the lists are those of the first prefix with a run more
-pub longer_back : (f g longer : Prefix) (i : ℕ) (p : Part) → IsBack f g → prefix_lists longer ≡ with_run i p (prefix_lists g) → prefix_lists longer ≡ with_run i p (prefix_lists f)
+pub longer_back : (f g longer : Prefix) (i : ℕ) (p : Part) → IsBack f g
+    → prefix_lists longer ≡ with_run i p (prefix_lists g)
+    → prefix_lists longer ≡ with_run i p (prefix_lists f)
 longer_back f g longer i p back more = more ∙ ap (λ (b : PrefixLists). with_run i p b) back.lists
 
 pub same_back : (f : Prefix) → IsBack f f

@@ -3,7 +3,8 @@ use Rattle.std.proofs.Common.{ℕ, zero, suc, ◌≡◌, ◌<◌, ◌⊎◌, inl
 use Rattle.std.proofs.lemmas.Bool.{cases_eq}
 use Rattle.bit_relations.specs.Pairs.{Path, Plus, IsAcyclic}
 
-Path-append : (R : ℕ → ℕ → Type 0) (a : ℕ) (xs : List ℕ) (c : ℕ) (ys : List ℕ) (b : ℕ) → Path R a xs c → Path R c ys b → Path R a (xs ++ c ∷ ys) b
+Path-append : (R : ℕ → ℕ → Type 0) (a : ℕ) (xs : List ℕ) (c : ℕ) (ys : List ℕ) (b : ℕ)
+    → Path R a xs c → Path R c ys b → Path R a (xs ++ c ∷ ys) b
 Path-append R a [] c ys b p q = (p, q)
 Path-append R a (x ∷ xs) c ys b p q = (p.0, Path-append R x xs c ys b p.1 q)
 
@@ -11,7 +12,8 @@ joined : (R : ℕ → ℕ → Type 0) (a c b : ℕ) → Plus R a c → Plus R c 
 joined R a c b p q = (p.0 ++ c ∷ q.0, Path-append R a p.0 c q.0 b p.1 q.1)
 
 -- the last step of a path
-last_step : (R : ℕ → ℕ → Type 0) (a : ℕ) (xs : List ℕ) (b : ℕ) → Path R a xs b → (c : ℕ) × R c b × ((a ≡ c) ⊎ Plus R a c)
+last_step : (R : ℕ → ℕ → Type 0) (a : ℕ) (xs : List ℕ) (b : ℕ) → Path R a xs b
+    → (c : ℕ) × R c b × ((a ≡ c) ⊎ Plus R a c)
 last_step R a [] b p = (a, p, inl refl)
 last_step R a (x ∷ xs) b p =
     let e : (c : ℕ) × R c b × ((x ≡ c) ⊎ Plus R x c) = last_step R x xs b p.1 in (
@@ -36,10 +38,12 @@ turned_back R a p =
     )
 
 -- what no step of a bound fails fails nowhere
-pub none_fails : (n : ℕ) (P : ℕ → Type 0) → ((a : ℕ) → a < n → (P a → ⊥) → ⊥) → (((a : ℕ) → a < n → P a) → ⊥) → ⊥
+pub none_fails : (n : ℕ) (P : ℕ → Type 0) → ((a : ℕ) → a < n → (P a → ⊥) → ⊥)
+    → (((a : ℕ) → a < n → P a) → ⊥) → ⊥
 none_fails zero P each fails = fails (λ a lt. absurd (omega (arith, lt)))
 none_fails (suc n) P each fails =
-    none_fails n P (λ a lt. each a (omega (arith, lt))) (λ below. each n (omega arith) (λ here. fails (λ a lt. elim (cases_eq a n) [
+    none_fails n P (λ a lt. each a (omega (arith, lt))) (λ below. each n (omega arith) (λ here.
+    fails (λ a lt. elim (cases_eq a n) [
       | inl same ↦ subst P (sym same) here
       | inr other ↦ below a (omega (arith, lt, other))
     ])))
@@ -52,15 +56,19 @@ past_one : (n : ℕ) (R : ℕ → ℕ → Type 0) (a b : ℕ) → Past n R a b �
 past_one n R a b (inl r) = ([], r)
 past_one n R a b (inr r) = (n ∷ [], r)
 
-past_all : (n : ℕ) (R : ℕ → ℕ → Type 0) (a : ℕ) (xs : List ℕ) (b : ℕ) → Path (Past n R) a xs b → Plus R a b
+past_all : (n : ℕ) (R : ℕ → ℕ → Type 0) (a : ℕ) (xs : List ℕ) (b : ℕ) → Path (Past n R) a xs b
+    → Plus R a b
 past_all n R a [] b p = past_one n R a b p
 past_all n R a (x ∷ xs) b p = joined R a x b (past_one n R a x p.0) (past_all n R x xs b p.1)
 
 -- where no step leads round, numbers below a bound of which each has one before it are none
-pub none_first : (n : ℕ) (R : ℕ → ℕ → Type 0) (U : ℕ → Type 0) → IsAcyclic R → ((x : ℕ) → U x → x < n) → ((x : ℕ) → U x → ((y : ℕ) → U y → R y x → ⊥) → ⊥) → (x : ℕ) → U x → ⊥
+pub none_first : (n : ℕ) (R : ℕ → ℕ → Type 0) (U : ℕ → Type 0) → IsAcyclic R
+    → ((x : ℕ) → U x → x < n) → ((x : ℕ) → U x → ((y : ℕ) → U y → R y x → ⊥) → ⊥) → (x : ℕ) → U x
+    → ⊥
 none_first zero R U acyclic within before x u = absurd (omega (arith, within x u))
 none_first (suc n) R U acyclic within before x u =
-    split (none_first n (Past n R) Rest (λ a p. acyclic a (past_all n R a p.0 a p.1)) (λ y v. omega (arith, within y v.0, v.1)) step_before)
+    split (none_first n (Past n R) Rest (λ a p. acyclic a (past_all n R a p.0 a p.1))
+    (λ y v. omega (arith, within y v.0, v.1)) step_before)
   where
     Rest : ℕ → Type 0
     Rest y = U y × (y ≡ n → ⊥)

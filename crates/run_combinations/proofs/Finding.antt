@@ -20,31 +20,41 @@ use Rattle.run_combinations.proofs.Numbers.{Behind, behind_at, mapped_at, elemen
 use Rattle.run_combinations.proofs.WayLists.{ways_more, ways_all, no_fewer_ways, all_fit, Each, Each-at, Each-map}
 
 -- all loads arise, or one does not
-pub all_there : (r : Reading) (derived : Events) → HasDerived r [] None derived → ((k : ℕ) (x : Load) → k < length r.loads.items → slice_get r.loads.items k ≡ Some x → IsMember derived x.event) → TellsPossible r true
+pub all_there : (r : Reading) (derived : Events) → HasDerived r [] None derived
+    → ((k : ℕ) (x : Load) → k < length r.loads.items → slice_get r.loads.items k ≡ Some x
+    → IsMember derived x.event) → TellsPossible r true
 all_there r derived has every es pairs shows = (
   (λ t. record {
     few = omega arith;
     allowed = λ i lt. absurd (omega (arith, lt));
     arises = λ i lt.
         let b : Behind load_event r.loads.items i (get_or (numbers is_load 0 es) i 0) = behind_at load_event r.loads.items (numbers is_load 0 es) i (get_or (numbers is_load 0 es) i 0) shows.loads (element_at (numbers is_load 0 es) i 0 lt) in
-        (has es pairs shows (get_or (numbers is_load 0 es) i 0)).0 (subst (λ (y : ℕ). IsMember derived y) (sym b.is) (every i b.item (slice_get_within r.loads.items i b.item b.there) b.there));
+        (has es pairs shows (get_or (numbers is_load 0 es) i 0)).0 (subst
+        (λ (y : ℕ). IsMember derived y) (sym b.is) (every i b.item
+        (slice_get_within r.loads.items i b.item b.there) b.there));
   }),
   (λ h. search rules),
 )
 
-pub one_missing : (r : Reading) (derived : Events) (k : ℕ) (x : Load) → HasDerived r [] None derived → slice_get r.loads.items k ≡ Some x → (IsMember derived x.event → ⊥) → TellsPossible r false
+pub one_missing : (r : Reading) (derived : Events) (k : ℕ) (x : Load) → HasDerived r [] None derived
+    → slice_get r.loads.items k ≡ Some x → (IsMember derived x.event → ⊥) → TellsPossible r false
 one_missing r derived k x has at missing es pairs shows = (
   (λ t. absurd (no_false t)),
   (λ h.
       let there : slice_get (numbers is_load 0 es) k ≡ Some x.event = mapped_at load_event r.loads.items (numbers is_load 0 es) k x shows.loads at in
       let v : Derived (accesses_in es pairs) [] None (get_or (numbers is_load 0 es) k 0) = h.arises k (slice_get_within (numbers is_load 0 es) k x.event there) in
-      absurd (missing ((has es pairs shows x.event).1 (subst (λ (y : ℕ). Derived (accesses_in es pairs) [] None y) (get_or_from_slice_get (numbers is_load 0 es) k x.event 0 there) v)))),
+      absurd (missing ((has es pairs shows x.event).1 (subst
+      (λ (y : ℕ). Derived (accesses_in es pairs) [] None y)
+      (get_or_from_slice_get (numbers is_load 0 es) k x.event 0 there) v)))),
 )
   where
     no_false : IsTrue false → ⊥
     no_false t = search rules
 
-pub there_more : (derived : Events) (xs : List Load) (i : ℕ) (x : Load) → slice_get xs i ≡ Some x → IsMember derived x.event → ((k : ℕ) (y : Load) → k < i → slice_get xs k ≡ Some y → IsMember derived y.event) → (k : ℕ) (y : Load) → k < i + 1 → slice_get xs k ≡ Some y → IsMember derived y.event
+pub there_more : (derived : Events) (xs : List Load) (i : ℕ) (x : Load) → slice_get xs i ≡ Some x
+    → IsMember derived x.event
+    → ((k : ℕ) (y : Load) → k < i → slice_get xs k ≡ Some y → IsMember derived y.event)
+    → (k : ℕ) (y : Load) → k < i + 1 → slice_get xs k ≡ Some y → IsMember derived y.event
 there_more derived xs i x at there before k y lt is = elim (cases_lt k i) [
   | inl below ↦ before k y below is
   | inr ge ↦
@@ -57,14 +67,20 @@ there_more derived xs i x at there before k y lt is = elim (cases_lt k i) [
     some_same h = cc
 
 -- what is next of one way more
-pub no_next : (r : Reading) (load : Load) (index : ℕ) (ways : List (List ℕ)) (vs : List (Vec ℕ Global)) → vs ≡ [] → AreNext r load index 0 ways (lists_of vs)
+pub no_next : (r : Reading) (load : Load) (index : ℕ) (ways : List (List ℕ))
+    (vs : List (Vec ℕ Global)) → vs ≡ [] → AreNext r load index 0 ways (lists_of vs)
 no_next r load index ways vs e es pairs shows at fit = rw e none
 
-pub next_more : (r : Reading) (load : Load) (index i : ℕ) (ways : List (List ℕ)) (w : List ℕ) (mid new : List (List ℕ)) → i < length ways → w ≡ get_or ways i w → AreNext r load index i ways mid → GainsNext r load index w mid new → AreNext r load index (i + 1) ways new
+pub next_more : (r : Reading) (load : Load) (index i : ℕ) (ways : List (List ℕ)) (w : List ℕ)
+    (mid new : List (List ℕ)) → i < length ways → w ≡ get_or ways i w
+    → AreNext r load index i ways mid → GainsNext r load index w mid new
+    → AreNext r load index (i + 1) ways new
 next_more r load index i ways w mid new lt is before gains es pairs shows at fit =
     subst (λ (l : List (List ℕ)). IsFiltered P l new) (sym whole)
-    (subst (λ (l : List (List ℕ)). IsFiltered P (flat_map N (take i ways) ++ N w) l) (sym gains.added)
-    (IsFiltered-append P (flat_map N (take i ways)) mid (N w) gains.more (before es pairs shows at fit) (gains.next es pairs shows at here.0 here.1)))
+    (subst (λ (l : List (List ℕ)). IsFiltered P (flat_map N (take i ways) ++ N w) l)
+    (sym gains.added)
+    (IsFiltered-append P (flat_map N (take i ways)) mid (N w) gains.more
+    (before es pairs shows at fit) (gains.next es pairs shows at here.0 here.1)))
   where
     P : List ℕ → Type 0
     P = IsPossible (accesses_in es pairs)
@@ -73,57 +89,90 @@ next_more r load index i ways w mid new lt is before gains es pairs shows at fit
     N = nexts (get_or (accesses_in es pairs).sources index [])
 
     here : (length w ≡ index) × IsPossible (accesses_in es pairs) w
-    here = subst (λ (f : List ℕ). (length f ≡ index) × IsPossible (accesses_in es pairs) f) (sym is) (fit i w lt)
+    here =
+        subst (λ (f : List ℕ). (length f ≡ index) × IsPossible (accesses_in es pairs) f) (sym is)
+        (fit i w lt)
 
     whole : flat_map N (take (i + 1) ways) ≡ flat_map N (take i ways) ++ N w
     whole =
-        ap (λ (l : List (List ℕ)). flat_map N l) (take_more ways i w lt ∙ ap (λ (f : List ℕ). take i ways ++ f ∷ []) (sym is))
+        ap (λ (l : List (List ℕ)). flat_map N l) (take_more ways i w lt
+        ∙ ap (λ (f : List ℕ). take i ways ++ f ∷ []) (sym is))
         ∙ flat_map-append N (take i ways) (w ∷ [])
         ∙ ap (λ (l : List (List ℕ)). flat_map N (take i ways) ++ l) (append-nil (N w))
 
-pub one_way : (r : Reading) (b : Bool) (v : Vec ℕ Global) (vs : List (Vec ℕ Global)) → TellsPossible r b → b ≡ true → vs ≡ v ∷ [] → v.items ≡ [] → ArePossible r 0 (lists_of vs)
-one_way r b v vs tells t e i es pairs shows = rw (e, i) (kept ((tells es pairs shows).0 (subst (λ (c : Bool). IsTrue c) (sym t) yes_true)) none)
+pub one_way : (r : Reading) (b : Bool) (v : Vec ℕ Global) (vs : List (Vec ℕ Global))
+    → TellsPossible r b → b ≡ true → vs ≡ v ∷ [] → v.items ≡ [] → ArePossible r 0 (lists_of vs)
+one_way r b v vs tells t e i es pairs shows =
+    rw (e, i) (kept ((tells es pairs shows).0 (subst (λ (c : Bool). IsTrue c) (sym t) yes_true))
+    none)
   where
     yes_true : IsTrue true
     yes_true = search rules
 
-pub no_way : (r : Reading) (b : Bool) (vs : List (Vec ℕ Global)) → TellsPossible r b → b ≡ false → vs ≡ [] → ArePossible r 0 (lists_of vs)
-no_way r b vs tells f e es pairs shows = rw e (left (λ h. no_false (subst (λ (c : Bool). IsTrue c) f ((tells es pairs shows).1 h))) none)
+pub no_way : (r : Reading) (b : Bool) (vs : List (Vec ℕ Global)) → TellsPossible r b → b ≡ false
+    → vs ≡ [] → ArePossible r 0 (lists_of vs)
+no_way r b vs tells f e es pairs shows =
+    rw e (left (λ h. no_false (subst (λ (c : Bool). IsTrue c) f ((tells es pairs shows).1 h))) none)
   where
     no_false : IsTrue false → ⊥
     no_false t = search rules
 
 -- the ways that fit are all of one length
-fitting : (es : List Event) (pairs : List (ℕ × ℕ)) (p : ℕ) (fronts : List (List ℕ)) → p < length (accesses_in es pairs).sources → IsFiltered (IsPossible (accesses_in es pairs)) (tuples [] (take p (accesses_in es pairs).sources)) fronts → Each (λ f. (length f ≡ p) × IsPossible (accesses_in es pairs) f) fronts
+fitting : (es : List Event) (pairs : List (ℕ × ℕ)) (p : ℕ) (fronts : List (List ℕ))
+    → p < length (accesses_in es pairs).sources
+    → IsFiltered (IsPossible (accesses_in es pairs))
+    (tuples [] (take p (accesses_in es pairs).sources)) fronts
+    → Each (λ f. (length f ≡ p) × IsPossible (accesses_in es pairs) f) fronts
 fitting es pairs p fronts lt h =
     let l : length {A = List ℕ} (take p (accesses_in es pairs).sources) ≡ p = length-take-le p (accesses_in es pairs).sources (omega (arith, lt)) in
-    Each-map (λ f. (length f ≡ 0 + length (take p (accesses_in es pairs).sources)) × IsPossible (accesses_in es pairs) f) (λ f. (length f ≡ p) × IsPossible (accesses_in es pairs) f) (λ f a. (omega (arith, a.0, l), a.1)) fronts (all_fit (IsPossible (accesses_in es pairs)) (take p (accesses_in es pairs).sources) [] fronts h)
+    Each-map
+    (λ f. (length f ≡ 0 + length (take p (accesses_in es pairs).sources))
+    × IsPossible (accesses_in es pairs) f)
+    (λ f. (length f ≡ p) × IsPossible (accesses_in es pairs) f)
+    (λ f a. (omega (arith, a.0, l), a.1)) fronts
+    (all_fit (IsPossible (accesses_in es pairs)) (take p (accesses_in es pairs).sources) []
+    fronts h)
 
-has_source : (es : List Event) (pairs : List (ℕ × ℕ)) (r : Reading) (p : ℕ) (load : Load) → Shows es pairs r → slice_get r.loads.items p ≡ Some load → p < length (accesses_in es pairs).sources
+has_source : (es : List Event) (pairs : List (ℕ × ℕ)) (r : Reading) (p : ℕ) (load : Load)
+    → Shows es pairs r → slice_get r.loads.items p ≡ Some load
+    → p < length (accesses_in es pairs).sources
 has_source es pairs r p load shows at =
     let lt : p < length (numbers is_load 0 es) = slice_get_within (numbers is_load 0 es) p load.event (mapped_at load_event r.loads.items (numbers is_load 0 es) p load shows.loads at) in
     let e : length (accesses_in es pairs).sources ≡ length (numbers is_load 0 es) = (proper es pairs).paired in
     omega (arith, lt, e)
 
-pub one_load_more : (r : Reading) (p : ℕ) (load : Load) (fronts next : List (List ℕ)) → slice_get r.loads.items p ≡ Some load → ArePossible r p fronts → AreNext r load p (length fronts) fronts next → ArePossible r (p + 1) next
+pub one_load_more : (r : Reading) (p : ℕ) (load : Load) (fronts next : List (List ℕ))
+    → slice_get r.loads.items p ≡ Some load → ArePossible r p fronts
+    → AreNext r load p (length fronts) fronts next → ArePossible r (p + 1) next
 one_load_more r p load fronts next at before step es pairs shows =
     let lt : p < length (accesses_in es pairs).sources = has_source es pairs r p load shows at in
     let fit : Each (λ f. (length f ≡ p) × IsPossible (accesses_in es pairs) f) fronts = fitting es pairs p fronts lt (before es pairs shows) in
     ways_more (accesses_in es pairs) p lt fronts next (before es pairs shows)
-    (subst (λ (l : List (List ℕ)). IsFiltered (IsPossible (accesses_in es pairs)) (flat_map (nexts (get_or (accesses_in es pairs).sources p [])) l) next) (take_all (length fronts) fronts (omega arith))
-    (step es pairs shows at (λ k d l. Each-at (λ f. (length f ≡ p) × IsPossible (accesses_in es pairs) f) fronts k d l fit)))
+    (subst
+    (λ (l : List (List ℕ)). IsFiltered (IsPossible (accesses_in es pairs))
+    (flat_map (nexts (get_or (accesses_in es pairs).sources p [])) l) next)
+    (take_all (length fronts) fronts (omega arith))
+    (step es pairs shows at (λ k d l. Each-at
+    (λ f. (length f ≡ p) × IsPossible (accesses_in es pairs) f) fronts k d l fit)))
 
-pub over_at : (r : Reading) (p limit : ℕ) (load : Load) (fronts : List (List ℕ)) → slice_get r.loads.items p ≡ Some load → ArePossible r p fronts → AreOver r load p fronts limit → HasOver r limit
+pub over_at : (r : Reading) (p limit : ℕ) (load : Load) (fronts : List (List ℕ))
+    → slice_get r.loads.items p ≡ Some load → ArePossible r p fronts → AreOver r load p fronts limit
+    → HasOver r limit
 over_at r p limit load fronts at before over es pairs all shows ways =
     let lt : p < length (accesses_in es pairs).sources = has_source es pairs r p load shows at in
     let fit : Each (λ f. (length f ≡ p) × IsPossible (accesses_in es pairs) f) fronts = fitting es pairs p fronts lt (before es pairs shows) in
     let le : length over.1 ≤ length all = no_fewer_ways (length es) (accesses_in es pairs) (proper es pairs) p over.0 lt fronts over.1 all (before es pairs shows) fit (over.3 es pairs shows at (λ k d l. Each-at (λ f. (length f ≡ p) × IsPossible (accesses_in es pairs) f) fronts k d l fit)) ways in
     omega (arith, le, over.2)
 
-pub all_loads : (r : Reading) (p : ℕ) (ways : List (List ℕ)) → length r.loads.items ≤ p → ArePossible r p ways → HasWays r ways
+pub all_loads : (r : Reading) (p : ℕ) (ways : List (List ℕ)) → length r.loads.items ≤ p
+    → ArePossible r p ways → HasWays r ways
 all_loads r p ways past h es pairs shows =
     ways_all (length es) (accesses_in es pairs) (proper es pairs) ways
-    (subst (λ (l : List (List ℕ)). IsFiltered (IsPossible (accesses_in es pairs)) (tuples [] l) ways) (take_all p (accesses_in es pairs).sources few) (h es pairs shows))
+    (subst
+    (λ (l : List (List ℕ)).
+    IsFiltered (IsPossible (accesses_in es pairs)) (tuples [] l) ways)
+    (take_all p (accesses_in es pairs).sources few)
+    (h es pairs shows))
   where
     few : length (accesses_in es pairs).sources ≤ p
     few =
@@ -132,22 +181,41 @@ all_loads r p ways past h es pairs shows =
         let n : length (map load_event r.loads.items) ≡ length (numbers is_load 0 es) = ap (λ (l : List ℕ). length l) shows.loads in
         omega (arith, e, m, n, past)
 
-pub over_all : (r : Reading) (limit : ℕ) (ways : List (List ℕ)) → HasWays r ways → limit < length ways → HasOver r limit
+pub over_all : (r : Reading) (limit : ℕ) (ways : List (List ℕ)) → HasWays r ways
+    → limit < length ways → HasOver r limit
 over_all r limit ways h lt es pairs all shows are =
-    subst (λ (l : List (List ℕ)). limit < length l) (IsFiltered-unique (IsWay (accesses_in es pairs)) (tuples [] (accesses_in es pairs).sources) ways all (h es pairs shows) are) lt
+    subst (λ (l : List (List ℕ)). limit < length l)
+    (IsFiltered-unique (IsWay (accesses_in es pairs)) (tuples [] (accesses_in es pairs).sources)
+    ways all (h es pairs shows) are) lt
 
 -- what is next of all ways, or some are over a limit
-pub told_next : (r : Reading) (load : Load) (p limit : ℕ) (vs : List (Vec ℕ Global)) (next : List (List ℕ)) (b : Bool) → b ≡ true → Tells b (AreNext r load p (length vs) (lists_of vs) next) (AreOver r load p (lists_of vs) limit) → AreNext r load p (length (lists_of vs)) (lists_of vs) next
+pub told_next : (r : Reading) (load : Load) (p limit : ℕ) (vs : List (Vec ℕ Global))
+    (next : List (List ℕ)) (b : Bool) → b ≡ true
+    → Tells b (AreNext r load p (length vs) (lists_of vs) next)
+    (AreOver r load p (lists_of vs) limit)
+    → AreNext r load p (length (lists_of vs)) (lists_of vs) next
 told_next r load p limit vs next b t told =
     subst (λ (n : ℕ). AreNext r load p n (lists_of vs) next) (sym (length-map vs (λ v. v.items)))
-    (subst (λ (c : Bool). Tells c (AreNext r load p (length vs) (lists_of vs) next) (AreOver r load p (lists_of vs) limit)) t told)
+    (subst
+    (λ (c : Bool). Tells c (AreNext r load p (length vs) (lists_of vs) next)
+    (AreOver r load p (lists_of vs) limit)) t told)
 
-pub told_over : (r : Reading) (load : Load) (p limit : ℕ) (vs : List (Vec ℕ Global)) (next : List (List ℕ)) (b : Bool) → b ≡ false → Tells b (AreNext r load p (length vs) (lists_of vs) next) (AreOver r load p (lists_of vs) limit) → AreOver r load p (lists_of vs) limit
-told_over r load p limit vs next b f told = subst (λ (c : Bool). Tells c (AreNext r load p (length vs) (lists_of vs) next) (AreOver r load p (lists_of vs) limit)) f told
+pub told_over : (r : Reading) (load : Load) (p limit : ℕ) (vs : List (Vec ℕ Global))
+    (next : List (List ℕ)) (b : Bool) → b ≡ false
+    → Tells b (AreNext r load p (length vs) (lists_of vs) next)
+    (AreOver r load p (lists_of vs) limit) → AreOver r load p (lists_of vs) limit
+told_over r load p limit vs next b f told =
+    subst
+    (λ (c : Bool). Tells c (AreNext r load p (length vs) (lists_of vs) next)
+    (AreOver r load p (lists_of vs) limit)) f told
 
 -- a vector that was one of the others before
-pub place_is : (vs ws : List (Vec ℕ Global)) (i : ℕ) (v d : Vec ℕ Global) → v ≡ d → d ≡ get_or ws i d → get_or ws i d ≡ get_or vs i d → v ≡ get_or vs i v
+pub place_is : (vs ws : List (Vec ℕ Global)) (i : ℕ) (v d : Vec ℕ Global) → v ≡ d
+    → d ≡ get_or ws i d → get_or ws i d ≡ get_or vs i d → v ≡ get_or vs i v
 place_is vs ws i v d e f g = e ∙ f ∙ g ∙ ap (λ (u : Vec ℕ Global). get_or vs i u) (sym e)
 
-pub items_at : (vs : List (Vec ℕ Global)) (i : ℕ) (v : Vec ℕ Global) (w : List ℕ) → i < length vs → v ≡ get_or vs i v → w ≡ v.items → w ≡ get_or (lists_of vs) i w
-items_at vs i v w lt is e = e ∙ ap (λ (u : Vec ℕ Global). u.items) is ∙ sym (get_or-map (λ (u : Vec ℕ Global). u.items) vs i v w lt)
+pub items_at : (vs : List (Vec ℕ Global)) (i : ℕ) (v : Vec ℕ Global) (w : List ℕ) → i < length vs
+    → v ≡ get_or vs i v → w ≡ v.items → w ≡ get_or (lists_of vs) i w
+items_at vs i v w lt is e =
+    e ∙ ap (λ (u : Vec ℕ Global). u.items) is
+    ∙ sym (get_or-map (λ (u : Vec ℕ Global). u.items) vs i v w lt)

@@ -24,7 +24,8 @@ HaveWidth n [] = Unit {0}
 HaveWidth n (x ∷ xs) = (length x ≡ n) × HaveWidth n xs
 
 -- lists of one width are the rows of what they are joined to
-pub rows_joined : (n : ℕ) (xs : List (List ℕ)) → HaveWidth n xs → rows_in n (length xs) (concat xs) ≡ xs
+pub rows_joined : (n : ℕ) (xs : List (List ℕ)) → HaveWidth n xs
+    → rows_in n (length xs) (concat xs) ≡ xs
 rows_joined n [] h = refl
 rows_joined n (x ∷ xs) h =
     let front : take n (x ++ concat xs) ≡ x = subst (λ (k : ℕ). take k (x ++ concat xs) ≡ x) h.0 (take-append_seam x (concat xs)) in
@@ -45,41 +46,58 @@ pub row_count : (n count : ℕ) (xs : List ℕ) → length (rows_in n count xs) 
 row_count n zero xs = refl
 row_count n (suc count) xs = ap suc (row_count n count (drop n xs))
 
-pub row_at : (n count k : ℕ) (xs : List ℕ) → k < count → get_or (rows_in n count xs) k [] ≡ take n (drop (k * n) xs)
+pub row_at : (n count k : ℕ) (xs : List ℕ) → k < count
+    → get_or (rows_in n count xs) k [] ≡ take n (drop (k * n) xs)
 row_at n zero k xs lt = absurd (omega (arith, lt))
 row_at n (suc count) zero xs lt = ap (λ (i : ℕ). take n (drop i xs)) (sym (zero-mul n))
 row_at n (suc count) (suc k) xs lt =
     let more : n + k * n ≡ suc k * n = let m : suc k * n ≡ k * n + n = suc-mul k n in omega (arith, m) in
-    row_at n count k (drop n xs) (omega (arith, lt)) ∙ ap (take n) (drop-drop (k * n) n xs) ∙ ap (λ (i : ℕ). take n (drop i xs)) more
+    row_at n count k (drop n xs) (omega (arith, lt)) ∙ ap (take n) (drop-drop (k * n) n xs)
+    ∙ ap (λ (i : ℕ). take n (drop i xs)) more
 
 -- the width of orders
-both_wide : (n : ℕ) (xs ys : List (List ℕ)) → HaveWidth n xs → HaveWidth n ys → HaveWidth n (xs ++ ys)
+both_wide : (n : ℕ) (xs ys : List (List ℕ)) → HaveWidth n xs → HaveWidth n ys
+    → HaveWidth n (xs ++ ys)
 both_wide n [] ys h k = k
 both_wide n (x ∷ xs) ys h k = (h.0, both_wide n xs ys h.1 k)
 
-all_wide : (m n : ℕ) (f : List ℕ → List (List ℕ)) → ((x : List ℕ) → length x ≡ m → HaveWidth n (f x)) → (xs : List (List ℕ)) → HaveWidth m xs → HaveWidth n (flat_map f xs)
+all_wide : (m n : ℕ) (f : List ℕ → List (List ℕ))
+    → ((x : List ℕ) → length x ≡ m → HaveWidth n (f x)) → (xs : List (List ℕ)) → HaveWidth m xs
+    → HaveWidth n (flat_map f xs)
 all_wide m n f each [] h = tt
-all_wide m n f each (x ∷ xs) h = both_wide n (f x) (flat_map f xs) (each x h.0) (all_wide m n f each xs h.1)
+all_wide m n f each (x ∷ xs) h =
+    both_wide n (f x) (flat_map f xs) (each x h.0) (all_wide m n f each xs h.1)
 
-longer : (front stores : List ℕ) → HaveWidth (length front + 1) (map (λ store. front ++ store ∷ []) stores)
+longer : (front stores : List ℕ)
+    → HaveWidth (length front + 1) (map (λ store. front ++ store ∷ []) stores)
 longer front [] = tt
 longer front (x ∷ xs) = (length-append front (x ∷ []), longer front xs)
 
-rows_wide : (others : List ℕ) (begin left : ℕ) (front : List ℕ) (n : ℕ) → n ≡ length front + left → HaveWidth n (rows_from others begin left front)
+rows_wide : (others : List ℕ) (begin left : ℕ) (front : List ℕ) (n : ℕ) → n ≡ length front + left
+    → HaveWidth n (rows_from others begin left front)
 rows_wide others begin zero front n e = (omega (arith, e), tt)
 rows_wide others begin (suc left) front n e =
-    all_wide (length front + 1) n (rows_from others begin left) (λ x h. rows_wide others begin left x n (omega (arith, e, h))) (with_new_from begin others front) (longer front (filter _ others))
+    all_wide (length front + 1) n (rows_from others begin left)
+    (λ x h. rows_wide others begin left x n (omega (arith, e, h)))
+    (with_new_from begin others front) (longer front (filter _ others))
 
-pub orders_wide : (locations : List (ℕ × List ℕ)) (front : List ℕ) (n : ℕ) → n ≡ length front + width_of locations → HaveWidth n (orders_from locations front)
+pub orders_wide : (locations : List (ℕ × List ℕ)) (front : List ℕ) (n : ℕ)
+    → n ≡ length front + width_of locations → HaveWidth n (orders_from locations front)
 orders_wide [] front n e = (omega (arith, e), tt)
 orders_wide (s ∷ later) front n e =
     let more : length (front ++ s.0 ∷ []) ≡ length front + 1 = length-append front (s.0 ∷ []) in
-    all_wide (length front + 1 + length s.1) n (orders_from later) (λ x h. orders_wide later x n (omega (arith, e, h))) (rows_from s.1 (length front) (length s.1) (front ++ s.0 ∷ []))
-    (rows_wide s.1 (length front) (length s.1) (front ++ s.0 ∷ []) (length front + 1 + length s.1) (omega (arith, more)))
+    all_wide (length front + 1 + length s.1) n (orders_from later)
+    (λ x h. orders_wide later x n (omega (arith, e, h))) (rows_from s.1 (length front)
+    (length s.1) (front ++ s.0 ∷ []))
+    (rows_wide s.1 (length front) (length s.1) (front ++ s.0 ∷ []) (length front + 1 + length s.1)
+    (omega (arith, more)))
 
-pub width_more : (locations : List (ℕ × List ℕ)) (s : ℕ × List ℕ) → width_of (locations ++ s ∷ []) ≡ width_of locations + (1 + length s.1)
+pub width_more : (locations : List (ℕ × List ℕ)) (s : ℕ × List ℕ)
+    → width_of (locations ++ s ∷ []) ≡ width_of locations + (1 + length s.1)
 width_more [] s = omega arith
-width_more (l ∷ ls) s = let rest : width_of (ls ++ s ∷ []) ≡ width_of ls + (1 + length s.1) = width_more ls s in omega (arith, rest)
+width_more (l ∷ ls) s =
+    let rest : width_of (ls ++ s ∷ []) ≡ width_of ls + (1 + length s.1) = width_more ls s in
+    omega (arith, rest)
 
 few_stores : (events : List Event) (location : ℕ) → length (stores_of events location) ≤ 128
 unfolding stores_of
@@ -96,27 +114,35 @@ few_wide events (suc n) =
     omega (arith, more, before, few_stores events n)
 
 -- where an order has no store there is one
-only_one : (events : List Event) (n : ℕ) → width_of (all_stores events n) ≡ 0 → all_orders events n ≡ [] ∷ []
+only_one : (events : List Event) (n : ℕ) → width_of (all_stores events n) ≡ 0
+    → all_orders events n ≡ [] ∷ []
 only_one events zero none = refl
 only_one events (suc n) none =
     let more : width_of (all_stores events n ++ (n, stores_of events n) ∷ []) ≡ width_of (all_stores events n) + (1 + length (stores_of events n)) = width_more (all_stores events n) (n, stores_of events n) in
     absurd (omega (arith, more, none))
 
 -- the row at an index
-pub row_inside : (n count k : ℕ) (xs : List ℕ) (rows : List (List ℕ)) → rows_in n count xs ≡ rows → length xs ≡ count * n → k < length rows → k * n + n ≤ length xs
+pub row_inside : (n count k : ℕ) (xs : List ℕ) (rows : List (List ℕ)) → rows_in n count xs ≡ rows
+    → length xs ≡ count * n → k < length rows → k * n + n ≤ length xs
 row_inside n count k xs rows are long lt =
     let many : length rows ≡ count = ap (λ (l : List (List ℕ)). length l) (sym are) ∙ row_count n count xs in
     let more : suc k * n ≡ k * n + n = suc-mul k n in
     let within : suc k * n ≤ count * n = mul-le-mul_right n (omega (arith, lt, many)) in
     omega (arith, more, within, long)
 
-pub row_read : (n count k : ℕ) (xs : List ℕ) (rows : List (List ℕ)) → rows_in n count xs ≡ rows → k < length rows → take n (drop (k * n) xs) ≡ get_or rows k []
+pub row_read : (n count k : ℕ) (xs : List ℕ) (rows : List (List ℕ)) → rows_in n count xs ≡ rows
+    → k < length rows → take n (drop (k * n) xs) ≡ get_or rows k []
 row_read n count k xs rows are lt =
     let many : length rows ≡ count = ap (λ (l : List (List ℕ)). length l) (sym are) ∙ row_count n count xs in
-    sym (row_at n count k xs (omega (arith, lt, many))) ∙ ap (λ (l : List (List ℕ)). get_or l k []) are
+    sym (row_at n count k xs (omega (arith, lt, many)))
+    ∙ ap (λ (l : List (List ℕ)). get_or l k []) are
 
 -- the stores of one location more
-pub one_location_wide : (locations : List LocationStores) (i : ℕ) (s : LocationStores) (most width many sum next : ℕ) → i < length locations → s ≡ get_or locations i s → width ≡ min (width_of (store_lists (take i locations))) most → many ≡ length s.others.items → sum ≡ min (width + many) most → next ≡ min (sum + 1) most → next ≡ min (width_of (store_lists (take (i + 1) locations))) most
+pub one_location_wide : (locations : List LocationStores) (i : ℕ) (s : LocationStores)
+    (most width many sum next : ℕ) → i < length locations → s ≡ get_or locations i s
+    → width ≡ min (width_of (store_lists (take i locations))) most → many ≡ length s.others.items
+    → sum ≡ min (width + many) most → next ≡ min (sum + 1) most
+    → next ≡ min (width_of (store_lists (take (i + 1) locations))) most
 one_location_wide locations i s most width many sum next lt is before m e f =
     let grown : take (i + 1) locations ≡ take i locations ++ s ∷ [] = take_more locations i s lt ∙ ap (λ (x : LocationStores). take i locations ++ x ∷ []) (sym is) in
     let more : store_lists (take (i + 1) locations) ≡ store_lists (take i locations) ++ (s.initial, s.others.items) ∷ [] = ap store_lists grown ∙ map-append (λ (x : LocationStores). (x.initial, x.others.items)) (take i locations) (s ∷ []) in
@@ -124,7 +150,12 @@ one_location_wide locations i s most width many sum next lt is before m e f =
     omega (arith, wide, before, m, e, f)
 
 -- the orders of all locations
-pub all_found : (events : List Event) (n width : ℕ) (stores slice other : List LocationStores) (none front found : List ℕ) → n ≤ 128 → store_lists stores ≡ all_stores events n → slice ≡ stores → other ≡ stores → none ≡ [] → front ≡ [] → width ≡ min (width_of (store_lists slice)) (2 ^ 64 - 1) → found ≡ none ++ concat (orders_from (store_lists other) front) → (width ≡ width_of (all_stores events n)) × (found ≡ concat (all_orders events n))
+pub all_found : (events : List Event) (n width : ℕ) (stores slice other : List LocationStores)
+    (none front found : List ℕ) → n ≤ 128 → store_lists stores ≡ all_stores events n
+    → slice ≡ stores → other ≡ stores → none ≡ [] → front ≡ []
+    → width ≡ min (width_of (store_lists slice)) (2 ^ 64 - 1)
+    → found ≡ none ++ concat (orders_from (store_lists other) front)
+    → (width ≡ width_of (all_stores events n)) × (found ≡ concat (all_orders events n))
 all_found events n width stores slice other none front found few all s o e f wide joined = (
   let long : width_of (store_lists slice) ≡ width_of (all_stores events n) = ap (λ (l : List LocationStores). width_of (store_lists l)) s ∙ ap width_of all in
       omega (arith, wide, long, few_wide events n, few),
@@ -136,27 +167,39 @@ all_found events n width stores slice other none front found few all s o e f wid
       ∙ ap concat (orders_are_all events n),
 )
 
-all_orders_wide : (events : List Event) (n : ℕ) → HaveWidth (width_of (all_stores events n)) (all_orders events n)
-all_orders_wide events n = subst (HaveWidth (width_of (all_stores events n))) (orders_are_all events n) (orders_wide (all_stores events n) [] (width_of (all_stores events n)) (omega arith))
+all_orders_wide : (events : List Event) (n : ℕ)
+    → HaveWidth (width_of (all_stores events n)) (all_orders events n)
+all_orders_wide events n =
+    subst (HaveWidth (width_of (all_stores events n))) (orders_are_all events n)
+    (orders_wide (all_stores events n) [] (width_of (all_stores events n)) (omega arith))
 
 -- the count that is kept is that of the orders
-pub count_right : (events : List Event) (n width many count : ℕ) (found : List ℕ) (quotient : Option ℕ) → (width ≡ width_of (all_stores events n)) × (found ≡ concat (all_orders events n)) → many ≡ length found → SomeIff quotient (0 < width) (many / width) → count ≡ unwrap_or quotient 1 → count ≡ length (all_orders events n)
+pub count_right : (events : List Event) (n width many count : ℕ) (found : List ℕ)
+    (quotient : Option ℕ)
+    → (width ≡ width_of (all_stores events n)) × (found ≡ concat (all_orders events n))
+    → many ≡ length found → SomeIff quotient (0 < width) (many / width)
+    → count ≡ unwrap_or quotient 1 → count ≡ length (all_orders events n)
 count_right events n width many count found None are long unless is =
     let none : width_of (all_stores events n) ≡ 0 = elim (cases_lt 0 width) [ inl some ↦ absurd (unless some) | inr nothing ↦ omega (arith, nothing, are.0) ] in
     is ∙ ap (λ (l : List (List ℕ)). length l) (sym (only_one events n none))
 count_right events n width many count found (Some q) are long some is =
     let total : length (concat (all_orders events n)) ≡ length (all_orders events n) * width_of (all_stores events n) = joined_long (width_of (all_stores events n)) (all_orders events n) (all_orders_wide events n) in
     let whole : many ≡ length (all_orders events n) * width = long ∙ ap (λ (l : List ℕ). length l) are.1 ∙ total ∙ ap (λ (w : ℕ). length (all_orders events n) * w) (sym are.0) in
-    is ∙ some.1 ∙ ap (λ (m : ℕ). m / width) whole ∙ mul-div_cancel (length (all_orders events n)) some.0
+    is ∙ some.1 ∙ ap (λ (m : ℕ). m / width) whole
+    ∙ mul-div_cancel (length (all_orders events n)) some.0
 
-pub found_whole : (events : List Event) (n width count : ℕ) (found : List ℕ) → (width ≡ width_of (all_stores events n)) × (found ≡ concat (all_orders events n)) → count ≡ length (all_orders events n) → length found ≡ count * width
+pub found_whole : (events : List Event) (n width count : ℕ) (found : List ℕ)
+    → (width ≡ width_of (all_stores events n)) × (found ≡ concat (all_orders events n))
+    → count ≡ length (all_orders events n) → length found ≡ count * width
 found_whole events n width count found are many =
     ap (λ (l : List ℕ). length l) are.1
     ∙ joined_long (width_of (all_stores events n)) (all_orders events n) (all_orders_wide events n)
     ∙ ap (λ (w : ℕ). length (all_orders events n) * w) (sym are.0)
     ∙ ap (λ (k : ℕ). k * width) (sym many)
 
-pub found_rows : (events : List Event) (n width count : ℕ) (found : List ℕ) → (width ≡ width_of (all_stores events n)) × (found ≡ concat (all_orders events n)) → count ≡ length (all_orders events n) → rows_in width count found ≡ all_orders events n
+pub found_rows : (events : List Event) (n width count : ℕ) (found : List ℕ)
+    → (width ≡ width_of (all_stores events n)) × (found ≡ concat (all_orders events n))
+    → count ≡ length (all_orders events n) → rows_in width count found ≡ all_orders events n
 found_rows events n width count found are many =
     ap (λ (w : ℕ). rows_in w count found) are.0
     ∙ ap (λ (k : ℕ). rows_in (width_of (all_stores events n)) k found) many
@@ -164,30 +207,48 @@ found_rows events n width count found are many =
     ∙ rows_joined (width_of (all_stores events n)) (all_orders events n) (all_orders_wide events n)
 
 -- the front with one more of the stores, if it lacks it
-one_store_more : (begin : ℕ) (stores front : List ℕ) (i store d : ℕ) (has : Bool) → i < length stores → store ≡ get_or stores i d → has ≡ has_store (drop begin front) store → with_new_from begin (take (i + 1) stores) front ≡ with_new_from begin (take i stores) front ++ cond has [] ((front ++ store ∷ []) ∷ [])
+one_store_more : (begin : ℕ) (stores front : List ℕ) (i store d : ℕ) (has : Bool)
+    → i < length stores → store ≡ get_or stores i d → has ≡ has_store (drop begin front) store
+    → with_new_from begin (take (i + 1) stores) front
+    ≡ with_new_from begin (take i stores) front ++ cond has [] ((front ++ store ∷ []) ∷ [])
 one_store_more begin stores front i store d has lt is test =
     let behind : ℕ → List ℕ = λ x. front ++ x ∷ [] in
     let lacks : ℕ → Bool = λ x. not (has_store (drop begin front) x) in
-    ap (λ (l : List ℕ). map behind (filter lacks l)) (take_more stores i d lt ∙ ap (λ (x : ℕ). take i stores ++ x ∷ []) (sym is))
+    ap (λ (l : List ℕ). map behind (filter lacks l)) (take_more stores i d lt
+    ∙ ap (λ (x : ℕ). take i stores ++ x ∷ []) (sym is))
     ∙ ap (map behind) (filter-append lacks (take i stores) (store ∷ []))
     ∙ map-append behind (filter lacks (take i stores)) (filter lacks (store ∷ []))
-    ∙ ap (λ (l : List (List ℕ)). map behind (filter lacks (take i stores)) ++ l) (last has (has_store (drop begin front) store) test)
+    ∙ ap (λ (l : List (List ℕ)). map behind (filter lacks (take i stores)) ++ l)
+    (last has (has_store (drop begin front) store) test)
   where
-    last : (b h : Bool) → b ≡ h → map (λ x. front ++ x ∷ []) (cond (not h) (store ∷ []) []) ≡ cond b [] ((front ++ store ∷ []) ∷ [])
+    last : (b h : Bool) → b ≡ h
+        → map (λ x. front ++ x ∷ []) (cond (not h) (store ∷ []) [])
+        ≡ cond b [] ((front ++ store ∷ []) ∷ [])
     last true true e = refl
     last false false e = refl
     last true false e = absurd cc
     last false true e = absurd cc
 
-pub store_passed : (on : List ℕ → List (List ℕ)) (begin : ℕ) (stores front before found : List ℕ) (i store d : ℕ) (has : Bool) → i < length stores → store ≡ get_or stores i d → has ≡ has_store (drop begin front) store → has ≡ true → found ≡ before ++ concat (flat_map on (with_new_from begin (take i stores) front)) → found ≡ before ++ concat (flat_map on (with_new_from begin (take (i + 1) stores) front))
+pub store_passed : (on : List ℕ → List (List ℕ)) (begin : ℕ) (stores front before found : List ℕ)
+    (i store d : ℕ) (has : Bool) → i < length stores → store ≡ get_or stores i d
+    → has ≡ has_store (drop begin front) store → has ≡ true
+    → found ≡ before ++ concat (flat_map on (with_new_from begin (take i stores) front))
+    → found ≡ before ++ concat (flat_map on (with_new_from begin (take (i + 1) stores) front))
 store_passed on begin stores front before found i store d has lt is test there e =
     let same : with_new_from begin (take (i + 1) stores) front ≡ with_new_from begin (take i stores) front =
     one_store_more begin stores front i store d has lt is test
-    ∙ ap (λ (b : Bool). with_new_from begin (take i stores) front ++ cond b [] ((front ++ store ∷ []) ∷ [])) there
+    ∙ ap
+    (λ (b : Bool). with_new_from begin (take i stores) front
+    ++ cond b [] ((front ++ store ∷ []) ∷ [])) there
     ∙ append-nil (with_new_from begin (take i stores) front) in
     e ∙ ap (λ (l : List (List ℕ)). before ++ concat (flat_map on l)) (sym same)
 
-pub store_found : (on : List ℕ → List (List ℕ)) (begin : ℕ) (stores front before found more : List ℕ) (i store d : ℕ) (has : Bool) → i < length stores → store ≡ get_or stores i d → has ≡ has_store (drop begin front) store → has ≡ false → found ≡ before ++ concat (flat_map on (with_new_from begin (take i stores) front)) → more ≡ found ++ concat (on (front ++ store ∷ [])) → more ≡ before ++ concat (flat_map on (with_new_from begin (take (i + 1) stores) front))
+pub store_found : (on : List ℕ → List (List ℕ)) (begin : ℕ)
+    (stores front before found more : List ℕ) (i store d : ℕ) (has : Bool) → i < length stores
+    → store ≡ get_or stores i d → has ≡ has_store (drop begin front) store → has ≡ false
+    → found ≡ before ++ concat (flat_map on (with_new_from begin (take i stores) front))
+    → more ≡ found ++ concat (on (front ++ store ∷ []))
+    → more ≡ before ++ concat (flat_map on (with_new_from begin (take (i + 1) stores) front))
 store_found on begin stores front before found more i store d has lt is test lacks e f =
     let old : List (List ℕ) = with_new_from begin (take i stores) front in
     let new : List ℕ = front ++ store ∷ [] in
@@ -195,7 +256,8 @@ store_found on begin stores front before found more i store d has lt is test lac
     one_store_more begin stores front i store d has lt is test
     ∙ ap (λ (b : Bool). old ++ cond b [] (new ∷ [])) lacks in
     let both : concat (flat_map on (old ++ new ∷ [])) ≡ concat (flat_map on old) ++ concat (on new) =
-    ap concat (flat_map-append on old (new ∷ []) ∙ ap (λ (l : List (List ℕ)). flat_map on old ++ l) (append-nil (on new)))
+    ap concat (flat_map-append on old (new ∷ [])
+    ∙ ap (λ (l : List (List ℕ)). flat_map on old ++ l) (append-nil (on new)))
     ∙ concat-append (flat_map on old) (on new) in
     f
     ∙ ap (λ (l : List ℕ). l ++ concat (on new)) e
@@ -204,10 +266,12 @@ store_found on begin stores front before found more i store d has lt is test lac
     ∙ ap (λ (l : List (List ℕ)). before ++ concat (flat_map on l)) (sym grown)
 
 -- a front that is cut back
-pub cut_back : (front pushed longer after : List ℕ) (store n : ℕ) → pushed ≡ front ++ store ∷ [] → longer ≡ pushed → n ≡ length longer → after ≡ take (n - 1) longer → after ≡ front
+pub cut_back : (front pushed longer after : List ℕ) (store n : ℕ) → pushed ≡ front ++ store ∷ []
+    → longer ≡ pushed → n ≡ length longer → after ≡ take (n - 1) longer → after ≡ front
 cut_back front pushed longer after store n p l many e =
     let whole : longer ≡ front ++ store ∷ [] = l ∙ p in
     let long : length (front ++ store ∷ []) ≡ length front + 1 = length-append front (store ∷ []) in
     let same : length longer ≡ length (front ++ store ∷ []) = ap (λ (xs : List ℕ). length xs) whole in
     let back : n - 1 ≡ length front = omega (arith, many, same, long) in
-    e ∙ ap (λ (k : ℕ). take k longer) back ∙ ap (take (length front)) whole ∙ take-append_seam front (store ∷ [])
+    e ∙ ap (λ (k : ℕ). take k longer) back ∙ ap (take (length front)) whole
+    ∙ take-append_seam front (store ∷ [])

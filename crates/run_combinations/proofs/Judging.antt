@@ -20,16 +20,29 @@ pub record Known (n : ℕ) (b : PrefixLists) (r : Reading) (o l m : ℕ) : Type 
   pub few : m ≤ 16384
   pub some : 1 ≤ length (all_orders b.combination.events n)
 
-pub known : (n : ℕ) (b : PrefixLists) (r : Reading) (es us : List Event) (pairs : List (ℕ × ℕ)) (raw orders left count : ℕ) → es ≡ b.combination.events → us ≡ b.combination.events → pairs ≡ b.needs → Fits n b → (AreApart es n → raw ≡ min (length (all_orders es n)) (2 ^ 64 - 1)) → orders ≡ max raw 1 → (length us ≤ 128 → Shows us pairs r) → left ≡ 16384 - count → count ≤ 16384 → Known n b r orders left count
+pub known : (n : ℕ) (b : PrefixLists) (r : Reading) (es us : List Event) (pairs : List (ℕ × ℕ))
+    (raw orders left count : ℕ) → es ≡ b.combination.events → us ≡ b.combination.events
+    → pairs ≡ b.needs → Fits n b
+    → (AreApart es n → raw ≡ min (length (all_orders es n)) (2 ^ 64 - 1)) → orders ≡ max raw 1
+    → (length us ≤ 128 → Shows us pairs r) → left ≡ 16384 - count → count ≤ 16384
+    → Known n b r orders left count
 known n b r es us pairs raw orders left count e u p fits counted o shown l few = record {
-  shows = subst (λ (ps : List (ℕ × ℕ)). Shows b.combination.events ps r) p (subst (λ (vs : List Event). Shows vs pairs r) u (shown (subst (λ (vs : List Event). length vs ≤ 128) (sym u) fits.few)));
-  orders = o ∙ ap (λ (k : ℕ). max k 1) (counted (subst (λ (vs : List Event). AreApart vs n) (sym e) fits.apart) ∙ ap (λ (vs : List Event). min (length (all_orders vs n)) (2 ^ 64 - 1)) e);
+  shows =
+      subst (λ (ps : List (ℕ × ℕ)). Shows b.combination.events ps r) p (subst
+      (λ (vs : List Event). Shows vs pairs r) u (shown (subst
+      (λ (vs : List Event). length vs ≤ 128) (sym u) fits.few)));
+  orders =
+      o
+      ∙ ap (λ (k : ℕ). max k 1) (counted (subst (λ (vs : List Event). AreApart vs n) (sym e)
+      fits.apart)
+      ∙ ap (λ (vs : List Event). min (length (all_orders vs n)) (2 ^ 64 - 1)) e);
   left = l;
   few = few;
   some = some_order b.combination.events n fits.apart;
 }
 
-pub too_much : (n : ℕ) (b : PrefixLists) (t : Tally) (r : Reading) (orders left : ℕ) → Known n b r orders left t.count → HasOver r (left / orders) → IsTooMuch n b t
+pub too_much : (n : ℕ) (b : PrefixLists) (t : Tally) (r : Reading) (orders left : ℕ)
+    → Known n b r orders left t.count → HasOver r (left / orders) → IsTooMuch n b t
 too_much n b t r orders left k over ways are =
     let one : 0 < orders = omega (arith, k.orders) in
     let x : left < length ways * orders = (div-lt_iff_lt-mul one).0 (over b.combination.events b.needs ways k.shows are) in
@@ -38,7 +51,10 @@ too_much n b t r orders left k over ways are =
     omega (arith, x, y, k.left, k.few)
 
 -- the count of one combination more
-counted : (ways orders left count all : ℕ) → 1 ≤ ways → ways ≤ left / orders → orders ≡ max (min all (2 ^ 64 - 1)) 1 → 1 ≤ all → left ≡ 16384 - count → count ≤ 16384 → (min (count + min (ways * orders) (2 ^ 64 - 1)) (2 ^ 64 - 1) ≡ count + ways * all) × (count + ways * all ≤ 16384)
+counted : (ways orders left count all : ℕ) → 1 ≤ ways → ways ≤ left / orders
+    → orders ≡ max (min all (2 ^ 64 - 1)) 1 → 1 ≤ all → left ≡ 16384 - count → count ≤ 16384
+    → (min (count + min (ways * orders) (2 ^ 64 - 1)) (2 ^ 64 - 1) ≡ count + ways * all)
+    × (count + ways * all ≤ 16384)
 counted ways orders left count all some few o one l small =
     let a : ways * orders ≤ (left / orders) * orders = mul-le-mul_right orders few in
     let b : (left / orders) * orders ≤ left = div-mul-le_self left orders in
@@ -48,11 +64,23 @@ counted ways orders left count all some few o one l small =
     let f : ways * orders ≡ ways * all = ap (λ (k : ℕ). ways * k) same in
     (omega (arith, a, b, l, f, small), omega (arith, a, b, l, f, small))
 
-pub judged : (n : ℕ) (b : PrefixLists) (old new : Tally) (r : Reading) (orders left : ℕ) (vs : List (Vec ℕ Global)) → Known n b r orders left old.count → HasWays r (lists_of vs) × (length vs ≤ left / orders) → new ≡ capped_tally_with b (lists_of vs) orders old → Judged n b old new × (new.count ≤ 16384)
-judged n b old new r orders left vs k has e = go (lists_of vs) (has.0 b.combination.events b.needs k.shows) (let l : length (lists_of vs) ≡ length vs = length-map vs (λ v. v.items) in let h : length vs ≤ left / orders = has.1 in omega (arith, l, h)) e
+pub judged : (n : ℕ) (b : PrefixLists) (old new : Tally) (r : Reading) (orders left : ℕ)
+    (vs : List (Vec ℕ Global)) → Known n b r orders left old.count
+    → HasWays r (lists_of vs) × (length vs ≤ left / orders)
+    → new ≡ capped_tally_with b (lists_of vs) orders old → Judged n b old new × (new.count ≤ 16384)
+judged n b old new r orders left vs k has e =
+    go (lists_of vs) (has.0 b.combination.events b.needs k.shows)
+    (let l : length (lists_of vs) ≡ length vs = length-map vs (λ v. v.items) in
+    let h : length vs ≤ left / orders = has.1 in omega (arith, l, h)) e
   where
-    go : (ways : List (List ℕ)) → AreWays b.combination.events b.needs ways → length ways ≤ left / orders → new ≡ capped_tally_with b ways orders old → Judged n b old new × (new.count ≤ 16384)
-    go [] are few same = (([], are, same), let c : new.count ≡ old.count = ap (λ (t : Tally). t.count) same in omega (arith, c, k.few))
+    go : (ways : List (List ℕ)) → AreWays b.combination.events b.needs ways
+        → length ways ≤ left / orders → new ≡ capped_tally_with b ways orders old
+        → Judged n b old new × (new.count ≤ 16384)
+    go [] are few same = (
+      ([], are, same),
+      let c : new.count ≡ old.count = ap (λ (t : Tally). t.count) same in
+          omega (arith, c, k.few),
+    )
     go (way ∷ ways) are few same =
         let c : (min (old.count + min (length (way ∷ ways) * orders) (2 ^ 64 - 1)) (2 ^ 64 - 1) ≡ old.count + length (way ∷ ways) * length (all_orders b.combination.events n)) × (old.count + length (way ∷ ways) * length (all_orders b.combination.events n) ≤ 16384) = counted (length (way ∷ ways)) orders left old.count (length (all_orders b.combination.events n)) (omega arith) few k.orders k.some k.left k.few in
         let f : ℕ → Tally = λ m. record { kept = if old.faulted || b.faulted then old.kept else old.kept ++ record b.combination { sources = way ∷ ways } ∷ []; count = m; faulted = old.faulted || b.faulted } in

@@ -10,7 +10,8 @@ use Rattle.run_combinations.specs.Lists.{lists_of}
 use Rattle.run_combinations.specs.Combinations.{pairs, candidates_of}
 use Rattle.run_combinations.specs.declared.combination.Combination.{Combination}
 
-pub length-pairs : {X Y : Type 0} (xs : List X) (ys : List Y) → length (pairs xs ys) ≡ length xs * length ys
+pub length-pairs : {X Y : Type 0} (xs : List X) (ys : List Y)
+    → length (pairs xs ys) ≡ length xs * length ys
 length-pairs [] ys = sym (zero-mul (length ys))
 length-pairs {X} {Y} (x ∷ xs) ys =
     let f : Y → X × Y = λ y. (x, y) in
@@ -21,22 +22,33 @@ length-pairs {X} {Y} (x ∷ xs) ys =
     omega arith
 
 -- before the pairs of the i-th come i times as many as the second list has
-pub length-before : {X Y : Type 0} (xs : List X) (ys : List Y) (i : ℕ) → i ≤ length xs → length (pairs (take i xs) ys) ≡ i * length ys
-length-before xs ys i le = length-pairs (take i xs) ys ∙ ap (λ (n : ℕ). n * length ys) (length-take-le i xs le)
+pub length-before : {X Y : Type 0} (xs : List X) (ys : List Y) (i : ℕ) → i ≤ length xs
+    → length (pairs (take i xs) ys) ≡ i * length ys
+length-before xs ys i le =
+    length-pairs (take i xs) ys ∙ ap (λ (n : ℕ). n * length ys) (length-take-le i xs le)
 
 abbrev pub beside : {X Y : Type 0} → X → Y → X × Y
 beside x y = (x, y)
 
-get_or-pairs : {X Y : Type 0} (xs : List X) (ys : List Y) (p : ℕ) (x : X) (y : Y) (d : X × Y) → 0 < length ys → p / length ys < length xs → get_or (pairs xs ys) p d ≡ (get_or xs (p / length ys) x, get_or ys (p % length ys) y)
+get_or-pairs : {X Y : Type 0} (xs : List X) (ys : List Y) (p : ℕ) (x : X) (y : Y) (d : X × Y)
+    → 0 < length ys → p / length ys < length xs
+    → get_or (pairs xs ys) p d ≡ (get_or xs (p / length ys) x, get_or ys (p % length ys) y)
 get_or-pairs {X} {Y} xs ys p x y d some lt =
     ap (λ (k : ℕ). get_or (pairs xs ys) k d) index
-    ∙ get_or-flat_map (λ (u : X). map (beside {Y = Y} u) ys) xs (p / length ys) (p % length ys) x d lt inside
-    ∙ get_or-map (beside {Y = Y} (get_or xs (p / length ys) x)) ys (p % length ys) y d (mod-lt p some)
+    ∙ get_or-flat_map (λ (u : X). map (beside {Y = Y} u) ys) xs (p / length ys) (p % length ys) x d
+    lt inside
+    ∙ get_or-map (beside {Y = Y} (get_or xs (p / length ys) x)) ys (p % length ys) y d
+    (mod-lt p some)
   where
     inside : p % length ys < length (map (beside {Y = Y} (get_or xs (p / length ys) x)) ys)
-    inside = let m : length (map (beside {Y = Y} (get_or xs (p / length ys) x)) ys) ≡ length ys = length-map ys (beside {Y = Y} (get_or xs (p / length ys) x)) in let l : p % length ys < length ys = mod-lt p some in omega arith
+    inside =
+        let m : length (map (beside {Y = Y} (get_or xs (p / length ys) x)) ys) ≡ length ys =
+        length-map ys (beside {Y = Y} (get_or xs (p / length ys) x)) in
+        let l : p % length ys < length ys = mod-lt p some in omega arith
 
-    index : p ≡ length (flat_map (λ (u : X). map (beside {Y = Y} u) ys) (take (p / length ys) xs)) + p % length ys
+    index : p
+        ≡ length (flat_map (λ (u : X). map (beside {Y = Y} u) ys) (take (p / length ys) xs))
+        + p % length ys
     index =
         let b : length (pairs (take (p / length ys) xs) ys) ≡ (p / length ys) * length ys = length-before xs ys (p / length ys) (omega (arith, lt)) in
         let q : length ys * (p / length ys) + p % length ys ≡ p = div-add-mod p (length ys) in
@@ -44,7 +56,8 @@ get_or-pairs {X} {Y} xs ys p x y d some lt =
         omega (arith, b, q, c)
 
 -- how many candidates a combination has
-pub length-candidates : (c : Combination) → length (candidates_of c) ≡ length c.sources.items * length c.orders
+pub length-candidates : (c : Combination)
+    → length (candidates_of c) ≡ length c.sources.items * length c.orders
 unfolding candidates_of
 length-candidates c =
     let s : length (lists_of c.sources.items) ≡ length c.sources.items = length-map c.sources.items (λ v. v.items) in
@@ -57,16 +70,27 @@ has_none c p none lt =
     let f : length c.sources.items * length c.orders ≡ length c.sources.items * 0 = ap (λ (n : ℕ). length c.sources.items * n) none in
     omega arith
 
-pub has_index : (c : Combination) (p : ℕ) → 0 < length c.orders → (p / length c.orders < length c.sources.items) ↔ (p < length (candidates_of c))
-has_index c p some = subst (λ (n : ℕ). (p / length c.orders < length c.sources.items) ↔ (p < n)) (sym (length-candidates c)) (div-lt_iff_lt-mul some)
+pub has_index : (c : Combination) (p : ℕ) → 0 < length c.orders
+    → (p / length c.orders < length c.sources.items) ↔ (p < length (candidates_of c))
+has_index c p some =
+    subst (λ (n : ℕ). (p / length c.orders < length c.sources.items) ↔ (p < n))
+    (sym (length-candidates c)) (div-lt_iff_lt-mul some)
 
 -- the candidate at an index
-pub candidate_at : (c : Combination) (p : ℕ) (d : List ℕ × List ℕ) (v : Vec ℕ Global) → 0 < length c.orders → p / length c.orders < length c.sources.items → get_or (candidates_of c) p d ≡ ((get_or c.sources.items (p / length c.orders) v).items, get_or c.orders (p % length c.orders) [])
+pub candidate_at : (c : Combination) (p : ℕ) (d : List ℕ × List ℕ) (v : Vec ℕ Global)
+    → 0 < length c.orders → p / length c.orders < length c.sources.items
+    → get_or (candidates_of c) p d
+    ≡ (
+      (get_or c.sources.items (p / length c.orders) v).items,
+      get_or c.orders (p % length c.orders) [],
+    )
 unfolding candidates_of
 candidate_at c p d v some lt =
     let s : length (lists_of c.sources.items) ≡ length c.sources.items = length-map c.sources.items (λ v. v.items) in
-    get_or-pairs (lists_of c.sources.items) c.orders p v.items [] d some (subst (λ (n : ℕ). p / length c.orders < n) (sym s) lt)
-    ∙ ap (λ (l : List ℕ). (l, get_or c.orders (p % length c.orders) [])) (get_or-map (λ (u : Vec ℕ Global). u.items) c.sources.items (p / length c.orders) v v.items lt)
+    get_or-pairs (lists_of c.sources.items) c.orders p v.items [] d some
+    (subst (λ (n : ℕ). p / length c.orders < n) (sym s) lt)
+    ∙ ap (λ (l : List ℕ). (l, get_or c.orders (p % length c.orders) [])) (get_or-map
+    (λ (u : Vec ℕ Global). u.items) c.sources.items (p / length c.orders) v v.items lt)
 
 -- where there is a candidate there are orders
 pub has_orders : (c : Combination) (p : ℕ) → p < length (candidates_of c) → 0 < length c.orders

@@ -15,15 +15,19 @@ use Rattle.run_combinations.specs.declared.part.Part.{Part}
 use Rattle.run_combinations.specs.declared.search.Prefix.{Prefix}
 use Rattle.run_combinations.specs.declared.layout.ThreadParts.{ThreadParts}
 
-searched_append : (n : ℕ) (us vs : List PrefixLists) (t u v : Tally) → Searched n us t u → Searched n vs u v → Searched n (us ++ vs) t v
+searched_append : (n : ℕ) (us vs : List PrefixLists) (t u v : Tally) → Searched n us t u
+    → Searched n vs u v → Searched n (us ++ vs) t v
 searched_append n [] vs t u v none k = k
-searched_append n (b ∷ us) vs t u v (more {u = w} j h) k = more j (searched_append n us vs w u v h k)
+searched_append n (b ∷ us) vs t u v (more {u = w} j h) k =
+    more j (searched_append n us vs w u v h k)
 
-over_append : (n : ℕ) (us vs : List PrefixLists) (t u : Tally) → Searched n us t u → AreTooMuch n vs u → AreTooMuch n (us ++ vs) t
+over_append : (n : ℕ) (us vs : List PrefixLists) (t u : Tally) → Searched n us t u
+    → AreTooMuch n vs u → AreTooMuch n (us ++ vs) t
 over_append n [] vs t u none k = k
 over_append n (b ∷ us) vs t u (more {u = w} j h) k = later j (over_append n us vs w u h k)
 
-over_longer : (n : ℕ) (bs cs : List PrefixLists) (t : Tally) → AreTooMuch n bs t → AreTooMuch n (bs ++ cs) t
+over_longer : (n : ℕ) (bs cs : List PrefixLists) (t : Tally) → AreTooMuch n bs t
+    → AreTooMuch n (bs ++ cs) t
 over_longer n [] cs t x = elim x [ ]
 over_longer n (b ∷ bs) cs t (now h) = now h
 over_longer n (b ∷ bs) cs t (later {u = u} j h) = later j (over_longer n bs cs u h)
@@ -39,42 +43,61 @@ over_one n b t h = now h
 abbrev pub going_on : PrefixLists → List ThreadParts → ℕ → List Part → List PrefixLists
 going_on b ts at ps = flat_map (λ r. combinations (with_run r.0 r.1 b) ts) (with_indices at ps)
 
-with_indices-append : (at : ℕ) (ps qs : List Part) → with_indices at (ps ++ qs) ≡ with_indices at ps ++ with_indices (at + length ps) qs
-with_indices-append at [] qs = let z : at ≡ at + 0 = omega arith in ap (λ (k : ℕ). with_indices k qs) z
+with_indices-append : (at : ℕ) (ps qs : List Part)
+    → with_indices at (ps ++ qs) ≡ with_indices at ps ++ with_indices (at + length ps) qs
+with_indices-append at [] qs =
+    let z : at ≡ at + 0 = omega arith in ap (λ (k : ℕ). with_indices k qs) z
 with_indices-append at (p ∷ ps) qs =
     let z : (at + 1) + length ps ≡ at + suc (length ps) = omega arith in
-    ap (λ (l : List (ℕ × Part)). (at, p) ∷ l) (with_indices-append (at + 1) ps qs ∙ ap (λ (k : ℕ). with_indices (at + 1) ps ++ with_indices k qs) z)
+    ap (λ (l : List (ℕ × Part)). (at, p) ∷ l) (with_indices-append (at + 1) ps qs
+    ∙ ap (λ (k : ℕ). with_indices (at + 1) ps ++ with_indices k qs) z)
 
-going_on-append : (b : PrefixLists) (ts : List ThreadParts) (at : ℕ) (ps qs : List Part) → going_on b ts at (ps ++ qs) ≡ going_on b ts at ps ++ going_on b ts (at + length ps) qs
+going_on-append : (b : PrefixLists) (ts : List ThreadParts) (at : ℕ) (ps qs : List Part)
+    → going_on b ts at (ps ++ qs) ≡ going_on b ts at ps ++ going_on b ts (at + length ps) qs
 going_on-append b ts at ps qs =
-    ap (λ (l : List (ℕ × Part)). flat_map (λ r. combinations (with_run r.0 r.1 b) ts) l) (with_indices-append at ps qs)
-    ∙ flat_map-append (λ r. combinations (with_run r.0 r.1 b) ts) (with_indices at ps) (with_indices (at + length ps) qs)
+    ap (λ (l : List (ℕ × Part)). flat_map (λ r. combinations (with_run r.0 r.1 b) ts) l)
+    (with_indices-append at ps qs)
+    ∙ flat_map-append (λ r. combinations (with_run r.0 r.1 b) ts) (with_indices at ps)
+    (with_indices (at + length ps) qs)
 
 append-empty : (xs : List PrefixLists) → xs ++ [] ≡ xs
 append-empty [] = refl
 append-empty (x ∷ xs) = ap (λ (l : List PrefixLists). x ∷ l) (append-empty xs)
 
 -- one run more
-one_run : (b : PrefixLists) (ts : List ThreadParts) (ps : List Part) (i : ℕ) (p : Part) → i < length ps → p ≡ get_or ps i p → going_on b ts 0 (take (i + 1) ps) ≡ going_on b ts 0 (take i ps) ++ combinations (with_run i p b) ts
+one_run : (b : PrefixLists) (ts : List ThreadParts) (ps : List Part) (i : ℕ) (p : Part)
+    → i < length ps → p ≡ get_or ps i p
+    → going_on b ts 0 (take (i + 1) ps)
+    ≡ going_on b ts 0 (take i ps) ++ combinations (with_run i p b) ts
 one_run b ts ps i p lt is =
-    ap (λ (l : List Part). going_on b ts 0 l) (take_more ps i p lt ∙ ap (λ (q : Part). take i ps ++ q ∷ []) (sym is))
+    ap (λ (l : List Part). going_on b ts 0 l) (take_more ps i p lt
+    ∙ ap (λ (q : Part). take i ps ++ q ∷ []) (sym is))
     ∙ going_on-append b ts 0 (take i ps) (p ∷ [])
-    ∙ ap (λ (l : List PrefixLists). going_on b ts 0 (take i ps) ++ l) (append-empty (combinations (with_run (0 + length (take i ps)) p b) ts))
+    ∙ ap (λ (l : List PrefixLists). going_on b ts 0 (take i ps) ++ l) (append-empty
+    (combinations (with_run (0 + length (take i ps)) p b) ts))
     ∙ ap (λ (k : ℕ). going_on b ts 0 (take i ps) ++ combinations (with_run k p b) ts) long
   where
     long : 0 + length (take i ps) ≡ i
-    long = let l : length (take i ps) ≡ i = length-take-le i ps (omega (arith, lt)) in omega (arith, l)
+    long =
+        let l : length (take i ps) ≡ i = length-take-le i ps (omega (arith, lt)) in omega (arith, l)
 
 take_and_drop : (ps : List Part) (i : ℕ) → ps ≡ take i ps ++ drop i ps
 take_and_drop ps zero = refl
 take_and_drop [] (suc i) = refl
 take_and_drop (p ∷ ps) (suc i) = ap (λ (l : List Part). p ∷ l) (take_and_drop ps i)
 
-split_all : (b : PrefixLists) (ts : List ThreadParts) (ps : List Part) (i : ℕ) (p : Part) → i < length ps → p ≡ get_or ps i p → going_on b ts 0 ps ≡ (going_on b ts 0 (take i ps) ++ combinations (with_run i p b) ts) ++ going_on b ts (0 + length (take (i + 1) ps)) (drop (i + 1) ps)
+split_all : (b : PrefixLists) (ts : List ThreadParts) (ps : List Part) (i : ℕ) (p : Part)
+    → i < length ps → p ≡ get_or ps i p
+    → going_on b ts 0 ps
+    ≡ (going_on b ts 0 (take i ps) ++ combinations (with_run i p b) ts)
+    ++ going_on b ts (0 + length (take (i + 1) ps)) (drop (i + 1) ps)
 split_all b ts ps i p lt is =
     ap (λ (l : List Part). going_on b ts 0 l) (take_and_drop ps (i + 1))
     ∙ going_on-append b ts 0 (take (i + 1) ps) (drop (i + 1) ps)
-    ∙ ap (λ (l : List PrefixLists). l ++ going_on b ts (0 + length (take (i + 1) ps)) (drop (i + 1) ps)) (one_run b ts ps i p lt is)
+    ∙ ap
+    (λ (l : List PrefixLists). l
+    ++ going_on b ts (0 + length (take (i + 1) ps)) (drop (i + 1) ps))
+    (one_run b ts ps i p lt is)
 
 -- what fits in a list fits in its pieces
 fit_front : (n : ℕ) (xs ys : List PrefixLists) → AllFit n (xs ++ ys) → AllFit n xs
@@ -85,10 +108,14 @@ fit_rest : (n : ℕ) (xs ys : List PrefixLists) → AllFit n (xs ++ ys) → AllF
 fit_rest n [] ys h = h
 fit_rest n (x ∷ xs) ys h = fit_rest n xs ys h.1
 
-pub fit_run : (n : ℕ) (b : PrefixLists) (ts : List ThreadParts) (ps : List Part) (i : ℕ) (p : Part) → i < length ps → p ≡ get_or ps i p → AllFit n (going_on b ts 0 ps) → AllFit n (combinations (with_run i p b) ts)
+pub fit_run : (n : ℕ) (b : PrefixLists) (ts : List ThreadParts) (ps : List Part) (i : ℕ) (p : Part)
+    → i < length ps → p ≡ get_or ps i p → AllFit n (going_on b ts 0 ps)
+    → AllFit n (combinations (with_run i p b) ts)
 fit_run n b ts ps i p lt is h =
     fit_rest n (going_on b ts 0 (take i ps)) (combinations (with_run i p b) ts)
-    (fit_front n (going_on b ts 0 (take i ps) ++ combinations (with_run i p b) ts) (going_on b ts (0 + length (take (i + 1) ps)) (drop (i + 1) ps)) (subst (λ (l : List PrefixLists). AllFit n l) (split_all b ts ps i p lt is) h))
+    (fit_front n (going_on b ts 0 (take i ps) ++ combinations (with_run i p b) ts)
+    (going_on b ts (0 + length (take (i + 1) ps)) (drop (i + 1) ps))
+    (subst (λ (l : List PrefixLists). AllFit n l) (split_all b ts ps i p lt is) h))
 
 pub small_front : (xs ys : List PrefixLists) → AreSmall (xs ++ ys) → AreSmall xs
 small_front [] ys h = tt
@@ -98,55 +125,92 @@ pub small_rest : (xs ys : List PrefixLists) → AreSmall (xs ++ ys) → AreSmall
 small_rest [] ys h = h
 small_rest (x ∷ xs) ys h = small_rest xs ys h.1
 
-run_small : (b : PrefixLists) (ts : List ThreadParts) (ps : List Part) (i : ℕ) (p : Part) → i < length ps → p ≡ get_or ps i p → AreSmall (going_on b ts 0 ps) → AreSmall (combinations (with_run i p b) ts)
+run_small : (b : PrefixLists) (ts : List ThreadParts) (ps : List Part) (i : ℕ) (p : Part)
+    → i < length ps → p ≡ get_or ps i p → AreSmall (going_on b ts 0 ps)
+    → AreSmall (combinations (with_run i p b) ts)
 run_small b ts ps i p lt is h =
     small_rest (going_on b ts 0 (take i ps)) (combinations (with_run i p b) ts)
-    (small_front (going_on b ts 0 (take i ps) ++ combinations (with_run i p b) ts) (going_on b ts (0 + length (take (i + 1) ps)) (drop (i + 1) ps)) (subst (λ (l : List PrefixLists). AreSmall l) (split_all b ts ps i p lt is) h))
+    (small_front (going_on b ts 0 (take i ps) ++ combinations (with_run i p b) ts)
+    (going_on b ts (0 + length (take (i + 1) ps)) (drop (i + 1) ps))
+    (subst (λ (l : List PrefixLists). AreSmall l) (split_all b ts ps i p lt is) h))
 
-pub run_found : (n : ℕ) (b : PrefixLists) (ts : List ThreadParts) (ps : List Part) (i : ℕ) (p : Part) (t u v : Tally) → i < length ps → p ≡ get_or ps i p → Searched n (going_on b ts 0 (take i ps)) t u → Searched n (combinations (with_run i p b) ts) u v → Searched n (going_on b ts 0 (take (i + 1) ps)) t v
-run_found n b ts ps i p t u v lt is f g = subst (λ (l : List PrefixLists). Searched n l t v) (sym (one_run b ts ps i p lt is)) (searched_append n (going_on b ts 0 (take i ps)) (combinations (with_run i p b) ts) t u v f g)
+pub run_found : (n : ℕ) (b : PrefixLists) (ts : List ThreadParts) (ps : List Part) (i : ℕ)
+    (p : Part) (t u v : Tally) → i < length ps → p ≡ get_or ps i p
+    → Searched n (going_on b ts 0 (take i ps)) t u
+    → Searched n (combinations (with_run i p b) ts) u v
+    → Searched n (going_on b ts 0 (take (i + 1) ps)) t v
+run_found n b ts ps i p t u v lt is f g =
+    subst (λ (l : List PrefixLists). Searched n l t v) (sym (one_run b ts ps i p lt is))
+    (searched_append n (going_on b ts 0 (take i ps)) (combinations (with_run i p b) ts) t u v f g)
 
-pub run_over : (n : ℕ) (b : PrefixLists) (ts : List ThreadParts) (ps : List Part) (i : ℕ) (p : Part) (t u : Tally) → i < length ps → p ≡ get_or ps i p → Searched n (going_on b ts 0 (take i ps)) t u → AreTooMuch n (combinations (with_run i p b) ts) u → AreTooMuch n (going_on b ts 0 ps) t
+pub run_over : (n : ℕ) (b : PrefixLists) (ts : List ThreadParts) (ps : List Part) (i : ℕ) (p : Part)
+    (t u : Tally) → i < length ps → p ≡ get_or ps i p
+    → Searched n (going_on b ts 0 (take i ps)) t u
+    → AreTooMuch n (combinations (with_run i p b) ts) u → AreTooMuch n (going_on b ts 0 ps) t
 run_over n b ts ps i p t u lt is f g =
     subst (λ (l : List PrefixLists). AreTooMuch n l t) (sym (split_all b ts ps i p lt is))
-    (over_longer n (going_on b ts 0 (take i ps) ++ combinations (with_run i p b) ts) (going_on b ts (0 + length (take (i + 1) ps)) (drop (i + 1) ps)) t (over_append n (going_on b ts 0 (take i ps)) (combinations (with_run i p b) ts) t u f g))
+    (over_longer n (going_on b ts 0 (take i ps) ++ combinations (with_run i p b) ts)
+    (going_on b ts (0 + length (take (i + 1) ps)) (drop (i + 1) ps)) t (over_append n
+    (going_on b ts 0 (take i ps)) (combinations (with_run i p b) ts) t u f g))
 
 -- the threads behind the first
 abbrev pub rest_of : List ThreadParts → List ThreadParts
 rest_of ts = take (length ts - 1) (drop 1 ts)
 
-first_and_rest : (ts : List ThreadParts) (t : ThreadParts) → 0 < length ts → t ≡ get_or ts 0 t → ts ≡ t ∷ rest_of ts
+first_and_rest : (ts : List ThreadParts) (t : ThreadParts) → 0 < length ts → t ≡ get_or ts 0 t
+    → ts ≡ t ∷ rest_of ts
 first_and_rest [] t lt is = absurd (omega (arith, lt))
 first_and_rest (x ∷ xs) t lt is =
     let n : length (x ∷ xs) - 1 ≡ length xs = omega arith in
     let r : take (length (x ∷ xs) - 1) xs ≡ xs = ap (λ (k : ℕ). take k xs) n ∙ take-length xs in
-    ap (λ (l : List ThreadParts). x ∷ l) (sym r) ∙ ap (λ (y : ThreadParts). y ∷ take (length (x ∷ xs) - 1) xs) (sym is)
+    ap (λ (l : List ThreadParts). x ∷ l) (sym r)
+    ∙ ap (λ (y : ThreadParts). y ∷ take (length (x ∷ xs) - 1) xs) (sym is)
 
-whole_thread : (b : PrefixLists) (ts : List ThreadParts) (t : ThreadParts) (ps : List Part) → 0 < length ts → t ≡ get_or ts 0 t → ps ≡ t.parts.items → combinations b ts ≡ going_on b (rest_of ts) 0 ps
-whole_thread b ts t ps lt is same = ap (λ (l : List ThreadParts). combinations b l) (first_and_rest ts t lt is) ∙ ap (λ (l : List Part). going_on b (rest_of ts) 0 l) (sym same)
+whole_thread : (b : PrefixLists) (ts : List ThreadParts) (t : ThreadParts) (ps : List Part)
+    → 0 < length ts → t ≡ get_or ts 0 t → ps ≡ t.parts.items
+    → combinations b ts ≡ going_on b (rest_of ts) 0 ps
+whole_thread b ts t ps lt is same =
+    ap (λ (l : List ThreadParts). combinations b l) (first_and_rest ts t lt is)
+    ∙ ap (λ (l : List Part). going_on b (rest_of ts) 0 l) (sym same)
 
 -- where all combinations are small, so are those that go on with a run of the next thread
-pub goes_on_small : (b : PrefixLists) (ts : List ThreadParts) (t : ThreadParts) (ps : List Part) (i : ℕ) (p : Part) (x : PrefixLists) → 0 < length ts → t ≡ get_or ts 0 t → ps ≡ t.parts.items → i < length ps → p ≡ get_or ps i p → x ≡ with_run i p b → AreSmall (combinations b ts) → AreSmall (combinations x (rest_of ts))
+pub goes_on_small : (b : PrefixLists) (ts : List ThreadParts) (t : ThreadParts) (ps : List Part)
+    (i : ℕ) (p : Part) (x : PrefixLists) → 0 < length ts → t ≡ get_or ts 0 t
+    → ps ≡ t.parts.items → i < length ps → p ≡ get_or ps i p → x ≡ with_run i p b
+    → AreSmall (combinations b ts) → AreSmall (combinations x (rest_of ts))
 goes_on_small b ts t ps i p x some first runs lt one longer h =
     subst (λ (y : PrefixLists). AreSmall (combinations y (rest_of ts))) (sym longer)
-    (run_small b (rest_of ts) ps i p lt one (subst (λ (l : List PrefixLists). AreSmall l) (whole_thread b ts t ps some first runs) h))
+    (run_small b (rest_of ts) ps i p lt one (subst (λ (l : List PrefixLists). AreSmall l)
+    (whole_thread b ts t ps some first runs) h))
 
-pub last_small : (b : PrefixLists) (ts : List ThreadParts) → length ts ≡ 0 → AreSmall (combinations b ts) → length b.combination.events ≤ 128
+pub last_small : (b : PrefixLists) (ts : List ThreadParts) → length ts ≡ 0
+    → AreSmall (combinations b ts) → length b.combination.events ≤ 128
 last_small b [] e h = h.0
 last_small b (t ∷ ts) e h = absurd (omega (arith, e))
 
-pub first_small : (l : Layout) (b : PrefixLists) (ts : List ThreadParts) → b ≡ start l.initial.items → ts ≡ l.threads.items → AreSmall (all_combinations l) → AreSmall (combinations b ts)
+pub first_small : (l : Layout) (b : PrefixLists) (ts : List ThreadParts) → b ≡ start l.initial.items
+    → ts ≡ l.threads.items → AreSmall (all_combinations l) → AreSmall (combinations b ts)
 first_small l b ts made same h =
-    subst (λ (x : List ThreadParts). AreSmall (combinations b x)) (sym same) (subst (λ (c : PrefixLists). AreSmall (combinations c l.threads.items)) (sym made) h)
+    subst (λ (x : List ThreadParts). AreSmall (combinations b x)) (sym same)
+    (subst (λ (c : PrefixLists). AreSmall (combinations c l.threads.items)) (sym made) h)
 
 -- no thread is left
-pub no_thread : (n : ℕ) (b : PrefixLists) (ts : List ThreadParts) (is : Bool) (old new : Tally) → length ts ≡ 0 → (Fits n b → old.count ≤ 16384 → Tells is (Judged n b old new × (new.count ≤ 16384)) (IsTooMuch n b old)) → AllFit n (combinations b ts) → old.count ≤ 16384 → Tells is (Searched n (combinations b ts) old new × (new.count ≤ 16384)) (AreTooMuch n (combinations b ts) old)
+pub no_thread : (n : ℕ) (b : PrefixLists) (ts : List ThreadParts) (is : Bool) (old new : Tally)
+    → length ts ≡ 0
+    → (Fits n b → old.count ≤ 16384
+    → Tells is (Judged n b old new × (new.count ≤ 16384)) (IsTooMuch n b old))
+    → AllFit n (combinations b ts) → old.count ≤ 16384
+    → Tells is (Searched n (combinations b ts) old new × (new.count ≤ 16384))
+    (AreTooMuch n (combinations b ts) old)
 no_thread n b (t ∷ ts) is old new e h fit few = absurd (omega (arith, e))
-no_thread n b [] true old new e h fit few = let j : Judged n b old new × (new.count ≤ 16384) = h fit.0 few in (judged_one n b old new j.0, j.1)
+no_thread n b [] true old new e h fit few =
+    let j : Judged n b old new × (new.count ≤ 16384) = h fit.0 few in
+    (judged_one n b old new j.0, j.1)
 no_thread n b [] false old new e h fit few = over_one n b old (h fit.0 few)
 
 -- a run of the next thread
-pub record Going (n : ℕ) (b : PrefixLists) (ts : List ThreadParts) (ps : List Part) (i : ℕ) (p : Part) (x : PrefixLists) : Type 0 where
+pub record Going (n : ℕ) (b : PrefixLists) (ts : List ThreadParts) (ps : List Part) (i : ℕ)
+    (p : Part) (x : PrefixLists) : Type 0 where
   pub thread : ThreadParts
   pub some : 0 < length ts
   pub first : thread ≡ get_or ts 0 thread
@@ -158,12 +222,17 @@ pub record Going (n : ℕ) (b : PrefixLists) (ts : List ThreadParts) (ps : List 
 
 -- what is known of the search that goes on with it
 abbrev pub GoesOn : ℕ → Bool → PrefixLists → List ThreadParts → Tally → Tally → Type 0
-GoesOn n is x ts u v = AllFit n (combinations x ts) → u.count ≤ 16384 → Tells is (Searched n (combinations x ts) u v × (v.count ≤ 16384)) (AreTooMuch n (combinations x ts) u)
+GoesOn n is x ts u v =
+    AllFit n (combinations x ts) → u.count ≤ 16384
+    → Tells is (Searched n (combinations x ts) u v × (v.count ≤ 16384))
+    (AreTooMuch n (combinations x ts) u)
 
-going_fit : (n : ℕ) (b : PrefixLists) (ts : List ThreadParts) (ps : List Part) (i : ℕ) (p : Part) (x : PrefixLists) → Going n b ts ps i p x → AllFit n (combinations x (rest_of ts))
+going_fit : (n : ℕ) (b : PrefixLists) (ts : List ThreadParts) (ps : List Part) (i : ℕ) (p : Part)
+    (x : PrefixLists) → Going n b ts ps i p x → AllFit n (combinations x (rest_of ts))
 going_fit n b ts ps i p x g =
     subst (λ (y : PrefixLists). AllFit n (combinations y (rest_of ts))) (sym g.longer)
-    (fit_run n b (rest_of ts) ps i p g.within g.one (subst (λ (l : List PrefixLists). AllFit n l) (whole_thread b ts g.thread ps g.some g.first g.runs) g.fit))
+    (fit_run n b (rest_of ts) ps i p g.within g.one (subst (λ (l : List PrefixLists). AllFit n l)
+    (whole_thread b ts g.thread ps g.some g.first g.runs) g.fit))
 
 pub tells_true : (is : Bool) (P Q : Type 0) → is ≡ true → Tells is P Q → P
 tells_true true P Q e h = h
@@ -173,75 +242,162 @@ pub tells_false : (is : Bool) (P Q : Type 0) → is ≡ false → Tells is P Q �
 tells_false true P Q e h = absurd cc
 tells_false false P Q e h = h
 
-pub over_there : (n : ℕ) (b : PrefixLists) (ts : List ThreadParts) (ps : List Part) (i : ℕ) (p : Part) (x : PrefixLists) (is : Bool) (t u v : Tally) → Going n b ts ps i p x → is ≡ false → Searched n (going_on b (rest_of ts) 0 (take i ps)) t u × (u.count ≤ 16384) → GoesOn n is x (rest_of ts) u v → AreTooMuch n (combinations b ts) t
+pub over_there : (n : ℕ) (b : PrefixLists) (ts : List ThreadParts) (ps : List Part) (i : ℕ)
+    (p : Part) (x : PrefixLists) (is : Bool) (t u v : Tally) → Going n b ts ps i p x
+    → is ≡ false → Searched n (going_on b (rest_of ts) 0 (take i ps)) t u × (u.count ≤ 16384)
+    → GoesOn n is x (rest_of ts) u v → AreTooMuch n (combinations b ts) t
 over_there n b ts ps i p x is t u v g e f h =
     let k : AreTooMuch n (combinations x (rest_of ts)) u = tells_false is (Searched n (combinations x (rest_of ts)) u v × (v.count ≤ 16384)) (AreTooMuch n (combinations x (rest_of ts)) u) e (h (going_fit n b ts ps i p x g) f.1) in
-    subst (λ (l : List PrefixLists). AreTooMuch n l t) (sym (whole_thread b ts g.thread ps g.some g.first g.runs))
-    (run_over n b (rest_of ts) ps i p t u g.within g.one f.0 (subst (λ (y : PrefixLists). AreTooMuch n (combinations y (rest_of ts)) u) g.longer k))
+    subst (λ (l : List PrefixLists). AreTooMuch n l t)
+    (sym (whole_thread b ts g.thread ps g.some g.first g.runs))
+    (run_over n b (rest_of ts) ps i p t u g.within g.one f.0 (subst
+    (λ (y : PrefixLists). AreTooMuch n (combinations y (rest_of ts)) u) g.longer k))
 
-pub found_there : (n : ℕ) (b : PrefixLists) (ts : List ThreadParts) (ps : List Part) (i : ℕ) (p : Part) (x : PrefixLists) (is : Bool) (t u v : Tally) → Going n b ts ps i p x → is ≡ true → Searched n (going_on b (rest_of ts) 0 (take i ps)) t u × (u.count ≤ 16384) → GoesOn n is x (rest_of ts) u v → Searched n (going_on b (rest_of ts) 0 (take (i + 1) ps)) t v × (v.count ≤ 16384)
+pub found_there : (n : ℕ) (b : PrefixLists) (ts : List ThreadParts) (ps : List Part) (i : ℕ)
+    (p : Part) (x : PrefixLists) (is : Bool) (t u v : Tally) → Going n b ts ps i p x → is ≡ true
+    → Searched n (going_on b (rest_of ts) 0 (take i ps)) t u × (u.count ≤ 16384)
+    → GoesOn n is x (rest_of ts) u v
+    → Searched n (going_on b (rest_of ts) 0 (take (i + 1) ps)) t v × (v.count ≤ 16384)
 found_there n b ts ps i p x is t u v g e f h =
-    let k : Searched n (combinations x (rest_of ts)) u v × (v.count ≤ 16384) = tells_true is (Searched n (combinations x (rest_of ts)) u v × (v.count ≤ 16384)) (AreTooMuch n (combinations x (rest_of ts)) u) e (h (going_fit n b ts ps i p x g) f.1) in
-    (run_found n b (rest_of ts) ps i p t u v g.within g.one f.0 (subst (λ (y : PrefixLists). Searched n (combinations y (rest_of ts)) u v) g.longer k.0), k.1)
+    let k : Searched n (combinations x (rest_of ts)) u v × (v.count ≤ 16384) = tells_true is (Searched n (combinations x (rest_of ts)) u v × (v.count ≤ 16384)) (AreTooMuch n (combinations x (rest_of ts)) u) e (h (going_fit n b ts ps i p x g) f.1) in (
+      run_found n b (rest_of ts) ps i p t u v g.within g.one f.0 (subst
+          (λ (y : PrefixLists). Searched n (combinations y (rest_of ts)) u v) g.longer
+          k.0),
+      k.1,
+    )
 
 -- the combinations that go on with a run that does not fit
-judged_none : (n : ℕ) (l : ℕ) (v : Value) (b : PrefixLists) (t : Tally) → IsStuck l v b → Judged n b t t
+judged_none : (n : ℕ) (l : ℕ) (v : Value) (b : PrefixLists) (t : Tally) → IsStuck l v b
+    → Judged n b t t
 judged_none n l v b t s = ([], no_ways l v b s, refl)
 
-none_goes_on : (n l : ℕ) (v : Value) (b : PrefixLists) (ts : List ThreadParts) (t : Tally) → ((x : PrefixLists) → IsStuck l v x → Searched n (combinations x ts) t t) → IsStuck l v b → (at : ℕ) (ps : List Part) → PartsLack l v ps → Searched n (going_on b ts at ps) t t
+none_goes_on : (n l : ℕ) (v : Value) (b : PrefixLists) (ts : List ThreadParts) (t : Tally)
+    → ((x : PrefixLists) → IsStuck l v x → Searched n (combinations x ts) t t) → IsStuck l v b
+    → (at : ℕ) (ps : List Part) → PartsLack l v ps → Searched n (going_on b ts at ps) t t
 none_goes_on n l v b ts t each s at [] lack = none
-none_goes_on n l v b ts t each s at (p ∷ ps) lack = searched_append n (combinations (with_run at p b) ts) (going_on b ts (at + 1) ps) t t t (each (with_run at p b) (run_stuck l v at p b s lack.0)) (none_goes_on n l v b ts t each s (at + 1) ps lack.1)
+none_goes_on n l v b ts t each s at (p ∷ ps) lack =
+    searched_append n (combinations (with_run at p b) ts) (going_on b ts (at + 1) ps) t t t
+    (each (with_run at p b) (run_stuck l v at p b s lack.0))
+    (none_goes_on n l v b ts t each s (at + 1) ps lack.1)
 
-none_found : (n l : ℕ) (v : Value) (ts : List ThreadParts) (t : Tally) → ThreadsLack l v ts → (b : PrefixLists) → IsStuck l v b → Searched n (combinations b ts) t t
+none_found : (n l : ℕ) (v : Value) (ts : List ThreadParts) (t : Tally) → ThreadsLack l v ts
+    → (b : PrefixLists) → IsStuck l v b → Searched n (combinations b ts) t t
 none_found n l v [] t lack b s = more (judged_none n l v b t s) none
-none_found n l v (th ∷ ts) t lack b s = none_goes_on n l v b ts t (λ x h. none_found n l v ts t lack.1 x h) s 0 th.parts.items lack.0
+none_found n l v (th ∷ ts) t lack b s =
+    none_goes_on n l v b ts t (λ x h. none_found n l v ts t lack.1 x h) s 0 th.parts.items lack.0
 
-passed_over : (n : ℕ) (b : PrefixLists) (ts : List ThreadParts) (ps : List Part) (i : ℕ) (p : Part) (t u : Tally) → i < length ps → p ≡ get_or ps i p → Stuck (with_run i p b) ts → Searched n (going_on b ts 0 (take i ps)) t u × (u.count ≤ 16384) → Searched n (going_on b ts 0 (take (i + 1) ps)) t u × (u.count ≤ 16384)
-passed_over n b ts ps i p t u lt is k f = (run_found n b ts ps i p t u u lt is f.0 (none_found n k.location k.value ts u k.lack (with_run i p b) k.stuck), f.1)
+passed_over : (n : ℕ) (b : PrefixLists) (ts : List ThreadParts) (ps : List Part) (i : ℕ) (p : Part)
+    (t u : Tally) → i < length ps → p ≡ get_or ps i p → Stuck (with_run i p b) ts
+    → Searched n (going_on b ts 0 (take i ps)) t u × (u.count ≤ 16384)
+    → Searched n (going_on b ts 0 (take (i + 1) ps)) t u × (u.count ≤ 16384)
+passed_over n b ts ps i p t u lt is k f = (
+  run_found n b ts ps i p t u u lt is f.0 (none_found n k.location k.value ts u k.lack
+      (with_run i p b) k.stuck),
+  f.1,
+)
 
-pub all_found : (n : ℕ) (b : PrefixLists) (ts : List ThreadParts) (thread : ThreadParts) (ps : List Part) (i : ℕ) (t u : Tally) → 0 < length ts → thread ≡ get_or ts 0 thread → ps ≡ thread.parts.items → i ≡ length ps → Searched n (going_on b (rest_of ts) 0 (take i ps)) t u × (u.count ≤ 16384) → Searched n (combinations b ts) t u × (u.count ≤ 16384)
+pub all_found : (n : ℕ) (b : PrefixLists) (ts : List ThreadParts) (thread : ThreadParts)
+    (ps : List Part) (i : ℕ) (t u : Tally) → 0 < length ts → thread ≡ get_or ts 0 thread
+    → ps ≡ thread.parts.items → i ≡ length ps
+    → Searched n (going_on b (rest_of ts) 0 (take i ps)) t u × (u.count ≤ 16384)
+    → Searched n (combinations b ts) t u × (u.count ≤ 16384)
 all_found n b ts thread ps i t u lt is same whole f =
-    let e : take i ps ≡ ps = ap (λ (k : ℕ). take k ps) whole ∙ take-length ps in
-    (subst (λ (l : List PrefixLists). Searched n l t u) (sym (whole_thread b ts thread ps lt is same)) (subst (λ (l : List Part). Searched n (going_on b (rest_of ts) 0 l) t u) e f.0), f.1)
+    let e : take i ps ≡ ps = ap (λ (k : ℕ). take k ps) whole ∙ take-length ps in (
+      subst (λ (l : List PrefixLists). Searched n l t u)
+          (sym (whole_thread b ts thread ps lt is same)) (subst
+          (λ (l : List Part). Searched n (going_on b (rest_of ts) 0 l) t u) e f.0),
+      f.1,
+    )
 
 -- the sets of the prefix and of the threads
-pub threads_keys : (key : ℕ → Value → Option (ℕ × ℕ)) (ts : List ThreadParts) (t : ThreadParts) (ps : List Part) → 0 < length ts → t ≡ get_or ts 0 t → ps ≡ t.parts.items → ThreadsAreKeyed key ts → PartsAreKeyed key t.writes ps × ThreadsAreKeyed key (rest_of ts)
+pub threads_keys : (key : ℕ → Value → Option (ℕ × ℕ)) (ts : List ThreadParts) (t : ThreadParts)
+    (ps : List Part) → 0 < length ts → t ≡ get_or ts 0 t → ps ≡ t.parts.items
+    → ThreadsAreKeyed key ts → PartsAreKeyed key t.writes ps × ThreadsAreKeyed key (rest_of ts)
 threads_keys key ts t ps lt is same k =
     let h : ThreadsAreKeyed key (t ∷ rest_of ts) = subst (λ (l : List ThreadParts). ThreadsAreKeyed key l) (first_and_rest ts t lt is) k in
     (subst (λ (l : List Part). PartsAreKeyed key t.writes l) (sym same) h.0, h.1)
 
 -- where the search goes on
-pub keyed : (key : ℕ → Value → Option (ℕ × ℕ)) (n : ℕ) (f g : Prefix) (ts : List ThreadParts) (ps : List Part) (i : ℕ) (p : Part) (is : Bool) (u v : Tally) → Going n (prefix_lists f) ts ps i p (prefix_lists g) → HasJoined f p g → AreKeys key f.runs.events.items f.reads f.writes → ThreadsAreKeyed key ts → ((k : ℕ → Value → Option (ℕ × ℕ)) → AreKeys k g.runs.events.items g.reads g.writes → ThreadsAreKeyed k (rest_of ts) → GoesOn n is (prefix_lists g) (rest_of ts) u v) → GoesOn n is (prefix_lists g) (rest_of ts) u v
+pub keyed : (key : ℕ → Value → Option (ℕ × ℕ)) (n : ℕ) (f g : Prefix) (ts : List ThreadParts)
+    (ps : List Part) (i : ℕ) (p : Part) (is : Bool) (u v : Tally)
+    → Going n (prefix_lists f) ts ps i p (prefix_lists g) → HasJoined f p g
+    → AreKeys key f.runs.events.items f.reads f.writes → ThreadsAreKeyed key ts
+    → ((k : ℕ → Value → Option (ℕ × ℕ)) → AreKeys k g.runs.events.items g.reads g.writes
+    → ThreadsAreKeyed k (rest_of ts) → GoesOn n is (prefix_lists g) (rest_of ts) u v)
+    → GoesOn n is (prefix_lists g) (rest_of ts) u v
 keyed key n f g ts ps i p is u v going j fk tk h =
     let all : PartsAreKeyed key going.thread.writes ps × ThreadsAreKeyed key (rest_of ts) = threads_keys key ts going.thread ps going.some going.first going.runs tk in
-    h key (longer_keys key f p g i going.longer j fk (part_keys key going.thread.writes ps i p all.0 going.within going.one)) all.1
+    h key
+    (longer_keys key f p g i going.longer j fk (part_keys key going.thread.writes ps i p all.0
+    going.within going.one)) all.1
 
 -- where it leaves out a run
-pub left_out : (key : ℕ → Value → Option (ℕ × ℕ)) (n : ℕ) (f : Prefix) (ts : List ThreadParts) (thread : ThreadParts) (ps : List Part) (i : ℕ) (p : Part) (after : KeySet) (is : Bool) (t u : Tally) → 0 < length ts → thread ≡ get_or ts 0 thread → ps ≡ thread.parts.items → i < length ps → p ≡ get_or ps i p → AreKeys key f.runs.events.items f.reads f.writes → ThreadsAreKeyed key ts → HasWrites after (rest_of ts) → is ≡ false → TellsWithin is (IsRead f p) (IsStored f p after) → Searched n (going_on (prefix_lists f) (rest_of ts) 0 (take i ps)) t u × (u.count ≤ 16384) → Searched n (going_on (prefix_lists f) (rest_of ts) 0 (take (i + 1) ps)) t u × (u.count ≤ 16384)
+pub left_out : (key : ℕ → Value → Option (ℕ × ℕ)) (n : ℕ) (f : Prefix) (ts : List ThreadParts)
+    (thread : ThreadParts) (ps : List Part) (i : ℕ) (p : Part) (after : KeySet) (is : Bool)
+    (t u : Tally) → 0 < length ts → thread ≡ get_or ts 0 thread → ps ≡ thread.parts.items
+    → i < length ps → p ≡ get_or ps i p → AreKeys key f.runs.events.items f.reads f.writes
+    → ThreadsAreKeyed key ts → HasWrites after (rest_of ts) → is ≡ false
+    → TellsWithin is (IsRead f p) (IsStored f p after)
+    → Searched n (going_on (prefix_lists f) (rest_of ts) 0 (take i ps)) t u × (u.count ≤ 16384)
+    → Searched n (going_on (prefix_lists f) (rest_of ts) 0 (take (i + 1) ps)) t u
+    × (u.count ≤ 16384)
 left_out key n f ts thread ps i p after is t u some first runs lt one fk tk w e tells found =
     let all : PartsAreKeyed key thread.writes ps × ThreadsAreKeyed key (rest_of ts) = threads_keys key ts thread ps some first runs tk in
     passed_over n (prefix_lists f) (rest_of ts) ps i p t u lt one
-    (does_not_fit key f p after (rest_of ts) i fk (part_keys key thread.writes ps i p all.0 lt one) all.1 w (told_false is (IsRead f p) (IsStored f p after) e tells)) found
+    (does_not_fit key f p after (rest_of ts) i fk (part_keys key thread.writes ps i p all.0 lt one)
+    all.1 w (told_false is (IsRead f p) (IsStored f p after) e tells)) found
 
 -- the search through a layout
-pub searched_layout : (key : ℕ → Value → Option (ℕ × ℕ)) (l : Layout) (f : Prefix) (ts : List ThreadParts) (n : ℕ) (is : Bool) (old new : Tally) → prefix_lists f ≡ start l.initial.items → ((a b : ℕ) → HasKey f.reads a b → ⊥) × (f.writes ≡ l.initial_writes) → ts ≡ l.threads.items → n ≡ location_count l → old ≡ nothing → IsKeyed key l → AllFit (location_count l) (all_combinations l) → ((k : ℕ → Value → Option (ℕ × ℕ)) → AreKeys k f.runs.events.items f.reads f.writes → ThreadsAreKeyed k ts → AllFit n (combinations (prefix_lists f) ts) → old.count ≤ 16384 → Tells is (Searched n (combinations (prefix_lists f) ts) old new × (new.count ≤ 16384)) (AreTooMuch n (combinations (prefix_lists f) ts) old)) → Tells is (Searched (location_count l) (all_combinations l) nothing new × (new.count ≤ 16384)) (AreTooMuch (location_count l) (all_combinations l) nothing)
+pub searched_layout : (key : ℕ → Value → Option (ℕ × ℕ)) (l : Layout) (f : Prefix)
+    (ts : List ThreadParts) (n : ℕ) (is : Bool) (old new : Tally)
+    → prefix_lists f ≡ start l.initial.items
+    → ((a b : ℕ) → HasKey f.reads a b → ⊥) × (f.writes ≡ l.initial_writes) → ts ≡ l.threads.items
+    → n ≡ location_count l → old ≡ nothing → IsKeyed key l
+    → AllFit (location_count l) (all_combinations l)
+    → ((k : ℕ → Value → Option (ℕ × ℕ)) → AreKeys k f.runs.events.items f.reads f.writes
+    → ThreadsAreKeyed k ts → AllFit n (combinations (prefix_lists f) ts) → old.count ≤ 16384
+    → Tells is (Searched n (combinations (prefix_lists f) ts) old new × (new.count ≤ 16384))
+    (AreTooMuch n (combinations (prefix_lists f) ts) old))
+    → Tells is (Searched (location_count l) (all_combinations l) nothing new × (new.count ≤ 16384))
+    (AreTooMuch (location_count l) (all_combinations l) nothing)
 searched_layout key l f ts n is old new made keys same count empty k fit h =
-    subst (λ (t : Tally). Tells is (Searched (location_count l) (all_combinations l) t new × (new.count ≤ 16384)) (AreTooMuch (location_count l) (all_combinations l) t)) empty
-    (subst (λ (c : List PrefixLists). Tells is (Searched (location_count l) c old new × (new.count ≤ 16384)) (AreTooMuch (location_count l) c old)) combined
-    (subst (λ (m : ℕ). Tells is (Searched m (combinations (prefix_lists f) ts) old new × (new.count ≤ 16384)) (AreTooMuch m (combinations (prefix_lists f) ts) old)) count
-    (h key (first_keys key l f made keys k) (subst (λ (t : List ThreadParts). ThreadsAreKeyed key t) (sym same) k.threads) fits few)))
+    subst
+    (λ (t : Tally). Tells is
+    (Searched (location_count l) (all_combinations l) t new × (new.count ≤ 16384))
+    (AreTooMuch (location_count l) (all_combinations l) t)) empty
+    (subst
+    (λ (c : List PrefixLists). Tells is
+    (Searched (location_count l) c old new × (new.count ≤ 16384))
+    (AreTooMuch (location_count l) c old)) combined
+    (subst
+    (λ (m : ℕ). Tells is
+    (Searched m (combinations (prefix_lists f) ts) old new × (new.count ≤ 16384))
+    (AreTooMuch m (combinations (prefix_lists f) ts) old)) count
+    (h key (first_keys key l f made keys k)
+    (subst (λ (t : List ThreadParts). ThreadsAreKeyed key t) (sym same) k.threads) fits
+    few)))
   where
     combined : combinations (prefix_lists f) ts ≡ all_combinations l
-    combined = ap (λ (b : PrefixLists). combinations b ts) made ∙ ap (λ (t : List ThreadParts). combinations (start l.initial.items) t) same
+    combined =
+        ap (λ (b : PrefixLists). combinations b ts) made
+        ∙ ap (λ (t : List ThreadParts). combinations (start l.initial.items) t) same
 
     fits : AllFit n (combinations (prefix_lists f) ts)
-    fits = subst (λ (m : ℕ). AllFit m (combinations (prefix_lists f) ts)) (sym count) (subst (λ (c : List PrefixLists). AllFit (location_count l) c) (sym combined) fit)
+    fits =
+        subst (λ (m : ℕ). AllFit m (combinations (prefix_lists f) ts)) (sym count)
+        (subst (λ (c : List PrefixLists). AllFit (location_count l) c) (sym combined) fit)
 
     few : old.count ≤ 16384
     few = let e : old.count ≡ 0 = ap (λ (t : Tally). t.count) empty in omega (arith, e)
 
-pub found_all : (n : ℕ) (cs : List PrefixLists) (is : Bool) (new : Tally) → is ≡ true → Tells is (Searched n cs nothing new × (new.count ≤ 16384)) (AreTooMuch n cs nothing) → Searched n cs nothing new × (new.count ≤ 16384)
-found_all n cs is new e h = tells_true is (Searched n cs nothing new × (new.count ≤ 16384)) (AreTooMuch n cs nothing) e h
+pub found_all : (n : ℕ) (cs : List PrefixLists) (is : Bool) (new : Tally) → is ≡ true
+    → Tells is (Searched n cs nothing new × (new.count ≤ 16384)) (AreTooMuch n cs nothing)
+    → Searched n cs nothing new × (new.count ≤ 16384)
+found_all n cs is new e h =
+    tells_true is (Searched n cs nothing new × (new.count ≤ 16384)) (AreTooMuch n cs nothing) e h
 
-pub found_over : (n : ℕ) (cs : List PrefixLists) (is : Bool) (new : Tally) → is ≡ false → Tells is (Searched n cs nothing new × (new.count ≤ 16384)) (AreTooMuch n cs nothing) → AreTooMuch n cs nothing
-found_over n cs is new e h = tells_false is (Searched n cs nothing new × (new.count ≤ 16384)) (AreTooMuch n cs nothing) e h
+pub found_over : (n : ℕ) (cs : List PrefixLists) (is : Bool) (new : Tally) → is ≡ false
+    → Tells is (Searched n cs nothing new × (new.count ≤ 16384)) (AreTooMuch n cs nothing)
+    → AreTooMuch n cs nothing
+found_over n cs is new e h =
+    tells_false is (Searched n cs nothing new × (new.count ≤ 16384)) (AreTooMuch n cs nothing) e h

@@ -8,10 +8,13 @@ use Rattle.thread_runs.specs.Held.{ShowsServed}
 use Rattle.run_combinations.proofs.Gathering.{pushed_at}
 
 abbrev pub AreServed : Program → List Value → List (Vec Run Global) → Type 0
-AreServed p V runs = (t : ℕ) (v : Vec Run Global) → slice_get runs t ≡ Some v → ShowsServed p t V v.items
+AreServed p V runs =
+    (t : ℕ) (v : Vec Run Global) → slice_get runs t ≡ Some v → ShowsServed p t V v.items
 
-pub one_served : (p : Program) (V : List Value) (n : ℕ) (runs after : List (Vec Run Global)) (rs : Vec Run Global)
-    → length runs ≡ n → AreServed p V runs → ShowsServed p n V rs.items → after ≡ runs ++ rs ∷ [] → AreServed p V after
+pub one_served : (p : Program) (V : List Value) (n : ℕ) (runs after : List (Vec Run Global))
+    (rs : Vec Run Global)
+    → length runs ≡ n → AreServed p V runs → ShowsServed p n V rs.items → after ≡ runs ++ rs ∷ []
+    → AreServed p V after
 one_served p V n runs after rs many are here e t v got =
     elim (pushed_at runs rs v t (ap (λ (l : List (Vec Run Global)). slice_get l t) (sym e) ∙ got)) [
       | inl old ↦ are t v old

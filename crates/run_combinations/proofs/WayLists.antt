@@ -8,47 +8,65 @@ use Rattle.run_combinations.proofs.Filters.{IsFiltered-append, IsFiltered-split,
 use Rattle.run_combinations.proofs.Deriving.{longer, possible_is_way, way_is_possible, possible_front, possible_goes_on}
 
 -- the possible ways with one load more
-pub ways_more : (g : Accesses) (p : ℕ) → p < length g.sources → (fronts next : List (List ℕ)) → IsFiltered (IsPossible g) (tuples [] (take p g.sources)) fronts → IsFiltered (IsPossible g) (flat_map (nexts (get_or g.sources p [])) fronts) next → IsFiltered (IsPossible g) (tuples [] (take (p + 1) g.sources)) next
+pub ways_more : (g : Accesses) (p : ℕ) → p < length g.sources → (fronts next : List (List ℕ))
+    → IsFiltered (IsPossible g) (tuples [] (take p g.sources)) fronts
+    → IsFiltered (IsPossible g) (flat_map (nexts (get_or g.sources p [])) fronts) next
+    → IsFiltered (IsPossible g) (tuples [] (take (p + 1) g.sources)) next
 ways_more g p lt fronts next before step =
     subst (λ (l : List (List ℕ)). IsFiltered (IsPossible g) l next) (sym same)
     (IsFiltered-through (IsPossible g) (IsPossible g) (nexts (get_or g.sources p []))
-    (λ f fails. none_of_map (IsPossible g) (λ x. f ++ x ∷ []) (λ x h. fails (possible_front g f x h)) (get_or g.sources p []))
+    (λ f fails. none_of_map (IsPossible g) (λ x. f ++ x ∷ [])
+    (λ x h. fails (possible_front g f x h)) (get_or g.sources p []))
     (tuples [] (take p g.sources)) fronts next before step)
   where
-    same : tuples [] (take (p + 1) g.sources) ≡ flat_map (nexts (get_or g.sources p [])) (tuples [] (take p g.sources))
-    same = ap (λ (l : List (List ℕ)). tuples [] l) (take_more g.sources p [] lt) ∙ tuples_more (take p g.sources) (get_or g.sources p []) []
+    same : tuples [] (take (p + 1) g.sources)
+        ≡ flat_map (nexts (get_or g.sources p [])) (tuples [] (take p g.sources))
+    same =
+        ap (λ (l : List (List ℕ)). tuples [] l) (take_more g.sources p [] lt)
+        ∙ tuples_more (take p g.sources) (get_or g.sources p []) []
 
 -- a fact of each member
 abbrev pub Each : {X : Type 0} → (X → Type 0) → List X → Type 0
 Each P [] = Unit {0}
 Each P (x ∷ xs) = P x × Each P xs
 
-Each-append : {X : Type 0} (P : X → Type 0) (xs ys : List X) → Each P xs → Each P ys → Each P (xs ++ ys)
+Each-append : {X : Type 0} (P : X → Type 0) (xs ys : List X) → Each P xs → Each P ys
+    → Each P (xs ++ ys)
 Each-append P [] ys a b = b
 Each-append P (x ∷ xs) ys a b = (a.0, Each-append P xs ys a.1 b)
 
-pub Each-map : {X : Type 0} (P Q : X → Type 0) → ((x : X) → P x → Q x) → (xs : List X) → Each P xs → Each Q xs
+pub Each-map : {X : Type 0} (P Q : X → Type 0) → ((x : X) → P x → Q x) → (xs : List X) → Each P xs
+    → Each Q xs
 Each-map P Q h [] a = tt
 Each-map P Q h (x ∷ xs) a = (h x a.0, Each-map P Q h xs a.1)
 
-pub Each-at : {X : Type 0} (P : X → Type 0) (xs : List X) (k : ℕ) (d : X) → k < length xs → Each P xs → P (get_or xs k d)
+pub Each-at : {X : Type 0} (P : X → Type 0) (xs : List X) (k : ℕ) (d : X) → k < length xs
+    → Each P xs → P (get_or xs k d)
 Each-at P [] k d lt a = absurd (omega (arith, lt))
 Each-at P (x ∷ xs) zero d lt a = a.0
 Each-at P (x ∷ xs) (suc k) d lt a = Each-at P xs k d (omega (arith, lt)) a.1
 
-each_of : (P Q : List ℕ → Type 0) (f : ℕ → List (List ℕ)) → ((x : ℕ) (ys : List (List ℕ)) → IsFiltered P (f x) ys → Each Q ys) → (d : List ℕ) (ys : List (List ℕ)) → IsFiltered P (flat_map f d) ys → Each Q ys
+each_of : (P Q : List ℕ → Type 0) (f : ℕ → List (List ℕ))
+    → ((x : ℕ) (ys : List (List ℕ)) → IsFiltered P (f x) ys → Each Q ys)
+    → (d : List ℕ) (ys : List (List ℕ)) → IsFiltered P (flat_map f d) ys → Each Q ys
 each_of P Q f every [] ys none = tt
 each_of P Q f every (x ∷ d) ys h =
     let s : Split P (f x) (flat_map f d) ys = IsFiltered-split P (f x) (flat_map f d) ys h in
-    subst (λ (l : List (List ℕ)). Each Q l) (sym s.whole) (Each-append Q s.first s.second (every x s.first s.of_first) (each_of P Q f every d s.second s.of_second))
+    subst (λ (l : List (List ℕ)). Each Q l) (sym s.whole) (Each-append Q s.first s.second
+    (every x s.first s.of_first) (each_of P Q f every d s.second s.of_second))
 
 -- what is kept of tuples has their length and the fact
-pub all_fit : (P : List ℕ → Type 0) (cs : List (List ℕ)) (front : List ℕ) (ys : List (List ℕ)) → IsFiltered P (tuples front cs) ys → Each (λ f. (length f ≡ length front + length cs) × P f) ys
+pub all_fit : (P : List ℕ → Type 0) (cs : List (List ℕ)) (front : List ℕ) (ys : List (List ℕ))
+    → IsFiltered P (tuples front cs) ys → Each (λ f. (length f ≡ length front + length cs) × P f) ys
 all_fit P [] front ys (kept p none) = ((omega arith, p), tt)
 all_fit P [] front ys (left p none) = tt
 all_fit P (c ∷ cs) front ys h =
-    each_of P (λ f. (length f ≡ length front + suc (length cs)) × P f) (λ x. tuples (front ++ x ∷ []) cs)
-    (λ x us t. Each-map (λ f. (length f ≡ length (front ++ x ∷ []) + length cs) × P f) (λ f. (length f ≡ length front + suc (length cs)) × P f) (λ f a. (omega (arith, a.0, longer front x), a.1)) us (all_fit P cs (front ++ x ∷ []) us t))
+    each_of P (λ f. (length f ≡ length front + suc (length cs)) × P f)
+    (λ x. tuples (front ++ x ∷ []) cs)
+    (λ x us t. Each-map (λ f. (length f ≡ length (front ++ x ∷ []) + length cs) × P f)
+    (λ f. (length f ≡ length front + suc (length cs)) × P f)
+    (λ f a. (omega (arith, a.0, longer front x), a.1)) us
+    (all_fit P cs (front ++ x ∷ []) us t))
     c ys h
 
 -- one of each list of choices
@@ -64,64 +82,90 @@ chosen_long [] (x ∷ xs) h = absurd h
 chosen_long (c ∷ cs) [] h = absurd h
 chosen_long (c ∷ cs) (x ∷ xs) h = ap (λ (k : ℕ). suc k) (chosen_long cs xs h.1)
 
-chosen_each : (cs : List (List ℕ)) (xs : List ℕ) → AreChosen cs xs → (i : ℕ) → i < length xs → Contains (get_or cs i []) (get_or xs i 0)
+chosen_each : (cs : List (List ℕ)) (xs : List ℕ) → AreChosen cs xs → (i : ℕ) → i < length xs
+    → Contains (get_or cs i []) (get_or xs i 0)
 chosen_each [] [] h i lt = absurd (omega (arith, lt))
 chosen_each [] (x ∷ xs) h i lt = absurd h
 chosen_each (c ∷ cs) [] h i lt = absurd h
 chosen_each (c ∷ cs) (x ∷ xs) h zero lt = h.0
 chosen_each (c ∷ cs) (x ∷ xs) h (suc i) lt = chosen_each cs xs h.1 i (omega (arith, lt))
 
-over_choices : (P Q : List ℕ → Type 0) (f : ℕ → List (List ℕ)) (d : List ℕ) (ys : List (List ℕ)) → ((x : ℕ) → Contains d x → (us : List (List ℕ)) → IsFiltered P (f x) us → IsFiltered Q (f x) us) → IsFiltered P (flat_map f d) ys → IsFiltered Q (flat_map f d) ys
+over_choices : (P Q : List ℕ → Type 0) (f : ℕ → List (List ℕ)) (d : List ℕ) (ys : List (List ℕ))
+    → ((x : ℕ) → Contains d x → (us : List (List ℕ)) → IsFiltered P (f x) us
+    → IsFiltered Q (f x) us) → IsFiltered P (flat_map f d) ys
+    → IsFiltered Q (flat_map f d) ys
 over_choices P Q f [] ys every none = none
 over_choices P Q f (x ∷ d) ys every h =
     let s : Split P (f x) (flat_map f d) ys = IsFiltered-split P (f x) (flat_map f d) ys h in
     subst (λ (l : List (List ℕ)). IsFiltered Q (f x ++ flat_map f d) l) (sym s.whole)
-    (IsFiltered-append Q (f x) s.first (flat_map f d) s.second (every x (0, omega arith, refl) s.first s.of_first)
-    (over_choices P Q f d s.second (λ y there. every y (suc there.0, omega (arith, there.1), there.2)) s.of_second))
+    (IsFiltered-append Q (f x) s.first (flat_map f d) s.second
+    (every x (0, omega arith, refl) s.first s.of_first)
+    (over_choices P Q f d s.second
+    (λ y there. every y (suc there.0, omega (arith, there.1), there.2)) s.of_second))
 
 -- a fact that is the same of tuples
-same_in_tuples : (P Q : List ℕ → Type 0) (cs : List (List ℕ)) (front : List ℕ) (ys : List (List ℕ)) → ((rest way : List ℕ) → AreChosen cs rest → way ≡ front ++ rest → (P way → Q way) × ((P way → ⊥) → Q way → ⊥)) → IsFiltered P (tuples front cs) ys → IsFiltered Q (tuples front cs) ys
-same_in_tuples P Q [] front ys same (kept p none) = kept ((same [] front tt (sym (append-nil front))).0 p) none
-same_in_tuples P Q [] front ys same (left p none) = left ((same [] front tt (sym (append-nil front))).1 p) none
+same_in_tuples : (P Q : List ℕ → Type 0) (cs : List (List ℕ)) (front : List ℕ) (ys : List (List ℕ))
+    → ((rest way : List ℕ) → AreChosen cs rest → way ≡ front ++ rest
+    → (P way → Q way) × ((P way → ⊥) → Q way → ⊥)) → IsFiltered P (tuples front cs) ys
+    → IsFiltered Q (tuples front cs) ys
+same_in_tuples P Q [] front ys same (kept p none) =
+    kept ((same [] front tt (sym (append-nil front))).0 p) none
+same_in_tuples P Q [] front ys same (left p none) =
+    left ((same [] front tt (sym (append-nil front))).1 p) none
 same_in_tuples P Q (c ∷ cs) front ys same h =
     over_choices P Q (λ x. tuples (front ++ x ∷ []) cs) c ys
-    (λ x there us t. same_in_tuples P Q cs (front ++ x ∷ []) us (λ rest way are is. same (x ∷ rest) way (there, are) (is ∙ append_assoc front (x ∷ []) rest)) t)
+    (λ x there us t. same_in_tuples P Q cs (front ++ x ∷ []) us
+    (λ rest way are is.
+    same (x ∷ rest) way (there, are) (is ∙ append_assoc front (x ∷ []) rest)) t)
     h
 
 -- where each load has its store, the possible ways are those without a cycle
-pub ways_all : (n : ℕ) (g : Accesses) → IsProper n g → (ways : List (List ℕ)) → IsFiltered (IsPossible g) (tuples [] g.sources) ways → IsFiltered (IsWay g) (tuples [] g.sources) ways
+pub ways_all : (n : ℕ) (g : Accesses) → IsProper n g → (ways : List (List ℕ))
+    → IsFiltered (IsPossible g) (tuples [] g.sources) ways
+    → IsFiltered (IsWay g) (tuples [] g.sources) ways
 ways_all n g p ways h = same_in_tuples (IsPossible g) (IsWay g) g.sources [] ways same h
   where
-    same : (rest way : List ℕ) → AreChosen g.sources rest → way ≡ rest → (IsPossible g way → IsWay g way) × ((IsPossible g way → ⊥) → IsWay g way → ⊥)
+    same : (rest way : List ℕ) → AreChosen g.sources rest → way ≡ rest
+        → (IsPossible g way → IsWay g way) × ((IsPossible g way → ⊥) → IsWay g way → ⊥)
     same rest way are is = (
       possible_is_way n g way p (omega (arith, long, p.paired)),
-      (λ never acyclic. way_is_possible n g way p (omega (arith, long, p.paired)) allowed acyclic never),
+      (λ never acyclic.
+          way_is_possible n g way p (omega (arith, long, p.paired)) allowed acyclic never),
     )
       where
         long : length way ≡ length g.sources
         long = ap (λ (l : List ℕ). length l) is ∙ chosen_long g.sources rest are
 
         allowed : (i : ℕ) → i < length way → Source g i (get_or way i 0)
-        allowed i lt = subst (λ (l : List ℕ). Source g i (get_or l i 0)) (sym is) (chosen_each g.sources rest are i (subst (λ (l : List ℕ). i < length l) is lt))
+        allowed i lt =
+            subst (λ (l : List ℕ). Source g i (get_or l i 0)) (sym is)
+            (chosen_each g.sources rest are i (subst (λ (l : List ℕ). i < length l) is lt))
 
-no_members : {X : Type 0} (us vs : List X) → (let e : List X = [] in e) ≡ us ++ vs → (us ≡ []) × (vs ≡ [])
+no_members : {X : Type 0} (us vs : List X) → (let e : List X = [] in e) ≡ us ++ vs
+    → (us ≡ []) × (vs ≡ [])
 no_members [] vs e = (refl, sym e)
 no_members (u ∷ us) vs e = absurd cc
 
-none_of_one : (P : List ℕ → Type 0) (f : ℕ → List (List ℕ)) (d : List ℕ) (s : ℕ) → (k : ℕ) → k < length d → get_or d k s ≡ s → IsFiltered P (flat_map f d) [] → IsFiltered P (f s) []
+none_of_one : (P : List ℕ → Type 0) (f : ℕ → List (List ℕ)) (d : List ℕ) (s : ℕ) → (k : ℕ)
+    → k < length d → get_or d k s ≡ s → IsFiltered P (flat_map f d) [] → IsFiltered P (f s) []
 none_of_one P f [] s k lt is h = absurd (omega (arith, lt))
 none_of_one P f (x ∷ d) s zero lt is h =
     let t : Split P (f x) (flat_map f d) [] = IsFiltered-split P (f x) (flat_map f d) [] h in
-    subst (λ (y : ℕ). IsFiltered P (f y) []) is (subst (λ (l : List (List ℕ)). IsFiltered P (f x) l) (no_members t.first t.second t.whole).0 t.of_first)
+    subst (λ (y : ℕ). IsFiltered P (f y) []) is (subst (λ (l : List (List ℕ)). IsFiltered P (f x) l)
+    (no_members t.first t.second t.whole).0 t.of_first)
 none_of_one P f (x ∷ d) s (suc k) lt is h =
     let t : Split P (f x) (flat_map f d) [] = IsFiltered-split P (f x) (flat_map f d) [] h in
-    none_of_one P f d s k (omega (arith, lt)) is (subst (λ (l : List (List ℕ)). IsFiltered P (flat_map f d) l) (no_members t.first t.second t.whole).1 t.of_second)
+    none_of_one P f d s k (omega (arith, lt)) is (subst
+    (λ (l : List (List ℕ)). IsFiltered P (flat_map f d) l)
+    (no_members t.first t.second t.whole).1 t.of_second)
 
 -- a possible way begins a way
-possible_has_way : (n : ℕ) (g : Accesses) → IsProper n g → (ds : List (List ℕ)) (h : List ℕ) → ds ≡ drop (length h) g.sources → IsPossible g h → IsFiltered (IsWay g) (tuples h ds) [] → ⊥
+possible_has_way : (n : ℕ) (g : Accesses) → IsProper n g → (ds : List (List ℕ)) (h : List ℕ)
+    → ds ≡ drop (length h) g.sources → IsPossible g h → IsFiltered (IsWay g) (tuples h ds) [] → ⊥
 possible_has_way n g p [] h e possible (left never none) =
     let l : length (drop (length h) g.sources) ≡ 0 = ap (λ (u : List (List ℕ)). length u) (sym e) in
-    never (possible_is_way n g h p (omega (arith, l, length-drop (length h) g.sources, p.paired)) possible)
+    never (possible_is_way n g h p (omega (arith, l, length-drop (length h) g.sources, p.paired))
+    possible)
 possible_has_way n g p (d ∷ ds) h e possible f =
     possible_goes_on n g h p (omega (arith, lt, p.paired)) possible
     (λ s source more. possible_has_way n g p ds (h ++ s ∷ []) (tail s) more
@@ -129,7 +173,10 @@ possible_has_way n g p (d ∷ ds) h e possible f =
     none_of_one (IsWay g) (λ x. tuples (h ++ x ∷ []) ds) d s there.0 there.1 there.2 f))
   where
     lt : length h < length g.sources
-    lt = let l : suc (length ds) ≡ length (drop (length h) g.sources) = ap (λ (u : List (List ℕ)). length u) e in omega (arith, l, length-drop (length h) g.sources)
+    lt =
+        let l : suc (length ds) ≡ length (drop (length h) g.sources) =
+        ap (λ (u : List (List ℕ)). length u) e in
+        omega (arith, l, length-drop (length h) g.sources)
 
     parts : d ∷ ds ≡ get_or g.sources (length h) [] ∷ drop (suc (length h)) g.sources
     parts = e ∙ drop-cons g.sources (length h) [] lt
@@ -144,7 +191,10 @@ possible_has_way n g p (d ∷ ds) h e possible f =
         t ∙ ap (λ (j : ℕ). drop j g.sources) k
 
 -- of the ways that a possible way begins there are as many as of possible next ones, or more
-more_nexts : (n : ℕ) (g : Accesses) → IsProper n g → (h : List ℕ) (ds : List (List ℕ)) → ((x : ℕ) → ds ≡ drop (length (h ++ x ∷ [])) g.sources) → (d : List ℕ) (us zs : List (List ℕ)) → IsFiltered (IsPossible g) (nexts d h) us → IsFiltered (IsWay g) (flat_map (λ x. tuples (h ++ x ∷ []) ds) d) zs → length us ≤ length zs
+more_nexts : (n : ℕ) (g : Accesses) → IsProper n g → (h : List ℕ) (ds : List (List ℕ))
+    → ((x : ℕ) → ds ≡ drop (length (h ++ x ∷ [])) g.sources) → (d : List ℕ) (us zs : List (List ℕ))
+    → IsFiltered (IsPossible g) (nexts d h) us
+    → IsFiltered (IsWay g) (flat_map (λ x. tuples (h ++ x ∷ []) ds) d) zs → length us ≤ length zs
 more_nexts n g p h ds e [] us zs none t = omega arith
 more_nexts n g p h ds e (x ∷ d) us zs (kept {ys = vs} possible f) t =
     let s : Split (IsWay g) (tuples (h ++ x ∷ []) ds) (flat_map (λ y. tuples (h ++ y ∷ []) ds) d) zs = IsFiltered-split (IsWay g) (tuples (h ++ x ∷ []) ds) (flat_map (λ y. tuples (h ++ y ∷ []) ds) d) zs t in
@@ -163,7 +213,11 @@ more_nexts n g p h ds e (x ∷ d) us zs (left never f) t =
     omega (arith, l, length-append s.first s.second, rest)
 
 -- the same for the first ones of a list
-more_part : (n : ℕ) (g : Accesses) → IsProper n g → (p : ℕ) (c : List ℕ) (ds : List (List ℕ)) → ds ≡ drop (p + 1) g.sources → (k : ℕ) (xs fronts us zs : List (List ℕ)) → Each (λ f. (length f ≡ p) × IsPossible g f) fronts → IsFiltered (IsPossible g) xs fronts → IsFiltered (IsPossible g) (flat_map (nexts c) (take k fronts)) us → IsFiltered (IsWay g) (flat_map (λ f. tuples f (c ∷ ds)) xs) zs → length us ≤ length zs
+more_part : (n : ℕ) (g : Accesses) → IsProper n g → (p : ℕ) (c : List ℕ) (ds : List (List ℕ))
+    → ds ≡ drop (p + 1) g.sources → (k : ℕ) (xs fronts us zs : List (List ℕ))
+    → Each (λ f. (length f ≡ p) × IsPossible g f) fronts → IsFiltered (IsPossible g) xs fronts
+    → IsFiltered (IsPossible g) (flat_map (nexts c) (take k fronts)) us
+    → IsFiltered (IsWay g) (flat_map (λ f. tuples f (c ∷ ds)) xs) zs → length us ≤ length zs
 more_part n g q p c ds e zero xs fronts us zs fit f none t = omega arith
 more_part n g q p c ds e (suc k) [] fronts us zs fit none none t = omega arith
 more_part n g q p c ds e (suc k) (x ∷ xs) fronts us zs fit (kept {ys = vs} possible f) h t =
@@ -181,14 +235,24 @@ more_part n g q p c ds e (suc k) (x ∷ xs) fronts us zs fit (left never f) h t 
     omega (arith, lb, length-append b.first b.second, rest)
 
 -- there are as many ways as possible beginnings, or more
-pub no_fewer_ways : (n : ℕ) (g : Accesses) → IsProper n g → (p k : ℕ) → p < length g.sources → (fronts us all : List (List ℕ)) → IsFiltered (IsPossible g) (tuples [] (take p g.sources)) fronts → Each (λ f. (length f ≡ p) × IsPossible g f) fronts → IsFiltered (IsPossible g) (flat_map (nexts (get_or g.sources p [])) (take k fronts)) us → IsFiltered (IsWay g) (tuples [] g.sources) all → length us ≤ length all
+pub no_fewer_ways : (n : ℕ) (g : Accesses) → IsProper n g → (p k : ℕ) → p < length g.sources
+    → (fronts us all : List (List ℕ))
+    → IsFiltered (IsPossible g) (tuples [] (take p g.sources)) fronts
+    → Each (λ f. (length f ≡ p) × IsPossible g f) fronts
+    → IsFiltered (IsPossible g) (flat_map (nexts (get_or g.sources p [])) (take k fronts)) us
+    → IsFiltered (IsWay g) (tuples [] g.sources) all → length us ≤ length all
 no_fewer_ways n g q p k lt fronts us all f fit h t =
-    more_part n g q p (get_or g.sources p []) (drop (p + 1) g.sources) refl k (tuples [] (take p g.sources)) fronts us all fit f h
+    more_part n g q p (get_or g.sources p []) (drop (p + 1) g.sources) refl k
+    (tuples [] (take p g.sources)) fronts us all fit f h
     (subst (λ (l : List (List ℕ)). IsFiltered (IsWay g) l all) whole t)
   where
-    whole : tuples [] g.sources ≡ flat_map (λ f. tuples f (get_or g.sources p [] ∷ drop (p + 1) g.sources)) (tuples [] (take p g.sources))
+    whole : tuples [] g.sources
+        ≡ flat_map (λ f. tuples f (get_or g.sources p [] ∷ drop (p + 1) g.sources))
+        (tuples [] (take p g.sources))
     whole =
         let j : suc p ≡ p + 1 = omega arith in
         ap (λ (l : List (List ℕ)). tuples [] l) (sym (take-append-drop p g.sources))
         ∙ tuples-append (take p g.sources) (drop p g.sources) []
-        ∙ ap (λ (l : List (List ℕ)). flat_map (λ f. tuples f l) (tuples [] (take p g.sources))) (drop-cons g.sources p [] lt ∙ ap (λ (m : ℕ). get_or g.sources p [] ∷ drop m g.sources) j)
+        ∙ ap (λ (l : List (List ℕ)). flat_map (λ f. tuples f l) (tuples [] (take p g.sources)))
+        (drop-cons g.sources p [] lt
+        ∙ ap (λ (m : ℕ). get_or g.sources p [] ∷ drop m g.sources) j)

@@ -33,7 +33,8 @@ use Rattle.running_bench.specs.Texts.{AreAfter}
 
 -- ---- a node and what it stands on are of one test
 
-key_test : (test : ℕ) (ks : List SlotKey) (n : Node) → Has (input_nodes (keys_at test ks)) n → n.test ≡ test
+key_test : (test : ℕ) (ks : List SlotKey) (n : Node) → Has (input_nodes (keys_at test ks)) n
+    → n.test ≡ test
 key_test test [] n h = absurd h
 key_test test (slots.Test part ∷ ks) n h = key_test test ks n h
 key_test test (slots.Item number ∷ ks) n h = key_test test ks n h
@@ -43,7 +44,8 @@ key_test test (slots.Value kind of name ∷ ks) n h = elim h [
   | inr l ↦ key_test test ks n l
 ]
 
-thread_nodes : (id part : ℕ) (threads : List ℕ) (more : List Key) (n : Node) → Has (input_nodes (thread_parts id part threads ++ more)) n → Has (input_nodes more) n
+thread_nodes : (id part : ℕ) (threads : List ℕ) (more : List Key) (n : Node)
+    → Has (input_nodes (thread_parts id part threads ++ more)) n → Has (input_nodes more) n
 thread_nodes id part [] more n h = h
 thread_nodes id part (t ∷ ts) more n h = thread_nodes id (part + 1) ts more n h
 
@@ -51,7 +53,8 @@ row_nodes : (row : Option TestRow) (n : Node) → Has (input_nodes (row_parts ro
 row_nodes None n h = h
 row_nodes (Some t) n h = thread_nodes t.id 6 t.threads.items _ n h
 
-input_test : (t : NodeTable) (kind : Kind) (test of : ℕ) (n : Node) → Has (input_nodes (inputs_of t kind test of)) n → n.test ≡ test
+input_test : (t : NodeTable) (kind : Kind) (test of : ℕ) (n : Node)
+    → Has (input_nodes (inputs_of t kind test of)) n → n.test ≡ test
 input_test t Space test of n h = absurd (row_nodes (row_of t.tests.items test) n h)
 input_test t Group test of n h = key_test test (slot_keys t.slots.items Group of) n h
 input_test t Check test of n h = key_test test (slot_keys t.slots.items Check of) n h
@@ -59,26 +62,31 @@ input_test t Verdict test of n h = key_test test (slot_keys t.slots.items Verdic
 
 stands_by : (t : StampedTexts) (d : ℕ) (n m : Node) → StandsOnBy d (net_of t) n m → m.test ≡ n.test
 stands_by t zero n m e = sym (ap (λ (k : Node). k.test) e)
-stands_by t (suc d) n m h = stands_by t d h.0 m h.2 ∙ input_test t.parts.table n.kind n.test n.of h.0 h.1
+stands_by t (suc d) n m h =
+    stands_by t d h.0 m h.2 ∙ input_test t.parts.table n.kind n.test n.of h.0 h.1
 
 pub stands_in_test : (t : StampedTexts) (n m : Node) → StandsOn (net_of t) n m → m.test ≡ n.test
 stands_in_test t n m h = stands_by t h.0 n m h.1
 
 -- ---- the row of a test
 
-has_row : (rs : List TestRow) (i : ℕ) (r : TestRow) → slice_get rs i ≡ Some r → Has (map (λ (x : TestRow). x.id) rs) r.id
+has_row : (rs : List TestRow) (i : ℕ) (r : TestRow) → slice_get rs i ≡ Some r
+    → Has (map (λ (x : TestRow). x.id) rs) r.id
 has_row [] i r e = absurd (none-some r e)
 has_row (x ∷ rs) zero r e = let same : x ≡ r = cc in inl (ap (λ (k : TestRow). k.id) same)
 has_row (x ∷ rs) (suc i) r e = inr (has_row rs i r e)
 
-pub row_position : (rs : List TestRow) (i : ℕ) (r : TestRow) → AreApart (map (λ (x : TestRow). x.id) rs) → slice_get rs i ≡ Some r → position_or_len (λ (x : TestRow). x.id == r.id) rs ≡ i
+pub row_position : (rs : List TestRow) (i : ℕ) (r : TestRow)
+    → AreApart (map (λ (x : TestRow). x.id) rs) → slice_get rs i ≡ Some r
+    → position_or_len (λ (x : TestRow). x.id == r.id) rs ≡ i
 row_position [] i r apart e = absurd (none-some r e)
 row_position (x ∷ rs) zero r apart e = let same : x ≡ r = cc in elim (eqb_tells x.id r.id) [
   | inl t ↦ rw t.0 refl
   | inr f ↦ absurd (f.1 (ap (λ (k : TestRow). k.id) same))
 ]
 row_position (x ∷ rs) (suc i) r apart e = elim (eqb_tells x.id r.id) [
-  | inl t ↦ absurd (apart.0 (subst (Has (map (λ (y : TestRow). y.id) rs)) (sym t.1) (has_row rs i r e)))
+  | inl t ↦ absurd (apart.0 (subst (Has (map (λ (y : TestRow). y.id) rs)) (sym t.1)
+      (has_row rs i r e)))
   | inr f ↦ rw f.0 (let rest = row_position rs i r apart.1 e in omega (arith, rest))
 ]
 
@@ -88,8 +96,10 @@ module _ (t : StampedTexts) (all : List BoardOp) (node : Node) (row first end : 
   abbrev b : BoardContent
   b = board_after all
 
-  pub holds_above : IsSound t → AreAfter t all → row ≡ position_or_len (λ (x : TestRow). x.id == node.test) t.parts.table.tests.items
-      → IsRowRange (length (board_cells b)) (length b.columns) row first end → HoldsAbove (net_of t) (verdict_of t) node (board_cells b) first end
+  pub holds_above : IsSound t → AreAfter t all
+      → row ≡ position_or_len (λ (x : TestRow). x.id == node.test) t.parts.table.tests.items
+      → IsRowRange (length (board_cells b)) (length b.columns) row first end
+      → HoldsAbove (net_of t) (verdict_of t) node (board_cells b) first end
   holds_above sound after row_is range test model verdict v stands =
       let i = test_index test (texts_of t.texts).tests in
       let cell = cell_in t test model verdict sound v in

@@ -24,22 +24,30 @@ few_left (x ∷ xs) (suc i) = let r = few_left xs i in omega (arith, r)
 
 -- so many tests and slots
 module _ (p q : Parts) (tests slots : ℕ) where
-  product : length q.table.tests.items ≤ tests → length q.table.slots.items ≤ slots → length (used q.table) ≤ tests * slots
+  product : length q.table.tests.items ≤ tests → length q.table.slots.items ≤ slots
+      → length (used q.table) ≤ tests * slots
   product few_tests few_slots =
-      subst (λ (n : ℕ). n ≤ tests * slots) (sym (length-used_in q.table.slots.items q.table.tests.items)) (mul-le (length q.table.tests.items) (length q.table.slots.items) tests slots few_tests few_slots)
+      subst (λ (n : ℕ). n ≤ tests * slots)
+      (sym (length-used_in q.table.slots.items q.table.tests.items)) (mul-le
+      (length q.table.tests.items) (length q.table.slots.items) tests slots few_tests
+      few_slots)
 
 same_length : {A : Type 0} (xs ys : List A) → xs ≡ ys → length xs ≤ length ys
 same_length xs ys e = let l : length xs ≡ length ys = ap length e in omega (arith, l)
 
 -- no more nodes are used with the parts that are put
-pub few_used : (p q : Parts) (number : ℕ) (e : EditedParts) → Commits p number e q → length (used q.table) ≤ most_used p e
+pub few_used : (p q : Parts) (number : ℕ) (e : EditedParts) → Commits p number e q
+    → length (used q.table) ≤ most_used p e
 few_used p q number (edited.PutTest at row locations) c =
     let few : length q.table.tests.items ≤ length p.table.tests.items + 1 = subst (λ ts. length ts ≤ length p.table.tests.items + 1) (sym (c.changes).rows) (few_put p.table.tests.items at (c.changes).new) in
-    product p q (length p.table.tests.items + 1) (length p.table.slots.items) few (same_length q.table.slots.items p.table.slots.items ((c.changes).models).slots)
+    product p q (length p.table.tests.items + 1) (length p.table.slots.items) few
+    (same_length q.table.slots.items p.table.slots.items ((c.changes).models).slots)
 few_used p q number (edited.DropTest at) c =
     let left = few_left p.table.tests.items at in
     let few : length q.table.tests.items ≤ length p.table.tests.items + 1 = subst (λ ts. length ts ≤ length p.table.tests.items + 1) (sym (c.changes).rows) (omega (arith, left)) in
-    product p q (length p.table.tests.items + 1) (length p.table.slots.items) few (same_length q.table.slots.items p.table.slots.items ((c.changes).models).slots)
+    product p q (length p.table.tests.items + 1) (length p.table.slots.items) few
+    (same_length q.table.slots.items p.table.slots.items ((c.changes).models).slots)
 few_used p q number (edited.Models m) c =
     let same = same_length q.table.tests.items p.table.tests.items ((c.changes).tests).rows in
-    product p q (length p.table.tests.items + 1) (length m.slots.items) (omega (arith, same)) (same_length q.table.slots.items m.slots.items (c.changes).slots)
+    product p q (length p.table.tests.items + 1) (length m.slots.items) (omega (arith, same))
+    (same_length q.table.slots.items m.slots.items (c.changes).slots)

@@ -1,4 +1,5 @@
--- What crosses to the threads of a running bench holds no thread's own: its texts, what its jobs are given, and its prepared edits.
+-- What crosses to the threads of a running bench holds no thread's own: its texts, what its jobs
+-- are given, and its prepared edits.
 use denote.Param.Send.{IsSend, IsSync, sendable}
 use Rattle.std.proofs.Crossing.{crosses}
 use Rattle.text_values.proofs.name.Name.TheSendSync as name
@@ -26,13 +27,15 @@ use Rattle.cells.proofs.job.Done.TheSendSync as done
 use Rattle.desk.proofs.desk.Desk.TheSendSync as desk
 
 test_field_send : IsSend (Test.the_field).row
-test_field_send = search (name.the_send, proposition.crosses, crosses, sendable) depth 100 fits 20000
+test_field_send =
+    search (name.the_send, proposition.crosses, crosses, sendable) depth 100 fits 20000
 
 pub test_send : IsSend Test.the_row
 test_send = search (name.the_send, proposition.crosses, crosses, sendable) depth 100 fits 20000
 
 test_field_sync : IsSync (Test.the_field).row
-test_field_sync = search (name.the_sync, proposition.crosses, crosses, sendable) depth 100 fits 20000
+test_field_sync =
+    search (name.the_sync, proposition.crosses, crosses, sendable) depth 100 fits 20000
 
 pub test_sync : IsSync Test.the_row
 test_sync = search (name.the_sync, proposition.crosses, crosses, sendable) depth 100 fits 20000
@@ -44,22 +47,26 @@ pub item_sync : IsSync Item.the_row
 item_sync = search (expression.crosses, crosses, sendable) depth 100 fits 20000
 
 model_field_send : IsSend (NamedModel.the_field).row
-model_field_send = search (item_send, reading.the_field_send, crosses, sendable) depth 100 fits 20000
+model_field_send =
+    search (item_send, reading.the_field_send, crosses, sendable) depth 100 fits 20000
 
 pub model_send : IsSend NamedModel.the_row
 model_send = search (item_send, reading.the_field_send, crosses, sendable) depth 100 fits 20000
 
 model_field_sync : IsSync (NamedModel.the_field).row
-model_field_sync = search (item_sync, reading.the_field_sync, crosses, sendable) depth 100 fits 20000
+model_field_sync =
+    search (item_sync, reading.the_field_sync, crosses, sendable) depth 100 fits 20000
 
 pub model_sync : IsSync NamedModel.the_row
 model_sync = search (item_sync, reading.the_field_sync, crosses, sendable) depth 100 fits 20000
 
 replacement_field_send : IsSend (Replacement.the_field).row
-replacement_field_send = search (test_field_send, model_field_send, crosses, sendable) depth 100 fits 20000
+replacement_field_send =
+    search (test_field_send, model_field_send, crosses, sendable) depth 100 fits 20000
 
 replacement_field_sync : IsSync (Replacement.the_field).row
-replacement_field_sync = search (test_field_sync, model_field_sync, crosses, sendable) depth 100 fits 20000
+replacement_field_sync =
+    search (test_field_sync, model_field_sync, crosses, sendable) depth 100 fits 20000
 
 prepared_field_send : IsSend (Prepared.the_field).row
 prepared_field_send = search (replacement_field_send, crosses, sendable) depth 100 fits 20000
@@ -74,22 +81,44 @@ texts_field_sync : IsSync (Texts.the_field).row
 texts_field_sync = search (test_sync, model_sync, crosses, sendable) depth 100 fits 20000
 
 pub given_send : IsSend Given.the_row
-given_send = search (proposition.crosses, shared.the_field_send, shared.the_field_sync, space.the_field_send, space.the_field_sync, crosses, sendable) depth 100 fits 20000
+given_send =
+    search (
+      proposition.crosses,
+      shared.the_field_send,
+      shared.the_field_sync,
+      space.the_field_send,
+      space.the_field_sync,
+      crosses,
+      sendable,
+    ) depth 100 fits 20000
 
 pub given_sync : IsSync Given.the_row
-given_sync = search (proposition.crosses, shared.the_field_send, shared.the_field_sync, space.the_field_send, space.the_field_sync, crosses, sendable) depth 100 fits 20000
+given_sync =
+    search (
+      proposition.crosses,
+      shared.the_field_send,
+      shared.the_field_sync,
+      space.the_field_send,
+      space.the_field_sync,
+      crosses,
+      sendable,
+    ) depth 100 fits 20000
 
 pub edit_send : IsSend PreparedEdit.the_row
-edit_send = search (prepared_field_send, edited.the_field_send, crosses, sendable) depth 100 fits 20000
+edit_send =
+    search (prepared_field_send, edited.the_field_send, crosses, sendable) depth 100 fits 20000
 
 pub edit_sync : IsSync PreparedEdit.the_row
-edit_sync = search (prepared_field_sync, edited.the_field_sync, crosses, sendable) depth 100 fits 20000
+edit_sync =
+    search (prepared_field_sync, edited.the_field_sync, crosses, sendable) depth 100 fits 20000
 
 stamped_field_send : IsSend (StampedTexts.the_field).row
-stamped_field_send = search (texts_field_send, parts.the_field_send, crosses, sendable) depth 100 fits 20000
+stamped_field_send =
+    search (texts_field_send, parts.the_field_send, crosses, sendable) depth 100 fits 20000
 
 stamped_field_sync : IsSync (StampedTexts.the_field).row
-stamped_field_sync = search (texts_field_sync, parts.the_field_sync, crosses, sendable) depth 100 fits 20000
+stamped_field_sync =
+    search (texts_field_sync, parts.the_field_sync, crosses, sendable) depth 100 fits 20000
 
 pub running_send : IsSend RunningTexts.the_row
 running_send = search (stamped_field_send, crosses, sendable) depth 100 fits 20000

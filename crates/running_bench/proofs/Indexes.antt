@@ -33,29 +33,34 @@ use Rattle.running_bench.specs.Texts.{AreAfter, MayFollowBelow, Announced}
 
 -- ---- how many cells
 
-count_of_all : (b : BoardContent) → IsCountable b → length b.rows * length b.columns ≡ length (board_cells b)
+count_of_all : (b : BoardContent) → IsCountable b
+    → length b.rows * length b.columns ≡ length (board_cells b)
 count_of_all b countable = sym (ap length (are_all b countable) ∙ all_length b.columns b.rows)
 
-countable_by : (b : BoardContent) (index : ℕ) (few : Bool) → nat_lt (length b.rows * length b.columns) (2 ^ 64) ≡ few
+countable_by : (b : BoardContent) (index : ℕ) (few : Bool)
+    → nat_lt (length b.rows * length b.columns) (2 ^ 64) ≡ few
     → index < length (if few then all_cells b.columns b.rows else []) → IsCountable b
 countable_by b index true e lt = ltb-true (length b.rows * length b.columns) (2 ^ 64) e
 countable_by b index false e lt = absurd (omega (arith, lt))
 
 pub is_countable : (b : BoardContent) (index : ℕ) → index < length (board_cells b) → IsCountable b
-is_countable b index lt = countable_by b index (nat_lt (length b.rows * length b.columns) (2 ^ 64)) refl lt
+is_countable b index lt =
+    countable_by b index (nat_lt (length b.rows * length b.columns) (2 ^ 64)) refl lt
 
 some_by : (n m : ℕ) (index : ℕ) → index < n * m → 0 < m
 some_by n zero index lt = let z = mul-zero n in absurd (omega (arith, z, lt))
 some_by n (suc m) index lt = omega arith
 
-pub has_models : (b : BoardContent) (index : ℕ) → index < length (board_cells b) → 0 < length b.columns
+pub has_models : (b : BoardContent) (index : ℕ) → index < length (board_cells b)
+    → 0 < length b.columns
 has_models b index lt =
     let e = count_of_all b (is_countable b index lt) in
     some_by (length b.rows) (length b.columns) index (subst (λ (n : ℕ). index < n) (sym e) lt)
 
 -- the product of the two counts, which was tested
 pub count_is_all : (b : BoardContent) (m n : ℕ) (r : Option ℕ) (count : ℕ)
-    → m ≡ length b.rows → n ≡ length b.columns → r ≡ Some count → SomeIff r (m * n < 2 ^ 64) (m * n) → count ≡ length (board_cells b)
+    → m ≡ length b.rows → n ≡ length b.columns → r ≡ Some count → SomeIff r (m * n < 2 ^ 64) (m * n)
+    → count ≡ length (board_cells b)
 count_is_all b m n r count rows columns is made =
     let given : SomeIff (Some count) (m * n < 2 ^ 64) (m * n) = subst (λ (x : Option ℕ). SomeIff x (m * n < 2 ^ 64) (m * n)) is made in
     let same : m * n ≡ length b.rows * length b.columns =
@@ -70,13 +75,16 @@ IsOpenCell NoCell = Unit {0}
 IsOpenCell Open = Unit {0}
 IsOpenCell (Settled o) = ⊥
 
-pub none_shown : (x : Option (Option Outcome)) (s : Shown) → cell_of s ≡ shown_cell x → s ≡ shown.NoCell → IsOpenCell (shown_cell x)
+pub none_shown : (x : Option (Option Outcome)) (s : Shown) → cell_of s ≡ shown_cell x
+    → s ≡ shown.NoCell → IsOpenCell (shown_cell x)
 none_shown x s h e = subst IsOpenCell (sym (ap cell_of e) ∙ h) tt
 
-pub open_shown : (x : Option (Option Outcome)) (s : Shown) → cell_of s ≡ shown_cell x → s ≡ shown.Open → IsOpenCell (shown_cell x)
+pub open_shown : (x : Option (Option Outcome)) (s : Shown) → cell_of s ≡ shown_cell x
+    → s ≡ shown.Open → IsOpenCell (shown_cell x)
 open_shown x s h e = subst IsOpenCell (sym (ap cell_of e) ∙ h) tt
 
-outcome_open : (os : List (Option Outcome)) (j : ℕ) → IsOpenCell (shown_cell (slice_get os j)) → outcome_at os j ≡ None
+outcome_open : (os : List (Option Outcome)) (j : ℕ) → IsOpenCell (shown_cell (slice_get os j))
+    → outcome_at os j ≡ None
 outcome_open [] j h = refl
 outcome_open (None ∷ os) zero h = refl
 outcome_open (Some o ∷ os) zero h = absurd h
@@ -91,19 +99,24 @@ outcome_settled (p ∷ os) (suc j) o h = outcome_settled os j o h
 
 -- ---- the cell of a row
 
-settled_by : (columns : List ColumnContent) (row : Option RowContent) (j : ℕ) (o : Outcome) (c : BoardCell Outcome)
-    → shown_cell (slice_get (cells_of row) j) ≡ Settled o → cell_of_row columns row j ≡ Some c → IsSome c.outcome
+settled_by : (columns : List ColumnContent) (row : Option RowContent) (j : ℕ) (o : Outcome)
+    (c : BoardCell Outcome)
+    → shown_cell (slice_get (cells_of row) j) ≡ Settled o → cell_of_row columns row j ≡ Some c
+    → IsSome c.outcome
 settled_by columns None j o c h e = cc
 settled_by columns (Some r) j o c h e = by_column (slice_get columns j) e
   where
-    by_column : (m : Option ColumnContent) → row_cell r.name m (outcome_at r.cells j) ≡ Some c → IsSome c.outcome
+    by_column : (m : Option ColumnContent) → row_cell r.name m (outcome_at r.cells j) ≡ Some c
+        → IsSome c.outcome
     by_column None f = cc
     by_column (Some m) f =
         let same = same_Some (cell_with r.name m.name (outcome_at r.cells j)) c f in
-        subst (λ (x : Option Outcome). IsSome x) (ap (λ (k : BoardCell Outcome). k.outcome) same) (outcome_settled r.cells j o h)
+        subst (λ (x : Option Outcome). IsSome x) (ap (λ (k : BoardCell Outcome). k.outcome) same)
+        (outcome_settled r.cells j o h)
 
 -- without a row or a column at its indexes there is no cell
-here_by : (columns : List ColumnContent) (row : Option RowContent) (j : ℕ) (c : BoardCell Outcome) → cell_of_row columns row j ≡ Some c
+here_by : (columns : List ColumnContent) (row : Option RowContent) (j : ℕ) (c : BoardCell Outcome)
+    → cell_of_row columns row j ≡ Some c
     → ((r : RowContent) (m : ColumnContent) → row ≡ Some r → slice_get columns j ≡ Some m → ⊥) → ⊥
 here_by columns None j c e missing = cc
 here_by columns (Some r) j c e missing = by_column (slice_get columns j) e (missing r)
@@ -115,13 +128,18 @@ here_by columns (Some r) j c e missing = by_column (slice_get columns j) e (miss
 
 -- ---- the cell that the desk counts so
 
-module _ (b : BoardContent) (index : ℕ) (at : CellIndex) (lt : index < length (board_cells b)) (is : IsIndexOf b index at) where
-  cell_at_index : slice_get (board_cells b) index ≡ cell_of_row b.columns (slice_get b.rows at.test) at.model
+module _ (b : BoardContent) (index : ℕ) (at : CellIndex) (lt : index < length (board_cells b))
+    (is : IsIndexOf b index at) where
+  cell_at_index : slice_get (board_cells b) index
+      ≡ cell_of_row b.columns (slice_get b.rows at.test) at.model
   cell_at_index =
-      ap (λ (cs : List (BoardCell Outcome)). slice_get cs index) (are_all b (is_countable b index lt))
-      ∙ (ap (λ (k : ℕ). slice_get (all_cells b.columns b.rows) k) is.0 ∙ all_get b.columns b.rows at.test at.model is.1)
+      ap (λ (cs : List (BoardCell Outcome)). slice_get cs index)
+      (are_all b (is_countable b index lt))
+      ∙ (ap (λ (k : ℕ). slice_get (all_cells b.columns b.rows) k) is.0
+      ∙ all_get b.columns b.rows at.test at.model is.1)
 
-  open_here : (test model : List ℕ) → IsOpenCell (shown_cell (cell_at b.rows at.test at.model)) → IsNamedAt b at test model
+  open_here : (test model : List ℕ) → IsOpenCell (shown_cell (cell_at b.rows at.test at.model))
+      → IsNamedAt b at test model
       → slice_get (board_cells b) index ≡ Some (open_of test model)
   open_here test model unsettled n =
       let there : shown_cell (cell_at b.rows at.test at.model) ≡ shown_cell (slice_get n.row.cells at.model) =
@@ -129,26 +147,35 @@ module _ (b : BoardContent) (index : ℕ) (at : CellIndex) (lt : index < length 
       let o = outcome_open n.row.cells at.model (subst IsOpenCell there unsettled) in
       cell_at_index
       ∙ (ap (λ (r : Option RowContent). cell_of_row b.columns r at.model) n.row_there
-      ∙ (ap (λ (c : Option ColumnContent). row_cell n.row.name c (outcome_at n.row.cells at.model)) n.column_there
+      ∙ (ap (λ (c : Option ColumnContent). row_cell n.row.name c (outcome_at n.row.cells at.model))
+      n.column_there
       ∙ (ap (λ (x : Option Outcome). row_cell n.row.name (Some n.column) x) o
       ∙ (ap (λ (t : List ℕ). Some (open_of {O = Outcome} t n.column.name)) n.row_named
       ∙ ap (λ (m : List ℕ). Some (open_of {O = Outcome} test m)) n.column_named))))
 
-  pub settled_here : (o : Outcome) (c : BoardCell Outcome) → shown_cell (cell_at b.rows at.test at.model) ≡ Settled o
+  pub settled_here : (o : Outcome) (c : BoardCell Outcome)
+      → shown_cell (cell_at b.rows at.test at.model) ≡ Settled o
       → slice_get (board_cells b) index ≡ Some c → IsSome c.outcome
-  settled_here o c h there = settled_by b.columns (slice_get b.rows at.test) at.model o c h (sym cell_at_index ∙ there)
+  settled_here o c h there =
+      settled_by b.columns (slice_get b.rows at.test) at.model o c h (sym cell_at_index ∙ there)
 
-  no_names : (c : BoardCell Outcome) → HasNoNames b at → slice_get (board_cells b) index ≡ Some c → IsSome c.outcome
-  no_names c missing there = absurd (here_by b.columns (slice_get b.rows at.test) at.model c (sym cell_at_index ∙ there) missing)
+  no_names : (c : BoardCell Outcome) → HasNoNames b at → slice_get (board_cells b) index ≡ Some c
+      → IsSome c.outcome
+  no_names c missing there =
+      absurd (here_by b.columns (slice_get b.rows at.test) at.model c (sym cell_at_index ∙ there)
+      missing)
 
-  pub open_names : (r : Option CellNames) → IsOpenCell (shown_cell (cell_at b.rows at.test at.model))
+  pub open_names : (r : Option CellNames)
+      → IsOpenCell (shown_cell (cell_at b.rows at.test at.model))
       → IfSome r (λ c. IsNamedAt b at c.test.now c.model.now)
-      → IfSome r (λ c. slice_get (board_cells b) index ≡ Some (open_of {O = Outcome} c.test.now c.model.now))
+      → IfSome r (λ c. slice_get (board_cells b) index
+      ≡ Some (open_of {O = Outcome} c.test.now c.model.now))
   open_names None unsettled n = tt
   open_names (Some c) unsettled n = open_here c.test.now c.model.now unsettled n
 
   pub settled_names : (r : Option CellNames) → IfNone r (HasNoNames b at)
-      → IfNone r ((c : BoardCell Outcome) → slice_get (board_cells b) index ≡ Some c → IsSome c.outcome)
+      → IfNone r ((c : BoardCell Outcome) → slice_get (board_cells b) index ≡ Some c
+      → IsSome c.outcome)
   settled_names None n = λ c there. no_names c n there
   settled_names (Some c) n = tt
 
@@ -175,8 +202,12 @@ after_nothing t e =
 
 -- ---- the operation of an edit
 
-pub is_announced : (t : StampedTexts) (p : PreparedEdit) (number : ℕ) (e : BoardEdit) (texts : HeldTexts) (prepared : Prepared)
+pub is_announced : (t : StampedTexts) (p : PreparedEdit) (number : ℕ) (e : BoardEdit)
+    (texts : HeldTexts) (prepared : Prepared)
     → texts ≡ t.texts → prepared ≡ p.texts → e.number ≡ number → e.prepared.value ≡ prepared
     → MayFollowBelow (held_of texts) number (ops.Edit e) → Announced t p number (ops.Edit e)
-is_announced t p number e texts prepared here same numbered made follows =
-    (numbered, made ∙ same, subst (λ (x : HeldTexts). MayFollowBelow (held_of x) number (ops.Edit e)) here follows)
+is_announced t p number e texts prepared here same numbered made follows = (
+  numbered,
+  made ∙ same,
+  subst (λ (x : HeldTexts). MayFollowBelow (held_of x) number (ops.Edit e)) here follows,
+)

@@ -11,11 +11,15 @@ last_push : (d : Value) (xs : List Value) (x : Value) → last_or d (xs ++ x ∷
 last_push d [] x = refl
 last_push d (y ∷ ys) x = last_push y ys x
 
-last_maybe : (d : Value) (xs : List Value) (o : Option Value) → last_or d (xs ++ cons_option o []) ≡ unwrap_or o (last_or d xs)
+last_maybe : (d : Value) (xs : List Value) (o : Option Value)
+    → last_or d (xs ++ cons_option o []) ≡ unwrap_or o (last_or d xs)
 last_maybe d xs None = ap (last_or d) (append-nil xs)
 last_maybe d xs (Some x) = last_push d xs x
 
-pub word_more : (stored : ℕ → Option Value) (none : Value) (order : List ℕ) (i : ℕ) → i < length order → last_or none (filter_map stored (take (i + 1) order)) ≡ unwrap_or (stored (get_or order i 0)) (last_or none (filter_map stored (take i order)))
+pub word_more : (stored : ℕ → Option Value) (none : Value) (order : List ℕ) (i : ℕ)
+    → i < length order
+    → last_or none (filter_map stored (take (i + 1) order))
+    ≡ unwrap_or (stored (get_or order i 0)) (last_or none (filter_map stored (take i order)))
 word_more stored none order i lt =
     ap (λ (l : List ℕ). last_or none (filter_map stored l)) (take_more order i 0 lt)
     ∙ ap (last_or none) (filter_map-append stored (take i order) (get_or order i 0 ∷ []))

@@ -7,7 +7,8 @@ use Rattle.text_values.specs.ModelValues.{clauses_of}
 use Rattle.bench_texts.specs.BenchTexts.{PlainModel, items_of}
 
 -- what the items of a model say is what its numbered items say
-pub clauses_of-items : (ns : List ℕ) (is : List Item) → length ns ≡ length is → clauses_of is ≡ map (λ i. i.clause) (items_of ns is)
+pub clauses_of-items : (ns : List ℕ) (is : List Item) → length ns ≡ length is
+    → clauses_of is ≡ map (λ i. i.clause) (items_of ns is)
 clauses_of-items [] [] e = refl
 clauses_of-items [] (i ∷ is) e = absurd (omega arith)
 clauses_of-items (n ∷ ns) [] e = absurd (omega arith)
@@ -19,10 +20,12 @@ clauses_of-items (n ∷ ns) (i ∷ is) e =
 abbrev pub joined : List PlainModel → Option (List PlainModel) → Option (List PlainModel)
 joined front models = option_map (λ others. front ++ others) models
 
-pub first_is : (x y : ModelText) (xs ys : List ModelText) → ◌≡◌ {A = List ModelText} (x ∷ xs) (y ∷ ys) → x ≡ y
+pub first_is : (x y : ModelText) (xs ys : List ModelText)
+    → ◌≡◌ {A = List ModelText} (x ∷ xs) (y ∷ ys) → x ≡ y
 first_is x y xs ys e = cc
 
-pub rest_is : (x y : ModelText) (xs ys : List ModelText) → ◌≡◌ {A = List ModelText} (x ∷ xs) (y ∷ ys) → xs ≡ ys
+pub rest_is : (x y : ModelText) (xs ys : List ModelText)
+    → ◌≡◌ {A = List ModelText} (x ∷ xs) (y ∷ ys) → xs ≡ ys
 rest_is x y xs ys e = cc
 
 pub no_first : (x : ModelText) (xs : List ModelText) → ◌≡◌ {A = List ModelText} (x ∷ xs) [] → ⊥

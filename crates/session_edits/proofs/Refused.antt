@@ -8,6 +8,9 @@ use Rattle.session_edits.specs.Answer.{Said, denied}
 use Rattle.session_edits.specs.Faults.{fault_line, IsAnswer}
 use Rattle.session_edits.specs.Edits.{IsEdited, IsRefused}
 
-pub refused : (t after : BenchTexts) (e : Edit) (fault : EditFault) (r : Result Said AllocError) → Refuses t false e fault → after ≡ t → IfOk r (λ a. a ≡ denied (fault_line fault)) → IfOk r (λ a. IsAnswer fault) → IfOk r (λ said. IsEdited t e said after)
-refused t after e fault (Ok said) refuses same line answer = IsRefused fault answer refuses line same
+pub refused : (t after : BenchTexts) (e : Edit) (fault : EditFault) (r : Result Said AllocError)
+    → Refuses t false e fault → after ≡ t → IfOk r (λ a. a ≡ denied (fault_line fault))
+    → IfOk r (λ a. IsAnswer fault) → IfOk r (λ said. IsEdited t e said after)
+refused t after e fault (Ok said) refuses same line answer =
+    IsRefused fault answer refuses line same
 refused t after e fault (Err f) refuses same line answer = tt

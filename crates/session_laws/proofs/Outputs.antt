@@ -182,7 +182,8 @@ front_output cs whole p t (OneMore front text refused texts c said after h answe
       refused = refused || said.refused;
       texts = after;
       output =
-          subst (λ (l : List Command). IsOutput l (text ++ said.text) (refused || said.refused) after)
+          subst (λ (l : List Command).
+          IsOutput l (text ++ said.text) (refused || said.refused) after)
           (e ∙ append-nil first) (OneMore front text refused texts c said after h answer);
       rest = [];
       split = sym (append-nil (text ++ said.text));

@@ -45,7 +45,8 @@ zero_least : (n : ℕ) → 0 ≤ n
 zero_least n = omega arith
 
 -- a count that stops at the greatest number is right below it
-capped : (n made : ℕ) → (2 ^ 64 - 1 < n) ⊎ (n ≤ 2 ^ 64 - 1) → min n (2 ^ 64 - 1) ≡ made → made < 2 ^ 64 - 1 → n ≡ made
+capped : (n made : ℕ) → (2 ^ 64 - 1 < n) ⊎ (n ≤ 2 ^ 64 - 1) → min n (2 ^ 64 - 1) ≡ made
+    → made < 2 ^ 64 - 1 → n ≡ made
 capped n made (inl more) e lt = absurd (omega (arith, more, e, lt))
 capped n made (inr few) e lt = omega (arith, few, e, lt)
 
@@ -53,10 +54,12 @@ capped n made (inr few) e lt = omega (arith, few, e, lt)
 
 edits_joined : (a b : List BoardOp) → edits_in (a ++ b) ≡ edits_in a + edits_in b
 edits_joined [] b = none_more (edits_in b)
-edits_joined (Edit edit ∷ a) b = one_more (edits_in (a ++ b)) (edits_in a) (edits_in b) (edits_joined a b)
+edits_joined (Edit edit ∷ a) b =
+    one_more (edits_in (a ++ b)) (edits_in a) (edits_in b) (edits_joined a b)
 edits_joined (Settle at outcome ∷ a) b = edits_joined a b
 
-fold_joined : {A : Type 0} (f : A → BoardOp → A) (t : A) (a b : List BoardOp) → fold f t (a ++ b) ≡ fold f (fold f t a) b
+fold_joined : {A : Type 0} (f : A → BoardOp → A) (t : A) (a b : List BoardOp)
+    → fold f t (a ++ b) ≡ fold f (fold f t a) b
 fold_joined f t [] b = refl
 fold_joined f t (op ∷ a) b = fold_joined f (f t op) a b
 
@@ -67,48 +70,70 @@ none_made (Edit edit ∷ ops) t e = absurd (not_none (edits_in ops) e)
 none_made (Settle at outcome ∷ ops) t e = none_made ops t e
 
 pub knows_nothing : KnowsOwn [] 0 no_contents
-knows_nothing = record { all = λ more. zero_least (edits_in more); alone = λ more e. none_made more no_contents e }
+knows_nothing =
+    record {
+      all = λ more. zero_least (edits_in more);
+      alone = λ more e. none_made more no_contents e;
+    }
 
-knows_more : (seen more : List BoardOp) (made : ℕ) (t : BenchTexts) → KnowsOwn seen made t → KnowsOwn (seen ++ more) made t
+knows_more : (seen more : List BoardOp) (made : ℕ) (t : BenchTexts) → KnowsOwn seen made t
+    → KnowsOwn (seen ++ more) made t
 knows_more seen more made t k = record {
-  all = λ others. subst (λ (l : List BoardOp). made ≤ edits_in l) (sym (append_assoc seen more others)) (k.all (more ++ others));
+  all =
+      λ others. subst (λ (l : List BoardOp). made ≤ edits_in l)
+      (sym (append_assoc seen more others)) (k.all (more ++ others));
   alone = λ others e.
-      ap contents_after (append_assoc seen more others) ∙ k.alone (more ++ others) (ap edits_in (sym (append_assoc seen more others)) ∙ e);
+      ap contents_after (append_assoc seen more others)
+      ∙ k.alone (more ++ others) (ap edits_in (sym (append_assoc seen more others)) ∙ e);
 }
 
-pub knows_later : (seen later : List BoardOp) (made : ℕ) (t : BenchTexts) → IsPrefix seen later → KnowsOwn seen made t → KnowsOwn later made t
-knows_later seen later made t p k = subst (λ (l : List BoardOp). KnowsOwn l made t) p.1 (knows_more seen p.0 made t k)
+pub knows_later : (seen later : List BoardOp) (made : ℕ) (t : BenchTexts) → IsPrefix seen later
+    → KnowsOwn seen made t → KnowsOwn later made t
+knows_later seen later made t p k =
+    subst (λ (l : List BoardOp). KnowsOwn l made t) p.1 (knows_more seen p.0 made t k)
 
 -- ---- one own edit more
 
-is_counted : (t : BenchTexts) (op : BoardOp) (e : edits.Edit) (number n : ℕ) → IsEditOf t op e number → counted_with op n ≡ suc n
+is_counted : (t : BenchTexts) (op : BoardOp) (e : edits.Edit) (number n : ℕ)
+    → IsEditOf t op e number → counted_with op n ≡ suc n
 is_counted t (Edit edit) e number n h = refl
 is_counted t (Settle at outcome) e number n h = absurd h
 
-is_made : (t new : BenchTexts) (op : BoardOp) (e : edits.Edit) (number : ℕ) → HasOneResult t e → edits.Applies t false e new → IsEditOf t op e number → contents_with t op ≡ new
-is_made t new (Edit edit) e number one applies h = one (contents_with t (Edit edit)) new h.1.applies applies
+is_made : (t new : BenchTexts) (op : BoardOp) (e : edits.Edit) (number : ℕ) → HasOneResult t e
+    → edits.Applies t false e new → IsEditOf t op e number → contents_with t op ≡ new
+is_made t new (Edit edit) e number one applies h =
+    one (contents_with t (Edit edit)) new h.1.applies applies
 is_made t new (Settle at outcome) e number one applies h = absurd h
 
-regrouped : (a : List BoardOp) (op : BoardOp) (b more : List BoardOp) → ((a ++ op ∷ []) ++ b) ++ more ≡ a ++ op ∷ (b ++ more)
+regrouped : (a : List BoardOp) (op : BoardOp) (b more : List BoardOp)
+    → ((a ++ op ∷ []) ++ b) ++ more ≡ a ++ op ∷ (b ++ more)
 regrouped a op b more = append_assoc (a ++ op ∷ []) b more ∙ append_assoc a (op ∷ []) (b ++ more)
 
-module _ (seen between settles : List BoardOp) (op : BoardOp) (made number : ℕ) (t new : BenchTexts) (e : edits.Edit) (k : KnowsOwn seen made t)
-    (is : IsEditOf (contents_after (seen ++ between)) op e number) (one : HasOneResult t e) (applies : edits.Applies t false e new) where
+module _ (seen between settles : List BoardOp) (op : BoardOp) (made number : ℕ) (t new : BenchTexts)
+    (e : edits.Edit) (k : KnowsOwn seen made t)
+    (is : IsEditOf (contents_after (seen ++ between)) op e number) (one : HasOneResult t e)
+    (applies : edits.Applies t false e new) where
   abbrev front : List BoardOp
   front = seen ++ between
 
   abbrev whole : List BoardOp → List BoardOp
   whole more = front ++ op ∷ (settles ++ more)
 
-  count_whole : (more : List BoardOp) → edits_in (whole more) ≡ edits_in front + suc (edits_in (settles ++ more))
+  count_whole : (more : List BoardOp)
+      → edits_in (whole more) ≡ edits_in front + suc (edits_in (settles ++ more))
   count_whole more =
-      counted_up (edits_in (whole more)) (edits_in front) (counted_with op (edits_in (settles ++ more))) (edits_in (settles ++ more)) (edits_joined front (op ∷ (settles ++ more)))
+      counted_up (edits_in (whole more)) (edits_in front)
+      (counted_with op (edits_in (settles ++ more))) (edits_in (settles ++ more))
+      (edits_joined front (op ∷ (settles ++ more)))
       (is_counted (contents_after front) op e number (edits_in (settles ++ more)) is)
 
   all_whole : (more : List BoardOp) → made + 1 ≤ edits_in (whole more)
-  all_whole more = at_least_one_more (edits_in (whole more)) (edits_in front) (edits_in (settles ++ more)) made (count_whole more) (k.all between)
+  all_whole more =
+      at_least_one_more (edits_in (whole more)) (edits_in front) (edits_in (settles ++ more)) made
+      (count_whole more) (k.all between)
 
-  alone_whole : (more : List BoardOp) → edits_in (whole more) ≡ made + 1 → contents_after (whole more) ≡ new
+  alone_whole : (more : List BoardOp) → edits_in (whole more) ≡ made + 1
+      → contents_after (whole more) ≡ new
   alone_whole more same =
       let before : edits_in front ≡ made = front_alone (edits_in (whole more)) (edits_in front) (edits_in (settles ++ more)) made (count_whole more) (k.all between) same in
       let behind : edits_in (settles ++ more) ≡ 0 = back_alone (edits_in (whole more)) (edits_in front) (edits_in (settles ++ more)) made (count_whole more) (k.all between) same in
@@ -121,20 +146,27 @@ module _ (seen between settles : List BoardOp) (op : BoardOp) (made number : ℕ
 
   pub knows_edit : KnowsOwn ((front ++ op ∷ []) ++ settles) (made + 1) new
   knows_edit = record {
-    all = λ more. subst (λ (l : List BoardOp). made + 1 ≤ edits_in l) (sym (regrouped front op settles more)) (all_whole more);
+    all =
+        λ more. subst (λ (l : List BoardOp). made + 1 ≤ edits_in l)
+        (sym (regrouped front op settles more)) (all_whole more);
     alone = λ more same.
-        ap contents_after (regrouped front op settles more) ∙ alone_whole more (ap edits_in (sym (regrouped front op settles more)) ∙ same);
+        ap contents_after (regrouped front op settles more)
+        ∙ alone_whole more (ap edits_in (sym (regrouped front op settles more)) ∙ same);
   }
 
-pub knows_own_edit : (e : code.Edit) (number : ℕ) (seen later : List BoardOp) (made : ℕ) (t new : BenchTexts)
-    → KnowsOwn seen made t → HasOwnEdit e number seen later → HasOneResult t (edit_of e) → edits.Applies t false (edit_of e) new → KnowsOwn later (made + 1) new
+pub knows_own_edit : (e : code.Edit) (number : ℕ) (seen later : List BoardOp) (made : ℕ)
+    (t new : BenchTexts)
+    → KnowsOwn seen made t → HasOwnEdit e number seen later → HasOneResult t (edit_of e)
+    → edits.Applies t false (edit_of e) new → KnowsOwn later (made + 1) new
 knows_own_edit e number seen later made t new k h one applies =
-    subst (λ (l : List BoardOp). KnowsOwn l (made + 1) new) (sym h.list) (knows_edit seen h.between h.settles h.op made number t new (edit_of e) k h.is one applies)
+    subst (λ (l : List BoardOp). KnowsOwn l (made + 1) new) (sym h.list)
+    (knows_edit seen h.between h.settles h.op made number t new (edit_of e) k h.is one applies)
 
 -- ---- a board
 
 pub shows_own : (ops : List BoardOp) (made : ℕ) (t : BenchTexts)
-    → KnowsOwn ops made t → IsLegal ops → made < 2 ^ 64 - 1 → edit_count ops ≡ made → ShowsTexts t (board_after ops)
+    → KnowsOwn ops made t → IsLegal ops → made < 2 ^ 64 - 1 → edit_count ops ≡ made
+    → ShowsTexts t (board_after ops)
 shows_own ops made t k legal lt e =
     let same : ops ++ [] ≡ ops = append-nil ops in
     let count : edits_in ops ≡ made = capped (edits_in ops) made (cases_lt (2 ^ 64 - 1) (edits_in ops)) e lt in

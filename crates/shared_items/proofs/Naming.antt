@@ -31,7 +31,9 @@ one_kind OfAny OfRelation e = absurd (false≢true e)
 one_kind OfAny OfAny e = refl
 
 itself : (n : SeenName) → is_same_name n n ≡ true
-itself n = and_from (bytes_eq n.name n.name) (is_same_kind n.kind n.kind) ((bytes_eq-Decides n.name n.name).1 refl) (itself_kind n.kind)
+itself n =
+    and_from (bytes_eq n.name n.name) (is_same_kind n.kind n.kind)
+    ((bytes_eq-Decides n.name n.name).1 refl) (itself_kind n.kind)
 
 pub one_name : (n m : SeenName) → is_same_name n m ≡ true → n ≡ m
 one_name n m e =
@@ -50,7 +52,8 @@ number_within (n ∷ h) a = elim (cases_Bool (is_same_name n a)) [
 ]
 
 -- a name keeps its number where names are added behind
-pub number_stays : (h rest : List SeenName) (a : SeenName) → IsNamed h a → number_of (h ++ rest) a ≡ number_of h a
+pub number_stays : (h rest : List SeenName) (a : SeenName) → IsNamed h a
+    → number_of (h ++ rest) a ≡ number_of h a
 number_stays [] rest a lt = absurd (omega (arith, lt))
 number_stays (n ∷ h) rest a lt = elim (cases_Bool (is_same_name n a)) [
   | inl e ↦ rw e refl
@@ -100,19 +103,24 @@ with_name_named h a = elim (cases_Bool (number_of h a == length h)) [
       rw f (omega (arith, within, unlike)))
 ]
 
-with_name_begins : (h : List SeenName) (a : SeenName) → (rest : List SeenName) × (with_name h a ≡ h ++ rest)
+with_name_begins : (h : List SeenName) (a : SeenName)
+    → (rest : List SeenName) × (with_name h a ≡ h ++ rest)
 with_name_begins h a = elim (cases_Bool (number_of h a == length h)) [
   | inl e ↦ (a ∷ [], rw e refl)
   | inr f ↦ ([], rw f (sym (append-nil h)))
 ]
 
 -- a history with more names begins with what it was
-with_names_begin : (h names : List SeenName) → (rest : List SeenName) × (with_names h names ≡ h ++ rest)
+with_names_begin : (h names : List SeenName)
+    → (rest : List SeenName) × (with_names h names ≡ h ++ rest)
 with_names_begin h [] = ([], sym (append-nil h))
 with_names_begin h (n ∷ ns) =
     let first = with_name_begins h n in
-    let later = with_names_begin (with_name h n) ns in
-    (first.0 ++ later.0, later.1 ∙ ap (λ (l : List SeenName). l ++ later.0) first.1 ∙ append_assoc h first.0 later.0)
+    let later = with_names_begin (with_name h n) ns in (
+      first.0 ++ later.0,
+      later.1 ∙ ap (λ (l : List SeenName). l ++ later.0) first.1
+          ∙ append_assoc h first.0 later.0,
+    )
 
 -- it is what it was where it has the names
 pub names_stay : (h names : List SeenName) → Each (IsNamed h) names → with_names h names ≡ h
@@ -127,25 +135,31 @@ names_named h [] = tt
 names_named h (n ∷ ns) =
     let first = with_name h n in
     let later = with_names_begin first ns in (
-      subst (λ (l : List SeenName). IsNamed l n) (sym later.1) (still_named first later.0 n (with_name_named h n)),
+      subst (λ (l : List SeenName). IsNamed l n) (sym later.1)
+          (still_named first later.0 n (with_name_named h n)),
       names_named first ns,
     )
 
-pub grown_begins : (h : List SeenName) (role : RoleContent) → (rest : List SeenName) × (with_role_names h role ≡ h ++ rest)
+pub grown_begins : (h : List SeenName) (role : RoleContent)
+    → (rest : List SeenName) × (with_role_names h role ≡ h ++ rest)
 grown_begins h role = with_names_begin h (names_in role)
 
-pub grown_stays : (h : List SeenName) (role : RoleContent) → AreNamed h role → with_role_names h role ≡ h
+pub grown_stays : (h : List SeenName) (role : RoleContent) → AreNamed h role
+    → with_role_names h role ≡ h
 grown_stays h role named = names_stay h (names_in role) named
 
 pub grown_named : (h : List SeenName) (role : RoleContent) → AreNamed (with_role_names h role) role
 grown_named h role = names_named h (names_in role)
 
 -- the history of what an item does holds its names
-pub all_named : (h old : List SeenName) (role : RoleContent) → h ≡ with_role_names old role → AreNamed h role
-all_named h old role e = subst (λ (l : List SeenName). AreNamed l role) (sym e) (grown_named old role)
+pub all_named : (h old : List SeenName) (role : RoleContent) → h ≡ with_role_names old role
+    → AreNamed h role
+all_named h old role e =
+    subst (λ (l : List SeenName). AreNamed l role) (sym e) (grown_named old role)
 
 -- and grows no more by what the item does
-pub holds_itself : (h old : List SeenName) (role : RoleContent) → h ≡ with_role_names old role → with_role_names h role ≡ h
+pub holds_itself : (h old : List SeenName) (role : RoleContent) → h ≡ with_role_names old role
+    → with_role_names h role ≡ h
 holds_itself h old role e = grown_stays h role (all_named h old role e)
 
 pub keeps_numbers : (h : List SeenName) (role : RoleContent) → KeepsNumbers h role
@@ -158,12 +172,15 @@ holds_names h role = (grown_named h role, grown_stays h role)
 
 -- ---- the numbers of some names in two histories
 
-pub numbers_alike : (h g names : List SeenName) → Each (IsNumberedAlike h g) names → map (number_of h) names ≡ map (number_of g) names
+pub numbers_alike : (h g names : List SeenName) → Each (IsNumberedAlike h g) names
+    → map (number_of h) names ≡ map (number_of g) names
 numbers_alike h g [] alike = refl
 numbers_alike h g (n ∷ ns) alike =
     let rest : map (number_of h) ns ≡ map (number_of g) ns = numbers_alike h g ns alike.1 in
     λ i. alike.0 i ∷ rest i
 
-pub alike_numbers : (h g names : List SeenName) → map (number_of h) names ≡ map (number_of g) names → Each (IsNumberedAlike h g) names
+pub alike_numbers : (h g names : List SeenName) → map (number_of h) names ≡ map (number_of g) names
+    → Each (IsNumberedAlike h g) names
 alike_numbers h g [] same = tt
-alike_numbers h g (n ∷ ns) same = (head-eq_of_cons-eq same, alike_numbers h g ns (tail-eq_of_cons-eq same))
+alike_numbers h g (n ∷ ns) same =
+    (head-eq_of_cons-eq same, alike_numbers h g ns (tail-eq_of_cons-eq same))

@@ -13,7 +13,8 @@ abbrev pub contents_at : State → ℕ → Option FoundPart → List (Option Par
 contents_at s test None = []
 contents_at s test (Some p) = content s p.part p.of ∷ contents s (keys_at test p.rest)
 
-pub contents_are : (s : State) (test : ℕ) (ks : List SlotKey) → contents s (keys_at test ks) ≡ contents_at s test (first_part test ks)
+pub contents_are : (s : State) (test : ℕ) (ks : List SlotKey)
+    → contents s (keys_at test ks) ≡ contents_at s test (first_part test ks)
 contents_are s test [] = refl
 contents_are s test (slots.Test part ∷ ks) = refl
 contents_are s test (slots.Item number ∷ ks) = refl

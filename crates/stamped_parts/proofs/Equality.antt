@@ -26,7 +26,8 @@ tree_is (gnum m) (gcons a b) h = cc
 tree_is (gcons a b) gnil h = cc
 tree_is (gcons a b) (gnum n) h = cc
 tree_is (gcons a b) (gcons c d) h =
-    ap (λ (g : Gv). gcons g b) (tree_is a c (first_of (same_tree a c) (same_tree b d) h)) ∙ ap (λ (g : Gv). gcons c g) (tree_is b d (second_of (same_tree a c) (same_tree b d) h))
+    ap (λ (g : Gv). gcons g b) (tree_is a c (first_of (same_tree a c) (same_tree b d) h))
+    ∙ ap (λ (g : Gv). gcons c g) (tree_is b d (second_of (same_tree a c) (same_tree b d) h))
 
 tree_same : (a : Gv) → same_tree a a ≡ true
 tree_same gnil = refl
@@ -53,6 +54,7 @@ pub is_given_some : (o : Option GivenContent) (g : GivenContent) → o ≡ Some 
 is_given_some o g e = ap (λ (p : Option GivenContent). is_given p g) e ∙ (given_exact g g).1 refl
 
 -- what is made of what is given now is given
-pub gives : {E : Type 0} (r : Result GivenContent E) (x : GivenContent) (o : Option GivenContent) → Some x ≡ o → IfOk r (λ g. g ≡ x) → IfOk r (λ g. is_given o g ≡ true)
+pub gives : {E : Type 0} (r : Result GivenContent E) (x : GivenContent) (o : Option GivenContent)
+    → Some x ≡ o → IfOk r (λ g. g ≡ x) → IfOk r (λ g. is_given o g ≡ true)
 gives (Ok g) x o e h = is_given_some o g (sym e ∙ ap Some (sym h))
 gives (Err f) x o e h = tt

@@ -10,7 +10,8 @@ use Rattle.stamped_parts.specs.declared.model_rows.HeldModel.{HeldModel}
 use Rattle.stamped_parts.specs.TableLaws.{WasModelRow, IsModelAfter}
 use Rattle.stamped_parts.specs.Models.{fault_by, fault_stamp_by, raised_model}
 
-pub fault_low : (last : ℕ) (before : Option HeldModel) → WasModelRow last before → fault_stamp_by before ≤ last
+pub fault_low : (last : ℕ) (before : Option HeldModel) → WasModelRow last before
+    → fault_stamp_by before ≤ last
 fault_low last None was = omega arith
 fault_low last (Some h) was = by_fault h.fault was
   where
@@ -18,16 +19,21 @@ fault_low last (Some h) was = by_fault h.fault was
     by_fault None e = let z : h.row.stamp ≡ 0 = e in omega arith
     by_fault (Some f) e = e.1
 
-fault_stamped : (last : ℕ) (row : ModelRow) (f : Option ModelFault) (now : PartContent) → IsModelRow last row f → fault_part f ≡ Some now → IsStamp last row.stamp
+fault_stamped : (last : ℕ) (row : ModelRow) (f : Option ModelFault) (now : PartContent)
+    → IsModelRow last row f → fault_part f ≡ Some now → IsStamp last row.stamp
 fault_stamped last row None now was e = cc
 fault_stamped last row (Some f) now was e = was
 
-held_fault : (last : ℕ) (before : Option HeldModel) (now : PartContent) → WasModelRow last before → fault_by before ≡ Some now → IsStamp last (fault_stamp_by before)
+held_fault : (last : ℕ) (before : Option HeldModel) (now : PartContent) → WasModelRow last before
+    → fault_by before ≡ Some now → IsStamp last (fault_stamp_by before)
 held_fault last None now was e = cc
 held_fault last (Some h) now was e = fault_stamped last h.row h.fault now was e
 
-pub model_stamped : (last number id : ℕ) (before : Option HeldModel) (fault : Option ModelFault) (row : ModelRow) → IsModelAfter last number before id fault row → IsModelRow number (raised_model last number row) fault
+pub model_stamped : (last number id : ℕ) (before : Option HeldModel) (fault : Option ModelFault)
+    (row : ModelRow) → IsModelAfter last number before id fault row
+    → IsModelRow number (raised_model last number row) fault
 model_stamped last number id before None row a =
     ap (raised last number) a.made.stamp ∙ raised_low last number 0 (omega arith)
 model_stamped last number id before (Some f) row a =
-    stamp_now last number (fault_stamp_by before) row.stamp (fault_by before) (OfFault f) a.later (held_fault last before (OfFault f) a.was) a.made.stamp
+    stamp_now last number (fault_stamp_by before) row.stamp (fault_by before) (OfFault f) a.later
+    (held_fault last before (OfFault f) a.was) a.made.stamp

@@ -11,11 +11,19 @@ use Rattle.stamped_parts.proofs.Same.{content_is, stamp_is, built_is, histories_
 module _ (w v : WrittenState) (same : IsSameWritten w v) where
   part_is : (part of : ℕ) → part_content v part of ≡ part_content w part of
   part_is part of =
-      ap (λ (o : Option PartContent). if part == 0 then o else content v.state part of) (ap (λ (ms : List WrittenModel). item_text ms of) same.models)
-      ∙ ap (λ (o : Option PartContent). if part == 0 then item_text w.models of else o) (content_is w.state v.state same.state part of)
+      ap (λ (o : Option PartContent). if part == 0 then o else content v.state part of)
+      (ap (λ (ms : List WrittenModel). item_text ms of) same.models)
+      ∙ ap (λ (o : Option PartContent). if part == 0 then item_text w.models of else o)
+      (content_is w.state v.state same.state part of)
 
   here_was : (number : ℕ) → IsHere v number → IsHere w number
-  here_was number h = record { model = h.model; index = h.index; there = subst (λ (ms : List WrittenModel). Has ms h.model) same.models h.there; stands = h.stands }
+  here_was number h =
+      record {
+        model = h.model;
+        index = h.index;
+        there = subst (λ (ms : List WrittenModel). Has ms h.model) same.models h.there;
+        stands = h.stands;
+      }
 
   precedes_is : (first second : ℕ) → Precedes w first second → Precedes v first second
   precedes_is first second p = record {
@@ -30,20 +38,38 @@ module _ (w v : WrittenState) (same : IsSameWritten w v) where
 
   whole_is : IsWhole w → IsWhole v
   whole_is whole = record {
-    built = subst (λ (ms : List WrittenModel). IsBuilt v.state (map (λ m. m.reading) ms)) (sym same.models) (built_is w.state v.state same.state (map (λ m. m.reading) w.models) whole.built);
-    read = subst (λ (ms : List WrittenModel). Each (λ m. IsReadAs m m.reading) ms) (sym same.models) whole.read;
+    built =
+        subst (λ (ms : List WrittenModel). IsBuilt v.state (map (λ m. m.reading) ms))
+        (sym same.models) (built_is w.state v.state same.state (map (λ m. m.reading) w.models)
+        whole.built);
+    read =
+        subst (λ (ms : List WrittenModel). Each (λ m. IsReadAs m m.reading) ms) (sym same.models)
+        whole.read;
     paired = subst (λ (ms : List WrittenModel). Each IsPaired ms) (sym same.models) whole.paired;
-    apart = λ m n a b number hm hn sa sb. whole.apart m n a b number (subst (λ (ms : List WrittenModel). Has ms m) same.models hm) (subst (λ (ms : List WrittenModel). Has ms n) same.models hn) sa sb;
-    low = λ number here. subst (λ (k : ℕ). number < k) (sym same.next) (whole.low number (here_was number here));
-    gone = λ part of e. part_is part of ∙ whole.gone part of (sym (stamp_is w.state v.state same.state part of) ∙ e);
+    apart =
+        λ m n a b number hm hn sa sb. whole.apart m n a b number
+        (subst (λ (ms : List WrittenModel). Has ms m) same.models hm)
+        (subst (λ (ms : List WrittenModel). Has ms n) same.models hn) sa sb;
+    low =
+        λ number here.
+        subst (λ (k : ℕ). number < k) (sym same.next) (whole.low number (here_was number here));
+    gone =
+        λ part of e. part_is part of
+        ∙ whole.gone part of (sym (stamp_is w.state v.state same.state part of) ∙ e);
   }
 
   items_are : (r : WrittenState) → ItemsGoOn r w → ItemsGoOn r v
   items_are r items = record {
-    order = λ a b before x y. precedes_is a b (items.order a b before (here_was a x) (here_was b y));
+    order =
+        λ a b before x y. precedes_is a b (items.order a b before (here_was a x) (here_was b y));
     numbers = λ number here. items.numbers number (here_was number here);
     next = subst (λ (k : ℕ). r.next ≤ k) (sym same.next) items.next;
-    grown = λ number old new. (let g = items.grown number old (here_was number new) in (g.0, ap (λ (h : ℕ → List SeenName). h number) (histories_are w.state v.state same.state) ∙ g.1));
+    grown =
+        λ number old new. (let g = items.grown number old (here_was number new) in (
+          g.0,
+          ap (λ (h : ℕ → List SeenName). h number) (histories_are w.state v.state same.state)
+              ∙ g.1,
+        ));
   }
 
   pub since_is : (r : WrittenState) → IsSince r w → IsSince r v
@@ -51,6 +77,8 @@ module _ (w v : WrittenState) (same : IsSameWritten w v) where
     whole = since.whole;
     still_whole = whole_is since.still_whole;
     later = subst (λ l. r.state.parts.last ≤ l) (sym (same.state).last) since.later;
-    same = λ part of e. part_is part of ∙ since.same part of (sym (stamp_is w.state v.state same.state part of) ∙ e);
+    same =
+        λ part of e. part_is part of
+        ∙ since.same part of (sym (stamp_is w.state v.state same.state part of) ∙ e);
     items = items_are r since.items;
   }

@@ -12,13 +12,25 @@ use Rattle.test_parts.specs.declared.shapes.Shape.{Shape}
 use Rattle.test_parts.specs.Shapes.{shape_of, label_of}
 
 abbrev operation_of : ℕ → Operation
-operation_of n = if n == 0 then operations.Add else (if n == 1 then operations.SubtractFrom else (if n == 2 then operations.Xor else (if n == 3 then operations.Or else (operations.And))))
+operation_of n =
+    if n == 0 then operations.Add
+    else (if n == 1 then operations.SubtractFrom
+    else (if n == 2 then operations.Xor
+    else (if n == 3 then operations.Or else (operations.And))))
 
 abbrev condition_of : ℕ → BranchCondition
-condition_of n = if n == 0 then branches.Equal else (if n == 1 then branches.NotEqual else (if n == 2 then branches.Less else (if n == 3 then branches.Greater else (if n == 4 then branches.LessOrEqual else (branches.GreaterOrEqual)))))
+condition_of n =
+    if n == 0 then branches.Equal
+    else (if n == 1 then branches.NotEqual
+    else (if n == 2 then branches.Less
+    else (if n == 3 then branches.Greater
+    else (if n == 4 then branches.LessOrEqual else (branches.GreaterOrEqual)))))
 
 abbrev fence_of : ℕ → Fence
-fence_of n = if n == 0 then fences.Sync else (if n == 1 then fences.LightweightSync else (if n == 2 then fences.Eieio else (fences.Isync)))
+fence_of n =
+    if n == 0 then fences.Sync
+    else (if n == 1 then fences.LightweightSync
+    else (if n == 2 then fences.Eieio else (fences.Isync)))
 
 abbrev instruction_of : Shape → Option (List ℕ) → Instruction
 instruction_of s label =
@@ -63,5 +75,9 @@ read_off (instructions.Fence fences.LightweightSync) = refl
 read_off (instructions.Fence fences.Eieio) = refl
 read_off (instructions.Fence fences.Isync) = refl
 
-pub same_instructions : (i j : Instruction) → shape_of i ≡ shape_of j → label_of i ≡ label_of j → i ≡ j
-same_instructions i j s l = sym (read_off i) ∙ (ap (λ x. instruction_of x (label_of i)) s ∙ (ap (λ x. instruction_of (shape_of j) x) l ∙ read_off j))
+pub same_instructions : (i j : Instruction) → shape_of i ≡ shape_of j → label_of i ≡ label_of j
+    → i ≡ j
+same_instructions i j s l =
+    sym (read_off i)
+    ∙ (ap (λ x. instruction_of x (label_of i)) s
+    ∙ (ap (λ x. instruction_of (shape_of j) x) l ∙ read_off j))

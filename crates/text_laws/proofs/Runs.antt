@@ -40,7 +40,8 @@ next_of (b ∷ bs) = refl
 pub pos_some : (p : ℕ → Bool) (b : ℕ) (bs : List ℕ) → p b ≡ false → 0 < position_or_len p (b ∷ bs)
 pos_some p b bs fails = by_size (cases_lt 0 (position_or_len p (b ∷ bs)))
   where
-    by_size : (0 < position_or_len p (b ∷ bs)) ⊎ (position_or_len p (b ∷ bs) ≤ 0) → 0 < position_or_len p (b ∷ bs)
+    by_size : (0 < position_or_len p (b ∷ bs)) ⊎ (position_or_len p (b ∷ bs) ≤ 0)
+        → 0 < position_or_len p (b ∷ bs)
     by_size (inl lt) = lt
     by_size (inr le) =
         let none : position_or_len p (b ∷ bs) ≡ 0 = omega arith in
@@ -53,19 +54,26 @@ pos_le p xs = prefix_len-le-length (λ x. not (p x)) xs
 pub first_in_take : (n b : ℕ) (bs : List ℕ) → 0 < n → slice_index (take n (b ∷ bs)) 0 ≡ b
 first_in_take n b bs some = get_or-take n (b ∷ bs) 0 0 some
 
-pub second_in_take : (n b : ℕ) (bs : List ℕ) → 1 < n → slice_index (take n (b ∷ bs)) 1 ≡ slice_index bs 0
+pub second_in_take : (n b : ℕ) (bs : List ℕ) → 1 < n
+    → slice_index (take n (b ∷ bs)) 1 ≡ slice_index bs 0
 second_in_take n b bs some = get_or-take n (b ∷ bs) 1 0 some
 
 -- the tests on two bytes are those on what they begin
-pub two_kept : (p q n b : ℕ) (bs : List ℕ) → 1 < n → (b == p && slice_index bs 0 == q) ≡ true → (slice_index (take n (b ∷ bs)) 0 == p && slice_index (take n (b ∷ bs)) 1 == q) ≡ true
+pub two_kept : (p q n b : ℕ) (bs : List ℕ) → 1 < n → (b == p && slice_index bs 0 == q) ≡ true
+    → (slice_index (take n (b ∷ bs)) 0 == p && slice_index (take n (b ∷ bs)) 1 == q) ≡ true
 two_kept p q n b bs some h =
-    ap (λ (x : ℕ). x == p && slice_index (take n (b ∷ bs)) 1 == q) (first_in_take n b bs (omega arith))
+    ap (λ (x : ℕ). x == p && slice_index (take n (b ∷ bs)) 1 == q)
+    (first_in_take n b bs (omega arith))
     ∙ ap (λ (x : ℕ). b == p && x == q) (second_in_take n b bs some) ∙ h
 
-pub inside_fits : (bs inside others : List ℕ) → LacksQuote inside → inside ++ 34 ∷ others ≡ bs → position_or_len is_quote bs < length bs → length inside ≤ position_or_len is_quote bs
-inside_fits bs inside others lacks e some = by_size (cases_lt (position_or_len is_quote bs) (length inside))
+pub inside_fits : (bs inside others : List ℕ) → LacksQuote inside → inside ++ 34 ∷ others ≡ bs
+    → position_or_len is_quote bs < length bs → length inside ≤ position_or_len is_quote bs
+inside_fits bs inside others lacks e some =
+    by_size (cases_lt (position_or_len is_quote bs) (length inside))
   where
-    by_size : (position_or_len is_quote bs < length inside) ⊎ (length inside ≤ position_or_len is_quote bs) → length inside ≤ position_or_len is_quote bs
+    by_size : (position_or_len is_quote bs < length inside)
+        ⊎ (length inside ≤ position_or_len is_quote bs)
+        → length inside ≤ position_or_len is_quote bs
     by_size (inr le) = le
     by_size (inl lt) =
         let p = position_or_len is_quote bs in
@@ -76,17 +84,22 @@ inside_fits bs inside others lacks e some = by_size (cases_lt (position_or_len i
 pub lacks_before : (bs : List ℕ) → LacksQuote (take (position_or_len is_quote bs) bs)
 lacks_before bs k lt =
     let l = length-take (position_or_len is_quote bs) bs in
-    ap is_quote (get_or-take (position_or_len is_quote bs) bs k 0 (omega arith)) ∙ fails_before_first is_quote bs k 0 (omega arith)
+    ap is_quote (get_or-take (position_or_len is_quote bs) bs k 0 (omega arith))
+    ∙ fails_before_first is_quote bs k 0 (omega arith)
 
-pub string_text : (bs : List ℕ) → position_or_len is_quote bs < length bs → take (position_or_len is_quote bs + 2) (34 ∷ bs) ≡ 34 ∷ (take (position_or_len is_quote bs) bs ++ 34 ∷ [])
+pub string_text : (bs : List ℕ) → position_or_len is_quote bs < length bs
+    → take (position_or_len is_quote bs + 2) (34 ∷ bs)
+    ≡ 34 ∷ (take (position_or_len is_quote bs) bs ++ 34 ∷ [])
 string_text bs some =
     let p = position_or_len is_quote bs in
     let quote : get_or bs p 0 ≡ 34 = equal (get_or bs p 0) 34 (passes_at_first is_quote bs 0 some) in
     ap (λ (n : ℕ). take n (34 ∷ bs)) (let more : p + 2 ≡ suc (p + 1) = omega arith in more)
-    ∙ ap (λ (xs : List ℕ). 34 ∷ xs) (take_more bs p 0 some ∙ ap (λ (x : ℕ). take p bs ++ x ∷ []) quote)
+    ∙ ap (λ (xs : List ℕ). 34 ∷ xs) (take_more bs p 0 some
+    ∙ ap (λ (x : ℕ). take p bs ++ x ∷ []) quote)
 
 -- by a test
-pub tested : {A : Type 0} (P : A → Type 0) (b : Bool) (x y : A) → (b ≡ true → P x) → (b ≡ false → P y) → P (if b then x else y)
+pub tested : {A : Type 0} (P : A → Type 0) (b : Bool) (x y : A) → (b ≡ true → P x)
+    → (b ≡ false → P y) → P (if b then x else y)
 tested P true x y p q = p refl
 tested P false x y p q = q refl
 
@@ -109,10 +122,16 @@ pub when_false : {A : Type 0} (x : Bool) (a b : A) → x ≡ false → (if x the
 when_false x a b e = ap (λ (y : Bool). if y then a else b) e
 
 -- where the first quote stands
-pub quote_size : (inside rest : List ℕ) → LacksQuote inside → position_or_len is_quote (inside ++ 34 ∷ rest) ≡ length inside
+pub quote_size : (inside rest : List ℕ) → LacksQuote inside
+    → position_or_len is_quote (inside ++ 34 ∷ rest) ≡ length inside
 quote_size inside rest lacks =
     let l = length-append inside (34 ∷ rest) in
-    position_or_len_is is_quote (inside ++ 34 ∷ rest) (length inside) 0 (omega arith) (λ k lt. ap is_quote (get_or_append_left inside (34 ∷ rest) 0 k lt) ∙ lacks k lt) (λ _. ap is_quote (seam inside (34 ∷ rest)))
+    position_or_len_is is_quote (inside ++ 34 ∷ rest) (length inside) 0 (omega arith)
+    (λ k lt. ap is_quote (get_or_append_left inside (34 ∷ rest) 0 k lt) ∙ lacks k lt)
+    (λ _. ap is_quote (seam inside (34 ∷ rest)))
 
-pub open_size : (inside : List ℕ) → LacksQuote inside → position_or_len is_quote inside ≡ length inside
-open_size inside lacks = position_or_len_is is_quote inside (length inside) 0 (omega arith) (λ k lt. lacks k lt) (λ lt. absurd (omega arith))
+pub open_size : (inside : List ℕ) → LacksQuote inside
+    → position_or_len is_quote inside ≡ length inside
+open_size inside lacks =
+    position_or_len_is is_quote inside (length inside) 0 (omega arith) (λ k lt. lacks k lt)
+    (λ lt. absurd (omega arith))

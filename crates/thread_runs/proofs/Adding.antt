@@ -19,25 +19,37 @@ added_none P vs none = record {
   whole = λ few v p one. absurd (none v p);
 }
 
-pub added_one : (value : Value) (us old new : List Value) → us ≡ value ∷ [] → length old ≤ length new → (length old ≡ length new → old ≡ new) → IsAdded value old new → AreAdded (Contains us) old new
+pub added_one : (value : Value) (us old new : List Value) → us ≡ value ∷ []
+    → length old ≤ length new → (length old ≡ length new → old ≡ new) → IsAdded value old new
+    → AreAdded (Contains us) old new
 added_one value us old new e longer unchanged added = record {
   longer = longer;
   unchanged = unchanged;
   kept = λ v h. (added v).1 (inl h);
   sound = λ v h. elim ((added v).0 h) [
     | inl w ↦ inl w
-    | inr w ↦ inr (subst (λ (xs : List Value). Contains xs v) (sym e) (subst (λ (u : Value). Contains (value ∷ []) u) (sym w.0) (Contains-push [] value)), subst (λ (u : Value). IsOne u) (sym w.0) w.1)
+    | inr w ↦ inr (
+      subst (λ (xs : List Value). Contains xs v) (sym e) (subst
+          (λ (u : Value). Contains (value ∷ []) u) (sym w.0) (Contains-push [] value)),
+      subst (λ (u : Value). IsOne u) (sym w.0) w.1,
+    )
   ];
-  whole = λ few v h one. elim (Contains-push_cases [] value v (subst (λ (xs : List Value). Contains xs v) e h)) [
-    | inl none ↦ absurd (let lt = none.1 in omega arith)
-    | inr f ↦ (added v).1 (inr (sym f, subst (λ (u : Value). IsOne u) (sym f) one))
-  ];
+  whole =
+      λ few v h one.
+      elim (Contains-push_cases [] value v (subst (λ (xs : List Value). Contains xs v) e h)) [
+        | inl none ↦ absurd (let lt = none.1 in omega arith)
+        | inr f ↦ (added v).1 (inr (sym f, subst (λ (u : Value). IsOne u) (sym f) one))
+      ];
 }
 
-pub added_after : (P Q R : Value → Type 0) (a b c : List Value) → AreAdded P a b → AreAdded Q b c → ((v : Value) → (P v ⊎ Q v) ↔ R v) → AreAdded R a c
+pub added_after : (P Q R : Value → Type 0) (a b c : List Value) → AreAdded P a b → AreAdded Q b c
+    → ((v : Value) → (P v ⊎ Q v) ↔ R v) → AreAdded R a c
 added_after P Q R a b c p q r = record {
   longer = let s = p.longer in let t = q.longer in omega arith;
-  unchanged = λ same. let s = p.longer in let t = q.longer in p.unchanged (omega arith) ∙ q.unchanged (omega arith);
+  unchanged =
+      λ same.
+      let s = p.longer in
+      let t = q.longer in p.unchanged (omega arith) ∙ q.unchanged (omega arith);
   kept = λ v h. q.kept v (p.kept v h);
   sound = λ v h. elim (q.sound v h) [
     | inl w ↦ elim (p.sound v w) [ inl u ↦ inl u | inr u ↦ inr ((r v).0 (inl u.0), u.1) ]
@@ -52,7 +64,9 @@ added_after P Q R a b c p q r = record {
 pub some_none : (x : Line) (v : Value) → SomeStores x [] v → ⊥
 some_none x v h = let lt = h.1.1 in omega arith
 
-pub some_more : (x : Line) (ws : List FreeWalk) (k : ℕ) (d : FreeWalk) → k < length ws → (v : Value) → (SomeStores x (take k ws) v ⊎ Contains (stored_at x (get_or ws k d)) v) ↔ SomeStores x (take (k + 1) ws) v
+pub some_more : (x : Line) (ws : List FreeWalk) (k : ℕ) (d : FreeWalk) → k < length ws → (v : Value)
+    → (SomeStores x (take k ws) v ⊎ Contains (stored_at x (get_or ws k d)) v)
+    ↔ SomeStores x (take (k + 1) ws) v
 some_more x ws k d lt v = rw (add-one, take-suc ws k d lt) (
   (λ h. elim h [
     | inl w ↦ (w.0, Contains-append_left (take k ws) (get_or ws k d ∷ []) w.0 w.1, w.2)

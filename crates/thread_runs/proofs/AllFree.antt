@@ -29,7 +29,9 @@ all_supplied V true i b go w = flat_map (λ v. map (took v) (go (advanced i b v 
 all_supplied V false i b go w = go (advanced i b NoValue w)
 
 abbrev all_obeyed : List Value → Bool → Instruction → Lists → Lists
-all_obeyed V true i go w = map (chose true) (all_supplied V (is_load i) i true go w) ++ map (chose false) (all_supplied V (is_load i) i false go w)
+all_obeyed V true i go w =
+    map (chose true) (all_supplied V (is_load i) i true go w)
+    ++ map (chose false) (all_supplied V (is_load i) i false go w)
 all_obeyed V false i go w = all_supplied V (is_load i) i false go w
 
 abbrev all_one : List Value → Option ℕ → Line → Lists → Lists
@@ -45,18 +47,34 @@ all_free V [] w = made [] [] (ended false w) ∷ []
 all_free V (x ∷ xs) w = all_one V w.seeking x (all_free V xs) w
 
 -- which they are
-same_made : (ds bs : List Bool) (us vs : List Value) (o p : Outcome) → ds ≡ bs → us ≡ vs → o ≡ p → made ds us o ≡ made bs vs p
+same_made : (ds bs : List Bool) (us vs : List Value) (o p : Outcome) → ds ≡ bs → us ≡ vs → o ≡ p
+    → made ds us o ≡ made bs vs p
 same_made ds bs us vs o p e f g = cc
 
-took_as : (v : Value) (L : List FreeRun) (bs : List Bool) (vs : List Value) (o : Outcome) → Contains (map (took v) L) (made bs vs o) → (us : List Value) × (vs ≡ v ∷ us) × Contains L (made bs us o)
+took_as : (v : Value) (L : List FreeRun) (bs : List Bool) (vs : List Value) (o : Outcome)
+    → Contains (map (took v) L) (made bs vs o)
+    → (us : List Value) × (vs ≡ v ∷ us) × Contains L (made bs us o)
 took_as v L bs vs o h =
-    let (r, within, e) = map_contains (took v) L (made bs vs o) h in
-    (r.values, sym (ap (λ (s : FreeRun). s.values) e), subst (λ (s : FreeRun). Contains L s) (same_made r.choices bs r.values r.values r.outcome o (ap (λ (s : FreeRun). s.choices) e) refl (ap (λ (s : FreeRun). s.outcome) e)) within)
+    let (r, within, e) = map_contains (took v) L (made bs vs o) h in (
+      r.values,
+      sym (ap (λ (s : FreeRun). s.values) e),
+      subst (λ (s : FreeRun). Contains L s)
+          (same_made r.choices bs r.values r.values r.outcome o
+          (ap (λ (s : FreeRun). s.choices) e) refl (ap (λ (s : FreeRun). s.outcome) e))
+          within,
+    )
 
-chose_as : (b : Bool) (L : List FreeRun) (bs : List Bool) (vs : List Value) (o : Outcome) → Contains (map (chose b) L) (made bs vs o) → (cs : List Bool) × (bs ≡ b ∷ cs) × Contains L (made cs vs o)
+chose_as : (b : Bool) (L : List FreeRun) (bs : List Bool) (vs : List Value) (o : Outcome)
+    → Contains (map (chose b) L) (made bs vs o)
+    → (cs : List Bool) × (bs ≡ b ∷ cs) × Contains L (made cs vs o)
 chose_as b L bs vs o h =
-    let (r, within, e) = map_contains (chose b) L (made bs vs o) h in
-    (r.choices, sym (ap (λ (s : FreeRun). s.choices) e), subst (λ (s : FreeRun). Contains L s) (same_made r.choices r.choices r.values vs r.outcome o refl (ap (λ (s : FreeRun). s.values) e) (ap (λ (s : FreeRun). s.outcome) e)) within)
+    let (r, within, e) = map_contains (chose b) L (made bs vs o) h in (
+      r.choices,
+      sym (ap (λ (s : FreeRun). s.choices) e),
+      subst (λ (s : FreeRun). Contains L s)
+          (same_made r.choices r.choices r.values vs r.outcome o refl
+          (ap (λ (s : FreeRun). s.values) e) (ap (λ (s : FreeRun). s.outcome) e)) within,
+    )
 
 module _ (V : List Value) where
   -- what a list of free runs must have
@@ -64,67 +82,120 @@ module _ (V : List Value) where
   Holds bs vs o end = All (Contains V) vs × (end ≡ Some o)
 
   abbrev IsExact : List Line → Type 0
-  IsExact xs = (w : Walk) (bs : List Bool) (vs : List Value) (o : Outcome) → Contains (all_free V xs w) (made bs vs o) ↔ Holds bs vs o (free_from xs w bs vs)
+  IsExact xs =
+      (w : Walk) (bs : List Bool) (vs : List Value) (o : Outcome)
+      → Contains (all_free V xs w) (made bs vs o) ↔ Holds bs vs o (free_from xs w bs vs)
 
-  exact_end : (w : Walk) (bs : List Bool) (vs : List Value) (o : Outcome) → Contains (made [] [] (ended false w) ∷ []) (made bs vs o) ↔ Holds bs vs o (free_ends w bs vs)
+  exact_end : (w : Walk) (bs : List Bool) (vs : List Value) (o : Outcome)
+      → Contains (made [] [] (ended false w) ∷ []) (made bs vs o)
+      ↔ Holds bs vs o (free_ends w bs vs)
   exact_end w [] [] o = (
-    (λ h. (All-nil (Contains V), ap (λ (s : FreeRun). Some s.outcome) (contains_one (made [] [] (ended false w)) (made [] [] o) h))),
+    (λ h. (
+      All-nil (Contains V),
+      ap (λ (s : FreeRun). Some s.outcome)
+          (contains_one (made [] [] (ended false w)) (made [] [] o) h),
+    )),
     (λ h. one_contains (made [] [] (ended false w)) (made [] [] o) (let e = h.1 in cc)),
   )
   exact_end w [] (v ∷ vs) o = (
-    (λ h. let e = ap (λ (s : FreeRun). s.values) (contains_one (made [] [] (ended false w)) (made [] (v ∷ vs) o) h) in absurd cc),
+    (λ h.
+        let e =
+        ap (λ (s : FreeRun). s.values) (contains_one (made [] [] (ended false w))
+        (made [] (v ∷ vs) o) h) in
+        absurd cc),
     (λ h. let e = h.1 in absurd cc),
   )
   exact_end w (b ∷ bs) vs o = (
-    (λ h. let e = ap (λ (s : FreeRun). s.choices) (contains_one (made [] [] (ended false w)) (made (b ∷ bs) vs o) h) in absurd cc),
+    (λ h.
+        let e =
+        ap (λ (s : FreeRun). s.choices) (contains_one (made [] [] (ended false w))
+        (made (b ∷ bs) vs o) h) in
+        absurd cc),
     (λ h. let e = h.1 in absurd cc),
   )
 
-  exact_supplied : (ld : Bool) (i : Instruction) (b : Bool) (xs : List Line) → IsExact xs → (w : Walk) (bs : List Bool) (vs : List Value) (o : Outcome)
-      → Contains (all_supplied V ld i b (all_free V xs) w) (made bs vs o) ↔ Holds bs vs o (supplied ld i b (λ u us. free_from xs u bs us) w vs)
+  exact_supplied : (ld : Bool) (i : Instruction) (b : Bool) (xs : List Line) → IsExact xs
+      → (w : Walk) (bs : List Bool) (vs : List Value) (o : Outcome)
+      → Contains (all_supplied V ld i b (all_free V xs) w) (made bs vs o)
+      ↔ Holds bs vs o (supplied ld i b (λ u us. free_from xs u bs us) w vs)
   exact_supplied false i b xs ih w bs vs o = ih (advanced i b NoValue w) bs vs o
   exact_supplied true i b xs ih w bs vs o = (forth, back vs)
     where
       Each : Value → List FreeRun
       Each v = map (took v) (all_free V xs (advanced i b v w))
 
-      forth : Contains (flat_map (λ v. map (took v) (all_free V xs (advanced i b v w))) V) (made bs vs o) → Holds bs vs o (supplied true i b (λ u us. free_from xs u bs us) w vs)
+      forth : Contains (flat_map (λ v. map (took v) (all_free V xs (advanced i b v w))) V)
+          (made bs vs o) → Holds bs vs o (supplied true i b (λ u us. free_from xs u bs us) w vs)
       forth h =
           let (v, within, found) = flat_map_contains (λ v. map (took v) (all_free V xs (advanced i b v w))) V (made bs vs o) h in
           let (us, e, there) = took_as v (all_free V xs (advanced i b v w)) bs vs o found in
           let holds = (ih (advanced i b v w) bs us o).0 there in
-          subst (λ (ws : List Value). Holds bs ws o (supplied true i b (λ u us. free_from xs u bs us) w ws)) (sym e) (All-cons (Contains V) v us within holds.0, holds.1)
+          subst
+          (λ (ws : List Value).
+          Holds bs ws o (supplied true i b (λ u us. free_from xs u bs us) w ws))
+          (sym e)
+          (All-cons (Contains V) v us within holds.0, holds.1)
 
-      back : (ws : List Value) → Holds bs ws o (supplied true i b (λ u us. free_from xs u bs us) w ws) → Contains (flat_map (λ v. map (took v) (all_free V xs (advanced i b v w))) V) (made bs ws o)
+      back : (ws : List Value)
+          → Holds bs ws o (supplied true i b (λ u us. free_from xs u bs us) w ws)
+          → Contains (flat_map (λ v. map (took v) (all_free V xs (advanced i b v w))) V)
+          (made bs ws o)
       back [] h = let e = h.1 in absurd cc
       back (v ∷ us) h =
-          contains_flat_map (λ v. map (took v) (all_free V xs (advanced i b v w))) V v (made bs (v ∷ us) o) (All-head (Contains V) v us h.0)
-          (contains_map (took v) (all_free V xs (advanced i b v w)) (made bs us o) ((ih (advanced i b v w) bs us o).1 (All-tail (Contains V) v us h.0, h.1)))
+          contains_flat_map (λ v. map (took v) (all_free V xs (advanced i b v w))) V v
+          (made bs (v ∷ us) o) (All-head (Contains V) v us h.0)
+          (contains_map (took v) (all_free V xs (advanced i b v w)) (made bs us o)
+          ((ih (advanced i b v w) bs us o).1 (All-tail (Contains V) v us h.0, h.1)))
 
-  exact_obeyed : (br : Bool) (i : Instruction) (xs : List Line) → IsExact xs → (w : Walk) (bs : List Bool) (vs : List Value) (o : Outcome)
-      → Contains (all_obeyed V br i (all_free V xs) w) (made bs vs o) ↔ Holds bs vs o (free_obeyed br i (free_from xs) w bs vs)
+  exact_obeyed : (br : Bool) (i : Instruction) (xs : List Line) → IsExact xs
+      → (w : Walk) (bs : List Bool) (vs : List Value) (o : Outcome)
+      → Contains (all_obeyed V br i (all_free V xs) w) (made bs vs o)
+      ↔ Holds bs vs o (free_obeyed br i (free_from xs) w bs vs)
   exact_obeyed false i xs ih w bs vs o = exact_supplied (is_load i) i false xs ih w bs vs o
   exact_obeyed true i xs ih w bs vs o = (forth, back bs)
     where
-      forth : Contains (all_obeyed V true i (all_free V xs) w) (made bs vs o) → Holds bs vs o (free_obeyed true i (free_from xs) w bs vs)
-      forth h = elim (Contains-append_cases (map (chose true) (all_supplied V (is_load i) i true (all_free V xs) w)) (map (chose false) (all_supplied V (is_load i) i false (all_free V xs) w)) (made bs vs o) h) [
-        | inl one ↦
-            let (cs, e, there) = chose_as true (all_supplied V (is_load i) i true (all_free V xs) w) bs vs o one in
-            subst (λ (ds : List Bool). Holds ds vs o (free_obeyed true i (free_from xs) w ds vs)) (sym e) ((exact_supplied (is_load i) i true xs ih w cs vs o).0 there)
-        | inr one ↦
-            let (cs, e, there) = chose_as false (all_supplied V (is_load i) i false (all_free V xs) w) bs vs o one in
-            subst (λ (ds : List Bool). Holds ds vs o (free_obeyed true i (free_from xs) w ds vs)) (sym e) ((exact_supplied (is_load i) i false xs ih w cs vs o).0 there)
-      ]
+      forth : Contains (all_obeyed V true i (all_free V xs) w) (made bs vs o)
+          → Holds bs vs o (free_obeyed true i (free_from xs) w bs vs)
+      forth h =
+          elim
+          (Contains-append_cases
+          (map (chose true) (all_supplied V (is_load i) i true (all_free V xs) w))
+          (map (chose false) (all_supplied V (is_load i) i false (all_free V xs) w))
+          (made bs vs o) h) [
+            | inl one ↦
+                let (cs, e, there) = chose_as true (all_supplied V (is_load i) i true (all_free V xs) w) bs vs o one in
+                subst (λ (ds : List Bool).
+                Holds ds vs o (free_obeyed true i (free_from xs) w ds vs))
+                (sym e) ((exact_supplied (is_load i) i true xs ih w cs vs o).0 there)
+            | inr one ↦
+                let (cs, e, there) = chose_as false (all_supplied V (is_load i) i false (all_free V xs) w) bs vs o one in
+                subst (λ (ds : List Bool).
+                Holds ds vs o (free_obeyed true i (free_from xs) w ds vs))
+                (sym e) ((exact_supplied (is_load i) i false xs ih w cs vs o).0 there)
+          ]
 
-      back : (ds : List Bool) → Holds ds vs o (free_obeyed true i (free_from xs) w ds vs) → Contains (all_obeyed V true i (all_free V xs) w) (made ds vs o)
+      back : (ds : List Bool) → Holds ds vs o (free_obeyed true i (free_from xs) w ds vs)
+          → Contains (all_obeyed V true i (all_free V xs) w) (made ds vs o)
       back [] h = let e = h.1 in absurd cc
-      back (true ∷ cs) h = Contains-append_left (map (chose true) (all_supplied V (is_load i) i true (all_free V xs) w)) (map (chose false) (all_supplied V (is_load i) i false (all_free V xs) w)) (made (true ∷ cs) vs o)
-          (contains_map (chose true) (all_supplied V (is_load i) i true (all_free V xs) w) (made cs vs o) ((exact_supplied (is_load i) i true xs ih w cs vs o).1 h))
-      back (false ∷ cs) h = Contains-append_right (map (chose true) (all_supplied V (is_load i) i true (all_free V xs) w)) (map (chose false) (all_supplied V (is_load i) i false (all_free V xs) w)) (made (false ∷ cs) vs o)
-          (contains_map (chose false) (all_supplied V (is_load i) i false (all_free V xs) w) (made cs vs o) ((exact_supplied (is_load i) i false xs ih w cs vs o).1 h))
+      back (true ∷ cs) h =
+          Contains-append_left
+          (map (chose true) (all_supplied V (is_load i) i true (all_free V xs) w))
+          (map (chose false) (all_supplied V (is_load i) i false (all_free V xs) w))
+          (made (true ∷ cs) vs o)
+          (contains_map (chose true) (all_supplied V (is_load i) i true (all_free V xs) w)
+          (made cs vs o) ((exact_supplied (is_load i) i true xs ih w cs vs o).1 h))
+      back (false ∷ cs) h =
+          Contains-append_right
+          (map (chose true) (all_supplied V (is_load i) i true (all_free V xs) w))
+          (map (chose false) (all_supplied V (is_load i) i false (all_free V xs) w))
+          (made (false ∷ cs) vs o)
+          (contains_map (chose false) (all_supplied V (is_load i) i false (all_free V xs) w)
+          (made cs vs o) ((exact_supplied (is_load i) i false xs ih w cs vs o).1 h))
 
-  exact_one : (sk : Option ℕ) (x : Line) (xs : List Line) → IsExact xs → (w : Walk) (bs : List Bool) (vs : List Value) (o : Outcome)
-      → Contains (all_one V sk x (all_free V xs) w) (made bs vs o) ↔ Holds bs vs o (free_one sk x (free_from xs) w bs vs)
+  exact_one : (sk : Option ℕ) (x : Line) (xs : List Line) → IsExact xs
+      → (w : Walk) (bs : List Bool) (vs : List Value) (o : Outcome)
+      → Contains (all_one V sk x (all_free V xs) w) (made bs vs o)
+      ↔ Holds bs vs o (free_one sk x (free_from xs) w bs vs)
   exact_one (Some l) x xs ih w bs vs o = ih (passed x l w) bs vs o
   exact_one None (Label m) xs ih w bs vs o = ih w bs vs o
   exact_one None (Does i) xs ih w bs vs o = exact_obeyed (is_branch i) i xs ih w bs vs o
@@ -135,28 +206,43 @@ module _ (V : List Value) where
 
   -- each once
   module _ (apart : AllPairs (λ u v. u ≡ v → ⊥) V) where
-    once_supplied : (ld : Bool) (i : Instruction) (b : Bool) (xs : List Line) → ((u : Walk) → AllPairs IsOther (all_free V xs u)) → (w : Walk) → AllPairs IsOther (all_supplied V ld i b (all_free V xs) w)
+    once_supplied : (ld : Bool) (i : Instruction) (b : Bool) (xs : List Line)
+        → ((u : Walk) → AllPairs IsOther (all_free V xs u)) → (w : Walk)
+        → AllPairs IsOther (all_supplied V ld i b (all_free V xs) w)
     once_supplied false i b xs ih w = ih (advanced i b NoValue w)
     once_supplied true i b xs ih w =
-        pairs_flat_map (λ u v. u ≡ v → ⊥) IsOther (λ v. map (took v) (all_free V xs (advanced i b v w))) V apart
-        (λ v. pairs_map IsOther (took v) (all_free V xs (advanced i b v w)) (λ j k d lt below e f. ih (advanced i b v w) j k d lt below e (let t = f in cc)))
+        pairs_flat_map (λ u v. u ≡ v → ⊥) IsOther
+        (λ v. map (took v) (all_free V xs (advanced i b v w))) V apart
+        (λ v. pairs_map IsOther (took v) (all_free V xs (advanced i b v w))
+        (λ j k d lt below e f. ih (advanced i b v w) j k d lt below e (let t = f in cc)))
         (λ u v other r s h k e f.
         let (p, _, q) = map_contains (took u) (all_free V xs (advanced i b u w)) r h in
         let (y, _, z) = map_contains (took v) (all_free V xs (advanced i b v w)) s k in
-        other (let a = ap (λ (t : FreeRun). t.values) q in let c = ap (λ (t : FreeRun). t.values) z in cc))
+        other (let a = ap (λ (t : FreeRun). t.values) q in
+        let c = ap (λ (t : FreeRun). t.values) z in cc))
 
-    once_obeyed : (br : Bool) (i : Instruction) (xs : List Line) → ((u : Walk) → AllPairs IsOther (all_free V xs u)) → (w : Walk) → AllPairs IsOther (all_obeyed V br i (all_free V xs) w)
+    once_obeyed : (br : Bool) (i : Instruction) (xs : List Line)
+        → ((u : Walk) → AllPairs IsOther (all_free V xs u)) → (w : Walk)
+        → AllPairs IsOther (all_obeyed V br i (all_free V xs) w)
     once_obeyed false i xs ih w = once_supplied (is_load i) i false xs ih w
     once_obeyed true i xs ih w =
-        pairs_append IsOther (map (chose true) (all_supplied V (is_load i) i true (all_free V xs) w)) (map (chose false) (all_supplied V (is_load i) i false (all_free V xs) w))
-        (pairs_map IsOther (chose true) (all_supplied V (is_load i) i true (all_free V xs) w) (λ j k d lt below e f. once_supplied (is_load i) i true xs ih w j k d lt below (let t = e in cc) f))
-        (pairs_map IsOther (chose false) (all_supplied V (is_load i) i false (all_free V xs) w) (λ j k d lt below e f. once_supplied (is_load i) i false xs ih w j k d lt below (let t = e in cc) f))
+        pairs_append IsOther
+        (map (chose true) (all_supplied V (is_load i) i true (all_free V xs) w))
+        (map (chose false) (all_supplied V (is_load i) i false (all_free V xs) w))
+        (pairs_map IsOther (chose true) (all_supplied V (is_load i) i true (all_free V xs) w)
+        (λ j k d lt below e f.
+        once_supplied (is_load i) i true xs ih w j k d lt below (let t = e in cc) f))
+        (pairs_map IsOther (chose false) (all_supplied V (is_load i) i false (all_free V xs) w)
+        (λ j k d lt below e f.
+        once_supplied (is_load i) i false xs ih w j k d lt below (let t = e in cc) f))
         (λ r s h k e f.
         let (p, _, q) = map_contains (chose true) (all_supplied V (is_load i) i true (all_free V xs) w) r h in
         let (y, _, z) = map_contains (chose false) (all_supplied V (is_load i) i false (all_free V xs) w) s k in
         let a = ap (λ (t : FreeRun). t.choices) q in let c = ap (λ (t : FreeRun). t.choices) z in absurd cc)
 
-    once_one : (sk : Option ℕ) (x : Line) (xs : List Line) → ((u : Walk) → AllPairs IsOther (all_free V xs u)) → (w : Walk) → AllPairs IsOther (all_one V sk x (all_free V xs) w)
+    once_one : (sk : Option ℕ) (x : Line) (xs : List Line)
+        → ((u : Walk) → AllPairs IsOther (all_free V xs u)) → (w : Walk)
+        → AllPairs IsOther (all_one V sk x (all_free V xs) w)
     once_one (Some l) x xs ih w = ih (passed x l w)
     once_one None (Label m) xs ih w = ih w
     once_one None (Does i) xs ih w = once_obeyed (is_branch i) i xs ih w
@@ -166,7 +252,8 @@ module _ (V : List Value) where
     once (x ∷ xs) w = once_one w.seeking x xs (once xs) w
 
 -- how many
-many : (V : List Value) (f : Value → List FreeRun) (n : ℕ) → ((v : Value) → length (f v) ≡ n) → length (flat_map f V) ≡ length V * n
+many : (V : List Value) (f : Value → List FreeRun) (n : ℕ) → ((v : Value) → length (f v) ≡ n)
+    → length (flat_map f V) ≡ length V * n
 many [] f n each = omega arith
 many (v ∷ vs) f n each =
     let one = each v in
@@ -176,10 +263,14 @@ many (v ∷ vs) f n each =
 abbrev IsCounted : List Value → List Line → Type 0
 IsCounted V xs = (w : Walk) → length (all_free V xs w) ≡ count_free (length V) xs w.seeking
 
-counted_supplied : (V : List Value) (ld : Bool) (i : Instruction) (b : Bool) (xs : List Line) → IsCounted V xs → (w : Walk)
-    → length (all_supplied V ld i b (all_free V xs) w) ≡ (if ld then length V * count_free (length V) xs (target i b) else count_free (length V) xs (target i b))
+counted_supplied : (V : List Value) (ld : Bool) (i : Instruction) (b : Bool) (xs : List Line)
+    → IsCounted V xs → (w : Walk)
+    → length (all_supplied V ld i b (all_free V xs) w) ≡ (if ld then length V
+    * count_free (length V) xs (target i b)
+    else count_free (length V) xs (target i b))
 counted_supplied V true i b xs ih w =
-    many V (λ v. map (took v) (all_free V xs (advanced i b v w))) (count_free (length V) xs (target i b))
+    many V (λ v. map (took v) (all_free V xs (advanced i b v w)))
+    (count_free (length V) xs (target i b))
     (λ v. length-map (all_free V xs (advanced i b v w)) (took v) ∙ ih (advanced i b v w))
 counted_supplied V false i b xs ih w = ih (advanced i b NoValue w)
 
@@ -198,16 +289,23 @@ branch_no_load (CompareImmediate a n) e = refl
 branch_no_load (Jump l) e = refl
 branch_no_load (Barrier f) e = refl
 
-counted_obeyed : (V : List Value) (br : Bool) (i : Instruction) (xs : List Line) → is_branch i ≡ br → IsCounted V xs → (w : Walk)
-    → length (all_obeyed V br i (all_free V xs) w) ≡ (if br then count_free (length V) xs (target i true) + count_free (length V) xs (target i false) else sized (length V) i (count_free (length V) xs (target i false)))
+counted_obeyed : (V : List Value) (br : Bool) (i : Instruction) (xs : List Line) → is_branch i ≡ br
+    → IsCounted V xs → (w : Walk)
+    → length (all_obeyed V br i (all_free V xs) w) ≡ (if br then count_free (length V) xs
+    (target i true) + count_free (length V) xs (target i false)
+    else sized (length V) i (count_free (length V) xs (target i false)))
 counted_obeyed V true i xs is ih w =
     let yes_part = length-map (all_supplied V (is_load i) i true (all_free V xs) w) (chose true) ∙ counted_supplied V (is_load i) i true xs ih w ∙ ap (λ (b : Bool). if b then length V * count_free (length V) xs (target i true) else count_free (length V) xs (target i true)) (branch_no_load i is) in
     let no_part = length-map (all_supplied V (is_load i) i false (all_free V xs) w) (chose false) ∙ counted_supplied V (is_load i) i false xs ih w ∙ ap (λ (b : Bool). if b then length V * count_free (length V) xs (target i false) else count_free (length V) xs (target i false)) (branch_no_load i is) in
-    length-append (map (chose true) (all_supplied V (is_load i) i true (all_free V xs) w)) (map (chose false) (all_supplied V (is_load i) i false (all_free V xs) w)) ∙ omega (arith, yes_part, no_part)
+    length-append (map (chose true) (all_supplied V (is_load i) i true (all_free V xs) w))
+    (map (chose false) (all_supplied V (is_load i) i false (all_free V xs) w))
+    ∙ omega (arith, yes_part, no_part)
 counted_obeyed V false i xs is ih w = counted_supplied V (is_load i) i false xs ih w
 
-counted_one : (V : List Value) (sk : Option ℕ) (x : Line) (xs : List Line) → IsCounted V xs → (w : Walk) → w.seeking ≡ sk
-    → length (all_one V sk x (all_free V xs) w) ≡ count_one (length V) sk x (count_free (length V) xs)
+counted_one : (V : List Value) (sk : Option ℕ) (x : Line) (xs : List Line) → IsCounted V xs
+    → (w : Walk) → w.seeking ≡ sk
+    → length (all_one V sk x (all_free V xs) w)
+    ≡ count_one (length V) sk x (count_free (length V) xs)
 counted_one V (Some l) x xs ih w s = ih (passed x l w)
 counted_one V None (Label m) xs ih w s = ih w ∙ ap (λ (o : Option ℕ). count_free (length V) xs o) s
 counted_one V None (Does i) xs ih w s = counted_obeyed V (is_branch i) i xs refl ih w
@@ -223,10 +321,13 @@ never_less (Address l) lt = omega arith
 never_less NoValue lt = lt
 
 pub less_apart : (V : List Value) → AllPairs IsLess V → AllPairs (λ u v. u ≡ v → ⊥) V
-less_apart V rising j k d lt below e = never_less (get_or V j d) (subst (λ (v : Value). IsLess (get_or V j d) v) (sym e) (rising j k d lt below))
+less_apart V rising j k d lt below e =
+    never_less (get_or V j d) (subst (λ (v : Value). IsLess (get_or V j d) v) (sym e)
+    (rising j k d lt below))
 
 -- the free runs of a thread, as a list
-pub has_free_runs : (lines : List Line) (first : State) (V : List Value) (size n : ℕ) → AllPairs IsLess V → length V ≡ size → n ≡ capped (count_free size lines None)
+pub has_free_runs : (lines : List Line) (first : State) (V : List Value) (size n : ℕ)
+    → AllPairs IsLess V → length V ≡ size → n ≡ capped (count_free size lines None)
     → (m : ℕ) × HasFreeRuns (record { lines = lines; first = first }) V m × (n ≡ capped m)
 has_free_runs lines first V size n rising e f = (
   count_free (length V) lines None,

@@ -24,9 +24,11 @@ less_less (Address i) NoValue w p q = absurd p
 less_less NoValue v w p q = absurd p
 
 one_is : (v : Value) → is_value v ≡ true → IsOne v
-one_is v e n = let f : is_value v ≡ false = ap is_value n in let t : true ≡ false = sym e ∙ f in absurd cc
+one_is v e n =
+    let f : is_value v ≡ false = ap is_value n in let t : true ≡ false = sym e ∙ f in absurd cc
 
-pub inserted_set : (vs us ws : List Value) (i : ℕ) (v : Value) → IsSet vs → is_value v ≡ true → us ≡ vs → IsIndexOf v us i → ws ≡ insert vs i v → IsSet ws
+pub inserted_set : (vs us ws : List Value) (i : ℕ) (v : Value) → IsSet vs → is_value v ≡ true
+    → us ≡ vs → IsIndexOf v us i → ws ≡ insert vs i v → IsSet ws
 inserted_set vs us ws i v s one e p new =
     let q = subst (λ (xs : List Value). IsIndexOf v xs i) e p in
     subst (λ (xs : List Value). IsSet xs) (sym new) (record {
@@ -34,7 +36,8 @@ inserted_set vs us ws i v s one e p new =
       proper = inserted_all IsOne vs i v s.proper (one_is v one);
     })
 
-pub inserted_is : (vs ws : List Value) (i : ℕ) (v : Value) → is_value v ≡ true → ws ≡ insert vs i v → IsAdded v vs ws
+pub inserted_is : (vs ws : List Value) (i : ℕ) (v : Value) → is_value v ≡ true → ws ≡ insert vs i v
+    → IsAdded v vs ws
 inserted_is vs ws i v one new = subst (λ (xs : List Value). IsAdded v vs xs) (sym new) (λ u.
     let h = contains_inserted vs i v u in (
       (λ w. elim (h.0 w) [ inl old ↦ inl old | inr e ↦ inr (e, one_is v one) ]),

@@ -35,19 +35,23 @@ true_false t f = cc
 no_member : {X : Type 0} (x : X) → Contains [] x → ⊥
 no_member x h = let lt = h.1 in omega arith
 
-any_there : {X : Type 0} (f : X → Bool) (xs : List X) (x : X) → Contains xs x → f x ≡ true → list_any f xs ≡ true
+any_there : {X : Type 0} (f : X → Bool) (xs : List X) (x : X) → Contains xs x → f x ≡ true
+    → list_any f xs ≡ true
 any_there f [] x c e = absurd (no_member x c)
 any_there f (y ∷ xs) x c e = elim (Contains-append_cases (y ∷ []) xs x c) [
   | inl here ↦ ap (λ (b : Bool). b || list_any f xs) (ap f (contains_one y x here) ∙ e)
   | inr there ↦ or_right (f y) (list_any f xs) (any_there f xs x there e)
 ]
 
-set_or : (xs : List Value) (d : ℕ) (v : Value) (r : ℕ) (z : Value) → (slice_index_or (slice_set xs d v) r z ≡ slice_index_or xs r z) ⊎ ((d ≡ r) × (slice_index_or (slice_set xs d v) r z ≡ v))
+set_or : (xs : List Value) (d : ℕ) (v : Value) (r : ℕ) (z : Value)
+    → (slice_index_or (slice_set xs d v) r z ≡ slice_index_or xs r z)
+    ⊎ ((d ≡ r) × (slice_index_or (slice_set xs d v) r z ≡ v))
 set_or [] d v r z = inl refl
 set_or (x ∷ xs) zero v zero z = inr (refl, refl)
 set_or (x ∷ xs) zero v (suc r) z = inl refl
 set_or (x ∷ xs) (suc d) v zero z = inl refl
-set_or (x ∷ xs) (suc d) v (suc r) z = elim (set_or xs d v r z) [ inl e ↦ inl e | inr e ↦ inr (ap (λ (n : ℕ). suc n) e.0, e.1) ]
+set_or (x ∷ xs) (suc d) v (suc r) z =
+    elim (set_or xs d v r z) [ inl e ↦ inl e | inr e ↦ inr (ap (λ (n : ℕ). suc n) e.0, e.1) ]
 
 module _ (lines : List Line) (first : State) where
   -- each register holds what the text tells
@@ -56,27 +60,45 @@ module _ (lines : List Line) (first : State) where
 
   -- and so does what is stored
   abbrev pub Told : List Event → Type 0
-  Told es = (l : ℕ) (v : Value) → Contains es (Writes (Address l) v) → list_any (line_may_store lines first l v) lines ≡ true
+  Told es =
+      (l : ℕ) (v : Value) → Contains es (Writes (Address l) v)
+      → list_any (line_may_store lines first l v) lines ≡ true
 
   pub first_holds : Holds first
-  first_holds r = ap (λ (b : Bool). b || list_any (line_may_put r (register first r)) lines) (value_same (register first r))
+  first_holds r =
+      ap (λ (b : Bool). b || list_any (line_may_put r (register first r)) lines)
+      (value_same (register first r))
 
-  put : (x : Line) → Contains lines x → (r : ℕ) (v : Value) → line_may_put r v x ≡ true → may_hold lines first r v ≡ true
-  put x c r v e = or_right (same_value (register first r) v) (list_any (line_may_put r v) lines) (any_there (line_may_put r v) lines x c e)
+  put : (x : Line) → Contains lines x → (r : ℕ) (v : Value) → line_may_put r v x ≡ true
+      → may_hold lines first r v ≡ true
+  put x c r v e =
+      or_right (same_value (register first r) v) (list_any (line_may_put r v) lines)
+      (any_there (line_may_put r v) lines x c e)
 
-  written : (s : State) (d : ℕ) (v : Value) → Holds s → (may_hold lines first d v ≡ true) → Holds (with_register s d v)
+  written : (s : State) (d : ℕ) (v : Value) → Holds s → (may_hold lines first d v ≡ true)
+      → Holds (with_register s d v)
   written s d v h there r = elim (set_or s.registers d v r (Number 0)) [
     | inl e ↦ ap (λ (u : Value). may_hold lines first r u) e ∙ h r
-    | inr e ↦ ap (λ (u : Value). may_hold lines first r u) e.1 ∙ ap (λ (n : ℕ). may_hold lines first n v) (sym e.0) ∙ there
+    | inr e ↦ ap (λ (u : Value). may_hold lines first r u) e.1
+        ∙ ap (λ (n : ℕ). may_hold lines first n v) (sym e.0) ∙ there
   ]
 
-  after_holds : (i : Instruction) (v : Value) (s : State) → Contains lines (Does i) → Holds s → Holds (after i v s)
-  after_holds (Immediate d n) v s c h = written s d (Number n) h (put (Does (Immediate d n)) c d (Number n) (and_from (nat_eq d d) (nat_eq n n) (nat_same d) (nat_same n)))
-  after_holds (Move d a) v s c h = written s d (register s a) h (put (Does (Move d a)) c d (register s a) (nat_same d))
-  after_holds (AddImmediate d a n) v s c h = written s d (sum_of (register s a) (Number n)) h (put (Does (AddImmediate d a n)) c d (sum_of (register s a) (Number n)) (nat_same d))
-  after_holds (Operate o d a b) v s c h = written s d (operated o a b s) h (put (Does (Operate o d a b)) c d (operated o a b s) (nat_same d))
+  after_holds : (i : Instruction) (v : Value) (s : State) → Contains lines (Does i) → Holds s
+      → Holds (after i v s)
+  after_holds (Immediate d n) v s c h =
+      written s d (Number n) h (put (Does (Immediate d n)) c d (Number n)
+      (and_from (nat_eq d d) (nat_eq n n) (nat_same d) (nat_same n)))
+  after_holds (Move d a) v s c h =
+      written s d (register s a) h (put (Does (Move d a)) c d (register s a) (nat_same d))
+  after_holds (AddImmediate d a n) v s c h =
+      written s d (sum_of (register s a) (Number n)) h (put (Does (AddImmediate d a n)) c d
+      (sum_of (register s a) (Number n)) (nat_same d))
+  after_holds (Operate o d a b) v s c h =
+      written s d (operated o a b s) h (put (Does (Operate o d a b)) c d (operated o a b s)
+      (nat_same d))
   after_holds (Load d a) v s c h = written s d v h (put (Does (Load d a)) c d v (nat_same d))
-  after_holds (LoadIndexed d a b) v s c h = written s d v h (put (Does (LoadIndexed d a b)) c d v (nat_same d))
+  after_holds (LoadIndexed d a b) v s c h =
+      written s d v h (put (Does (LoadIndexed d a b)) c d v (nat_same d))
   after_holds (Store d a) v s c h = h
   after_holds (StoreIndexed d a b) v s c h = h
   after_holds (Compare a b) v s c h = h
@@ -91,17 +113,29 @@ module _ (lines : List Line) (first : State) where
   stored_is : {a b u v : Value} → Writes a u ≡ Writes b v → u ≡ v
   stored_is e = cc
 
-  event_told : (i : Instruction) (v : Value) (s : State) → Contains lines (Does i) → Holds s → Told (event_of i v s)
+  event_told : (i : Instruction) (v : Value) (s : State) → Contains lines (Does i) → Holds s
+      → Told (event_of i v s)
   event_told (Store d a) v s c h = λ l u e.
       let is = contains_one (Writes (register s a) (register s d)) (Writes (Address l) u) e in
       any_there (line_may_store lines first l u) lines (Does (Store d a)) c
-      (and_from (may_hold lines first a (Address l)) (may_hold lines first d u) (ap (λ (w : Value). may_hold lines first a w) (sym (address_is is)) ∙ h a) (ap (λ (w : Value). may_hold lines first d w) (sym (stored_is is)) ∙ h d))
+      (and_from (may_hold lines first a (Address l)) (may_hold lines first d u)
+      (ap (λ (w : Value). may_hold lines first a w) (sym (address_is is)) ∙ h a)
+      (ap (λ (w : Value). may_hold lines first d w) (sym (stored_is is)) ∙ h d))
   event_told (StoreIndexed d a b) v s c h = λ l u e.
       let is = contains_one (Writes (sum_of (register s a) (register s b)) (register s d)) (Writes (Address l) u) e in
-      any_there (line_may_store lines first l u) lines (Does (StoreIndexed d a b)) c (ap (λ (w : Value). may_hold lines first d w) (sym (stored_is is)) ∙ h d)
-  event_told (Load d a) v s c h = λ l u e. absurd (let is = contains_one (Reads (register s a) v) (Writes (Address l) u) e in cc)
-  event_told (LoadIndexed d a b) v s c h = λ l u e. absurd (let is = contains_one (Reads (sum_of (register s a) (register s b)) v) (Writes (Address l) u) e in cc)
-  event_told (Barrier f) v s c h = λ l u e. absurd (let is = contains_one (Orders f) (Writes (Address l) u) e in cc)
+      any_there (line_may_store lines first l u) lines (Does (StoreIndexed d a b)) c
+      (ap (λ (w : Value). may_hold lines first d w) (sym (stored_is is)) ∙ h d)
+  event_told (Load d a) v s c h =
+      λ l u e.
+      absurd (let is = contains_one (Reads (register s a) v) (Writes (Address l) u) e in cc)
+  event_told (LoadIndexed d a b) v s c h =
+      λ l u e. absurd (
+      let is =
+      contains_one (Reads (sum_of (register s a) (register s b)) v) (Writes (Address l) u)
+      e in
+      cc)
+  event_told (Barrier f) v s c h =
+      λ l u e. absurd (let is = contains_one (Orders f) (Writes (Address l) u) e in cc)
   event_told (Immediate d n) v s c h = λ l u e. absurd (no_member (Writes (Address l) u) e)
   event_told (Move d a) v s c h = λ l u e. absurd (no_member (Writes (Address l) u) e)
   event_told (AddImmediate d a n) v s c h = λ l u e. absurd (no_member (Writes (Address l) u) e)
@@ -112,30 +146,45 @@ module _ (lines : List Line) (first : State) where
   event_told (Jump l) v s c h = λ k u e. absurd (no_member (Writes (Address k) u) e)
 
   told_more : (es fs : List Event) → Told es → Told fs → Told (es ++ fs)
-  told_more es fs h k = λ l v c. elim (Contains-append_cases es fs (Writes (Address l) v) c) [ inl a ↦ h l v a | inr b ↦ k l v b ]
+  told_more es fs h k =
+      λ l v c. elim (Contains-append_cases es fs (Writes (Address l) v) c)
+      [ inl a ↦ h l v a | inr b ↦ k l v b ]
 
   -- all that is left of the text
   abbrev Goes : List Line → Type 0
-  Goes xs = (w : Walk) (vs : List Value) (o : Outcome) → Holds w.state → Told w.events → run_from xs w vs ≡ Some o → Told o.walk.events
+  Goes xs =
+      (w : Walk) (vs : List Value) (o : Outcome) → Holds w.state → Told w.events
+      → run_from xs w vs ≡ Some o → Told o.walk.events
 
-  ends_told : (f : Bool) (w : Walk) (vs : List Value) (o : Outcome) → Told w.events → ends f w vs ≡ Some o → Told o.walk.events
+  ends_told : (f : Bool) (w : Walk) (vs : List Value) (o : Outcome) → Told w.events
+      → ends f w vs ≡ Some o → Told o.walk.events
   ends_told f w [] o t e = subst (λ (q : Outcome). Told q.walk.events) (same_Some _ _ e) t
   ends_told f w (v ∷ vs) o t e = absurd cc
 
   module _ (xs : List Line) (rest : Goes xs) where
-    advanced_told : (i : Instruction) (b : Bool) (v : Value) (w : Walk) (vs : List Value) (o : Outcome) → Contains lines (Does i) → Holds w.state → Told w.events → run_from xs (advanced i b v w) vs ≡ Some o → Told o.walk.events
-    advanced_told i b v w vs o c h t e = rest (advanced i b v w) vs o (after_holds i v w.state c h) (told_more w.events (event_of i v w.state) t (event_told i v w.state c h)) e
+    advanced_told : (i : Instruction) (b : Bool) (v : Value) (w : Walk) (vs : List Value)
+        (o : Outcome) → Contains lines (Does i) → Holds w.state → Told w.events
+        → run_from xs (advanced i b v w) vs ≡ Some o → Told o.walk.events
+    advanced_told i b v w vs o c h t e =
+        rest (advanced i b v w) vs o (after_holds i v w.state c h)
+        (told_more w.events (event_of i v w.state) t (event_told i v w.state c h)) e
 
-    supplied_told : (l : Bool) (i : Instruction) (b : Bool) (w : Walk) (vs : List Value) (o : Outcome) → Contains lines (Does i) → Holds w.state → Told w.events → supplied l i b (run_from xs) w vs ≡ Some o → Told o.walk.events
+    supplied_told : (l : Bool) (i : Instruction) (b : Bool) (w : Walk) (vs : List Value)
+        (o : Outcome) → Contains lines (Does i) → Holds w.state → Told w.events
+        → supplied l i b (run_from xs) w vs ≡ Some o → Told o.walk.events
     supplied_told true i b w [] o c h t e = absurd cc
     supplied_told true i b w (v ∷ vs) o c h t e = advanced_told i b v w vs o c h t e
     supplied_told false i b w vs o c h t e = advanced_told i b NoValue w vs o c h t e
 
-    obeyed_told : (f : Bool) (i : Instruction) (w : Walk) (vs : List Value) (o : Outcome) → Contains lines (Does i) → Holds w.state → Told w.events → obeyed f i (run_from xs) w vs ≡ Some o → Told o.walk.events
+    obeyed_told : (f : Bool) (i : Instruction) (w : Walk) (vs : List Value) (o : Outcome)
+        → Contains lines (Does i) → Holds w.state → Told w.events
+        → obeyed f i (run_from xs) w vs ≡ Some o → Told o.walk.events
     obeyed_told true i w vs o c h t e = ends_told true w vs o t e
     obeyed_told false i w vs o c h t e = supplied_told (is_load i) i (goes i w.state) w vs o c h t e
 
-    one_told : (s : Option ℕ) (x : Line) (w : Walk) (vs : List Value) (o : Outcome) → Contains lines x → Holds w.state → Told w.events → one s x (run_from xs) w vs ≡ Some o → Told o.walk.events
+    one_told : (s : Option ℕ) (x : Line) (w : Walk) (vs : List Value) (o : Outcome)
+        → Contains lines x → Holds w.state → Told w.events → one s x (run_from xs) w vs ≡ Some o
+        → Told o.walk.events
     one_told (Some l) x w vs o c h t e = rest (passed x l w) vs o h t e
     one_told None (Label m) w vs o c h t e = rest w vs o h t e
     one_told None (Does i) w vs o c h t e = obeyed_told (is_fault i w.state) i w vs o c h t e
@@ -143,14 +192,24 @@ module _ (lines : List Line) (first : State) where
   pub run_told : (xs : List Line) → ((x : Line) → Contains xs x → Contains lines x) → Goes xs
   run_told [] within w vs o h t e = ends_told false w vs o t e
   run_told (x ∷ xs) within w vs o h t e =
-      one_told xs (run_told xs (λ y c. within y (Contains-append_right (x ∷ []) xs y c))) w.seeking x w vs o (within x (Contains-append_left (x ∷ []) xs x (Contains-push [] x))) h t e
+      one_told xs (run_told xs (λ y c. within y (Contains-append_right (x ∷ []) xs y c))) w.seeking
+      x w vs o (within x (Contains-append_left (x ∷ []) xs x (Contains-push [] x))) h t e
 
 -- so a location never holds what the text does not tell
-pub never_held : (p : Program) (location : ℕ) (initial v : Value) → slice_get p.initial.items location ≡ Some initial → same_value initial v ≡ false
-    → ((t : ℕ) → t < vec_len p.threads → thread_may_store p location v t ≡ false) → MayHold p location v → ⊥
-never_held p location initial v there other none (inl e) = true_false (value_same v) (ap (λ (u : Value). same_value u v) (sym (some_is (sym there ∙ e))) ∙ other)
+pub never_held : (p : Program) (location : ℕ) (initial v : Value)
+    → slice_get p.initial.items location ≡ Some initial → same_value initial v ≡ false
+    → ((t : ℕ) → t < vec_len p.threads → thread_may_store p location v t ≡ false)
+    → MayHold p location v → ⊥
+never_held p location initial v there other none (inl e) =
+    true_false (value_same v) (ap (λ (u : Value). same_value u v) (sym (some_is (sym there ∙ e)))
+    ∙ other)
   where
     some_is : {x y : Value} → Some x ≡ Some y → x ≡ y
     some_is e = cc
 never_held p location initial v there other none (inr s) =
-    true_false (run_told (thread_of p s.0).lines (thread_of p s.0).first (thread_of p s.0).lines (λ x d. d) (started (thread_of p s.0).first) s.2 s.3 (first_holds (thread_of p s.0).lines (thread_of p s.0).first) (λ l u d. absurd (no_member (Writes (Address l) u) d)) s.4 location v s.5) (none s.0 s.1)
+    true_false
+    (run_told (thread_of p s.0).lines (thread_of p s.0).first (thread_of p s.0).lines (λ x d. d)
+    (started (thread_of p s.0).first) s.2 s.3
+    (first_holds (thread_of p s.0).lines (thread_of p s.0).first)
+    (λ l u d. absurd (no_member (Writes (Address l) u) d)) s.4 location v s.5)
+    (none s.0 s.1)

@@ -24,38 +24,70 @@ use Rattle.verdict.specs.declared.shown_place.ShownPlace.{ShownPlace}
 use Rattle.verdict.proofs.Orders.{is_place_same, is_place_itself}
 
 -- a list that has a place has a first one
-not_missing : (p : ShownPlace → Bool) (xs : List ShownPlace) → position p xs ≡ None → list_any p xs ≡ true → ⊥
+not_missing : (p : ShownPlace → Bool) (xs : List ShownPlace) → position p xs ≡ None
+    → list_any p xs ≡ true → ⊥
 not_missing p xs none some =
     let a = Any-from_list_any p xs some in
     ⊎_elim
-    (λ lt. let e : Some (position_or_len p xs) ≡ None = ap (λ (b : Bool). cond b (Some (position_or_len p xs)) None) (sym ((Decides-ltb (position_or_len p xs) (length xs)).1 lt)) ∙ none in cc)
-    (λ past. false≢true (sym (fails_before_first p xs a.0 a.1 (omega (arith, a.2))) ∙ ap p a.3 ∙ a.4))
+    (λ lt.
+    let e : Some (position_or_len p xs) ≡ None =
+    ap (λ (b : Bool). cond b (Some (position_or_len p xs)) None)
+    (sym ((Decides-ltb (position_or_len p xs) (length xs)).1 lt)) ∙ none in
+    cc)
+    (λ past. false≢true (sym (fails_before_first p xs a.0 a.1 (omega (arith, a.2))) ∙ ap p a.3
+    ∙ a.4))
     (cases_lt (position_or_len p xs) (length xs))
 
 -- a place that is shown holds what the state has there
-pub atom_found : (ls : List (List ℕ)) (places : List ShownPlace) (place : Place) (value : text.Value) (p : ShownPlace) (v : FinalValue) (n : ℕ) → known_place ls place ≡ Some p → known_value ls value ≡ Some v → position (is_place p) places ≡ Some n → (content : ShownPlace → FinalValue) → is_there (slice_get (map content places) n) v ≡ is_held content (known_place ls place) (known_value ls value)
+pub atom_found : (ls : List (List ℕ)) (places : List ShownPlace) (place : Place)
+    (value : text.Value) (p : ShownPlace) (v : FinalValue) (n : ℕ)
+    → known_place ls place ≡ Some p → known_value ls value ≡ Some v
+    → position (is_place p) places ≡ Some n → (content : ShownPlace → FinalValue)
+    → is_there (slice_get (map content places) n) v
+    ≡ is_held content (known_place ls place) (known_value ls value)
 atom_found ls places place value p v n known meant at content =
     let found = position-Some (is_place p) places n p at in
     let same : p ≡ get_or places n p = is_place_same p (get_or places n p) found.1 in
-    ap (λ (o : Option FinalValue). is_there o v) (slice_get-map content places n ∙ ap (option_map content) (slice_get-get_or places n p found.0 ∙ ap (λ (q : ShownPlace). Some q) (sym same)))
-    ∙ ap (λ (o : Option ShownPlace). is_held content o (Some v)) (sym known) ∙ ap (is_held content (known_place ls place)) (sym meant)
+    ap (λ (o : Option FinalValue). is_there o v) (slice_get-map content places n
+    ∙ ap (option_map content) (slice_get-get_or places n p found.0
+    ∙ ap (λ (q : ShownPlace). Some q) (sym same)))
+    ∙ ap (λ (o : Option ShownPlace). is_held content o (Some v)) (sym known)
+    ∙ ap (is_held content (known_place ls place)) (sym meant)
 
 -- a known place of the proposition is shown
-pub atom_missing : (ls : List (List ℕ)) (places : List ShownPlace) (place : Place) (p : ShownPlace) → known_place ls place ≡ Some p → position (is_place p) places ≡ None → Shows ls places (place ∷ []) → ⊥
+pub atom_missing : (ls : List (List ℕ)) (places : List ShownPlace) (place : Place) (p : ShownPlace)
+    → known_place ls place ≡ Some p → position (is_place p) places ≡ None
+    → Shows ls places (place ∷ []) → ⊥
 atom_missing ls places place p known none shows =
     not_missing (is_place p) places none
-    (shows p (ap (λ (o : Option ShownPlace). is_among (cons_option o []) p) known ∙ ap (λ (b : Bool). b || false) (is_place_itself p)))
+    (shows p (ap (λ (o : Option ShownPlace). is_among (cons_option o []) p) known
+    ∙ ap (λ (b : Bool). b || false) (is_place_itself p)))
 
-pub known_of_both : (ls : List (List ℕ)) (ps qs : List Place) (p : ShownPlace) → is_among (known_places ls (ps ++ qs)) p ≡ (is_among (known_places ls ps) p || is_among (known_places ls qs) p)
+pub known_of_both : (ls : List (List ℕ)) (ps qs : List Place) (p : ShownPlace)
+    → is_among (known_places ls (ps ++ qs)) p
+    ≡ (is_among (known_places ls ps) p || is_among (known_places ls qs) p)
 known_of_both ls ps qs p =
-    ap (λ (l : List ShownPlace). is_among l p) (filter_map-append (known_place ls) ps qs) ∙ list_any-append (is_place p) (known_places ls ps) (known_places ls qs)
+    ap (λ (l : List ShownPlace). is_among l p) (filter_map-append (known_place ls) ps qs)
+    ∙ list_any-append (is_place p) (known_places ls ps) (known_places ls qs)
 
 -- two propositions joined
-pub both_meant : (ls : List (List ℕ)) (shown : List ShownPlace) (op : Connective) (a b whole : Formula) (f g : code.Formula) → whole ≡ Join op a b → Means ls shown a f → Means ls shown b g → Shows ls shown (places_of whole) → (content : ShownPlace → FinalValue) → joined_by op (value_of (map content shown) f) (value_of (map content shown) g) ≡ satisfies ls content whole
+pub both_meant : (ls : List (List ℕ)) (shown : List ShownPlace) (op : Connective)
+    (a b whole : Formula) (f g : code.Formula) → whole ≡ Join op a b → Means ls shown a f
+    → Means ls shown b g → Shows ls shown (places_of whole) → (content : ShownPlace → FinalValue)
+    → joined_by op (value_of (map content shown) f) (value_of (map content shown) g)
+    ≡ satisfies ls content whole
 both_meant ls shown op a b whole f g is left right shows content =
-    ap (λ (x : Bool). joined_by op x (value_of (map content shown) g)) (left (λ p h. all p (or_left (is_among (known_places ls (places_of a)) p) (is_among (known_places ls (places_of b)) p) h)) content)
-    ∙ ap (joined_by op (satisfies ls content a)) (right (λ p h. all p (or_right (is_among (known_places ls (places_of a)) p) (is_among (known_places ls (places_of b)) p) h)) content)
+    ap (λ (x : Bool). joined_by op x (value_of (map content shown) g)) (left
+    (λ p h. all p (or_left (is_among (known_places ls (places_of a)) p)
+    (is_among (known_places ls (places_of b)) p) h)) content)
+    ∙ ap (joined_by op (satisfies ls content a)) (right
+    (λ p h. all p (or_right (is_among (known_places ls (places_of a)) p)
+    (is_among (known_places ls (places_of b)) p) h)) content)
     ∙ ap (satisfies ls content) (sym is)
   where
-    all : (p : ShownPlace) → (is_among (known_places ls (places_of a)) p || is_among (known_places ls (places_of b)) p) ≡ true → is_among shown p ≡ true
-    all p h = shows p (ap (λ (x : Formula). is_among (known_places ls (places_of x)) p) is ∙ known_of_both ls (places_of a) (places_of b) p ∙ h)
+    all : (p : ShownPlace)
+        → (is_among (known_places ls (places_of a)) p || is_among (known_places ls (places_of b)) p)
+        ≡ true → is_among shown p ≡ true
+    all p h =
+        shows p (ap (λ (x : Formula). is_among (known_places ls (places_of x)) p) is
+        ∙ known_of_both ls (places_of a) (places_of b) p ∙ h)

@@ -19,43 +19,72 @@ use Rattle.verdict.specs.declared.shown_place.ShownPlace.TheVariants.{Register, 
 abbrev in_file : ℕ → List Value → Option Value
 in_file register registers = slice_get registers register
 
-none_held : (n register : ℕ) → unwrap_or (slice_get (replicate n NoValue) register) NoValue ≡ NoValue
+none_held : (n register : ℕ)
+    → unwrap_or (slice_get (replicate n NoValue) register) NoValue ≡ NoValue
 none_held zero register = refl
 none_held (suc n) zero = refl
 none_held (suc n) (suc register) = none_held n register
 
 -- the registers of a run, and no values where there is none
-held_at_end : (ends : List (List Value)) (run register : ℕ) → unwrap_or (option_and_then (in_file register) (slice_get ends run)) NoValue ≡ unwrap_or (slice_get (end_at ends run) register) NoValue
+held_at_end : (ends : List (List Value)) (run register : ℕ)
+    → unwrap_or (option_and_then (in_file register) (slice_get ends run)) NoValue
+    ≡ unwrap_or (slice_get (end_at ends run) register) NoValue
 held_at_end [] run register = sym (none_held 32 register)
 held_at_end (e ∷ es) zero register = refl
 held_at_end (e ∷ es) (suc run) register = held_at_end es run register
 
-no_runs : (o : Option (Vec (List Value) Global)) (register : ℕ) → unwrap_or (option_and_then (λ runs. option_and_then (λ run. option_and_then (in_file register) (slice_get runs.items run)) None) o) NoValue ≡ NoValue
+no_runs : (o : Option (Vec (List Value) Global)) (register : ℕ)
+    → unwrap_or
+    (option_and_then
+    (λ runs. option_and_then
+    (λ run. option_and_then (in_file register) (slice_get runs.items run)) None) o)
+    NoValue ≡ NoValue
 no_runs None register = refl
 no_runs (Some runs) register = refl
 
 register_shown : (threads : List (Vec (List Value) Global)) (runs : List ℕ) (thread register : ℕ)
-    → unwrap_or (option_and_then (λ rs. option_and_then (λ run. option_and_then (in_file register) (slice_get rs.items run)) (slice_get runs thread)) (slice_get threads thread)) NoValue
-    ≡ unwrap_or (option_and_then (in_file register) (slice_get (registers_at threads runs) thread)) NoValue
+    → unwrap_or
+    (option_and_then
+    (λ rs. option_and_then
+    (λ run. option_and_then (in_file register) (slice_get rs.items run))
+    (slice_get runs thread))
+    (slice_get threads thread)) NoValue
+    ≡ unwrap_or (option_and_then (in_file register) (slice_get (registers_at threads runs) thread))
+    NoValue
 register_shown [] runs thread register = refl
 register_shown (t ∷ ts) [] thread register = no_runs (slice_get (t ∷ ts) thread) register
 register_shown (t ∷ ts) (r ∷ rs) zero register = held_at_end t.items r register
 register_shown (t ∷ ts) (r ∷ rs) (suc thread) register = register_shown ts rs thread register
 
-value_held : (space : Space) (x : Candidate) (place : ShownPlace) → ends.final_value space x.0 x.1.1 place ≡ final_value (shown_of space.registers.items x) place
-value_held space x (Register thread register) = ap value_shown (register_shown space.registers.items x.0.runs.items thread register)
+value_held : (space : Space) (x : Candidate) (place : ShownPlace)
+    → ends.final_value space x.0 x.1.1 place ≡ final_value (shown_of space.registers.items x) place
+value_held space x (Register thread register) =
+    ap value_shown (register_shown space.registers.items x.0.runs.items thread register)
 value_held space x (Location location) = refl
 
-state_held : (space : Space) (places : List ShownPlace) (x : Candidate) → ends.final_state space places x ≡ final_state places (shown_of space.registers.items x)
-state_held space places x = ap (λ (f : ShownPlace → FinalValue). map f places) (fun_ext (value_held space x))
+state_held : (space : Space) (places : List ShownPlace) (x : Candidate)
+    → ends.final_state space places x ≡ final_state places (shown_of space.registers.items x)
+state_held space places x =
+    ap (λ (f : ShownPlace → FinalValue). map f places) (fun_ext (value_held space x))
 
-count_mapped : {X Y : Type 0} (f : X → Y) (test : Y → Bool) (keep : List Bool) (xs : List X) → count_kept (λ x. test (f x)) keep xs ≡ count_kept test keep (map f xs)
+count_mapped : {X Y : Type 0} (f : X → Y) (test : Y → Bool) (keep : List Bool) (xs : List X)
+    → count_kept (λ x. test (f x)) keep xs ≡ count_kept test keep (map f xs)
 unfolding count_kept
 count_mapped f test keep [] = refl
-count_mapped f test keep (x ∷ xs) = ap (λ (n : ℕ). cond (holds_at 0 keep && test (f x)) 1 0 + n) (count_mapped f test (drop 1 keep) xs)
+count_mapped f test keep (x ∷ xs) =
+    ap (λ (n : ℕ). cond (holds_at 0 keep && test (f x)) 1 0 + n)
+    (count_mapped f test (drop 1 keep) xs)
 
 -- as many candidates end in a state as executions do that they show
-pub counts_shown : (space : Space) (places : List ShownPlace) (keep : List Bool) (v : List FinalValue) → count_kept (λ x. is_state v (ends.final_state space places x)) keep (candidates_in space.combinations.items) ≡ count_kept (λ e. is_state v (final_state places e)) keep (shown_in space)
+pub counts_shown : (space : Space) (places : List ShownPlace) (keep : List Bool)
+    (v : List FinalValue)
+    → count_kept (λ x. is_state v (ends.final_state space places x)) keep
+    (candidates_in space.combinations.items)
+    ≡ count_kept (λ e. is_state v (final_state places e)) keep (shown_in space)
 counts_shown space places keep v =
-    ap (λ (f : Candidate → List FinalValue). count_kept (λ x. is_state v (f x)) keep (candidates_in space.combinations.items)) (fun_ext (state_held space places))
-    ∙ count_mapped (shown_of space.registers.items) (λ e. is_state v (final_state places e)) keep (candidates_in space.combinations.items)
+    ap
+    (λ (f : Candidate → List FinalValue).
+    count_kept (λ x. is_state v (f x)) keep (candidates_in space.combinations.items))
+    (fun_ext (state_held space places))
+    ∙ count_mapped (shown_of space.registers.items) (λ e. is_state v (final_state places e)) keep
+    (candidates_in space.combinations.items)

@@ -14,19 +14,29 @@ last_push : (d : Value) (xs : List Value) (x : Value) → last_or d (xs ++ x ∷
 last_push d [] x = refl
 last_push d (y ∷ ys) x = last_push y ys x
 
-last_maybe : (d : Value) (xs : List Value) (o : Option Value) → last_or d (xs ++ cons_option o []) ≡ unwrap_or o (last_or d xs)
+last_maybe : (d : Value) (xs : List Value) (o : Option Value)
+    → last_or d (xs ++ cons_option o []) ≡ unwrap_or o (last_or d xs)
 last_maybe d xs None = ap (last_or d) (append-nil xs)
 last_maybe d xs (Some x) = last_push d xs x
 
 -- one store more
-word_more : (c : Combination) (order : List ℕ) (i location : ℕ) → i < length order → final_word c (take (i + 1) order) location ≡ unwrap_or (stored_at c location (get_or order i 0)) (final_word c (take i order) location)
+word_more : (c : Combination) (order : List ℕ) (i location : ℕ) → i < length order
+    → final_word c (take (i + 1) order) location
+    ≡ unwrap_or (stored_at c location (get_or order i 0)) (final_word c (take i order) location)
 word_more c order i location lt =
-    ap (λ (l : List ℕ). last_or NoValue (filter_map (stored_at c location) l)) (take_more order i 0 lt)
-    ∙ ap (last_or NoValue) (filter_map-append (stored_at c location) (take i order) (get_or order i 0 ∷ []))
-    ∙ last_maybe NoValue (filter_map (stored_at c location) (take i order)) (stored_at c location (get_or order i 0))
+    ap (λ (l : List ℕ). last_or NoValue (filter_map (stored_at c location) l))
+    (take_more order i 0 lt)
+    ∙ ap (last_or NoValue) (filter_map-append (stored_at c location) (take i order)
+    (get_or order i 0 ∷ []))
+    ∙ last_maybe NoValue (filter_map (stored_at c location) (take i order))
+    (stored_at c location (get_or order i 0))
 
 -- one store less
-pub word_less : (c : Combination) (order : List ℕ) (i location : ℕ) → 0 < i → i ≤ length order → final_word c (take i order) location ≡ unwrap_or (stored_at c location (get_or order (i - 1) 0)) (final_word c (take (i - 1) order) location)
+pub word_less : (c : Combination) (order : List ℕ) (i location : ℕ) → 0 < i → i ≤ length order
+    → final_word c (take i order) location
+    ≡ unwrap_or (stored_at c location (get_or order (i - 1) 0))
+    (final_word c (take (i - 1) order) location)
 word_less c order i location some within =
     let before : i ≡ (i - 1) + 1 = omega (arith, some) in
-    ap (λ (n : ℕ). final_word c (take n order) location) before ∙ word_more c order (i - 1) location (omega (arith, some, within))
+    ap (λ (n : ℕ). final_word c (take n order) location) before
+    ∙ word_more c order (i - 1) location (omega (arith, some, within))

@@ -46,10 +46,14 @@ pub value_orders : (value_ord.ghosts).cmp ≡ value_cmp
 value_orders = fun_ext (λ v. fun_ext (λ w. value_order v w))
 
 pub place_total : IsTotalOrder place_cmp
-place_total = subst (λ (R : ShownPlace → ShownPlace → Ordering). IsTotalOrder R) place_orders place_laws.total-law
+place_total =
+    subst (λ (R : ShownPlace → ShownPlace → Ordering). IsTotalOrder R) place_orders
+    place_laws.total-law
 
 pub value_total : IsTotalOrder value_cmp
-value_total = subst (λ (R : FinalValue → FinalValue → Ordering). IsTotalOrder R) value_orders value_laws.total-law
+value_total =
+    subst (λ (R : FinalValue → FinalValue → Ordering). IsTotalOrder R) value_orders
+    value_laws.total-law
 
 pub state_total : IsTotalOrder state_cmp
 state_total = lists_total value_total
@@ -65,7 +69,9 @@ eq_from_cmp m n = grind (arith, nat_tests)
 -- `==` is what the order calls equal
 pub place_eq_is : (p q : ShownPlace) → (place_eq.ghosts).eq p q ≡ is_place p q
 place_eq_is (Register t r) (Register u s) =
-    ap (λ (b : Bool). b && eqb r s) (eq_from_cmp t u) ∙ ap (λ (b : Bool). is_eq (nat_cmp t u) && b) (eq_from_cmp r s) ∙ sym (is_eq_then (nat_cmp t u) (nat_cmp r s))
+    ap (λ (b : Bool). b && eqb r s) (eq_from_cmp t u)
+    ∙ ap (λ (b : Bool). is_eq (nat_cmp t u) && b) (eq_from_cmp r s)
+    ∙ sym (is_eq_then (nat_cmp t u) (nat_cmp r s))
 place_eq_is (Register t r) (Location l) = refl
 place_eq_is (Location k) (Register u s) = refl
 place_eq_is (Location k) (Location l) = eq_from_cmp k l
@@ -93,12 +99,14 @@ is_state_same [] (y ∷ ys) h = absurd (false≢true h)
 is_state_same (x ∷ xs) [] h = absurd (false≢true h)
 is_state_same (x ∷ xs) (y ∷ ys) h =
     let e = both_equal (value_cmp x y) (state_cmp xs ys) h in
-    ap (λ (z : FinalValue). z ∷ xs) (value_exact x y e.0) ∙ ap (λ (zs : List FinalValue). y ∷ zs) (is_state_same xs ys e.1)
+    ap (λ (z : FinalValue). z ∷ xs) (value_exact x y e.0)
+    ∙ ap (λ (zs : List FinalValue). y ∷ zs) (is_state_same xs ys e.1)
 
 pub is_place_same : (p q : ShownPlace) → is_place p q ≡ true → p ≡ q
 is_place_same (Register t r) (Register u s) h =
     let e = and_parts (eqb t u) (eqb r s) (place_eq_is (Register t r) (Register u s) ∙ h) in
-    ap (λ (x : ℕ). Register x r) ((Decides-eqb t u).0 e.0) ∙ ap (λ (x : ℕ). Register u x) ((Decides-eqb r s).0 e.1)
+    ap (λ (x : ℕ). Register x r) ((Decides-eqb t u).0 e.0)
+    ∙ ap (λ (x : ℕ). Register u x) ((Decides-eqb r s).0 e.1)
 is_place_same (Register t r) (Location l) h = absurd (false≢true h)
 is_place_same (Location k) (Register u s) h = absurd (false≢true h)
 is_place_same (Location k) (Location l) h = ap Location ((Decides-eqb k l).0 (eq_from_cmp k l ∙ h))
@@ -108,11 +116,13 @@ is_place_itself p = ap is_eq (tied_itself place_total p)
 
 -- `==` of two values says that they are the same
 pub value_eq-Decides : (v w : FinalValue) → Decides ((value_eq.ghosts).eq v w) (v ≡ w)
-value_eq-Decides (Number m) (Number n) = ((λ h. ap Number ((Decides-int_eq m n).0 h)), (λ e. (Decides-int_eq m n).1 (cc)))
+value_eq-Decides (Number m) (Number n) =
+    ((λ h. ap Number ((Decides-int_eq m n).0 h)), (λ e. (Decides-int_eq m n).1 (cc)))
 value_eq-Decides (Number m) (Address l) = ((λ h. absurd (false≢true h)), (λ e. cc))
 value_eq-Decides (Number m) NoValue = ((λ h. absurd (false≢true h)), (λ e. cc))
 value_eq-Decides (Address k) (Number n) = ((λ h. absurd (false≢true h)), (λ e. cc))
-value_eq-Decides (Address k) (Address l) = ((λ h. ap Address ((Decides-eqb k l).0 h)), (λ e. (Decides-eqb k l).1 (cc)))
+value_eq-Decides (Address k) (Address l) =
+    ((λ h. ap Address ((Decides-eqb k l).0 h)), (λ e. (Decides-eqb k l).1 (cc)))
 value_eq-Decides (Address k) NoValue = ((λ h. absurd (false≢true h)), (λ e. cc))
 value_eq-Decides NoValue (Number n) = ((λ h. absurd (false≢true h)), (λ e. cc))
 value_eq-Decides NoValue (Address l) = ((λ h. absurd (false≢true h)), (λ e. cc))

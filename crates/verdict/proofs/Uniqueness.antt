@@ -37,30 +37,44 @@ use Rattle.verdict.proofs.Orders.{place_total, state_total, is_place_same, is_st
 less_apart : (o r : Ordering) → o ≡ ordering_reverse r → o ≡ Less → r ≡ Less → ⊥
 less_apart o r is e f = let g : Less ≡ Greater = sym e ∙ is ∙ ap ordering_reverse f in cc
 
-sorted_alike : {K : Type 0} (cmp : K → K → Ordering) → IsTotalOrder cmp → (xs ys : List K) → IsStrictlySortedBy cmp xs → IsStrictlySortedBy cmp ys → ((z : K) → Contains xs z → Contains ys z) → ((z : K) → Contains ys z → Contains xs z) → xs ≡ ys
+sorted_alike : {K : Type 0} (cmp : K → K → Ordering) → IsTotalOrder cmp → (xs ys : List K)
+    → IsStrictlySortedBy cmp xs → IsStrictlySortedBy cmp ys
+    → ((z : K) → Contains xs z → Contains ys z) → ((z : K) → Contains ys z → Contains xs z)
+    → xs ≡ ys
 sorted_alike {K} cmp total xs ys h k there back =
-    same_rising (λ (x y : K). cmp x y ≡ Less) (λ x y e f. less_apart (cmp x y) (cmp y x) (total.antisymm x y) e f) xs ys
-    (λ i j d lt long. Less-from_sorted cmp xs i j d h lt long) (λ i j d lt long. Less-from_sorted cmp ys i j d k lt long) there back
+    same_rising (λ (x y : K). cmp x y ≡ Less)
+    (λ x y e f. less_apart (cmp x y) (cmp y x) (total.antisymm x y) e f) xs ys
+    (λ i j d lt long. Less-from_sorted cmp xs i j d h lt long)
+    (λ i j d lt long. Less-from_sorted cmp ys i j d k lt long) there back
 
 is_place_equiv : IsEquivalence is_place
 is_place_equiv = eq_by_cmp_equiv place_total
 
-among_other : (ls : List (List ℕ)) (ps : List Place) (shown other : List ShownPlace) → AreShown ls ps shown → AreShown ls ps other → (z : ShownPlace) → Contains shown z → Contains other z
+among_other : (ls : List (List ℕ)) (ps : List Place) (shown other : List ShownPlace)
+    → AreShown ls ps shown → AreShown ls ps other → (z : ShownPlace) → Contains shown z
+    → Contains other z
 among_other ls ps shown other h k z c =
-    Contains-from_any {eq = is_place} is_place_same z other (k.exact z ∙ sym (h.exact z) ∙ list_any-from_Contains is_place_equiv z shown c)
+    Contains-from_any {eq = is_place} is_place_same z other (k.exact z ∙ sym (h.exact z)
+    ∙ list_any-from_Contains is_place_equiv z shown c)
 
 -- the places that are shown are determined
-shown_alike : (ls : List (List ℕ)) (ps : List Place) (shown other : List ShownPlace) → AreShown ls ps shown → AreShown ls ps other → shown ≡ other
-shown_alike ls ps shown other h k = sorted_alike place_cmp place_total shown other h.ordered k.ordered (among_other ls ps shown other h k) (among_other ls ps other shown k h)
+shown_alike : (ls : List (List ℕ)) (ps : List Place) (shown other : List ShownPlace)
+    → AreShown ls ps shown → AreShown ls ps other → shown ≡ other
+shown_alike ls ps shown other h k =
+    sorted_alike place_cmp place_total shown other h.ordered k.ordered
+    (among_other ls ps shown other h k) (among_other ls ps other shown k h)
 
 -- ---- where some pass a test, there is one
 
 abbrev Passing : {X : Type 0} → (X → Bool) → List X → Type 0
 Passing {X} p xs = (x : X) × Contains xs x × (p x ≡ true)
 
-passing_at : {X : Type 0} (p : X → Bool) (x : X) (xs : List X) (b : Bool) → p x ≡ b → 0 < length (cond b (x ∷ filter p xs) (filter p xs)) → (0 < length (filter p xs) → Passing p xs) → Passing p (x ∷ xs)
+passing_at : {X : Type 0} (p : X → Bool) (x : X) (xs : List X) (b : Bool) → p x ≡ b
+    → 0 < length (cond b (x ∷ filter p xs) (filter p xs))
+    → (0 < length (filter p xs) → Passing p xs) → Passing p (x ∷ xs)
 passing_at p x xs true is some more = (x, (0, omega arith, refl), is)
-passing_at p x xs false is some more = let found = more some in (found.0, member_later x xs found.0 found.1, found.2)
+passing_at p x xs false is some more =
+    let found = more some in (found.0, member_later x xs found.0 found.1, found.2)
 
 passing : {X : Type 0} (p : X → Bool) (xs : List X) → 0 < length (filter p xs) → Passing p xs
 passing p [] some = absurd (omega arith)
@@ -68,7 +82,8 @@ passing p (x ∷ xs) some = passing_at p x xs (p x) refl some (passing p xs)
 
 -- ---- states
 
-module _ (locations : List (List ℕ)) (proposition : Formula) (shown : List ShownPlace) (candidates : List (ℕ × Shown)) where
+module _ (locations : List (List ℕ)) (proposition : Formula) (shown : List ShownPlace)
+    (candidates : List (ℕ × Shown)) where
   abbrev Counted : CountedState → Type 0
   Counted = IsCounted locations proposition shown candidates
 
@@ -76,7 +91,8 @@ module _ (locations : List (List ℕ)) (proposition : Formula) (shown : List Sho
   end x = final_state shown x.1
 
   -- some candidate ends in it
-  ends : (s : CountedState) → Counted s → (x : ℕ × Shown) × Contains candidates x × (s.values ≡ end x)
+  ends : (s : CountedState) → Counted s
+      → (x : ℕ × Shown) × Contains candidates x × (s.values ≡ end x)
   ends s c =
       let some : 0 < number_that (λ x. is_state s.values (final_state shown x)) candidates = subst (λ (n : ℕ). 0 < n) c.count c.above in
       let found = passing (λ (x : ℕ × Shown). is_state s.values (end x)) candidates some in
@@ -90,50 +106,81 @@ module _ (locations : List (List ℕ)) (proposition : Formula) (shown : List Sho
       let holds : s.holds ≡ t.holds = c.holds (final_value found.0.1) found.2 ∙ sym (d.holds (final_value found.0.1) (sym same ∙ found.2)) in
       λ i. record { values = same i; text = text i; count = count i; holds = holds i }
 
-  states_alike : (ss ts : List CountedState) → values_of ss ≡ values_of ts → All Counted ss → All Counted ts → ss ≡ ts
+  states_alike : (ss ts : List CountedState) → values_of ss ≡ values_of ts → All Counted ss
+      → All Counted ts → ss ≡ ts
   states_alike [] [] same c d = refl
   states_alike [] (t ∷ ts) same c d = cc
   states_alike (s ∷ ss) [] same c d = cc
   states_alike (s ∷ ss) (t ∷ ts) same c d =
       let first : s.values ≡ t.values = cc in
       let rest : values_of ss ≡ values_of ts = cc in
-      ap (λ (x : CountedState). x ∷ ss) (state_alike s t first (All-head Counted s ss c) (All-head Counted t ts d))
-      ∙ ap (λ (xs : List CountedState). t ∷ xs) (states_alike ss ts rest (All-tail Counted s ss c) (All-tail Counted t ts d))
+      ap (λ (x : CountedState). x ∷ ss) (state_alike s t first (All-head Counted s ss c)
+      (All-head Counted t ts d))
+      ∙ ap (λ (xs : List CountedState). t ∷ xs) (states_alike ss ts rest (All-tail Counted s ss c)
+      (All-tail Counted t ts d))
 
   -- the values of a state of one evaluation are those of a state of another
-  ended_too : (ss ts : List CountedState) → All Counted ss → All (λ x. Contains (values_of ts) (end x)) candidates → (z : List FinalValue) → Contains (values_of ss) z → Contains (values_of ts) z
+  ended_too : (ss ts : List CountedState) → All Counted ss
+      → All (λ x. Contains (values_of ts) (end x)) candidates → (z : List FinalValue)
+      → Contains (values_of ss) z → Contains (values_of ts) z
   ended_too [] ts c ended z (k, lt, is) = absurd (omega arith)
   ended_too (s ∷ ss) ts c ended z here = elim (member_cases s.values (values_of ss) z here) [
     | inl e ↦
         let found = ends s (All-head Counted s ss c) in
-        subst (λ (v : List FinalValue). Contains (values_of ts) v) (sym found.2 ∙ e) (All-contains (λ x. Contains (values_of ts) (end x)) candidates found.0 ended found.1)
+        subst (λ (v : List FinalValue). Contains (values_of ts) v) (sym found.2 ∙ e)
+        (All-contains (λ x. Contains (values_of ts) (end x)) candidates found.0 ended found.1)
     | inr later ↦ ended_too ss ts (All-tail Counted s ss c) ended z later
   ]
 
   module _ (kind : Quantifier) (flags : List Flag) where
-    evaluation_alike : (d e : Evaluation) → Says locations kind proposition shown candidates flags d → Says locations kind proposition shown candidates flags e → d ≡ e
+    evaluation_alike : (d e : Evaluation) → Says locations kind proposition shown candidates flags d
+        → Says locations kind proposition shown candidates flags e → d ≡ e
     evaluation_alike d e h k =
         let values : values_of d.states ≡ values_of e.states =
-        sorted_alike state_cmp state_total (values_of d.states) (values_of e.states) h.rising k.rising
-        (ended_too d.states e.states h.states k.ended) (ended_too e.states d.states k.states h.ended) in
+        sorted_alike state_cmp state_total (values_of d.states) (values_of e.states) h.rising
+        k.rising
+        (ended_too d.states e.states h.states k.ended)
+        (ended_too e.states d.states k.states h.ended) in
         let states : d.states ≡ e.states = states_alike d.states e.states values h.states k.states in
         let positive : d.positive ≡ e.positive = h.positive ∙ sym k.positive in
         let negative : d.negative ≡ e.negative = h.negative ∙ sym k.negative in
         let observation : d.observation ≡ e.observation = h.judged.0 ∙ ap (λ (n : ℕ). observation_of n d.negative) positive ∙ ap (observation_of e.positive) negative ∙ sym k.judged.0 in
         let ok : d.ok ≡ e.ok = h.judged.1 ∙ ap (λ (n : ℕ). is_met kind n d.negative) positive ∙ ap (is_met kind e.positive) negative ∙ sym k.judged.1 in
         let names : d.flags ≡ e.flags = h.names ∙ sym k.names in
-        λ i. record { states = states i; positive = positive i; negative = negative i; observation = observation i; ok = ok i; flags = names i }
+        λ i. record {
+          states = states i;
+          positive = positive i;
+          negative = negative i;
+          observation = observation i;
+          ok = ok i;
+          flags = names i;
+        }
 
 -- ---- outcomes
 
-result_alike : (locations : List (List ℕ)) (executions : List Shown) (kind : Quantifier) (proposition : Formula) (observed : List Place) (checks : List (List Bool)) (flags : List Flag) (r q : OutcomeResult) → IsEvaluatedAs (IsEvaluation locations executions kind proposition observed checks flags) r → IsEvaluatedAs (IsEvaluation locations executions kind proposition observed checks flags) q → r ≡ q
-result_alike locations executions kind proposition observed checks flags (Refused x) q h k = absurd h
-result_alike locations executions kind proposition observed checks flags (Evaluated d) (Refused y) h k = absurd k
-result_alike locations executions kind proposition observed checks flags (Evaluated d) (Evaluated e) h k =
-    ap Evaluated (evaluation_alike locations proposition h.0 (kept checks executions) kind flags d e h.2
-    (subst (λ (l : List ShownPlace). Says locations kind proposition l (kept checks executions) flags e) (sym (shown_alike _ _ h.0 k.0 h.1 k.1)) k.2))
+result_alike : (locations : List (List ℕ)) (executions : List Shown) (kind : Quantifier)
+    (proposition : Formula) (observed : List Place) (checks : List (List Bool))
+    (flags : List Flag) (r q : OutcomeResult)
+    → IsEvaluatedAs (IsEvaluation locations executions kind proposition observed checks flags) r
+    → IsEvaluatedAs (IsEvaluation locations executions kind proposition observed checks flags) q
+    → r ≡ q
+result_alike locations executions kind proposition observed checks flags (Refused x) q h k =
+    absurd h
+result_alike locations executions kind proposition observed checks flags (Evaluated d) (Refused y) h
+    k = absurd k
+result_alike locations executions kind proposition observed checks flags (Evaluated d) (Evaluated e)
+    h k =
+    ap Evaluated (evaluation_alike locations proposition h.0 (kept checks executions) kind flags d e
+    h.2
+    (subst
+    (λ (l : List ShownPlace).
+    Says locations kind proposition l (kept checks executions) flags e)
+    (sym (shown_alike _ _ h.0 k.0 h.1 k.1)) k.2))
 
-pub one_outcome : (locations : List (List ℕ)) (executions : List Shown) (kind : Quantifier) (proposition : Formula) (observed : List Place) (checks : List (List Bool)) (flags : List Flag) → HasOneOutcome locations executions kind proposition observed checks flags
+pub one_outcome : (locations : List (List ℕ)) (executions : List Shown) (kind : Quantifier)
+    (proposition : Formula) (observed : List Place) (checks : List (List Bool))
+    (flags : List Flag)
+    → HasOneOutcome locations executions kind proposition observed checks flags
 one_outcome locations executions kind proposition observed checks flags o p h k =
     let same_kind : o.kind ≡ p.kind = h.kind_is ∙ sym k.kind_is in
     let condition : o.condition ≡ p.condition = h.text ∙ sym k.text in

@@ -2,10 +2,25 @@ use Rattle.candidates.proofs.Totals.{none_searched, fault_searched, all_searched
 use Rattle.candidates.proofs.space_of.Goals as goal
 
 pub returns-in-None : goal.returns-in-None
-returns-in-None c = λ key vs keyed initial. none_searched c.args.layout c.in_ok-find_combinations.field-0 c.in-None.is (c.in_ok-find_combinations.ensures {u = tt} key keyed (fits_layout c.args.layout vs initial c.requires))
+returns-in-None c =
+    λ key vs keyed initial. none_searched c.args.layout c.in_ok-find_combinations.field-0
+    c.in-None.is (c.in_ok-find_combinations.ensures {u = tt} key keyed
+    (fits_layout c.args.layout vs initial c.requires))
 
 pub returns-then-found : goal.returns-then-found
-returns-then-found c = λ key vs keyed initial. fault_searched c.args.layout c.in_ok-find_combinations.field-0 c.in-Some.found c.in-Some.is c.if-found.true (c.in_ok-find_combinations.ensures {u = tt} key keyed (fits_layout c.args.layout vs initial c.requires))
+returns-then-found c =
+    λ key vs keyed initial. fault_searched c.args.layout c.in_ok-find_combinations.field-0
+    c.in-Some.found c.in-Some.is c.if-found.true (c.in_ok-find_combinations.ensures {u = tt} key
+    keyed (fits_layout c.args.layout vs initial c.requires))
 
 pub returns-in_ok-space_with-in-Some : goal.returns-in_ok-space_with-in-Some
-returns-in_ok-space_with-in-Some c = λ key vs keyed initial. (all_searched c.args.layout c.in_ok-find_combinations.field-0 c.in-Some.found c.in_ok-space_with-in-Some.field-0.combinations.items c.in-Some.is c.if-found.false (c.in_ok-find_combinations.ensures {u = tt} key keyed (fits_layout c.args.layout vs initial c.requires)) c.in_ok-space_with-in-Some.ensures.0, c.in_ok-space_with-in-Some.ensures.1)
+returns-in_ok-space_with-in-Some c =
+    λ key vs keyed initial. (
+      all_searched c.args.layout c.in_ok-find_combinations.field-0
+          c.in-Some.found c.in_ok-space_with-in-Some.field-0.combinations.items c.in-Some.is
+          c.if-found.false
+          (c.in_ok-find_combinations.ensures {u = tt} key keyed
+          (fits_layout c.args.layout vs initial c.requires))
+          c.in_ok-space_with-in-Some.ensures.0,
+      c.in_ok-space_with-in-Some.ensures.1,
+    )

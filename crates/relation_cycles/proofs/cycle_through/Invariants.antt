@@ -4,4 +4,5 @@ use Rattle.relation_cycles.specs.Cycles.{IsReachableIn}
 use Rattle.relation_cycles.proofs.cycle_through.Given as goal
 
 abbrev pub invariant-loop-steps : goal.invariant-loop-steps
-invariant-loop-steps l = (k : ℕ) → k < l.steps → IsReachableIn (Has l.relation) k l.event l.event → ⊥
+invariant-loop-steps l =
+    (k : ℕ) → k < l.steps → IsReachableIn (Has l.relation) k l.event l.event → ⊥

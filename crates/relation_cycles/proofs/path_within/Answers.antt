@@ -6,10 +6,12 @@ use Rattle.relation_cycles.proofs.Steps.{begins_inside, begun, closes, comes_fir
 use Rattle.relation_cycles.proofs.path_within.Goals as goal
 
 pub contains-requires-clause-from : goal.contains-requires-clause-from
-contains-requires-clause-from c = begins_inside c.args.relation.now c.requires.regular _ _ _ c.tracing.invariant.ahead
+contains-requires-clause-from c =
+    begins_inside c.args.relation.now c.requires.regular _ _ _ c.tracing.invariant.ahead
 
 pub middle-at-requires-clause-from : goal.middle-at-requires-clause-from
-middle-at-requires-clause-from c = begins_inside c.args.relation.now c.requires.regular _ _ _ c.tracing.invariant.ahead
+middle-at-requires-clause-from c =
+    begins_inside c.args.relation.now c.requires.regular _ _ _ c.tracing.invariant.ahead
 
 pub middle-at-requires-clause-some : goal.middle-at-requires-clause-some
 middle-at-requires-clause-some c =
@@ -21,7 +23,9 @@ middle-at-requires-clause-some c =
     (on.0, on.1, (level.pairs on.0 c.args.to).1 on.2)
 
 pub tracing-init : goal.tracing-init
-tracing-init c = rw (c.in_ok-push.ensures.items, c.new-path.ensures.items) (begun _ c.args.from c.args.to c.args.steps c.requires.some)
+tracing-init c =
+    rw (c.in_ok-push.ensures.items, c.new-path.ensures.items)
+    (begun _ c.args.from c.args.to c.args.steps c.requires.some)
 
 pub tracing-preserved : goal.tracing-preserved
 tracing-preserved c =
@@ -33,10 +37,13 @@ tracing-preserved c =
     let other : R c.tracing.at c.args.to → ⊥ = λ r. absurd (false≢true (sym c.tracing-test.true ∙ c.contains.ensures.1 r)) in
     let none : (event : ℕ) → event < c.middle-at.result → R c.tracing.at event → IsReachableIn R (c.tracing.left - 1) event c.args.to → ⊥ =
     λ event lt r w. c.middle-at.ensures.least event lt r ((level.pairs event c.args.to).1 w) in
-    rw c.in_ok-push-2.ensures.items (traced _ _ _ _ _ _ _ t c.middle-at.result c.middle-at.ensures.left ((level.pairs c.middle-at.result c.args.to).0 c.middle-at.ensures.right) other none)
+    rw c.in_ok-push-2.ensures.items (traced _ _ _ _ _ _ _ t c.middle-at.result
+    c.middle-at.ensures.left
+    ((level.pairs c.middle-at.result c.args.to).0 c.middle-at.ensures.right) other none)
 
 pub returns-clause-path : goal.returns-clause-path
-returns-clause-path c = closes _ _ _ _ _ _ _ c.tracing.invariant (c.contains.ensures.0 c.tracing-test.false)
+returns-clause-path c =
+    closes _ _ _ _ _ _ _ c.tracing.invariant (c.contains.ensures.0 c.tracing-test.false)
 
 pub returns-clause-first : goal.returns-clause-first
 returns-clause-first c = comes_first _ _ _ _ _ _ _ c.tracing.invariant

@@ -5,4 +5,7 @@ use Rattle.verdict.specs.Final.{last_or, stored_at}
 use Rattle.satisfaction.proofs.final_word.Given as goal
 
 abbrev pub invariant-loop-event : goal.invariant-loop-event
-invariant-loop-event l = l.word ≡ last_or NoValue (filter_map (stored_at l.execution.events.items l.location) (take l.event-index l.event-items))
+invariant-loop-event l =
+    l.word
+    ≡ last_or NoValue (filter_map (stored_at l.execution.events.items l.location)
+    (take l.event-index l.event-items))

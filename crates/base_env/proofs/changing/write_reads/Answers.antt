@@ -11,12 +11,20 @@ loop-load-preserved c = elim c.if-is_read.branch [
       rw (w.target-is, w.next-is) (
         omega (arith, c.loop-load.invariant.0, next_load _ _ _ c.loop-load-test.true read),
         omega (arith, c.loop-load.invariant.1),
-        reads_step _ _ _ _ _ c.loop-load-test.true read c.loop-load.invariant.0 c.loop-load.invariant.2 w.put_source.ensures,
+        reads_step _ _ _ _ _ c.loop-load-test.true read c.loop-load.invariant.0
+            c.loop-load.invariant.2 w.put_source.ensures,
       )
   | else-is_read w ↦
       rw (w.target-is, w.next-is) (
-        omega (arith, c.loop-load.invariant.0, no_load _ _ _ c.loop-load-test.true (λ r. absurd (false≢true (rw w.if-is_read.false at (c.is_read.ensures.1 r))))),
+        omega (
+          arith,
+          c.loop-load.invariant.0,
+          no_load _ _ _ c.loop-load-test.true (λ r.
+              absurd (false≢true (rw w.if-is_read.false at (c.is_read.ensures.1 r)))),
+        ),
         omega (arith, c.loop-load.invariant.1),
-        reads_skip _ _ _ _ c.loop-load-test.true (λ r. absurd (false≢true (rw w.if-is_read.false at (c.is_read.ensures.1 r)))) c.loop-load.invariant.2,
+        reads_skip _ _ _ _ c.loop-load-test.true
+            (λ r. absurd (false≢true (rw w.if-is_read.false at (c.is_read.ensures.1 r))))
+            c.loop-load.invariant.2,
       )
 ]

@@ -4,4 +4,6 @@ use Rattle.base_env.specs.Events.{Fenced, Before, RowsTo}
 use Rattle.base_env.proofs.fixed.put_fenced.Given as goal
 
 abbrev pub invariant-loop-from : goal.invariant-loop-from
-invariant-loop-from l = IsRelation l.target l.initial.target.count (Union (Has l.initial.target) (RowsTo (Before l.initial.target.count (Fenced l.events l.kind)) l.from))
+invariant-loop-from l =
+    IsRelation l.target l.initial.target.count (Union (Has l.initial.target)
+    (RowsTo (Before l.initial.target.count (Fenced l.events l.kind)) l.from))

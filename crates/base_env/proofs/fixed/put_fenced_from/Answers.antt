@@ -8,10 +8,15 @@ use Rattle.base_env.proofs.fixed.put_fenced_from.Goals as goal
 use Rattle.base_env.proofs.fixed.put_fenced_from.Goals.{then-is_fenced_end, else-is_fenced_end}
 
 pub returns-then-is_none : goal.returns-then-is_none
-returns-then-is_none c = none_added _ _ c.count-count.ensures.regular (λ a b h. no_access c.args.events.now c.args.from _ (omega (arith, c.requires)) c.location_of.ensures (search rules) (rw h.0 at h.2.0))
+returns-then-is_none c =
+    none_added _ _ c.count-count.ensures.regular (λ a b h. no_access c.args.events.now c.args.from _
+    (omega (arith, c.requires)) c.location_of.ensures (search rules) (rw h.0 at h.2.0))
 
 pub loop-to-init : goal.loop-to-init
-loop-to-init c = (((λ t. absurd (false≢true t)), (λ h. absurd (omega (arith, h.1)))), none_added _ _ c.count-count.ensures.regular (row_nothing _ _))
+loop-to-init c = (
+  ((λ t. absurd (false≢true t)), (λ h. absurd (omega (arith, h.1)))),
+  none_added _ _ c.count-count.ensures.regular (row_nothing _ _),
+)
 
 pub loop-to-preserved : goal.loop-to-preserved
 loop-to-preserved c =
@@ -26,15 +31,19 @@ loop-to-preserved c =
     let at = at_number c.args.events.now IsAccess c.loop-to.to _ column in
     let met = at_number c.args.events.now (IsFence c.args.kind) c.loop-to.to _ column in (
       fence_more _ _ _ _ _ _ _ c.loop-to.invariant.0 order (
-        (λ t. elim (c.meets_fence-is_fenced.ensures.0 t) [ inl f ↦ inl f | inr h ↦ inr (h.0, met.1 h.1) ]),
-        (λ h. c.meets_fence-is_fenced.ensures.1 (elim h [ inl f ↦ inl f | inr k ↦ inr (k.0, met.0 k.1) ])),
+        (λ t. elim (c.meets_fence-is_fenced.ensures.0 t)
+            [ inl f ↦ inl f | inr h ↦ inr (h.0, met.1 h.1) ]),
+        (λ h. c.meets_fence-is_fenced.ensures.1
+            (elim h [ inl f ↦ inl f | inr k ↦ inr (k.0, met.0 k.1) ])),
       ),
       elim c.if-is_fenced_end.branch [
         | then-is_fenced_end w ↦
             let t = c.is_fenced_end.ensures.0 w.if-is_fenced_end.true in
-            rw w.target-is (row_more _ _ _ _ c.loop-to.invariant.1 (end.0 (t.0, t.1, at.1 t.2)) w.insert.ensures)
+            rw w.target-is (row_more _ _ _ _ c.loop-to.invariant.1 (end.0 (t.0, t.1, at.1 t.2))
+            w.insert.ensures)
         | else-is_fenced_end w ↦ rw w.target-is (row_less _ _ _ _ c.loop-to.invariant.1 (λ h.
             let b = end.1 h in
-            absurd (false≢true (rw w.if-is_fenced_end.false at (c.is_fenced_end.ensures.1 (b.0, b.1, at.0 b.2))))))
+            absurd (false≢true (rw w.if-is_fenced_end.false at
+            (c.is_fenced_end.ensures.1 (b.0, b.1, at.0 b.2))))))
       ],
     )

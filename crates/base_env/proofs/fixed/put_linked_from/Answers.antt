@@ -10,6 +10,10 @@ loop-to-preserved c =
     let row : c.args.from < length c.args.events.now = omega (arith, c.requires) in
     let column : c.loop-to.to < length c.args.events.now = omega (arith, c.requires, c.loop-to-test, c.count-to-end.ensures) in
     elim c.if-is_linked.branch [
-      | then-is_linked w ↦ rw w.target-is (row_more _ _ _ _ c.loop-to.invariant ((links_at _ _ _ _ _ _ row column).1 (c.is_linked.ensures.0 w.if-is_linked.true)) w.insert.ensures)
-      | else-is_linked w ↦ rw w.target-is (row_less _ _ _ _ c.loop-to.invariant (λ h. absurd (false≢true (rw w.if-is_linked.false at (c.is_linked.ensures.1 ((links_at _ _ _ _ _ _ row column).0 h))))))
+      | then-is_linked w ↦ rw w.target-is (row_more _ _ _ _ c.loop-to.invariant
+          ((links_at _ _ _ _ _ _ row column).1 (c.is_linked.ensures.0 w.if-is_linked.true))
+          w.insert.ensures)
+      | else-is_linked w ↦ rw w.target-is (row_less _ _ _ _ c.loop-to.invariant
+          (λ h. absurd (false≢true (rw w.if-is_linked.false at (c.is_linked.ensures.1
+          ((links_at _ _ _ _ _ _ row column).0 h))))))
     ]

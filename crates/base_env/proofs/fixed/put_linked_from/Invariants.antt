@@ -4,4 +4,6 @@ use Rattle.base_env.specs.Events.{Links, RowTo}
 use Rattle.base_env.proofs.fixed.put_linked_from.Given as goal
 
 abbrev pub invariant-loop-to : goal.invariant-loop-to
-invariant-loop-to l = IsRelation l.target l.initial.target.count (Union (Has l.initial.target) (RowTo (Links l.events l.name) l.from l.to))
+invariant-loop-to l =
+    IsRelation l.target l.initial.target.count (Union (Has l.initial.target)
+    (RowTo (Links l.events l.name) l.from l.to))

@@ -5,4 +5,6 @@ use Rattle.base_env.specs.Events.{Below, Listed}
 use Rattle.base_env.proofs.fixed.put_pairs.Given as goal
 
 abbrev pub invariant-loop-from : goal.invariant-loop-from
-invariant-loop-from l = IsRelation l.target l.initial.target.count (Union (Has l.initial.target) (Below l.initial.target.count (Listed (take l.from-index l.pairs))))
+invariant-loop-from l =
+    IsRelation l.target l.initial.target.count (Union (Has l.initial.target)
+    (Below l.initial.target.count (Listed (take l.from-index l.pairs))))

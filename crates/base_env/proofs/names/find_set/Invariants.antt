@@ -3,4 +3,5 @@ use Rattle.base_env.specs.Known.{EventsUnder}
 use Rattle.base_env.proofs.names.find_set.Given as goal
 
 abbrev pub invariant-loop-named : goal.invariant-loop-named
-invariant-loop-named l = (n a : ℕ) → EventsUnder (drop l.named-index l.sets) l.name n a ↔ EventsUnder l.sets l.name n a
+invariant-loop-named l =
+    (n a : ℕ) → EventsUnder (drop l.named-index l.sets) l.name n a ↔ EventsUnder l.sets l.name n a

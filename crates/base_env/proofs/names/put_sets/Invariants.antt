@@ -6,4 +6,8 @@ use Rattle.base_env.specs.Candidate.{SetIn}
 use Rattle.base_env.proofs.names.put_sets.Given as goal
 
 abbrev pub invariant-loop-index : goal.invariant-loop-index
-invariant-loop-index l = (length l.sets ≡ length l.initial.sets) × (set_names l.sets ≡ set_names l.initial.sets) × ((i : ℕ) → i < l.index → (d : Named) → IsEvents (get_or l.sets i d).set l.count (SetIn l.combination l.count (get_or l.sets i d).name))
+invariant-loop-index l =
+    (length l.sets ≡ length l.initial.sets) × (set_names l.sets ≡ set_names l.initial.sets)
+    × ((i : ℕ) → i < l.index → (d : Named)
+    → IsEvents (get_or l.sets i d).set l.count
+    (SetIn l.combination l.count (get_or l.sets i d).name))

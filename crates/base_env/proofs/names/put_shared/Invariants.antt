@@ -6,4 +6,9 @@ use Rattle.base_env.specs.Candidate.{SharedIn}
 use Rattle.base_env.proofs.names.put_shared.Given as goal
 
 abbrev pub invariant-loop-index : goal.invariant-loop-index
-invariant-loop-index l = (length l.shared ≡ length l.initial.shared) × (shared_names l.shared ≡ shared_names l.initial.shared) × ((i : ℕ) → i < l.index → (d : Shared) → IsRelation (get_or l.shared i d).relation l.count (SharedIn l.combination l.count (get_or l.shared i d).name))
+invariant-loop-index l =
+    (length l.shared ≡ length l.initial.shared)
+    × (shared_names l.shared ≡ shared_names l.initial.shared)
+    × ((i : ℕ) → i < l.index → (d : Shared)
+    → IsRelation (get_or l.shared i d).relation l.count
+    (SharedIn l.combination l.count (get_or l.shared i d).name))

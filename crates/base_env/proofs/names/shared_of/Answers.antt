@@ -13,9 +13,14 @@ loop-name-preserved c =
     let n : Predefined = get_or c.args.names.now c.loop-name.name-index Loads in
     let more : take (c.loop-name.name-index + 1) c.args.names.now ≡ ns ++ n ∷ [] = take_more c.args.names.now c.loop-name.name-index Loads c.loop-name-test.true in
     rw more (elim c.if-not-is_set.branch [
-      | then-not-is_set+in-Some+in_ok-make_room-in-Some w ↦ rw w.shared-is (covered_more _ _ ns n c.loop-name.invariant w.in_ok-make_room-in-Some.ensures.kept (λ relation. rw (← w.shared_for.ensures, w.in-Some.is) w.in_ok-make_room-in-Some.ensures.there))
-      | then-not-is_set+in-None w ↦ rw w.shared-is (covered_more _ _ ns n c.loop-name.invariant (λ other h. h) (λ relation. rw (← w.shared_for.ensures, w.in-None.is) tt))
-      | else-not-is_set w ↦ rw w.shared-is (covered_more _ _ ns n c.loop-name.invariant (λ other h. h) (λ relation. absurd (true≢false (sym w.if-not-is_set.false ∙ c.is_set.ensures ∙ relation))))
+      | then-not-is_set+in-Some+in_ok-make_room-in-Some w ↦ rw w.shared-is (covered_more _ _ ns n
+          c.loop-name.invariant w.in_ok-make_room-in-Some.ensures.kept (λ relation. rw
+          (← w.shared_for.ensures, w.in-Some.is) w.in_ok-make_room-in-Some.ensures.there))
+      | then-not-is_set+in-None w ↦ rw w.shared-is (covered_more _ _ ns n c.loop-name.invariant
+          (λ other h. h) (λ relation. rw (← w.shared_for.ensures, w.in-None.is) tt))
+      | else-not-is_set w ↦ rw w.shared-is (covered_more _ _ ns n c.loop-name.invariant
+          (λ other h. h) (λ relation.
+          absurd (true≢false (sym w.if-not-is_set.false ∙ c.is_set.ensures ∙ relation))))
     ])
 
 pub returns : goal.returns

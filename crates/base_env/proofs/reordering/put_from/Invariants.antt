@@ -5,4 +5,6 @@ use Rattle.base_env.specs.Orders.{CoherenceBetween}
 use Rattle.base_env.proofs.reordering.put_from.Given as goal
 
 abbrev pub invariant-loop-index : goal.invariant-loop-index
-invariant-loop-index l = IsRelation l.coherence l.initial.coherence.count (Union (Has l.initial.coherence) (Below l.initial.coherence.count (CoherenceBetween l.events l.order l.from l.index)))
+invariant-loop-index l =
+    IsRelation l.coherence l.initial.coherence.count (Union (Has l.initial.coherence)
+    (Below l.initial.coherence.count (CoherenceBetween l.events l.order l.from l.index)))

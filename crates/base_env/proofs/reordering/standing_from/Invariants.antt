@@ -4,4 +4,5 @@ use Rattle.base_env.specs.Orders.{StandsBetween}
 use Rattle.base_env.proofs.reordering.standing_from.Given as goal
 
 abbrev pub invariant-loop-index : goal.invariant-loop-index
-invariant-loop-index l = IsEvents l.standing l.count (λ a. (a < l.count) × StandsBetween l.order l.from l.index a)
+invariant-loop-index l =
+    IsEvents l.standing l.count (λ a. (a < l.count) × StandsBetween l.order l.from l.index a)

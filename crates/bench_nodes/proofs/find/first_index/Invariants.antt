@@ -3,4 +3,6 @@ use Rattle.std.specs.List.{position_or_len}
 use Rattle.bench_nodes.proofs.find.first_index.Given as goal
 
 abbrev pub invariant-loop-index : goal.invariant-loop-index
-invariant-loop-index l = l.index + position_or_len (λ x. x.id == l.id) (drop l.index l.tests) ≡ position_or_len (λ x. x.id == l.id) l.tests
+invariant-loop-index l =
+    l.index + position_or_len (λ x. x.id == l.id) (drop l.index l.tests)
+    ≡ position_or_len (λ x. x.id == l.id) l.tests

@@ -10,4 +10,6 @@ returns-in-Some-get c =
     let apart : are_apart slots ≡ true = rw c.if-table.true at c.args.table.now.apart in
     let got = slice_get_read c.deref-in-Some.result.now (length c.deref-in-Some.result.now) c.in-Some.at c.in-Some-get.slot.now refl c.in-Some-get.ensures.lookup.3.0 c.in-Some-get.ensures.lookup.1 in
     c.deref-in-Some-get.ensures.value
-    ∙ keys_placed slots c.args.kind c.args.of c.in-Some.at c.in-Some-get.slot.now apart (rw c.deref-then-table.ensures.value at c.in-Some.ensures) (sym (rw c.deref-in-Some.ensures.value at got))
+    ∙ keys_placed slots c.args.kind c.args.of c.in-Some.at c.in-Some-get.slot.now apart
+    (rw c.deref-then-table.ensures.value at c.in-Some.ensures)
+    (sym (rw c.deref-in-Some.ensures.value at got))

@@ -4,4 +4,6 @@ use Rattle.bench_nodes.proofs.Lists.{key_in}
 use Rattle.bench_nodes.proofs.nodes.key_in.Goals as goal
 
 pub returns : goal.returns
-returns c = key_in c.args.test c.args.keys.now c.args.i _ c.requires ∙ ap (λ (k : Key). let o : Option Key = Some k in o) (sym c.key_at.ensures)
+returns c =
+    key_in c.args.test c.args.keys.now c.args.i _ c.requires
+    ∙ ap (λ (k : Key). let o : Option Key = Some k in o) (sym c.key_at.ensures)

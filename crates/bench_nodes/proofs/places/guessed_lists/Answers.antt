@@ -12,4 +12,6 @@ loop-slot-preserved c =
     let u = c.slot-item.result in
     let more : take i slots ++ u ∷ [] ≡ take (suc i) slots = sym (take-suc slots i u c.loop-slot-test.true ∙ ap (λ (s : Slot). take i slots ++ s ∷ []) (sym c.slot-item.is)) in
     let next : take i slots ++ u ∷ [] ≡ take (i + 1) slots = rw add-one more in
-    c.in_ok-put_user.ensures c.if-not-branch.false ∙ ap (with_user (name_of u) u.inputs.items slots) c.loop-slot.invariant ∙ lists_more (take i slots) slots u ∙ ap (λ (us : List Slot). user_lists us slots) next
+    c.in_ok-put_user.ensures c.if-not-branch.false
+    ∙ ap (with_user (name_of u) u.inputs.items slots) c.loop-slot.invariant
+    ∙ lists_more (take i slots) slots u ∙ ap (λ (us : List Slot). user_lists us slots) next

@@ -7,8 +7,11 @@ use Rattle.bench_nodes.proofs.places.put_at.Goals as goal
 pub returns-in_ok-push : goal.returns-in_ok-push
 returns-in_ok-push c =
     let v : c.index_mut.result.now ≡ get_or c.args.lists.now.items c.args.at c.index_mut.result.now = c.index_mut.ensures.value in
-    put_is names_in c.args.lists.now.items c.args.at c.args.name c.push.new.self c.index_mut.result.now (omega arith)
+    put_is names_in c.args.lists.now.items c.args.at c.args.name c.push.new.self
+    c.index_mut.result.now (omega arith)
     (c.in_ok-push.ensures.items ∙ ap (λ l. names_in l ++ c.args.name ∷ []) v)
 
 pub returns-else-at-len : goal.returns-else-at-len
-returns-else-at-len c = put_nowhere (map names_in c.args.lists.now.items) c.args.at c.args.name (let e = length-map c.args.lists.now.items names_in in omega (arith, e))
+returns-else-at-len c =
+    put_nowhere (map names_in c.args.lists.now.items) c.args.at c.args.name
+    (let e = length-map c.args.lists.now.items names_in in omega (arith, e))

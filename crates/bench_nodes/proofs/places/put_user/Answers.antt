@@ -4,4 +4,5 @@ use Rattle.bench_nodes.proofs.UserLists.{none_used}
 use Rattle.bench_nodes.proofs.places.put_user.Goals as goal
 
 pub loop-index-init : goal.loop-index-init
-loop-index-init c = sym (none_used (name_of c.args.user.now) c.args.slots.now (map names_in c.args.lists.now.items))
+loop-index-init c =
+    sym (none_used (name_of c.args.user.now) c.args.slots.now (map names_in c.args.lists.now.items))

@@ -3,4 +3,6 @@ use Rattle.bench_nodes.specs.Places.{user_lists, names_in}
 use Rattle.bench_nodes.proofs.places.user_lists.Given as goal
 
 abbrev pub invariant-loop-slot : goal.invariant-loop-slot
-invariant-loop-slot l = map names_in l.lists.items ++ user_lists l.slots (drop l.slot-index l.slots) ≡ user_lists l.slots l.slots
+invariant-loop-slot l =
+    map names_in l.lists.items ++ user_lists l.slots (drop l.slot-index l.slots)
+    ≡ user_lists l.slots l.slots

@@ -5,5 +5,6 @@ use Rattle.bench_nodes.proofs.users.count_users.Given as goal
 abbrev pub invariant-loop-slot : goal.invariant-loop-slot
 invariant-loop-slot l = record {
   few : l.count ≤ l.slot-index;
-  left : l.count + length (users_at (drop l.slot-index l.slots) l.node.kind l.node.of l.node.test) ≡ length (users_at l.slots l.node.kind l.node.of l.node.test);
+  left : l.count + length (users_at (drop l.slot-index l.slots) l.node.kind l.node.of l.node.test)
+      ≡ length (users_at l.slots l.node.kind l.node.of l.node.test);
 }

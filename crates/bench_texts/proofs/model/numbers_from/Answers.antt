@@ -4,4 +4,6 @@ use Rattle.bench_texts.proofs.model.numbers_from.Goals as goal
 
 pub loop-index-preserved : goal.loop-index-preserved
 loop-index-preserved c =
-    c.in_ok-push.ensures.items ∙ ap (λ (l : List ℕ). l ++ (c.args.first + c.loop-index.index) ∷ []) c.loop-index.invariant ∙ sym (range-more c.args.first c.loop-index.index)
+    c.in_ok-push.ensures.items
+    ∙ ap (λ (l : List ℕ). l ++ (c.args.first + c.loop-index.index) ∷ []) c.loop-index.invariant
+    ∙ sym (range-more c.args.first c.loop-index.index)

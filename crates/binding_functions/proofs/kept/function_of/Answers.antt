@@ -16,11 +16,19 @@ returns-clause-kept c = λ ss names ps t arity few read part.
     let column = rw (← arity) at (part.column within) in record {
       arity = arity;
       few = within;
-      kinds = λ kinds long. c.in_ok-signatures.ensures (signature_in ss names ps t) kinds (rw c.deref-2.ensures.value column) (long ∙ sym arity) few;
+      kinds =
+          λ kinds long. c.in_ok-signatures.ensures (signature_in ss names ps t) kinds
+          (rw c.deref-2.ensures.value column) (long ∙ sym arity) few;
       under = λ index lt. part.marks index (omega (arith, within, lt));
       within = formula_within ss names ps t;
       large = whole.large;
       template = whole.fits;
-      constant = λ e. c.count_parts-constant.ensures.constant ∙ (ap (λ (l : List Piece). count_by is_no_parameter l) (v ∙ whole.fits e) ∙ constant_postfix formula);
-      factor = λ e index lt. c.count_parts-constant.ensures.factors index (omega (arith, within, lt)) ∙ (ap (λ (l : List Piece). count_by (is_parameter_at index) l) (v ∙ whole.fits e) ∙ factor_postfix index formula);
+      constant =
+          λ e. c.count_parts-constant.ensures.constant
+          ∙ (ap (λ (l : List Piece). count_by is_no_parameter l) (v ∙ whole.fits e)
+          ∙ constant_postfix formula);
+      factor =
+          λ e index lt. c.count_parts-constant.ensures.factors index (omega (arith, within, lt))
+          ∙ (ap (λ (l : List Piece). count_by (is_parameter_at index) l) (v ∙ whole.fits e)
+          ∙ factor_postfix index formula);
     }

@@ -4,5 +4,6 @@ use Rattle.binding_functions.proofs.part.either_of_each.Given as goal
 abbrev pub invariant-loop-index : goal.invariant-loop-index
 invariant-loop-index l = record {
   long : length l.both ≡ 8;
-  told : (index : ℕ) → index < l.index → get_or l.both index false ≡ (get_or l.first index false || get_or l.later index false);
+  told : (index : ℕ) → index < l.index
+      → get_or l.both index false ≡ (get_or l.first index false || get_or l.later index false);
 }

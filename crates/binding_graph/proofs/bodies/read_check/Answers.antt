@@ -28,7 +28,11 @@ returns-clause-item c = λ ss kept sound known none.
     let code = rw values at (one.code ss kept sound none new.indexed fits) in (
       (refl, code),
       record {
-        inputs = inputs_made c.read_code.new.work.uses.values.items _ _ _ values c.deref.ensures.value c.in_ok-inputs.ensures.inputs;
-        functions = functions_made c.read_code.new.work.uses.functions.items _ _ functions (c.in_ok-inputs.ensures.functions ∙ c.deref-2.ensures.value);
+        inputs =
+            inputs_made c.read_code.new.work.uses.values.items _ _ _ values c.deref.ensures.value
+            c.in_ok-inputs.ensures.inputs;
+        functions =
+            functions_made c.read_code.new.work.uses.functions.items _ _ functions
+            (c.in_ok-inputs.ensures.functions ∙ c.deref-2.ensures.value);
       },
     )

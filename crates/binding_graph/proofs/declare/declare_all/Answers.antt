@@ -12,8 +12,12 @@ loop-position-preserved c = λ ss outer bounds named.
     let is = c.index-bodies-position.is in
     let lt : i < length rs = omega arith in
     let e : Entry = record { name = c.in_ok-copied.field-0; kind = d.code.kind; binder = binders.Bound (record { item = c.args.item; position = i }) } in
-    rw c.in_ok-push.ensures.items (c.loop-position.invariant ss outer bounds named ∙ all_more ss outer bounds rs _ c.args.item d c.loop-position.entries.items e lt named (rw (← is) c.in_ok-copied.ensures) (rw (← is) refl) refl)
+    rw c.in_ok-push.ensures.items (c.loop-position.invariant ss outer bounds named
+    ∙ all_more ss outer bounds rs _ c.args.item d c.loop-position.entries.items e lt named
+    (rw (← is) c.in_ok-copied.ensures) (rw (← is) refl) refl)
 
 pub returns : goal.returns
 returns c = λ ss outer bounds named.
-    sym (c.loop-position.invariant ss outer bounds named ∙ all_grown ss outer _ bounds c.args.bodies.now c.loop-position.position c.args.item named (omega arith))
+    sym (c.loop-position.invariant ss outer bounds named
+    ∙ all_grown ss outer _ bounds c.args.bodies.now c.loop-position.position c.args.item
+    named (omega arith))

@@ -7,6 +7,8 @@ use Rattle.binding_graph.proofs.declare.declare_all.Given as goal
 
 abbrev pub invariant-loop-position : goal.invariant-loop-position
 invariant-loop-position l =
-    (senses : List Sense) (outer : List Naming) (bounds : List Bound) → AreNamed senses outer bounds l.bodies →
+    (senses : List Sense) (outer : List Naming) (bounds : List Bound)
+    → AreNamed senses outer bounds l.bodies →
     with_all senses outer (reverse (map entry_of l.fn.entries.items)) l.item 0 bounds
-    ≡ with_all senses outer (reverse (map entry_of l.entries.items)) l.item l.position (drop l.position bounds)
+    ≡ with_all senses outer (reverse (map entry_of l.entries.items)) l.item l.position
+    (drop l.position bounds)

@@ -15,7 +15,8 @@ pub returns-clause-names : goal.returns-clause-names
 returns-clause-names c = λ ss kept none.
     let fs = c.args.scope.now.functions.items in
     let e : Entry = record { name = c.args.name.now; kind = OfAny; binder = binders.Applicable (length fs) } in
-    named_more c.args.scope.now.entries.items _ e fs ss (length fs) kept refl c.in_ok-add_function.ensures.entries refl refl
+    named_more c.args.scope.now.entries.items _ e fs ss (length fs) kept refl
+    c.in_ok-add_function.ensures.entries refl refl
 
 pub returns-clause-functions : goal.returns-clause-functions
 returns-clause-functions c = λ ss kept none.
@@ -24,11 +25,13 @@ returns-clause-functions c = λ ss kept none.
     let few : length ps ≤ 8 = few_parameters ps (sym c.parameter_fault-fault.ensures ∙ fault) in
     let kept_there : AreKept c.deref-2.result.now ss = rw c.deref-2.ensures.value kept in
     let one : IsKept c.in_ok-function.field-0.function (sense_of_function ss (reverse (map entry_of c.args.scope.now.entries.items)) ps (term_of c.args.body.now)) = rw c.deref.ensures.value at (c.in_ok-function.ensures.kept ss kept_there few) in
-    functions_more c.args.scope.now.functions.items _ ss c.in_ok-function.field-0.function _ kept c.in_ok-add_function.ensures.functions one
+    functions_more c.args.scope.now.functions.items _ ss c.in_ok-function.field-0.function _ kept
+    c.in_ok-add_function.ensures.functions one
 
 pub returns-clause-usages : goal.returns-clause-usages
 returns-clause-usages c = λ none.
     let es = c.args.scope.now.entries.items in
     let from : c.len.result ≡ length (reverse (map entry_of c.deref.result.now)) = let n = c.len.ensures in let k = c.args.scope.now.entries.ok in rw (c.deref.ensures.value, count_names es) (omega (arith, n, k)) in
     let usage = rw (c.deref.ensures.value, c.deref-2.ensures.value) at (c.in_ok-function.ensures.usage from) in
-    usages_more c.args.scope.now.functions.items _ c.in_ok-function.field-0.function _ c.in_ok-add_function.ensures.functions usage
+    usages_more c.args.scope.now.functions.items _ c.in_ok-function.field-0.function _
+    c.in_ok-add_function.ensures.functions usage

@@ -6,4 +6,5 @@ use Rattle.binding_graph.proofs.declare.declare_own.Given as goal
 abbrev pub invariant-loop-position : goal.invariant-loop-position
 invariant-loop-position l =
     with_own (reverse (map entry_of l.fn.entries.items)) l.item 0 (map bound_of l.group)
-    ≡ with_own (reverse (map entry_of l.entries.items)) l.item l.position (map bound_of (drop l.position l.group))
+    ≡ with_own (reverse (map entry_of l.entries.items)) l.item l.position
+    (map bound_of (drop l.position l.group))

@@ -12,8 +12,12 @@ returns-clause-usage c = λ at.
     let lists = c.into_lists-values.ensures in
     let noted = c.in_ok-part.ensures.uses in
     let given = c.in_ok-function_of.ensures.given in
-    usage_made _ _ c.in_ok-function_of.field-0 c.args.item c.args.sight.now.parameters.now (term_of c.args.body.now) c.args.sight.now.from c.read_inside.new.uses.values.items c.read_inside.new.uses.functions.items at given.0 given.1
-    (ap (λ v. v.items) (given.2 ∙ lists.values)) (ap (λ v. v.items) (given.3 ∙ lists.functions)) (rw new.values at (noted.values new.indexed)) (rw new.functions at (noted.functions new.listed))
+    usage_made _ _ c.in_ok-function_of.field-0 c.args.item c.args.sight.now.parameters.now
+    (term_of c.args.body.now) c.args.sight.now.from c.read_inside.new.uses.values.items
+    c.read_inside.new.uses.functions.items at given.0 given.1
+    (ap (λ v. v.items) (given.2 ∙ lists.values)) (ap (λ v. v.items) (given.3 ∙ lists.functions))
+    (rw new.values at (noted.values new.indexed))
+    (rw new.functions at (noted.functions new.listed))
 
 pub returns-clause-kept : goal.returns-clause-kept
 returns-clause-kept c = λ ss kept few.

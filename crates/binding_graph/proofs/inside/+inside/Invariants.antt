@@ -13,7 +13,13 @@ abbrev pub invariant-inside_arguments-loop-index : goal.invariant-inside_argumen
 invariant-inside_arguments-loop-index l =
     let names = reverse (map entry_of l.sight.entries.now) in
     record {
-      body : (senses : List Sense) (s : Sense) → AreKept l.sight.functions.now senses → IsKept l.function s → length l.arguments ≡ s.arity → AreBodyParts senses names l.sight.parameters.now l.columns.rows l.under s.is_under (take l.index l.arguments) l.body;
-      templates : (senses : List Sense) → AreKept l.sight.functions.now senses → AllZip IsTemplate l.templates.items (argument_pieces senses names l.sight.parameters.now (take l.index l.arguments));
-      uses : AreNotedTo (map usage_of l.sight.functions.now) names l.sight.parameters.now l.sight.from l.arguments l.index l.initial.uses l.uses;
+      body : (senses : List Sense) (s : Sense) → AreKept l.sight.functions.now senses
+          → IsKept l.function s → length l.arguments ≡ s.arity
+          → AreBodyParts senses names l.sight.parameters.now l.columns.rows l.under s.is_under
+          (take l.index l.arguments) l.body;
+      templates : (senses : List Sense) → AreKept l.sight.functions.now senses
+          → AllZip IsTemplate l.templates.items (argument_pieces senses names l.sight.parameters.now
+          (take l.index l.arguments));
+      uses : AreNotedTo (map usage_of l.sight.functions.now) names l.sight.parameters.now
+          l.sight.from l.arguments l.index l.initial.uses l.uses;
     }

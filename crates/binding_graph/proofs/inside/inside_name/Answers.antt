@@ -4,7 +4,9 @@ use Rattle.binding_graph.proofs.Sights.{name_parameter, name_other}
 use Rattle.binding_graph.proofs.inside.inside_name.Goals as goal
 
 pub returns-in-Parameter-clause-part : goal.returns-in-Parameter-clause-part
-returns-in-Parameter-clause-part c = λ ss. c.parameter.ensures ss _ _ c.args.name.now (name_parameter _ _ c.in-Parameter.index (sym c.in-Parameter.is ∙ c.in_ok-index.ensures.named))
+returns-in-Parameter-clause-part c =
+    λ ss. c.parameter.ensures ss _ _ c.args.name.now (name_parameter _ _ c.in-Parameter.index
+    (sym c.in-Parameter.is ∙ c.in_ok-index.ensures.named))
 
 pub returns-in-Parameter-clause-template : goal.returns-in-Parameter-clause-template
 returns-in-Parameter-clause-template c = on_ok c.parameter.result c.in_ok-index.ensures.template

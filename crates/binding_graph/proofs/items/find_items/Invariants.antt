@@ -11,8 +11,13 @@ abbrev pub invariant-loop-index : goal.invariant-loop-index
 invariant-loop-index l = record {
   count : vec_len l.resolved ≡ l.index;
   rest : (senses : List Sense) → AreKept l.fn.scope.functions.items senses →
-      AreSearched senses (reverse (map entry_of l.fn.scope.entries.items)) (reverse (map entry_of l.scope.entries.items)) l.scope.functions.items l.items l.index;
-  items : (senses : List Sense) → AreKept l.fn.scope.functions.items senses → AreSound senses → AreKnown (reverse (map entry_of l.fn.scope.entries.items)) →
-      AreDone senses (map usage_of l.fn.scope.functions.items) (reverse (map entry_of l.fn.scope.entries.items)) (reverse (map entry_of l.scope.entries.items)) l.scope.functions.items l.items l.index l.resolved.items;
+      AreSearched senses (reverse (map entry_of l.fn.scope.entries.items))
+      (reverse (map entry_of l.scope.entries.items)) l.scope.functions.items l.items l.index;
+  items : (senses : List Sense) → AreKept l.fn.scope.functions.items senses → AreSound senses
+      → AreKnown (reverse (map entry_of l.fn.scope.entries.items)) →
+      AreDone senses (map usage_of l.fn.scope.functions.items)
+      (reverse (map entry_of l.fn.scope.entries.items))
+      (reverse (map entry_of l.scope.entries.items)) l.scope.functions.items l.items l.index
+      l.resolved.items;
   labels : AreLabelled (take l.index l.items) l.resolved.items;
 }

@@ -14,7 +14,8 @@ returns-in-Err-clause-fault c = λ ss kept.
     let s = c.sight_of-sight.ensures in
     let from : c.sight_of-sight.result.from ≡ length (reverse (map entry_of es)) = let n = c.len-from.ensures in let k = c.args.scope.now.entries.ok in let f = s.from in rw (count_names es) (omega (arith, n, k, f)) in
     let own = ap (λ (l : List Entry). reverse (map entry_of l)) s.entries ∙ c.in_ok-declare_own.ensures in
-    rw (c.in-Err.is, own, from) at (c.in_ok-fault.ensures.fault ss (rw s.functions kept) s.parameters)
+    rw (c.in-Err.is, own, from) at (c.in_ok-fault.ensures.fault ss (rw s.functions kept)
+    s.parameters)
 
 pub returns-in_ok-group_item-in-Ok-clause-fault : goal.returns-in_ok-group_item-in-Ok-clause-fault
 returns-in_ok-group_item-in-Ok-clause-fault c = λ ss kept.
@@ -22,7 +23,8 @@ returns-in_ok-group_item-in-Ok-clause-fault c = λ ss kept.
     let s = c.sight_of-sight.ensures in
     let from : c.sight_of-sight.result.from ≡ length (reverse (map entry_of es)) = let n = c.len-from.ensures in let k = c.args.scope.now.entries.ok in let f = s.from in rw (count_names es) (omega (arith, n, k, f)) in
     let own = ap (λ (l : List Entry). reverse (map entry_of l)) s.entries ∙ c.in_ok-declare_own.ensures in
-    rw (c.in-Ok.is, own, from) at (c.in_ok-fault.ensures.fault ss (rw s.functions kept) s.parameters)
+    rw (c.in-Ok.is, own, from) at (c.in_ok-fault.ensures.fault ss (rw s.functions kept)
+    s.parameters)
 
 pub returns-in_ok-group_item-in-Ok-clause-item : goal.returns-in_ok-group_item-in-Ok-clause-item
 returns-in_ok-group_item-in-Ok-clause-item c = λ ss kept sound known.
@@ -39,4 +41,6 @@ returns-in_ok-group_item-in-Ok-clause-item c = λ ss kept sound known.
     let bodies = rw (c.in-Ok.is, new.values) at (read.bodies ss kept_there sound known_there s.parameters new.indexed) in
     let values = rw new.values at (noted.values new.indexed) in
     let functions = rw new.functions at (noted.functions new.listed) in
-    rw (own, s.functions, from) at (c.in_ok-group_item-in-Ok.ensures ss (map usage_of sight.functions.now) (reverse (map entry_of sight.entries.now)) sight.from (map bound_of c.args.group.now) bodies values functions)
+    rw (own, s.functions, from) at (c.in_ok-group_item-in-Ok.ensures ss
+    (map usage_of sight.functions.now) (reverse (map entry_of sight.entries.now)) sight.from
+    (map bound_of c.args.group.now) bodies values functions)

@@ -14,10 +14,13 @@ loop-index-preserved c =
     let r = c.index-items-index.result in
     let is : slice_get items index ≡ Some r = slice_get_read items (length items) index r refl (omega arith) c.index-items-index.is in
     elim c.if-is_check.branch [
-      | then-is_check+in_ok-mark w ↦ rw (w.marks-is, w.waiting-is) (checks_more items index r _ _ _ _ _ _ is (search (rules, w.if-is_check)) c.loop-index.invariant w.in_ok-mark.ensures)
-      | else-is_check w ↦ rw (w.marks-is, w.waiting-is) (checks_same items index r _ _ _ _ is (search (rules, w.if-is_check)) c.loop-index.invariant)
+      | then-is_check+in_ok-mark w ↦ rw (w.marks-is, w.waiting-is) (checks_more items index r _ _ _
+          _ _ _ is (search (rules, w.if-is_check)) c.loop-index.invariant w.in_ok-mark.ensures)
+      | else-is_check w ↦ rw (w.marks-is, w.waiting-is) (checks_same items index r _ _ _ _ is
+          (search (rules, w.if-is_check)) c.loop-index.invariant)
     ]
 
 pub returns : goal.returns
 returns c =
-    checks_all c.args.items.now c.loop-index.index c.args.marks.now.items c.loop-index.marks.items c.args.waiting.now.items c.loop-index.waiting.items (omega arith) c.loop-index.invariant
+    checks_all c.args.items.now c.loop-index.index c.args.marks.now.items c.loop-index.marks.items
+    c.args.waiting.now.items c.loop-index.waiting.items (omega arith) c.loop-index.invariant

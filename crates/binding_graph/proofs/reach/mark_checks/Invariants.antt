@@ -4,4 +4,5 @@ use Rattle.binding_graph.proofs.reach.mark_checks.Given as goal
 
 abbrev pub invariant-loop-index : goal.invariant-loop-index
 invariant-loop-index l =
-    Marks (λ k. (k < l.index) × IsCheckAt l.items k) l.initial.marks.items l.marks.items l.initial.waiting.items l.waiting.items
+    Marks (λ k. (k < l.index) × IsCheckAt l.items k) l.initial.marks.items l.marks.items
+    l.initial.waiting.items l.waiting.items

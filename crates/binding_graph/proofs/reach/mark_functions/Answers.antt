@@ -4,4 +4,5 @@ use Rattle.binding_graph.proofs.reach.mark_functions.Goals as goal
 
 pub loop-function-preserved : goal.loop-function-preserved
 loop-function-preserved c =
-    functions_more c.args.functions.now c.loop-function.function-index _ _ _ _ _ _ _ (omega arith) c.loop-function.invariant c.in_ok-mark.ensures
+    functions_more c.args.functions.now c.loop-function.function-index _ _ _ _ _ _ _ (omega arith)
+    c.loop-function.invariant c.in_ok-mark.ensures

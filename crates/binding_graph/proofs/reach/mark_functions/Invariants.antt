@@ -4,4 +4,5 @@ use Rattle.binding_graph.proofs.reach.mark_functions.Given as goal
 
 abbrev pub invariant-loop-function : goal.invariant-loop-function
 invariant-loop-function l =
-    Marks (Contains (take l.function-index l.functions)) l.initial.marks.items l.marks.items l.initial.waiting.items l.waiting.items
+    Marks (Contains (take l.function-index l.functions)) l.initial.marks.items l.marks.items
+    l.initial.waiting.items l.waiting.items

@@ -4,4 +4,5 @@ use Rattle.binding_graph.proofs.reach.mark_inputs.Given as goal
 
 abbrev pub invariant-loop-input : goal.invariant-loop-input
 invariant-loop-input l =
-    Marks (Contains (map (λ i. i.item) (take l.input-index l.inputs))) l.initial.marks.items l.marks.items l.initial.waiting.items l.waiting.items
+    Marks (Contains (map (λ i. i.item) (take l.input-index l.inputs))) l.initial.marks.items
+    l.marks.items l.initial.waiting.items l.waiting.items

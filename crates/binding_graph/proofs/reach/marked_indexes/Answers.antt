@@ -13,8 +13,15 @@ loop-index-preserved c =
       | then-marked+in_ok-push w ↦
           let is : IsMarked marks index = search (rules, w.if-marked) in
           let more = ap (λ v. v.items) w.indexes-is ∙ w.in_ok-push.ensures.items in
-          rw more (indexes_rise marks indexes index c.loop-index.invariant.1 c.loop-index.invariant.0, indexes_more marks indexes index is c.loop-index.invariant.1)
+          rw more (
+            indexes_rise marks indexes index c.loop-index.invariant.1
+                c.loop-index.invariant.0,
+            indexes_more marks indexes index is c.loop-index.invariant.1,
+          )
       | else-marked w ↦
           let off : get_or marks index false ≡ false = search (rules, w.if-marked) in
-          rw w.indexes-is (c.loop-index.invariant.0, indexes_same marks indexes index off c.loop-index.invariant.1)
+          rw w.indexes-is (
+            c.loop-index.invariant.0,
+            indexes_same marks indexes index off c.loop-index.invariant.1,
+          )
     ]

@@ -23,8 +23,10 @@ returns-in-Err-clause-sense c = λ ss kept.
     let names = reverse (map entry_of c.args.sight.now.entries.now) in
     let ps = c.args.sight.now.parameters.now in
     let n = c.args.count in
-    let x = c.args.name.now in
-    (told_by fs ss names ps n x (Err c.in-Err.fault) kept c.in-Err.ensures, refused_plainly fs ss names ps n x c.in-Err.fault kept c.in-Err.ensures)
+    let x = c.args.name.now in (
+      told_by fs ss names ps n x (Err c.in-Err.fault) kept c.in-Err.ensures,
+      refused_plainly fs ss names ps n x c.in-Err.fault kept c.in-Err.ensures,
+    )
 
 pub returns-in-None-clause-usage : goal.returns-in-None-clause-usage
 returns-in-None-clause-usage c =
@@ -33,7 +35,8 @@ returns-in-None-clause-usage c =
     let ps = c.args.sight.now.parameters.now in
     let n = c.args.count in
     let x = c.args.name.now in
-    seen_function fs names ps n x c.in-Ok.index None c.in-Ok.ensures (slice_get_past fs c.in-Ok.index c.in-None.ensures.lookup.3)
+    seen_function fs names ps n x c.in-Ok.index None c.in-Ok.ensures
+    (slice_get_past fs c.in-Ok.index c.in-None.ensures.lookup.3)
 
 pub returns-in-None-clause-sense : goal.returns-in-None-clause-sense
 returns-in-None-clause-sense c = λ ss kept.
@@ -42,7 +45,8 @@ returns-in-None-clause-sense c = λ ss kept.
     let ps = c.args.sight.now.parameters.now in
     let n = c.args.count in
     let x = c.args.name.now in
-    absurd (unseen fs ss names ps n x c.in-Ok.index kept c.in-Ok.ensures (slice_get_past fs c.in-Ok.index c.in-None.ensures.lookup.3))
+    absurd (unseen fs ss names ps n x c.in-Ok.index kept c.in-Ok.ensures
+    (slice_get_past fs c.in-Ok.index c.in-None.ensures.lookup.3))
 
 pub returns-in-Some-clause-usage : goal.returns-in-Some-clause-usage
 returns-in-Some-clause-usage c =
@@ -71,18 +75,21 @@ returns-in-Err-clause-fault c = λ ss kept.
     let fs = c.args.sight.now.functions.now in
     let names = reverse (map entry_of c.args.sight.now.entries.now) in
     let x = c.args.name.now in
-    applied_fault fs ss c.args.count (parameter_of (reverse c.args.sight.now.parameters.now) x) (found names x) kept ∙ ap fault_of (sym c.in-Err.ensures)
+    applied_fault fs ss c.args.count (parameter_of (reverse c.args.sight.now.parameters.now) x)
+    (found names x) kept ∙ ap fault_of (sym c.in-Err.ensures)
 
 pub returns-in-None-clause-fault : goal.returns-in-None-clause-fault
 returns-in-None-clause-fault c = λ ss kept.
     let fs = c.args.sight.now.functions.now in
     let names = reverse (map entry_of c.args.sight.now.entries.now) in
     let ps = c.args.sight.now.parameters.now in
-    absurd (unseen fs ss names ps c.args.count c.args.name.now c.in-Ok.index kept c.in-Ok.ensures (slice_get_past fs c.in-Ok.index c.in-None.ensures.lookup.3))
+    absurd (unseen fs ss names ps c.args.count c.args.name.now c.in-Ok.index kept c.in-Ok.ensures
+    (slice_get_past fs c.in-Ok.index c.in-None.ensures.lookup.3))
 
 pub returns-in-Some-clause-fault : goal.returns-in-Some-clause-fault
 returns-in-Some-clause-fault c = λ ss kept.
     let fs = c.args.sight.now.functions.now in
     let names = reverse (map entry_of c.args.sight.now.entries.now) in
     let x = c.args.name.now in
-    applied_fault fs ss c.args.count (parameter_of (reverse c.args.sight.now.parameters.now) x) (found names x) kept ∙ ap fault_of (sym c.in-Ok.ensures)
+    applied_fault fs ss c.args.count (parameter_of (reverse c.args.sight.now.parameters.now) x)
+    (found names x) kept ∙ ap fault_of (sym c.in-Ok.ensures)

@@ -28,4 +28,5 @@ pub returns-in_ok-add_name-in-Other-clause-uses : goal.returns-in_ok-add_name-in
 returns-in_ok-add_name-in-Other-clause-uses c =
     let is = name_other _ _ c.in-Other.found (sym c.in-Other.is ∙ c.named.ensures) in
     let more = c.in_ok-add_name-in-Other.ensures in
-    rw (is.0, is.1) (noted_name c.args.sight.now.from c.in-Other.found _ _ more.indexed more.values more.functions more.applied)
+    rw (is.0, is.1) (noted_name c.args.sight.now.from c.in-Other.found _ _ more.indexed more.values
+    more.functions more.applied)

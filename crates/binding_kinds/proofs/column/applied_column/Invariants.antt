@@ -7,4 +7,6 @@ use Rattle.binding_kinds.proofs.column.applied_column.Given as goal
 
 abbrev pub invariant-loop-known : goal.invariant-loop-known
 invariant-loop-known l =
-    (arity rows : ℕ) (known : List Kind → Gathered) → IsFilled none_gathered arity rows known l.all → IsFilled unknown arity l.known-index (λ kinds. of_applied l.function (known kinds)) l.column.items
+    (arity rows : ℕ) (known : List Kind → Gathered) → IsFilled none_gathered arity rows known l.all
+    → IsFilled unknown arity l.known-index (λ kinds. of_applied l.function (known kinds))
+    l.column.items

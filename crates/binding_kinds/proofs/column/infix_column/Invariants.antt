@@ -7,4 +7,7 @@ use Rattle.binding_kinds.proofs.column.infix_column.Given as goal
 
 abbrev pub invariant-loop-combination : goal.invariant-loop-combination
 invariant-loop-combination l =
-    (arity rows : ℕ) (first second : List Kind → Signature) → IsFilled unknown arity rows first l.left → IsFilled unknown arity rows second l.right → IsFilled unknown arity l.combination (λ kinds. of_infix l.op (first kinds) (second kinds)) l.column.items
+    (arity rows : ℕ) (first second : List Kind → Signature)
+    → IsFilled unknown arity rows first l.left → IsFilled unknown arity rows second l.right
+    → IsFilled unknown arity l.combination (λ kinds. of_infix l.op (first kinds) (second kinds))
+    l.column.items

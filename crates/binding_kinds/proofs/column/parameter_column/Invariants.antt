@@ -6,4 +6,6 @@ use Rattle.binding_kinds.proofs.column.parameter_column.Given as goal
 
 abbrev pub invariant-loop-combination : goal.invariant-loop-combination
 invariant-loop-combination l =
-    (arity : ℕ) (other : Kind) → arity ≤ 8 → l.index < arity → IsFilled unknown arity l.combination (λ kinds. plain (get_or kinds l.index other)) l.column.items
+    (arity : ℕ) (other : Kind) → arity ≤ 8 → l.index < arity
+    → IsFilled unknown arity l.combination (λ kinds. plain (get_or kinds l.index other))
+    l.column.items

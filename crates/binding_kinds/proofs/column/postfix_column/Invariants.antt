@@ -7,4 +7,5 @@ use Rattle.binding_kinds.proofs.column.postfix_column.Given as goal
 
 abbrev pub invariant-loop-one : goal.invariant-loop-one
 invariant-loop-one l =
-    (arity rows : ℕ) (operand : List Kind → Signature) → IsFilled unknown arity rows operand l.inner → IsFilled unknown arity l.one-index (λ kinds. of_postfix (operand kinds)) l.column.items
+    (arity rows : ℕ) (operand : List Kind → Signature) → IsFilled unknown arity rows operand l.inner
+    → IsFilled unknown arity l.one-index (λ kinds. of_postfix (operand kinds)) l.column.items

@@ -8,7 +8,8 @@ use Rattle.binding_kinds.specs.Applicable.{is_parameter_at}
 use Rattle.binding_kinds.proofs.function.count_parts.Goals as goal
 
 -- one more index has its value
-filled : (F : ℕ → ℕ) (xs : List ℕ) (i y : ℕ) → i < length xs → y ≡ F i → ((p : ℕ) → p < i → get_or xs p 0 ≡ F p) → (p : ℕ) → p < i + 1 → get_or (set xs i y) p 0 ≡ F p
+filled : (F : ℕ → ℕ) (xs : List ℕ) (i y : ℕ) → i < length xs → y ≡ F i
+    → ((p : ℕ) → p < i → get_or xs p 0 ≡ F p) → (p : ℕ) → p < i + 1 → get_or (set xs i y) p 0 ≡ F p
 filled F xs i y lt e h p below =
     elim (eq-or-lt_of_le (omega arith)) [
       | inl same ↦ get_or-set_at xs i p y 0 same lt ∙ (e ∙ ap F (sym same))
@@ -17,6 +18,11 @@ filled F xs i y lt e h p below =
 
 pub loop-index-preserved : goal.loop-index-preserved
 loop-index-preserved c = record {
-  long = length-set c.loop-index.factors c.loop-index.index c.count_parameter.result ∙ c.loop-index.invariant.long;
-  counted = filled (λ p. count_by (is_parameter_at p) c.args.template.now) c.loop-index.factors c.loop-index.index c.count_parameter.result (omega arith) c.count_parameter.ensures c.loop-index.invariant.counted;
+  long =
+      length-set c.loop-index.factors c.loop-index.index c.count_parameter.result
+      ∙ c.loop-index.invariant.long;
+  counted =
+      filled (λ p. count_by (is_parameter_at p) c.args.template.now) c.loop-index.factors
+      c.loop-index.index c.count_parameter.result (omega arith) c.count_parameter.ensures
+      c.loop-index.invariant.counted;
 }

@@ -11,6 +11,8 @@ loop-block-preserved c =
     let before = c.loop-block.invariant in
     let from = c.load-acc.ensures.lanes in
     let turn = c.join_words-joined.ensures.lanes in
-    written_block _ _ _ _ _ _ _ (omega arith) (c.store.array_long ∙ sym (before.height ∙ c.told-words)) before c.store.ensures
+    written_block _ _ _ _ _ _ _ (omega arith)
+    (c.store.array_long ∙ sym (before.height ∙ c.told-words)) before c.store.ensures
     (λ f j lt. joined_fits _ _ _ _ _ _ j c.fits-others (rw (from j lt) (f _)) (λ b. turn j b lt))
-    (λ j lt b. lane_joined _ _ _ _ _ _ _ _ _ j b (lanes_still _ _ _ _ j _ before (from j lt)) (c.load.ensures.lanes j lt) (turn j b lt))
+    (λ j lt b. lane_joined _ _ _ _ _ _ _ _ _ j b (lanes_still _ _ _ _ j _ before (from j lt))
+    (c.load.ensures.lanes j lt) (turn j b lt))

@@ -3,4 +3,6 @@ use Rattle.bit_relations.specs.Rows.{RowsHave, AreWritten, JoinedFrom}
 use Rattle.bit_relations.proofs.lanes.join_block.Given as goal
 
 abbrev pub invariant-loop-block : goal.invariant-loop-block
-invariant-loop-block l = AreWritten l.initial.words l.words (8 * l.block) (JoinedFrom l.at l.middles (RowsHave l.initial.words) (RowsHave l.select) (RowsHave l.others))
+invariant-loop-block l =
+    AreWritten l.initial.words l.words (8 * l.block) (JoinedFrom l.at l.middles
+    (RowsHave l.initial.words) (RowsHave l.select) (RowsHave l.others))

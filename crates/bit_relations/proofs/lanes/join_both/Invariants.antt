@@ -4,5 +4,7 @@ use Rattle.bit_relations.proofs.lanes.join_both.Given as goal
 
 abbrev pub invariant-loop-block : goal.invariant-loop-block
 invariant-loop-block l =
-    AreWritten l.initial.own l.own (8 * l.block) (UnionWhere (RowsHave l.initial.own) (RowsHave l.initial.own) l.k l.own_word)
-    × AreWritten l.initial.other l.other (8 * l.block) (UnionWhere (RowsHave l.initial.other) (RowsHave l.initial.own) l.k l.other_word)
+    AreWritten l.initial.own l.own (8 * l.block) (UnionWhere (RowsHave l.initial.own)
+    (RowsHave l.initial.own) l.k l.own_word)
+    × AreWritten l.initial.other l.other (8 * l.block) (UnionWhere (RowsHave l.initial.other)
+    (RowsHave l.initial.own) l.k l.other_word)

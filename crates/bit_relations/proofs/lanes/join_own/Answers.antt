@@ -11,6 +11,9 @@ loop-block-preserved c =
     let before = c.loop-block.invariant in
     let from = c.load-lanes.ensures.lanes in
     let step = c.join-joined.ensures.lanes in
-    written_block _ _ _ _ _ _ _ (omega arith) (c.store.array_long ∙ sym (before.height ∙ c.told-words)) before c.store.ensures
+    written_block _ _ _ _ _ _ _ (omega arith)
+    (c.store.array_long ∙ sym (before.height ∙ c.told-words)) before c.store.ensures
     (λ f j lt. lane_fits _ _ _ _ _ j lt c.ranges.word.fits (rw (from j lt) (f _)) step)
-    (λ j lt b. let old = lanes_still _ _ _ _ j _ before (from j lt) in lane_union _ _ _ _ _ _ j _ _ lt old old step b)
+    (λ j lt b.
+    let old = lanes_still _ _ _ _ j _ before (from j lt) in
+    lane_union _ _ _ _ _ _ j _ _ lt old old step b)

@@ -3,4 +3,6 @@ use Rattle.bit_relations.specs.Rows.{RowsHave, AreWritten, UnionWhere}
 use Rattle.bit_relations.proofs.lanes.join_own.Given as goal
 
 abbrev pub invariant-loop-block : goal.invariant-loop-block
-invariant-loop-block l = AreWritten l.initial.words l.words (8 * l.block) (UnionWhere (RowsHave l.initial.words) (RowsHave l.initial.words) l.k l.word)
+invariant-loop-block l =
+    AreWritten l.initial.words l.words (8 * l.block) (UnionWhere (RowsHave l.initial.words)
+    (RowsHave l.initial.words) l.k l.word)

@@ -13,6 +13,12 @@ pub loop-c-preserved : goal.loop-c-preserved
 loop-c-preserved c =
     let before = c.loop-c.invariant in
     elim c.if-word-ne0.branch [
-      | then-word-ne0 w ↦ rw w.joined-is (w.join-joined.ensures.count, joined_more _ _ _ _ _ _ _ before.1 w.join-joined.ensures.lanes)
-      | else-word-ne0 w ↦ rw w.joined-is (before.0, joined_no_more _ _ _ _ _ _ before.1 w.if-word-ne0.false)
+      | then-word-ne0 w ↦ rw w.joined-is (
+        w.join-joined.ensures.count,
+        joined_more _ _ _ _ _ _ _ before.1 w.join-joined.ensures.lanes,
+      )
+      | else-word-ne0 w ↦ rw w.joined-is (
+        before.0,
+        joined_no_more _ _ _ _ _ _ before.1 w.if-word-ne0.false,
+      )
     ]

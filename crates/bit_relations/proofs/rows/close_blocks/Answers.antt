@@ -14,9 +14,14 @@ loop-middle-preserved c =
       | then-row-ne0 w ↦ rw w.low-is (
         w.join_own.ensures.height ∙ before.0,
         w.join_own.ensures.fits before.1,
-        step_low _ _ _ _ _ _ c.blocks_of-blocks.ensures.all c.requires.within before.2 w.join_own.ensures,
+        step_low _ _ _ _ _ _ c.blocks_of-blocks.ensures.all c.requires.within before.2
+            w.join_own.ensures,
       )
-      | else-row-ne0 w ↦ rw w.low-is (before.0, before.1, passed_low _ _ _ before.2 w.if-row-ne0.false)
+      | else-row-ne0 w ↦ rw w.low-is (
+        before.0,
+        before.1,
+        passed_low _ _ _ before.2 w.if-row-ne0.false,
+      )
     ]
 
 pub returns-clause-height : goal.returns-clause-height
@@ -27,5 +32,7 @@ returns-clause-fits c = c.loop-middle.invariant.1
 
 pub returns-clause-pairs : goal.returns-clause-pairs
 returns-clause-pairs c = λ a b.
-    let all = PlusBelow-all _ c.loop-middle.middle a b (λ x y r. let w = c.requires.within x y r in (omega (arith, w.0), omega (arith, w.1))) in
-    ((λ h. all.0 ((c.loop-middle.invariant.2 a b).0 h)), (λ p. (c.loop-middle.invariant.2 a b).1 (all.1 p)))
+    let all = PlusBelow-all _ c.loop-middle.middle a b (λ x y r. let w = c.requires.within x y r in (omega (arith, w.0), omega (arith, w.1))) in (
+      (λ h. all.0 ((c.loop-middle.invariant.2 a b).0 h)),
+      (λ p. (c.loop-middle.invariant.2 a b).1 (all.1 p)),
+    )

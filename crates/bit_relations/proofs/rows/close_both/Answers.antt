@@ -16,11 +16,14 @@ loop-middle-preserved c =
       )
       | else-low-middle-ne0+else-high-middle-ne0 w ↦ rw (w.low-is, w.high-is) (
         c.loop-middle.invariant.0,
-        close_step _ _ _ _ c.loop-middle.invariant.1 (through_nothing _ _ _ _ c.loop-middle.invariant.0 w.if-low-middle-ne0.false w.if-high-middle-ne0.false),
+        close_step _ _ _ _ c.loop-middle.invariant.1 (through_nothing _ _ _ _
+            c.loop-middle.invariant.0 w.if-low-middle-ne0.false w.if-high-middle-ne0.false),
       )
     ]
 
 pub returns-clause-pairs : goal.returns-clause-pairs
 returns-clause-pairs c = λ a b.
-    let all = PlusBelow-all _ c.loop-middle.middle a b (λ x y r. let w = c.requires.within x y r in (omega (arith, w.0), omega (arith, w.1))) in
-    ((λ h. all.0 ((c.loop-middle.invariant.1 a b).0 h)), (λ p. (c.loop-middle.invariant.1 a b).1 (all.1 p)))
+    let all = PlusBelow-all _ c.loop-middle.middle a b (λ x y r. let w = c.requires.within x y r in (omega (arith, w.0), omega (arith, w.1))) in (
+      (λ h. all.0 ((c.loop-middle.invariant.1 a b).0 h)),
+      (λ p. (c.loop-middle.invariant.1 a b).1 (all.1 p)),
+    )

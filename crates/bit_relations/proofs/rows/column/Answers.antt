@@ -5,4 +5,5 @@ pub loop-a-init : goal.loop-a-init
 loop-a-init c = column_none _ _ _
 
 pub loop-a-preserved : goal.loop-a-preserved
-loop-a-preserved c = column_more _ _ _ _ _ _ _ c.loop-a.invariant c.union_where-column.ensures c.with_bit.ensures
+loop-a-preserved c =
+    column_more _ _ _ _ _ _ _ c.loop-a.invariant c.union_where-column.ensures c.with_bit.ensures

@@ -3,4 +3,6 @@ use Rattle.bit_relations.proofs.Wide.{get_or-wide}
 use Rattle.bit_relations.proofs.rows.has_pair.Goals as goal
 
 pub returns : goal.returns
-returns c = rw (get_or-wide _ _ c.args.from (c.told-low ∙ sym c.told-high) (omega (arith, c.told-low))) c.has_event.ensures
+returns c =
+    rw (get_or-wide _ _ c.args.from (c.told-low ∙ sym c.told-high) (omega (arith, c.told-low)))
+    c.has_event.ensures

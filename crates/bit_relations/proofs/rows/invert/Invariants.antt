@@ -3,4 +3,5 @@ use Rattle.bit_relations.specs.Rows.{RowsHave, AreWritten, Inverted}
 use Rattle.bit_relations.proofs.rows.invert.Given as goal
 
 abbrev pub invariant-loop-a : goal.invariant-loop-a
-invariant-loop-a l = AreWritten l.initial.words l.words l.a (Inverted l.at l.part (RowsHave (wide l.low l.high)))
+invariant-loop-a l =
+    AreWritten l.initial.words l.words l.a (Inverted l.at l.part (RowsHave (wide l.low l.high)))

@@ -3,7 +3,8 @@ use Rattle.bit_relations.proofs.Bits.{Bit-zero}
 use Rattle.bit_relations.proofs.word.own_bit.Goals as goal
 
 pub returns-then-event-at : goal.returns-then-event-at
-returns-then-event-at c = λ b. ((λ h. absurd (Bit-zero b h)), (λ h. absurd (omega (arith, h.1, c.if-event-at.true))))
+returns-then-event-at c =
+    λ b. ((λ h. absurd (Bit-zero b h)), (λ h. absurd (omega (arith, h.1, c.if-event-at.true))))
 
 pub returns-then-k-lt64 : goal.returns-then-k-lt64
 returns-then-k-lt64 c = λ b. (
@@ -15,4 +16,5 @@ returns-then-k-lt64 c = λ b. (
 )
 
 pub returns-else-k-lt64 : goal.returns-else-k-lt64
-returns-else-k-lt64 c = λ b. ((λ h. absurd (Bit-zero b h)), (λ h. absurd (omega (arith, h.0, h.1, c.if-k-lt64.false))))
+returns-else-k-lt64 c =
+    λ b. ((λ h. absurd (Bit-zero b h)), (λ h. absurd (omega (arith, h.0, h.1, c.if-k-lt64.false))))

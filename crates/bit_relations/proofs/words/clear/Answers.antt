@@ -7,4 +7,6 @@ pub loop-a-init : goal.loop-a-init
 loop-a-init c = written_none _ _
 
 pub loop-a-preserved : goal.loop-a-preserved
-loop-a-preserved c = written_more _ _ _ _ _ (omega (arith, c.told-words)) c.loop-a.invariant (omega arith) (λ b. ((λ h. Bit-zero b h), (λ h. absurd h)))
+loop-a-preserved c =
+    written_more _ _ _ _ _ (omega (arith, c.told-words)) c.loop-a.invariant (omega arith)
+    (λ b. ((λ h. Bit-zero b h), (λ h. absurd h)))

@@ -6,4 +6,6 @@ pub loop-a-init : goal.loop-a-init
 loop-a-init c = λ f. written_none _ _
 
 pub loop-a-preserved : goal.loop-a-preserved
-loop-a-preserved c = λ f. written_more _ _ _ _ _ (omega (arith, c.told-words)) (c.loop-a.invariant f) (f _) (λ b. ((λ h. h), (λ h. h)))
+loop-a-preserved c =
+    λ f. written_more _ _ _ _ _ (omega (arith, c.told-words)) (c.loop-a.invariant f) (f _)
+    (λ b. ((λ h. h), (λ h. h)))

@@ -6,4 +6,6 @@ pub loop-a-init : goal.loop-a-init
 loop-a-init c = written_none _ _
 
 pub loop-a-preserved : goal.loop-a-preserved
-loop-a-preserved c = written_more _ _ _ _ _ (omega (arith, c.told-words)) c.loop-a.invariant c.left_alone.type_inv (rw (still c.loop-a.invariant) at c.left_alone.ensures)
+loop-a-preserved c =
+    written_more _ _ _ _ _ (omega (arith, c.told-words)) c.loop-a.invariant c.left_alone.type_inv
+    (rw (still c.loop-a.invariant) at c.left_alone.ensures)

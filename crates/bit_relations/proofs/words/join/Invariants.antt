@@ -3,4 +3,5 @@ use Rattle.bit_relations.specs.Rows.{RowsHave, AreWritten}
 use Rattle.bit_relations.proofs.words.join.Given as goal
 
 abbrev pub invariant-loop-a : goal.invariant-loop-a
-invariant-loop-a l = AreWritten l.initial.words l.words l.a (Union (RowsHave l.initial.words) (RowsHave l.others))
+invariant-loop-a l =
+    AreWritten l.initial.words l.words l.a (Union (RowsHave l.initial.words) (RowsHave l.others))

@@ -4,4 +4,6 @@ use Rattle.std.specs.Str.{bytes_eq}
 use Rattle.board.proofs.changes.column_index.Given as goal
 
 abbrev pub invariant-loop-index : goal.invariant-loop-index
-invariant-loop-index l = position_or_len (λ r. bytes_eq r.name l.name) l.columns ≡ l.index + position_or_len (λ r. bytes_eq r.name l.name) (drop l.index l.columns)
+invariant-loop-index l =
+    position_or_len (λ r. bytes_eq r.name l.name) l.columns
+    ≡ l.index + position_or_len (λ r. bytes_eq r.name l.name) (drop l.index l.columns)

@@ -16,5 +16,11 @@ returns c = λ model next is same le read.
     let cells : c.deref.result.now ≡ map (model_cell c.args.at) (range_with_len 0 (length h.tests)) = search rules in
     let put : printed_by c.args.prepared.now.replacement ≡ Some (printed_items (model_of model).items) = ap printed_by is in
     let printed : printed_by c.args.prepared.now.replacement ≡ Some (arc_value c.in_ok-items.items).items = put ∙ ap (λ (xs : List ℕ). Some xs) (sym (c.in_ok-items.ensures (printed_items (model_of model).items) put)) in
-    announce_model h c.args.prepared.now.whole c.args.prepared.now.replacement c.args.at next c.in_ok-name.name c.in_ok-items.items model c.in_ok-reached.reached.items is (omega (arith, le, c.args.texts.now.models.ok.0)) (c.in_ok-name.ensures ∙ sym same) (sym printed) read
-    (subst (λ (line : List CellIndex). ListsAmong h c.args.prepared.now.whole c.args.prepared.now.replacement line c.in_ok-reached.reached.items) cells c.in_ok-reached.ensures)
+    announce_model h c.args.prepared.now.whole c.args.prepared.now.replacement c.args.at next
+    c.in_ok-name.name c.in_ok-items.items model c.in_ok-reached.reached.items is
+    (omega (arith, le, c.args.texts.now.models.ok.0)) (c.in_ok-name.ensures ∙ sym same)
+    (sym printed) read
+    (subst
+    (λ (line : List CellIndex). ListsAmong h c.args.prepared.now.whole
+    c.args.prepared.now.replacement line c.in_ok-reached.reached.items) cells
+    c.in_ok-reached.ensures)

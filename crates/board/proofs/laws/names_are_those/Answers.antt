@@ -5,4 +5,7 @@ use Rattle.board.proofs.Names.{names_from}
 use Rattle.board.proofs.laws.names_are_those.Goals as goal
 
 pub returns : goal.returns
-returns c = λ ops l. let n = names_from ops no_board nothing_held 0 l (record { tests = refl; models = refl }) in record { tests = n.tests; models = n.models }
+returns c =
+    λ ops l.
+    let n = names_from ops no_board nothing_held 0 l (record { tests = refl; models = refl }) in
+    record { tests = n.tests; models = n.models }

@@ -27,7 +27,8 @@ order-order-requires c =
 
 pub returns : goal.returns
 returns c =
-    candidate_there c.args.registers.now c.args.combination.now c.args.index c.len-orders.result c.index-sources.result.now c.order-order.result.now _
+    candidate_there c.args.registers.now c.args.combination.now c.args.index c.len-orders.result
+    c.index-sources.result.now c.order-order.result.now _
     (omega arith) c.requires c.index-sources.ensures c.order-order.ensures
     (record {
       events = c.in_ok-from_slice.ensures.items ∙ c.deref.ensures.value;

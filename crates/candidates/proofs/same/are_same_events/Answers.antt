@@ -4,6 +4,7 @@ use Rattle.candidates.proofs.same.are_same_events.Goals as goal
 
 pub returns : goal.returns
 returns c = (
-  λ t. same_lists c.args.first.now c.args.second.now (omega arith) (λ k d lt. c.loop-index.invariant k d (omega (arith, lt))),
+  λ t. same_lists c.args.first.now c.args.second.now (omega arith)
+      (λ k d lt. c.loop-index.invariant k d (omega (arith, lt))),
   λ e. search (rules, tests),
 )

@@ -7,4 +7,6 @@ use Rattle.cat_eval.proofs.group.columns_of.Given as goal
 abbrev pub invariant-loop-body : goal.invariant-loop-body
 invariant-loop-body l =
     (length l.columns.items ≡ l.body-index)
-    × ((j : ℕ) → j < l.body-index → (b : Body) (c : Column) → IsFor (slice_index_or l.bodies j b).code.kind (slice_index_or l.columns.items j c) × (column_len (slice_index_or l.columns.items j c) ≡ 0))
+    × ((j : ℕ) → j < l.body-index → (b : Body) (c : Column)
+    → IsFor (slice_index_or l.bodies j b).code.kind (slice_index_or l.columns.items j c)
+    × (column_len (slice_index_or l.columns.items j c) ≡ 0))

@@ -19,5 +19,6 @@ loop-position-preserved c =
             let (s, adds) = before.1 j (omega (arith, less, other)) inside col in
             (s, rw (c.put.ensures.others j other col) adds)
       ]),
-      (λ j ge col. c.put.ensures.others j (λ e. omega (arith, e, ge)) col ∙ before.2 j (omega (arith, ge)) col),
+      (λ j ge col. c.put.ensures.others j (λ e. omega (arith, e, ge)) col
+          ∙ before.2 j (omega (arith, ge)) col),
     )

@@ -7,5 +7,9 @@ use Rattle.cat_eval.proofs.group.put_all.Given as goal
 abbrev pub invariant-loop-position : goal.invariant-loop-position
 invariant-loop-position l =
     (length l.columns.items ≡ length l.initial.columns.items)
-    × ((j : ℕ) → j < l.position → j < length l.initial.columns.items → (c : Column) → (s : Events) × AddsIf (is_wanted l.wanted j) (slice_index_or l.initial.columns.items j c) (slice_index_or l.columns.items j c) s (slice_index_or l.values j no_slot))
-    × ((j : ℕ) → l.position ≤ j → (c : Column) → slice_index_or l.columns.items j c ≡ slice_index_or l.initial.columns.items j c)
+    × ((j : ℕ) → j < l.position → j < length l.initial.columns.items → (c : Column)
+    → (s : Events)
+    × AddsIf (is_wanted l.wanted j) (slice_index_or l.initial.columns.items j c)
+    (slice_index_or l.columns.items j c) s (slice_index_or l.values j no_slot))
+    × ((j : ℕ) → l.position ≤ j → (c : Column)
+    → slice_index_or l.columns.items j c ≡ slice_index_or l.initial.columns.items j c)

@@ -10,8 +10,11 @@ loop-position-preserved c =
       (λ j less inside col. elim (cases_eq j at) [
         | inl same ↦
             let room : at < length c.loop-position.columns.items = omega (arith, before.0, inside, same) in
-            rw same (rw (before.2 at (omega arith) col) at (c.in_ok-repeat.ensures.repeated room col))
-        | inr other ↦ rw (c.repeat.ensures.others j other col) (before.1 j (omega (arith, less, other)) inside col)
+            rw same (rw (before.2 at (omega arith) col) at
+            (c.in_ok-repeat.ensures.repeated room col))
+        | inr other ↦ rw (c.repeat.ensures.others j other col)
+            (before.1 j (omega (arith, less, other)) inside col)
       ]),
-      (λ j ge col. c.repeat.ensures.others j (λ e. omega (arith, e, ge)) col ∙ before.2 j (omega (arith, ge)) col),
+      (λ j ge col. c.repeat.ensures.others j (λ e. omega (arith, e, ge)) col
+          ∙ before.2 j (omega (arith, ge)) col),
     )

@@ -8,4 +8,5 @@ pub returns : goal.returns
 returns c = λ listed.
     let names = c.args.names.now in
     let name = c.args.name in
-    Contains-from_at names name ((contains_decides (sameb the_type) names_Decides names name c.contains.result c.contains.ensures.cases).0 listed)
+    Contains-from_at names name ((contains_decides (sameb the_type) names_Decides names name
+    c.contains.result c.contains.ensures.cases).0 listed)

@@ -4,5 +4,8 @@ use Rattle.cat_eval.specs.Seen.{seen_in}
 use Rattle.cat_eval.proofs.runs.visit_runs.Given as goal
 
 abbrev pub invariant-loop-combination : goal.invariant-loop-combination
-invariant-loop-combination g l = g.V.RunVisit.has_taken l.named l.initial.visitor [] l.initial.visitor
-    → g.V.RunVisit.has_taken l.named l.initial.visitor (seen_in l.named 0 (candidates_in (take l.combination-index l.space.combinations.items))) l.visitor
+invariant-loop-combination g l =
+    g.V.RunVisit.has_taken l.named l.initial.visitor [] l.initial.visitor
+    → g.V.RunVisit.has_taken l.named l.initial.visitor
+    (seen_in l.named 0 (candidates_in (take l.combination-index l.space.combinations.items)))
+    l.visitor

@@ -9,7 +9,9 @@ use Rattle.cat_eval.specs.Steady.{HasSame}
 use Rattle.cat_eval.proofs.Visits.{get_within}
 use Rattle.cat_eval.proofs.steady.named_until.Goals as goal
 
-column_there : (xs : List NamedColumn) (i : ℕ) (column : Bor Column) → slice_get (columns_of xs) i ≡ Some column → (x : NamedColumn) × (slice_get xs i ≡ Some x) × (x.column ≡ column)
+column_there : (xs : List NamedColumn) (i : ℕ) (column : Bor Column)
+    → slice_get (columns_of xs) i ≡ Some column
+    → (x : NamedColumn) × (slice_get xs i ≡ Some x) × (x.column ≡ column)
 column_there [] i column at = absurd (none-some column at)
 column_there (x ∷ xs) zero column at = (x, refl, same_Some x.column column at)
 column_there (x ∷ xs) (suc i) column at = column_there xs i column at
@@ -19,4 +21,6 @@ returns c = λ k low high index column at.
     let xs = c.args.named.now in
     let (x, here, is) = column_there xs index column at in
     let held = c.loop-one.invariant k low high index (omega (arith, get_within xs x index here, c.loop-one-test.false)) x in
-    subst (λ (y : Bor Column). HasSame y.now c.args.candidate k) is (subst (λ (y : NamedColumn). HasSame y.column.now c.args.candidate k) (get_or_from_slice_get xs index x x here) held)
+    subst (λ (y : Bor Column). HasSame y.now c.args.candidate k) is (subst
+    (λ (y : NamedColumn). HasSame y.column.now c.args.candidate k)
+    (get_or_from_slice_get xs index x x here) held)

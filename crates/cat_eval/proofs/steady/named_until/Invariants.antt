@@ -4,4 +4,6 @@ use Rattle.cat_eval.specs.Steady.{HasSame}
 use Rattle.cat_eval.proofs.steady.named_until.Given as goal
 
 abbrev pub invariant-loop-one : goal.invariant-loop-one
-invariant-loop-one l = (k : ℕ) → l.candidate ≤ k → k < l.until → (index : ℕ) → index < l.one-index → (d : NamedColumn) → HasSame (slice_index_or l.named index d).column.now l.candidate k
+invariant-loop-one l =
+    (k : ℕ) → l.candidate ≤ k → k < l.until → (index : ℕ) → index < l.one-index → (d : NamedColumn)
+    → HasSame (slice_index_or l.named index d).column.now l.candidate k

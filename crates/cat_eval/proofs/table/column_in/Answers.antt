@@ -29,7 +29,9 @@ returns-then-eq c =
     let same : item.name ≡ c.args.name = equal_names item.name c.args.name c.eq.result c.eq.ensures c.if-eq.true in
     let there : Contains (entry_names entries) item.name = subst (λ (x : Entry). Contains (entry_names entries) x.name) (sym c.entry-item.is) (entry_there entries index c.loop-entry-test.true item) in (
       subst (λ (n : Predefined). Contains (entry_names entries) n) same there,
-      (λ candidates right. subst (λ (n : Predefined). IsColumnOf item.column n candidates) same (subst (λ (x : Entry). IsColumnOf x.column x.name candidates) (sym c.entry-item.is) (right index c.loop-entry-test.true item))),
+      (λ candidates right. subst (λ (n : Predefined). IsColumnOf item.column n candidates) same
+          (subst (λ (x : Entry). IsColumnOf x.column x.name candidates) (sym c.entry-item.is)
+          (right index c.loop-entry-test.true item))),
     )
 
 pub returns : goal.returns

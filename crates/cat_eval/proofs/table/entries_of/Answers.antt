@@ -16,9 +16,13 @@ loop-name-preserved c =
     let one : Entry = record { name = name; column = c.column_for.result } in
     let before = c.loop-name.invariant in
     let named : entry_names (old ++ one ∷ []) ≡ take (index + 1) xs =
-    map-append (λ (x : Entry). x.name) old (one ∷ []) ∙ ap (λ (ns : List Predefined). ns ++ name ∷ []) before.0 ∙ sym (take_more xs index names.Loads c.loop-name-test.true) in
+    map-append (λ (x : Entry). x.name) old (one ∷ [])
+    ∙ ap (λ (ns : List Predefined). ns ++ name ∷ []) before.0
+    ∙ sym (take_more xs index names.Loads c.loop-name-test.true) in
     let filled : AreFilled (old ++ one ∷ []) [] = filled_with old one [] before.1 (filled_none one c.column_for.ensures.kind c.column_for.ensures.empty) in
     rw c.in_ok-push.ensures.items (named, filled)
 
 pub returns-clause-names : goal.returns-clause-names
-returns-clause-names c = c.loop-name.invariant.0 ∙ take_all c.loop-name.name-index c.args.names.now (omega (arith, c.loop-name-test.false))
+returns-clause-names c =
+    c.loop-name.invariant.0
+    ∙ take_all c.loop-name.name-index c.args.names.now (omega (arith, c.loop-name-test.false))

@@ -7,4 +7,7 @@ pub returns-clause-filled : goal.returns-clause-filled
 returns-clause-filled c = λ bases before.
     let entry = c.args.entry.now in
     let base = c.args.base.now in
-    filled_more entry _ bases base c.set-set.result c.write_relation.new.target refl c.in_ok-push.ensures (held_one (is_set entry.name) entry.name base c.set-set.result c.write_relation.new.target c.set-set.ensures.held c.write_relation.ensures.held) before
+    filled_more entry _ bases base c.set-set.result c.write_relation.new.target refl
+    c.in_ok-push.ensures
+    (held_one (is_set entry.name) entry.name base c.set-set.result c.write_relation.new.target
+    c.set-set.ensures.held c.write_relation.ensures.held) before

@@ -20,5 +20,6 @@ loop-at-preserved g c = λ first bases at given.
     let long : length (bases ++ run) ≡ length bases + done = omega (arith, length-append bases run, run_long named (length bases) count done) in
     let more : (c.loop-at._at + 1) * many ≡ done + many = grind arith in
     let grown : bases ++ seen_run named (length bases) count ((c.loop-at._at + 1) * many) ≡ (bases ++ run) ++ seen_run named (length (bases ++ run)) count many =
-    rw (more, run_more named (length bases) count done many, long) (sym (append_assoc bases run (seen_run named (length bases + done) count many))) in
+    rw (more, run_more named (length bases) count done many, long)
+    (sym (append_assoc bases run (seen_run named (length bases + done) count many))) in
     rw grown next

@@ -16,5 +16,6 @@ loop-at-preserved g c = λ first bases at given.
     let next = c.in_ok-visit_next.ensures first (bases ++ run) before.0 before.1 in
     let long : length (bases ++ run) ≡ length bases + done = omega (arith, length-append bases run, run_long named (length bases) count done) in
     let grown : bases ++ seen_run named (length bases) count (done + 1) ≡ (bases ++ run) ++ seen named (length (bases ++ run)) count ∷ [] =
-    rw (run_step named (length bases) count done, long) (sym (append_assoc bases run (seen named (length bases + done) count ∷ []))) in
+    rw (run_step named (length bases) count done, long)
+    (sym (append_assoc bases run (seen named (length bases + done) count ∷ []))) in
     rw grown next

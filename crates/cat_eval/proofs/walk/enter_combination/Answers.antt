@@ -14,7 +14,10 @@ loop-sources-preserved g c =
           let (more, worlds, was, last) = before.1 first bases ends given in
           let (new, here, now, at_end) = c.in_ok-again.ensures.worlds c.sources-item.result.items (λ reads. rw c.deref.ensures.value at (c.go_to_sources-same.ensures.reading reads)) first (bases ++ more) (λ is. rw (c.go_to_sources-same.ensures.kept is).1 (last (c.go_to_sources-same.ensures.kept is).0)) was in (
             more ++ new,
-            rw (flat_step (λ sources. reading_so combination sources.items combination.orders) combination.sources.items c.loop-sources.sources-index c.sources-item.result (rw c.deref-sources-items.ensures.value at c.loop-sources-test.true) (rw c.deref-sources-items.ensures.value at c.sources-item.is))
+            rw (flat_step (λ sources. reading_so combination sources.items combination.orders)
+                combination.sources.items c.loop-sources.sources-index c.sources-item.result
+                (rw c.deref-sources-items.ensures.value at c.loop-sources-test.true)
+                (rw c.deref-sources-items.ensures.value at c.sources-item.is))
                 (worlds_more needs.names.items needs.reads needs.orders more new _ _ worlds here),
             rw (append_assoc bases more new) at now,
             rw (append_assoc bases more new) at at_end,

@@ -9,5 +9,10 @@ use Rattle.cat_eval.proofs.walk.enter_combination.Given as goal
 abbrev pub invariant-loop-sources : goal.invariant-loop-sources
 invariant-loop-sources g l =
     IsReady l.needs.names.items l.base l.combination
-    × ((first : _) (bases : List Known) → (IsTrue l.initial.again → EndsWith bases l.initial.base) → g.V.Enter.has_taken first bases l.initial.visitor
-    → (more : List Known) × AreWorlds l.needs.names.items l.needs.reads l.needs.orders more (reading_in l.combination (take l.sources-index l.combination.sources.items)) × g.V.Enter.has_taken first (bases ++ more) l.visitor × (IsTrue l.again → EndsWith (bases ++ more) l.base))
+    × ((first : _) (bases : List Known) → (IsTrue l.initial.again → EndsWith bases l.initial.base)
+    → g.V.Enter.has_taken first bases l.initial.visitor
+    → (more : List Known)
+    × AreWorlds l.needs.names.items l.needs.reads l.needs.orders more
+    (reading_in l.combination (take l.sources-index l.combination.sources.items))
+    × g.V.Enter.has_taken first (bases ++ more) l.visitor
+    × (IsTrue l.again → EndsWith (bases ++ more) l.base))

@@ -17,13 +17,21 @@ loop-index-preserved g c =
           let (more, worlds, was, last) = before.2 sources reading first bases ends given in
           let world : IsWorld needs.names.items needs.reads needs.orders base (combination, (sources, c.order-order.result.now)) = record {
             ready = c.go_to_order-same.ensures.ready before.0;
-            reading = λ reads. c.go_to_order-same.ensures.reading sources (before.1 sources (reading reads));
+            reading =
+                λ reads.
+                c.go_to_order-same.ensures.reading sources (before.1 sources (reading reads));
             ordered = λ orders. c.go_to_order-same.ensures.ordered orders (before.3 orders);
           } in (
             more ++ base ∷ [],
-            rw (map_step {Y = Candidate} (λ order. (combination, (sources, order))) combination.orders c.loop-index.index c.order-order.result.now [] (rw c.len-index-end.ensures at c.loop-index-test.true) c.order-order.ensures)
-                (worlds_more needs.names.items needs.reads needs.orders more (base ∷ []) _ _ worlds (world, tt)),
-            rw (append_assoc bases more (base ∷ [])) at (c.in_ok-enter.ensures first (bases ++ more) (λ is. rw (c.go_to_order-same.ensures.kept is).1 (last (c.go_to_order-same.ensures.kept is).0)) (λ is. (c.loop-index.base, last is, c.go_to_order-same.ensures.reordered)) was),
+            rw (map_step {Y = Candidate} (λ order. (combination, (sources, order)))
+                combination.orders c.loop-index.index c.order-order.result.now []
+                (rw c.len-index-end.ensures at c.loop-index-test.true) c.order-order.ensures)
+                (worlds_more needs.names.items needs.reads needs.orders more (base ∷ []) _ _ worlds
+                (world, tt)),
+            rw (append_assoc bases more (base ∷ [])) at (c.in_ok-enter.ensures first (bases ++ more)
+                (λ is. rw (c.go_to_order-same.ensures.kept is).1
+                (last (c.go_to_order-same.ensures.kept is).0))
+                (λ is. (c.loop-index.base, last is, c.go_to_order-same.ensures.reordered)) was),
             (λ _. (bases ++ more, sym (append_assoc bases more (base ∷ [])))),
           )),
       (λ orders. c.go_to_order-same.ensures.ordered orders (before.3 orders)),

@@ -10,7 +10,16 @@ use Rattle.cat_eval.proofs.walk.enter_orders.Given as goal
 abbrev pub invariant-loop-index : goal.invariant-loop-index
 invariant-loop-index g l =
     IsReady l.needs.names.items l.base l.combination
-    × ((sources : List ℕ) → IsReading l.initial.base l.combination sources → IsReading l.base l.combination sources)
-    × ((sources : List ℕ) → (IsTrue l.needs.reads → IsReading l.initial.base l.combination sources) → (first : _) (bases : List Known) → (IsTrue l.initial.again → EndsWith bases l.initial.base) → g.V.Enter.has_taken first bases l.initial.visitor
-    → (more : List Known) × AreWorlds l.needs.names.items l.needs.reads l.needs.orders more (reading_so l.combination sources (take l.index l.combination.orders)) × g.V.Enter.has_taken first (bases ++ more) l.visitor × (IsTrue l.again → EndsWith (bases ++ more) l.base))
-    × (IsTrue l.needs.orders → IfSome l.previous (λ earlier. IsOrdered l.base l.combination earlier.now))
+    × ((sources : List ℕ) → IsReading l.initial.base l.combination sources
+    → IsReading l.base l.combination sources)
+    × ((sources : List ℕ) → (IsTrue l.needs.reads → IsReading l.initial.base l.combination sources)
+    → (first : _) (bases : List Known)
+    → (IsTrue l.initial.again → EndsWith bases l.initial.base)
+    → g.V.Enter.has_taken first bases l.initial.visitor
+    → (more : List Known)
+    × AreWorlds l.needs.names.items l.needs.reads l.needs.orders more
+    (reading_so l.combination sources (take l.index l.combination.orders))
+    × g.V.Enter.has_taken first (bases ++ more) l.visitor
+    × (IsTrue l.again → EndsWith (bases ++ more) l.base))
+    × (IsTrue l.needs.orders
+    → IfSome l.previous (λ earlier. IsOrdered l.base l.combination earlier.now))

@@ -13,4 +13,8 @@ invariant-loop-combination g l =
     × AreHeld l.needs.names.items l.base
     × IfSome l.entered (λ earlier. IsEntered l.base earlier.now)
     × (g.V.Enter.has_taken l.initial.visitor [] l.initial.visitor
-    → (bases : List Known) × AreWorlds l.needs.names.items l.needs.reads l.needs.orders bases (of_combinations (take l.combination-index l.space.combinations.items)) × g.V.Enter.has_taken l.initial.visitor bases l.visitor × (IsTrue l.again → EndsWith bases l.base))
+    → (bases : List Known)
+    × AreWorlds l.needs.names.items l.needs.reads l.needs.orders bases
+    (of_combinations (take l.combination-index l.space.combinations.items))
+    × g.V.Enter.has_taken l.initial.visitor bases l.visitor
+    × (IsTrue l.again → EndsWith bases l.base))

@@ -7,4 +7,7 @@ use Rattle.text_values.proofs.Separated.{from}
 use Rattle.cat_printing.proofs.print.put_bindings.Given as goal
 
 abbrev pub invariant-loop-i : goal.invariant-loop-i
-invariant-loop-i l = l.text.items ++ from (codes " and ") l.i (map (λ b. binding_text (binding_of b)) (drop l.i l.group)) ≡ l.initial.text.items ++ joined (codes " and ") (map binding_text (map binding_of l.group))
+invariant-loop-i l =
+    l.text.items
+    ++ from (codes " and ") l.i (map (λ b. binding_text (binding_of b)) (drop l.i l.group))
+    ≡ l.initial.text.items ++ joined (codes " and ") (map binding_text (map binding_of l.group))

@@ -7,4 +7,5 @@ use Rattle.cat_printing.proofs.print.put_names.Goals as goal
 
 pub loop-i-init : goal.loop-i-init
 loop-i-init c =
-    ap (λ l. c.args.text.now.items ++ l) (from_first (codes ", ") (map (λ n. n) c.args.names.now) ∙ ap (joined (codes ", ")) (map-id c.args.names.now))
+    ap (λ l. c.args.text.now.items ++ l) (from_first (codes ", ") (map (λ n. n) c.args.names.now)
+    ∙ ap (joined (codes ", ")) (map-id c.args.names.now))

@@ -6,4 +6,6 @@ use Rattle.cat_printing.proofs.Separated.{from_all_of}
 use Rattle.cat_printing.proofs.print.put_shown.Goals as goal
 
 pub loop-i-init : goal.loop-i-init
-loop-i-init c = ap (λ l. c.args.text.now.items ++ l) (from_all_of shown_text shown_of (codes ", ") c.args.shown.now)
+loop-i-init c =
+    ap (λ l. c.args.text.now.items ++ l) (from_all_of shown_text shown_of (codes ", ")
+    c.args.shown.now)

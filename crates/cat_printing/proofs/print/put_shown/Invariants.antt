@@ -7,4 +7,6 @@ use Rattle.text_values.proofs.Separated.{from}
 use Rattle.cat_printing.proofs.print.put_shown.Given as goal
 
 abbrev pub invariant-loop-i : goal.invariant-loop-i
-invariant-loop-i l = l.text.items ++ from (codes ", ") l.i (map (λ s. shown_text (shown_of s)) (drop l.i l.shown)) ≡ l.initial.text.items ++ joined (codes ", ") (map shown_text (map shown_of l.shown))
+invariant-loop-i l =
+    l.text.items ++ from (codes ", ") l.i (map (λ s. shown_text (shown_of s)) (drop l.i l.shown))
+    ≡ l.initial.text.items ++ joined (codes ", ") (map shown_text (map shown_of l.shown))

@@ -13,10 +13,13 @@ pub returns-in-Ok-clause-reads : goal.returns-in-Ok-clause-reads
 returns-in-Ok-clause-reads c =
     let parser = c.new-parser.result in
     let started = at_start c.args.form parser.form (state_of parser) c.args.bytes.now c.new-parser.ensures.form c.new-parser.ensures.start in
-    fits c.args.form c.args.bytes.now (omega arith) ∙ ap items_of (sym started ∙ c.in-Ok.ensures.steps) ∙ ap (λ (cs : List Clause). Ok cs) (sym c.into_items.ensures)
+    fits c.args.form c.args.bytes.now (omega arith)
+    ∙ ap items_of (sym started ∙ c.in-Ok.ensures.steps)
+    ∙ ap (λ (cs : List Clause). Ok cs) (sym c.into_items.ensures)
 
 pub returns-in-Err-clause-reads : goal.returns-in-Err-clause-reads
 returns-in-Err-clause-reads c =
     let parser = c.new-parser.result in
     let started = at_start c.args.form parser.form (state_of parser) c.args.bytes.now c.new-parser.ensures.form c.new-parser.ensures.start in
-    refused c.args.form c.args.bytes.now c.in-Err.fault (omega arith) (subst (λ (r : Ran). FailsAt c.in-Err.fault r) started c.in-Err.ensures.steps)
+    refused c.args.form c.args.bytes.now c.in-Err.fault (omega arith) (subst
+    (λ (r : Ran). FailsAt c.in-Err.fault r) started c.in-Err.ensures.steps)

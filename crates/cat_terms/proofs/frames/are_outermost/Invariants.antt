@@ -4,4 +4,5 @@ use Rattle.cat_terms.specs.Reading.{is_no_bracket}
 use Rattle.cat_terms.proofs.frames.are_outermost.Given as goal
 
 abbrev pub invariant-loop-f : goal.invariant-loop-f
-invariant-loop-f l = list_all is_no_bracket l.frames ≡ list_all is_no_bracket (drop l.f-index l.frames)
+invariant-loop-f l =
+    list_all is_no_bracket l.frames ≡ list_all is_no_bracket (drop l.f-index l.frames)

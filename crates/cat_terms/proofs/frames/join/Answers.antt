@@ -8,12 +8,17 @@ use Rattle.cat_terms.proofs.frames.join.Goals as goal
 
 pub loop-alloc-preserved-in_ok-new-in-Some-Prefix-7 : goal.loop-alloc-preserved-in_ok-new-in-Some-Prefix-7
 loop-alloc-preserved-in_ok-new-in-Some-Prefix-7 c =
-    popped_prefix _ _ _ _ _ c.loop-alloc.invariant _ c.in-Some-Prefix.ensures.items c.in-Some-Prefix.field-0-is _ (ap term_of (c.in_ok-new-in-Some-Prefix.ensures.ok ∙ c.replace-right.ensures.value))
+    popped_prefix _ _ _ _ _ c.loop-alloc.invariant _ c.in-Some-Prefix.ensures.items
+    c.in-Some-Prefix.field-0-is _ (ap term_of (c.in_ok-new-in-Some-Prefix.ensures.ok
+    ∙ c.replace-right.ensures.value))
 
 pub loop-alloc-preserved : goal.loop-alloc-preserved
 loop-alloc-preserved c =
     let taken : takes_operand c.args.least (stack_of c.loop-alloc.frames.items) ≡ true = ap (λ (fs : List code_frame.Frame). takes_operand c.args.least (stack_of fs)) (sym c.deref.ensures.value) ∙ sym c.takes.ensures ∙ c.loop-alloc-test.true in
-    popped_left _ _ _ _ _ c.loop-alloc.invariant _ c.in-Some-Left.ensures.items _ _ _ _ c.in-Some-Left.field-0-is c.in_ok-left-in-Some-Left.ensures.ok (ap term_of (c.in_ok-new-in-Some-Left.ensures.ok ∙ c.replace-right.ensures.value)) (popped_takes _ _ _ _ _ taken c.in-Some-Left.ensures.items c.in-Some-Left.field-0-is)
+    popped_left _ _ _ _ _ c.loop-alloc.invariant _ c.in-Some-Left.ensures.items _ _ _ _
+    c.in-Some-Left.field-0-is c.in_ok-left-in-Some-Left.ensures.ok
+    (ap term_of (c.in_ok-new-in-Some-Left.ensures.ok ∙ c.replace-right.ensures.value))
+    (popped_takes _ _ _ _ _ taken c.in-Some-Left.ensures.items c.in-Some-Left.field-0-is)
 
 pub unreachable-requires : goal.unreachable-requires
 unreachable-requires c =

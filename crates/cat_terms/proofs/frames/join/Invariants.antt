@@ -6,7 +6,8 @@ use Rattle.cat_terms.proofs.frames.join.Given as goal
 
 abbrev pub invariant-loop-alloc : goal.invariant-loop-alloc
 invariant-loop-alloc l =
-    fold_to l.least (stack_of l.initial.frames.items) (term_of l.initial.operand) ≡ fold_to l.least (stack_of l.frames.items) (term_of l.operand)
+    fold_to l.least (stack_of l.initial.frames.items) (term_of l.initial.operand)
+    ≡ fold_to l.least (stack_of l.frames.items) (term_of l.operand)
 
 abbrev pub decreases-loop-alloc : goal.decreases-loop-alloc
 decreases-loop-alloc l = vec_len l.frames

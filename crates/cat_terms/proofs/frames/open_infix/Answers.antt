@@ -10,4 +10,7 @@ pub returns : goal.returns
 returns c =
     ap stack_of c.in_ok-push.ensures.items
     ∙ stack_of-push c.join.new.frames.items (Left c.args.op c.join.new.operand)
-    ∙ sym (ap (λ n. left_frames c.args.op (fold_to n (stack_of c.args.frames.now.items) (term_of c.args.left))) (sym c.left_level.ensures) ∙ ap (left_frames c.args.op) c.in_ok-join.ensures)
+    ∙ sym (ap
+    (λ n. left_frames c.args.op (fold_to n (stack_of c.args.frames.now.items)
+    (term_of c.args.left)))
+    (sym c.left_level.ensures) ∙ ap (left_frames c.args.op) c.in_ok-join.ensures)

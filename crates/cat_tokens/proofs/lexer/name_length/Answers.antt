@@ -6,8 +6,10 @@ use Rattle.cat_tokens.proofs.lexer.name_length.Goals as goal
 
 pub returns-then-not-is_name_byte-clause-value : goal.returns-then-not-is_name_byte-clause-value
 returns-then-not-is_name_byte-clause-value c =
-    sym (position_or_len_is ends_name c.args.text.now c.loop-i.i 0 (omega arith) c.loop-i.invariant (λ _. ap not (sym c.is_name_byte.ensures ∙ c.if-not-is_name_byte.true)))
+    sym (position_or_len_is ends_name c.args.text.now c.loop-i.i 0 (omega arith) c.loop-i.invariant
+    (λ _. ap not (sym c.is_name_byte.ensures ∙ c.if-not-is_name_byte.true)))
 
 pub returns-clause-value : goal.returns-clause-value
 returns-clause-value c =
-    sym (position_or_len_is ends_name c.args.text.now (length c.args.text.now) 0 (omega arith) (λ k lt. c.loop-i.invariant k (omega arith)) (λ h. absurd (omega arith)))
+    sym (position_or_len_is ends_name c.args.text.now (length c.args.text.now) 0 (omega arith)
+    (λ k lt. c.loop-i.invariant k (omega arith)) (λ h. absurd (omega arith)))

@@ -27,6 +27,10 @@ returns g c =
       lowers = c.exact_work.ensures.lowers;
       bounded = c.exact_work.ensures.bounded;
       kept = c.exact_work.ensures.kept;
-      edited = edit_bounds means all t.is_there owes c.exact_work.ensures.bounded c.exact_work.ensures.decided;
-      quiet = quiet_cells means all t.is_there owes c.exact_work.ensures.quiet (λ x test model n v is. g.met.T.CellTexts.verdict_used x test model n v is);
+      edited =
+          edit_bounds means all t.is_there owes c.exact_work.ensures.bounded
+          c.exact_work.ensures.decided;
+      quiet =
+          quiet_cells means all t.is_there owes c.exact_work.ensures.quiet
+          (λ x test model n v is. g.met.T.CellTexts.verdict_used x test model n v is);
     }

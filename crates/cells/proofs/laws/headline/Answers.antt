@@ -8,7 +8,8 @@ returns g c =
     let t = g.T.Texts in
     let laws = g.met.T.Texts in
     let of = g.T.CellTexts in
-    from_scratch_after (meaning t.net t.is_valid t.since t.makes t.keeps t.edited t.last) (cells of.verdict_of of.outcome_in of.from_scratch of.reaches) t.is_there
+    from_scratch_after (meaning t.net t.is_valid t.since t.makes t.keeps t.edited t.last)
+    (cells of.verdict_of of.outcome_in of.from_scratch of.reaches) t.is_there
     (record {
       kept = record {
         valid_edited = λ x u e k v h. laws.valid_edited x u e k v h;

@@ -4,4 +4,5 @@ use Rattle.cells.specs.Events.{IsSameEvent}
 use Rattle.cells.proofs.run.copy_events.Given as goal
 
 abbrev pub invariant-loop-event : goal.invariant-loop-event
-invariant-loop-event g l = AllZip (IsSameEvent g.T.CellTexts.same_edit) l.copies.items (take l.event-index l.events)
+invariant-loop-event g l =
+    AllZip (IsSameEvent g.T.CellTexts.same_edit) l.copies.items (take l.event-index l.events)

@@ -8,13 +8,15 @@ use Rattle.cells.proofs.stage.offer_of.Goals as goal
 pub returns-then-is_of_claim-clause-tasks : goal.returns-then-is_of_claim-clause-tasks
 returns-then-is_of_claim-clause-tasks g c =
     let within : c.loop-i.i < length c.loop-i.jobs = omega arith in
-    tasks_set c.loop-i.jobs c.loop-i.i c.index-jobs-i-then-is_of_claim.result c.offer.new.stage within c.offer.ensures.tasks ∙ ap tasks_in c.loop-i.invariant.same
+    tasks_set c.loop-i.jobs c.loop-i.i c.index-jobs-i-then-is_of_claim.result c.offer.new.stage
+    within c.offer.ensures.tasks ∙ ap tasks_in c.loop-i.invariant.same
 
 pub returns-then-is_of_claim-clause-made : goal.returns-then-is_of_claim-clause-made
 returns-then-is_of_claim-clause-made g c =
     let within : c.loop-i.i < length c.loop-i.jobs = omega arith in
     let here = given_there c.args.claim c.loop-i.jobs c.args.jobs.now c.loop-i.i c.index-jobs-i.result c.index-jobs-i-then-is_of_claim.result c.loop-i.invariant.same within (sym c.is_of_claim.ensures ∙ c.if-is_of_claim.true) in
-    made_given c.offer.result _ here.0 (task_given c.args.claim (tasks_in c.args.jobs.now)) here.1 (sym c.loop-i.invariant.rest ∙ here.2) c.offer.ensures.made
+    made_given c.offer.result _ here.0 (task_given c.args.claim (tasks_in c.args.jobs.now)) here.1
+    (sym c.loop-i.invariant.rest ∙ here.2) c.offer.ensures.made
 
 pub returns-then-is_of_claim-clause-there : goal.returns-then-is_of_claim-clause-there
 returns-then-is_of_claim-clause-there g c =
@@ -27,14 +29,19 @@ loop-i-preserved g c =
     let within : c.loop-i.i < length c.loop-i.jobs = omega arith in
     record {
       same = c.loop-i.invariant.same;
-      rest = sym (rw c.loop-i.invariant.same at (given_step c.args.claim c.loop-i.jobs c.loop-i.i c.index-jobs-i.result within (sym c.is_of_claim.ensures ∙ c.if-is_of_claim.false))) ∙ c.loop-i.invariant.rest;
+      rest =
+          sym (rw c.loop-i.invariant.same at (given_step c.args.claim c.loop-i.jobs c.loop-i.i
+          c.index-jobs-i.result within
+          (sym c.is_of_claim.ensures ∙ c.if-is_of_claim.false)))
+          ∙ c.loop-i.invariant.rest;
     }
 
 pub returns-clause-tasks : goal.returns-clause-tasks
 returns-clause-tasks g c = ap tasks_in c.loop-i.invariant.same
 
 pub returns-clause-none : goal.returns-clause-none
-returns-clause-none g c = sym (rw (drop_all c.loop-i.i c.args.jobs.now (omega arith)) at c.loop-i.invariant.rest)
+returns-clause-none g c =
+    sym (rw (drop_all c.loop-i.i c.args.jobs.now (omega arith)) at c.loop-i.invariant.rest)
 
 pub loop-i-init : goal.loop-i-init
 loop-i-init g c = record { same = refl; rest = refl }

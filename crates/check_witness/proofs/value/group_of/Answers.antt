@@ -9,7 +9,9 @@ returns c =
       bodies = c.push.new.self;
       group = refl;
       body = body;
-      alone = c.in_ok-push.ensures.items ∙ ap (λ (xs : List Body). xs ++ body ∷ []) c.new-bodies.ensures.items;
+      alone =
+          c.in_ok-push.ensures.items
+          ∙ ap (λ (xs : List Body). xs ++ body ∷ []) c.new-bodies.ensures.items;
       kind = refl;
       steps = c.in_ok-steps.ensures.items ∙ c.deref.ensures.value;
     }

@@ -11,6 +11,9 @@ returns c =
     let asked = Holds c.args.word R in
     let broken = Breaks c.args.word R in
     elim c.match-found.branch [
-      | in-Some w ↦ rw w.result-is (explains_unmet c.args.negated asked broken c.if-not-negated.false (breaks_refutes c.args.word R w.in-Some.field-0 (rw w.in-Some.is at c.in_ok-found.ensures)))
-      | in-None w ↦ rw w.result-is (explains_met c.args.negated asked broken c.if-not-negated.false (rw w.in-None.is at c.in_ok-found.ensures))
+      | in-Some w ↦ rw w.result-is (explains_unmet c.args.negated asked broken
+          c.if-not-negated.false (breaks_refutes c.args.word R w.in-Some.field-0
+          (rw w.in-Some.is at c.in_ok-found.ensures)))
+      | in-None w ↦ rw w.result-is (explains_met c.args.negated asked broken c.if-not-negated.false
+          (rw w.in-None.is at c.in_ok-found.ensures))
     ]

@@ -6,14 +6,21 @@ no_false : IsTrue false → ⊥
 no_false t = search rules
 
 pub returns-then-place-count : goal.returns-then-place-count
-returns-then-place-count c =
-    ((λ t. absurd (no_false t)), (λ e. absurd (c.if-place-count.true (other_count _ _ _ _ _ c.requires.kept c.requires.run e ∙ sym c.count.ensures.value))))
+returns-then-place-count c = (
+  (λ t. absurd (no_false t)),
+  (λ e. absurd (c.if-place-count.true (other_count _ _ _ _ _ c.requires.kept
+      c.requires.run e ∙ sym c.count.ensures.value))),
+)
 
 pub is_stored-requires-clause-low : goal.is_stored-requires-clause-low
-is_stored-requires-clause-low c = rw (← c.count.ensures.value, ← c.if-place-count.false) (low_words _ _ _ _ c.requires.kept c.requires.run)
+is_stored-requires-clause-low c =
+    rw (← c.count.ensures.value, ← c.if-place-count.false)
+    (low_words _ _ _ _ c.requires.kept c.requires.run)
 
 pub is_stored-requires-clause-high : goal.is_stored-requires-clause-high
-is_stored-requires-clause-high c = rw (← c.count.ensures.value, ← c.if-place-count.false) (high_words _ _ _ _ c.requires.kept c.requires.run)
+is_stored-requires-clause-high c =
+    rw (← c.count.ensures.value, ← c.if-place-count.false)
+    (high_words _ _ _ _ c.requires.kept c.requires.run)
 
 pub returns : goal.returns
 returns c =

@@ -5,4 +5,6 @@ use Rattle.columns.proofs.runs.begin_of.Goals as goal
 
 pub returns-else-run-eq0 : goal.returns-else-run-eq0
 returns-else-run-eq0 g c =
-    c.end_at.ensures ∙ sym (start_at 0 (ends_of c.args.runs.now) c.args.run (c.args.run - 1) (omega arith) (omega (arith, as_many_ends c.args.runs.now)))
+    c.end_at.ensures
+    ∙ sym (start_at 0 (ends_of c.args.runs.now) c.args.run (c.args.run - 1) (omega arith)
+    (omega (arith, as_many_ends c.args.runs.now)))

@@ -5,7 +5,10 @@ use Rattle.columns.proofs.runs.first_run.Goals as goal
 
 pub returns-then-end_at-at-clause-from_start : goal.returns-then-end_at-at-clause-from_start
 returns-then-end_at-at-clause-from_start g c =
-    rw (start_at 0 (ends_of c.args.runs.now) c.args.first (c.args.first - 1) (omega arith) (omega (arith, as_many_ends c.args.runs.now))) (omega arith)
+    rw
+    (start_at 0 (ends_of c.args.runs.now) c.args.first (c.args.first - 1) (omega arith)
+    (omega (arith, as_many_ends c.args.runs.now)))
+    (omega arith)
 
 pub returns-else-first-gt0-clause-from_start : goal.returns-else-first-gt0-clause-from_start
 returns-else-first-gt0-clause-from_start g c = omega arith

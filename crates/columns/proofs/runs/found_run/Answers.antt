@@ -10,5 +10,11 @@ halves-preserved-then-end_at-at g c =
     let before = c.halves.invariant in
     let under : middle < c.halves.high = omega (arith, test) in
     let above : 0 < middle = omega (arith, test) in
-    let inside : middle < length c.args.runs.now = omega (arith, under, before.1) in
-    (under, before.1, rw (start_at 0 (ends_of c.args.runs.now) middle (middle - 1) (omega (arith, above)) (omega (arith, inside, as_many_ends c.args.runs.now))) (omega (arith, c.end_at.ensures, c.if-end_at-at.true)))
+    let inside : middle < length c.args.runs.now = omega (arith, under, before.1) in (
+      under,
+      before.1,
+      rw
+          (start_at 0 (ends_of c.args.runs.now) middle (middle - 1) (omega (arith, above))
+          (omega (arith, inside, as_many_ends c.args.runs.now)))
+          (omega (arith, c.end_at.ensures, c.if-end_at-at.true)),
+    )

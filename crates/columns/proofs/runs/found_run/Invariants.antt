@@ -4,7 +4,8 @@ use Rattle.columns.specs.Storage.{ends_of}
 use Rattle.columns.proofs.runs.found_run.Given as goal
 
 abbrev pub invariant-halves : goal.invariant-halves
-invariant-halves g l = (l.low < l.high) × (l.high ≤ length l.runs) × (start_of 0 (ends_of l.runs) l.low ≤ l.at)
+invariant-halves g l =
+    (l.low < l.high) × (l.high ≤ length l.runs) × (start_of 0 (ends_of l.runs) l.low ≤ l.at)
 
 abbrev pub decreases-halves : goal.decreases-halves
 decreases-halves g l = l.high - l.low

@@ -8,4 +8,5 @@ pub returns-clause-ends : goal.returns-clause-ends
 returns-clause-ends g c = map-set (λ (r : Run _). r.end) c.args.runs.now c.args.run _
 
 pub returns-clause-values : goal.returns-clause-values
-returns-clause-values g c = map-set_same (λ (r : Run _). r.value) c.args.runs.now c.args.run _ c.index-runs-run.result refl
+returns-clause-values g c =
+    map-set_same (λ (r : Run _). r.value) c.args.runs.now c.args.run _ c.index-runs-run.result refl

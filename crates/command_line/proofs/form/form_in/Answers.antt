@@ -5,4 +5,6 @@ use Rattle.command_line.specs.Forms.{asked_by}
 use Rattle.command_line.proofs.form.form_in.Goals as goal
 
 pub returns : goal.returns
-returns c = is_command c.args.words.now (option_map asked_by c.command_form.result) c.word_at.result.now (grind (arith, common_steps)) c.word_at.ensures c.command_form.ensures
+returns c =
+    is_command c.args.words.now (option_map asked_by c.command_form.result) c.word_at.result.now
+    (grind (arith, common_steps)) c.word_at.ensures c.command_form.ensures

@@ -4,4 +4,5 @@ use Rattle.compare_report.specs.Cells.{count_line}
 use Rattle.compare_report.proofs.cell.put_each_count.Given as goal
 
 abbrev pub invariant-loop-state : goal.invariant-loop-state
-invariant-loop-state l = l.text.items ≡ l.initial.text.items ++ flat_map count_line (take l.state-index l.states)
+invariant-loop-state l =
+    l.text.items ≡ l.initial.text.items ++ flat_map count_line (take l.state-index l.states)

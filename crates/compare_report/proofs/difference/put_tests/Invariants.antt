@@ -5,4 +5,9 @@ use Rattle.compare_report.proofs.difference.put_tests.Given as goal
 
 abbrev pub invariant-loop-test : goal.invariant-loop-test
 invariant-loop-test l =
-    (l.count ≤ l.test-index) × (l.count ≡ length (filter is_told_apart (map pair_of (take l.test-index l.tests)))) × (l.text.items ≡ l.initial.text.items ++ flat_map (λ t. test_difference (is_told_apart t) t) (map pair_of (take l.test-index l.tests)))
+    (l.count ≤ l.test-index)
+    × (l.count ≡ length (filter is_told_apart (map pair_of (take l.test-index l.tests))))
+    × (l.text.items
+    ≡ l.initial.text.items
+    ++ flat_map (λ t. test_difference (is_told_apart t) t)
+    (map pair_of (take l.test-index l.tests)))

@@ -3,4 +3,5 @@ use Rattle.compare_report.specs.Columns.{head_fields, row_fields, row_of}
 use Rattle.compare_report.proofs.table.lines.Given as goal
 
 abbrev pub invariant-loop-row : goal.invariant-loop-row
-invariant-loop-row l = l.lines.items ≡ head_fields l.models ∷ map row_fields (map row_of (take l.row-index l.rows))
+invariant-loop-row l =
+    l.lines.items ≡ head_fields l.models ∷ map row_fields (map row_of (take l.row-index l.rows))

@@ -6,4 +6,5 @@ use Rattle.compare_report.proofs.table.put_line.Given as goal
 -- what is printed, with what is left to print, is the line
 abbrev pub invariant-loop-column : goal.invariant-loop-column
 invariant-loop-column l =
-    l.text.items ++ line_from (slice_index l.widths) l.column (drop l.column l.line) ≡ l.initial.text.items ++ line_from (slice_index l.widths) 0 l.line
+    l.text.items ++ line_from (slice_index l.widths) l.column (drop l.column l.line)
+    ≡ l.initial.text.items ++ line_from (slice_index l.widths) 0 l.line

@@ -5,4 +5,7 @@ use Rattle.compare_report.specs.Columns.{line_from}
 use Rattle.compare_report.proofs.table.put_lines.Given as goal
 
 abbrev pub invariant-loop-line : goal.invariant-loop-line
-invariant-loop-line l = l.text.items ≡ l.initial.text.items ++ flat_map (line_from (slice_index l.widths) 0) (take l.line-index l.lines)
+invariant-loop-line l =
+    l.text.items
+    ≡ l.initial.text.items
+    ++ flat_map (line_from (slice_index l.widths) 0) (take l.line-index l.lines)

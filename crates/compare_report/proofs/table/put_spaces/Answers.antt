@@ -7,4 +7,6 @@ pub loop-space-preserved : goal.loop-space-preserved
 loop-space-preserved c =
     let first = c.args.text.now.items in
     let count = c.loop-space._space in
-    c.in_ok-push.ensures.items ∙ ap (λ t. t ++ 32 ∷ []) c.loop-space.invariant ∙ append_assoc first (replicate count 32) (32 ∷ []) ∙ ap (λ r. first ++ r) (replicate_more count 32)
+    c.in_ok-push.ensures.items ∙ ap (λ t. t ++ 32 ∷ []) c.loop-space.invariant
+    ∙ append_assoc first (replicate count 32) (32 ∷ [])
+    ∙ ap (λ r. first ++ r) (replicate_more count 32)

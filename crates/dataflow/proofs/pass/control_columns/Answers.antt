@@ -8,7 +8,9 @@ use Rattle.dataflow.proofs.pass.control_columns.Goals as goal
 use Rattle.dataflow.proofs.pass.control_columns.Goals.{then-is_event, else-is_event}
 
 pub loop-step-init : goal.loop-step-init
-loop-step-init c = controlled_first c.args.synchronised (executed c.args.steps.now) c.args.control.now _ c.requires.clean (search rules)
+loop-step-init c =
+    controlled_first c.args.synchronised (executed c.args.steps.now) c.args.control.now _
+    c.requires.clean (search rules)
 
 pub bounds-columns-index : goal.bounds-columns-index
 bounds-columns-index c =
@@ -35,10 +37,18 @@ loop-step-preserved c =
     elim c.if-is_event.branch [
       | then-is_event w ↦
           let event = sym c.is_event.ensures ∙ w.if-is_event.true in
-          controlled_as _ _ _ _ _ _ _ _ _ (w.control-is ∙ w.note.ensures) (w.columns-is ∙ ap (λ (v : ℕ). set c.loop-step.columns c.loop-step.index v) w.word.ensures) w.index-is
-          (controlled_event c.args.synchronised (executed c.args.steps.now) c.loop-step.step-index c.loop-step.control c.loop-step.columns c.loop-step.index _ same event
-          (below_128 c.args.steps.now c.loop-step.step-index _ same event c.loop-step-test.true c.requires.few) inside c.loop-step.invariant)
+          controlled_as _ _ _ _ _ _ _ _ _ (w.control-is ∙ w.note.ensures)
+          (w.columns-is
+          ∙ ap (λ (v : ℕ). set c.loop-step.columns c.loop-step.index v) w.word.ensures)
+          w.index-is
+          (controlled_event c.args.synchronised (executed c.args.steps.now) c.loop-step.step-index
+          c.loop-step.control c.loop-step.columns c.loop-step.index _ same event
+          (below_128 c.args.steps.now c.loop-step.step-index _ same event c.loop-step-test.true
+          c.requires.few) inside c.loop-step.invariant)
       | else-is_event w ↦
-          controlled_as _ _ _ _ _ _ _ _ _ (w.control-is ∙ w.note-else-is_event.ensures) w.columns-is w.index-is
-          (controlled_other c.args.synchronised (executed c.args.steps.now) c.loop-step.step-index c.loop-step.control c.loop-step.columns c.loop-step.index _ same (sym c.is_event.ensures ∙ w.if-is_event.false) inside c.loop-step.invariant)
+          controlled_as _ _ _ _ _ _ _ _ _ (w.control-is ∙ w.note-else-is_event.ensures) w.columns-is
+          w.index-is
+          (controlled_other c.args.synchronised (executed c.args.steps.now) c.loop-step.step-index
+          c.loop-step.control c.loop-step.columns c.loop-step.index _ same
+          (sym c.is_event.ensures ∙ w.if-is_event.false) inside c.loop-step.invariant)
     ]

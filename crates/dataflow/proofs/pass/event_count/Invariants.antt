@@ -4,4 +4,5 @@ use Rattle.dataflow.specs.Chains.{event_place}
 use Rattle.dataflow.proofs.pass.event_count.Given as goal
 
 abbrev pub invariant-loop-step : goal.invariant-loop-step
-invariant-loop-step l = (l.count ≡ event_place (executed l.steps) l.step-index) × (l.count ≤ l.step-index)
+invariant-loop-step l =
+    (l.count ≡ event_place (executed l.steps) l.step-index) × (l.count ≤ l.step-index)

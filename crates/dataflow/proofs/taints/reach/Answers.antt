@@ -7,7 +7,9 @@ use Rattle.dataflow.proofs.taints.reach.Goals as goal
 use Rattle.dataflow.proofs.taints.reach.Goals.{then-is_event, else-is_event}
 
 pub loop-step-init : goal.loop-step-init
-loop-step-init c = reached_first c.args.narrow c.args.stored (executed c.args.steps.now) c.args.taints.now _ c.requires.clean (search rules)
+loop-step-init c =
+    reached_first c.args.narrow c.args.stored (executed c.args.steps.now) c.args.taints.now _
+    c.requires.clean (search rules)
 
 pub bounds-columns-index : goal.bounds-columns-index
 bounds-columns-index c =
@@ -34,10 +36,19 @@ loop-step-preserved c =
     elim c.if-is_event.branch [
       | then-is_event w ↦
           let event = sym c.is_event.ensures ∙ w.if-is_event.true in
-          reached_as _ _ _ _ _ _ _ _ _ _ (w.taints-is ∙ w.note.ensures) (w.columns-is ∙ ap (λ (v : ℕ). set c.loop-step.columns c.loop-step.index v) w.reads.ensures) w.index-is
-          (reached_event c.args.narrow c.args.stored (executed c.args.steps.now) c.loop-step.step-index c.loop-step.taints c.loop-step.columns c.loop-step.index _ same event
-          (below_128 c.args.steps.now c.loop-step.step-index _ same event c.loop-step-test.true c.requires.few) inside c.loop-step.invariant)
+          reached_as _ _ _ _ _ _ _ _ _ _ (w.taints-is ∙ w.note.ensures)
+          (w.columns-is
+          ∙ ap (λ (v : ℕ). set c.loop-step.columns c.loop-step.index v) w.reads.ensures)
+          w.index-is
+          (reached_event c.args.narrow c.args.stored (executed c.args.steps.now)
+          c.loop-step.step-index c.loop-step.taints c.loop-step.columns c.loop-step.index _ same
+          event
+          (below_128 c.args.steps.now c.loop-step.step-index _ same event c.loop-step-test.true
+          c.requires.few) inside c.loop-step.invariant)
       | else-is_event w ↦
-          reached_as _ _ _ _ _ _ _ _ _ _ (w.taints-is ∙ w.note-else-is_event.ensures) w.columns-is w.index-is
-          (reached_other c.args.narrow c.args.stored (executed c.args.steps.now) c.loop-step.step-index c.loop-step.taints c.loop-step.columns c.loop-step.index _ same (sym c.is_event.ensures ∙ w.if-is_event.false) inside c.loop-step.invariant)
+          reached_as _ _ _ _ _ _ _ _ _ _ (w.taints-is ∙ w.note-else-is_event.ensures) w.columns-is
+          w.index-is
+          (reached_other c.args.narrow c.args.stored (executed c.args.steps.now)
+          c.loop-step.step-index c.loop-step.taints c.loop-step.columns c.loop-step.index _
+          same (sym c.is_event.ensures ∙ w.if-is_event.false) inside c.loop-step.invariant)
     ]

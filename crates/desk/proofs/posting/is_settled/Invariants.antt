@@ -3,4 +3,6 @@ use Rattle.desk.specs.Boards.{BoardCell}
 use Rattle.desk.proofs.posting.is_settled.Given as goal
 
 abbrev pub invariant-loop-index : goal.invariant-loop-index
-invariant-loop-index g l = (k : ℕ) → k < l.index → (c : BoardCell _) → slice_get (g.X.BoardTexts.cells l.board) k ≡ Some c → IsSome c.outcome
+invariant-loop-index g l =
+    (k : ℕ) → k < l.index → (c : BoardCell _) → slice_get (g.X.BoardTexts.cells l.board) k ≡ Some c
+    → IsSome c.outcome

@@ -6,6 +6,15 @@ use Rattle.desk.proofs.posting.post_range.Given as goal
 
 abbrev pub invariant-loop-index : goal.invariant-loop-index
 invariant-loop-index g l =
-    Posts g.X.BoardTexts.is_settle g.X.BoardTexts.are_after g.X.BoardTexts.last_number (λ ops. length (g.X.BoardTexts.cells (fold g.X.Operations.after g.X.Operations.none ops))) l.bench.texts l.initial.press l.press
-    × ((k : ℕ) → k < l.index → l.initial.index ≤ k → IsPosted g.X.Texts.net (cells_of g.X.CellTexts.verdict_of g.X.CellTexts.outcome_in g.X.CellTexts.from_scratch g.X.CellTexts.reaches) l.bench (g.X.BoardTexts.cells (fold g.X.Operations.after g.X.Operations.none l.press.all)) k)
-    × AreKept (g.X.BoardTexts.cells (fold g.X.Operations.after g.X.Operations.none l.initial.press.all)) (g.X.BoardTexts.cells (fold g.X.Operations.after g.X.Operations.none l.press.all))
+    Posts g.X.BoardTexts.is_settle g.X.BoardTexts.are_after g.X.BoardTexts.last_number
+    (λ ops. length (g.X.BoardTexts.cells (fold g.X.Operations.after g.X.Operations.none ops)))
+    l.bench.texts l.initial.press l.press
+    × ((k : ℕ) → k < l.index → l.initial.index ≤ k
+    → IsPosted g.X.Texts.net
+    (cells_of g.X.CellTexts.verdict_of g.X.CellTexts.outcome_in
+    g.X.CellTexts.from_scratch g.X.CellTexts.reaches) l.bench
+    (g.X.BoardTexts.cells (fold g.X.Operations.after g.X.Operations.none l.press.all))
+    k)
+    × AreKept
+    (g.X.BoardTexts.cells (fold g.X.Operations.after g.X.Operations.none l.initial.press.all))
+    (g.X.BoardTexts.cells (fold g.X.Operations.after g.X.Operations.none l.press.all))

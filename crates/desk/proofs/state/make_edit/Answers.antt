@@ -13,7 +13,9 @@ edit_told-requires g c =
         before = b.texts;
         edit = c.args.edit;
         prepared_so = prepared;
-        follows = λ op announced. laws.edit_follows b.texts t c.args.edit p (b.taken + 1) op c.args.ledger.now.all c.requires.valid c.requires.after later prepared announced;
+        follows =
+            λ op announced. laws.edit_follows b.texts t c.args.edit p (b.taken + 1) op
+            c.args.ledger.now.all c.requires.valid c.requires.after later prepared announced;
       };
     }
 
@@ -34,15 +36,20 @@ returns-in-Ok-Some-clause-made g c =
       step = rw c.in-Ok-Some.field-0-is at (rw c.in-Ok-Some.is at c.edit_told.ensures.edited);
       number_is = rw c.in-Ok-Some.field-0-is at (rw c.in-Ok-Some.is at c.edit_told.ensures.number);
       op = a.op;
-      is = g.met.X.BoardTexts.edit_named c.args.bench.now.texts told.ready c.args.edit told.prepared c.in-Ok-Some.number a.op c.args.ledger.now.all c.requires.valid c.requires.after told.prepares_it a.announced;
+      is =
+          g.met.X.BoardTexts.edit_named c.args.bench.now.texts told.ready c.args.edit told.prepared
+          c.in-Ok-Some.number a.op c.args.ledger.now.all c.requires.valid c.requires.after
+          told.prepares_it a.announced;
       list = a.all;
     }
 
 pub returns-then-wants_memory-clause-published : goal.returns-then-wants_memory-clause-published
-returns-then-wants_memory-clause-published g c = ap (λ (l : Pressed _). l.published) c.in-Err.ensures.unseen
+returns-then-wants_memory-clause-published g c =
+    ap (λ (l : Pressed _). l.published) c.in-Err.ensures.unseen
 
 pub returns-else-wants_memory-clause-published : goal.returns-else-wants_memory-clause-published
-returns-else-wants_memory-clause-published g c = ap (λ (l : Pressed _). l.published) c.in-Err.ensures.unseen
+returns-else-wants_memory-clause-published g c =
+    ap (λ (l : Pressed _). l.published) c.in-Err.ensures.unseen
 
 pub returns-then-wants_memory-clause-valid : goal.returns-then-wants_memory-clause-valid
 returns-then-wants_memory-clause-valid g c = c.in-Err.ensures.refused.texts.valid c.requires.valid
@@ -51,7 +58,9 @@ pub returns-then-wants_memory-clause-after : goal.returns-then-wants_memory-clau
 returns-then-wants_memory-clause-after g c =
     let t = c.args.bench.now.texts in
     let same = c.in-Err.ensures.refused.texts in
-    rw c.in-Err.ensures.unseen (g.met.X.BoardTexts.after_same t c.edit_told.new.self.texts c.args.ledger.now.all c.requires.valid c.in-Err.ensures.last (same.since t (g.met.X.Texts.since_same t c.requires.valid)) c.requires.after)
+    rw c.in-Err.ensures.unseen (g.met.X.BoardTexts.after_same t c.edit_told.new.self.texts
+    c.args.ledger.now.all c.requires.valid c.in-Err.ensures.last
+    (same.since t (g.met.X.Texts.since_same t c.requires.valid)) c.requires.after)
 
 pub returns-then-wants_memory-clause-last : goal.returns-then-wants_memory-clause-last
 returns-then-wants_memory-clause-last g c =
@@ -68,7 +77,9 @@ pub returns-else-wants_memory-clause-after : goal.returns-else-wants_memory-clau
 returns-else-wants_memory-clause-after g c =
     let t = c.args.bench.now.texts in
     let same = c.in-Err.ensures.refused.texts in
-    rw c.in-Err.ensures.unseen (g.met.X.BoardTexts.after_same t c.edit_told.new.self.texts c.args.ledger.now.all c.requires.valid c.in-Err.ensures.last (same.since t (g.met.X.Texts.since_same t c.requires.valid)) c.requires.after)
+    rw c.in-Err.ensures.unseen (g.met.X.BoardTexts.after_same t c.edit_told.new.self.texts
+    c.args.ledger.now.all c.requires.valid c.in-Err.ensures.last
+    (same.since t (g.met.X.Texts.since_same t c.requires.valid)) c.requires.after)
 
 pub returns-else-wants_memory-clause-last : goal.returns-else-wants_memory-clause-last
 returns-else-wants_memory-clause-last g c =
@@ -76,7 +87,8 @@ returns-else-wants_memory-clause-last g c =
     rw c.in-Err.ensures.unseen (omega (arith, taken, c.requires.last))
 
 pub returns-else-wants_memory-clause-fault : goal.returns-else-wants_memory-clause-fault
-returns-else-wants_memory-clause-fault g c = (c.in-Err.ensures.fault, not_so c.wants_memory.ensures c.if-wants_memory.false)
+returns-else-wants_memory-clause-fault g c =
+    (c.in-Err.ensures.fault, not_so c.wants_memory.ensures c.if-wants_memory.false)
 
 pub returns-else-wants_memory-clause-err : goal.returns-else-wants_memory-clause-err
 returns-else-wants_memory-clause-err g c = (c.in-Err.ensures.refused, c.in-Err.ensures.unseen)
@@ -92,7 +104,9 @@ returns-in-Ok-None-clause-after g c =
     let refused = rw c.in-Ok-None.field-0-is at (rw c.in-Ok-None.is at c.edit_told.ensures.refused) in
     let held = rw c.in-Ok-None.field-0-is at (rw c.in-Ok-None.is at c.edit_told.ensures.held) in
     let last = rw c.in-Ok-None.field-0-is at (rw c.in-Ok-None.is at c.edit_told.ensures.last) in
-    rw held (g.met.X.BoardTexts.after_same t c.edit_told.new.self.texts c.args.ledger.now.all c.requires.valid last (refused.texts.since t (g.met.X.Texts.since_same t c.requires.valid)) c.requires.after)
+    rw held (g.met.X.BoardTexts.after_same t c.edit_told.new.self.texts c.args.ledger.now.all
+    c.requires.valid last
+    (refused.texts.since t (g.met.X.Texts.since_same t c.requires.valid)) c.requires.after)
 
 pub returns-in-Ok-None-clause-last : goal.returns-in-Ok-None-clause-last
 returns-in-Ok-None-clause-last g c =
@@ -116,4 +130,5 @@ pub returns-in-Ok-Some-clause-valid : goal.returns-in-Ok-Some-clause-valid
 returns-in-Ok-Some-clause-valid g c =
     let b = c.args.bench.now in
     let step = rw c.in-Ok-Some.field-0-is at (rw c.in-Ok-Some.is at c.edit_told.ensures.edited) in
-    g.met.X.Texts.valid_edited b.texts c.edit_told.new.self.texts c.args.edit (b.taken + 1) c.requires.valid step.0
+    g.met.X.Texts.valid_edited b.texts c.edit_told.new.self.texts c.args.edit (b.taken + 1)
+    c.requires.valid step.0

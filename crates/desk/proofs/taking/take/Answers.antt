@@ -12,4 +12,6 @@ returns-clause-rest g c =
     let of = cells_of g.X.CellTexts.verdict_of g.X.CellTexts.outcome_in g.X.CellTexts.from_scratch g.X.CellTexts.reaches in
     let new = c.finish-finish.new.self in
     let cells = g.X.BoardTexts.cells (fold g.X.Operations.after g.X.Operations.none c.args.ledger.now.all) in
-    subst (λ (n : Node). ArePostedBut g.X.Texts.net of new n cells) (sym c.node-node.ensures) (but_returned means of c.args.bench.now new cells c.args.done c.finish-finish.result c.finish-finish.ensures (c.requires.posted c.if-owed.false))
+    subst (λ (n : Node). ArePostedBut g.X.Texts.net of new n cells) (sym c.node-node.ensures)
+    (but_returned means of c.args.bench.now new cells c.args.done c.finish-finish.result
+    c.finish-finish.ensures (c.requires.posted c.if-owed.false))

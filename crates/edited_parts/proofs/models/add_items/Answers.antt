@@ -7,7 +7,11 @@ use Rattle.edited_parts.specs.Readings.{named_text}
 use Rattle.edited_parts.proofs.models.add_items.Goals as goal
 
 pub loop-index-init : goal.loop-index-init
-loop-index-init c = λ facts lists. subst (λ (fs : List ItemFact). AreListsOf c.args.fresh c.args.parts.now (named_text c.args.before.now) fs c.args.lists.now) (sym (append-nil facts)) lists
+loop-index-init c =
+    λ facts lists. subst
+    (λ (fs : List ItemFact).
+    AreListsOf c.args.fresh c.args.parts.now (named_text c.args.before.now) fs c.args.lists.now)
+    (sym (append-nil facts)) lists
 
 pub loop-index-preserved : goal.loop-index-preserved
 loop-index-preserved c = λ facts lists.

@@ -7,4 +7,7 @@ use Rattle.edited_parts.proofs.models.add_items.Given as goal
 abbrev pub invariant-loop-index : goal.invariant-loop-index
 invariant-loop-index l =
     (facts : List ItemFact) → AreListsOf l.fresh l.parts (named_text l.before) facts l.initial.lists
-    → AreListsOf l.fresh l.parts (named_text l.before) (facts ++ map (fact_at l.items.numbers.now l.items.items.now (resolved_items l.items)) (range_with_len 0 l.index)) l.lists
+    → AreListsOf l.fresh l.parts (named_text l.before)
+    (facts
+    ++ map (fact_at l.items.numbers.now l.items.items.now (resolved_items l.items))
+    (range_with_len 0 l.index)) l.lists

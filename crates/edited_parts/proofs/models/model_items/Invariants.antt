@@ -4,4 +4,6 @@ use Rattle.edited_parts.specs.Readings.{named_text, all_facts}
 use Rattle.edited_parts.proofs.models.model_items.Given as goal
 
 abbrev pub invariant-loop-model : goal.invariant-loop-model
-invariant-loop-model l = AreListsOf l.fresh l.parts (named_text l.before) (all_facts (map (λ m. m.now) (take l.model-index l.models))) l.lists
+invariant-loop-model l =
+    AreListsOf l.fresh l.parts (named_text l.before)
+    (all_facts (map (λ m. m.now) (take l.model-index l.models))) l.lists

@@ -7,9 +7,14 @@ use Rattle.edited_parts.proofs.models.model_rows.Goals as goal
 pub loop-index-preserved : goal.loop-index-preserved
 loop-index-preserved c =
     rw c.in_ok-push.ensures.items
-    (rows_more c.args.fresh c.args.before.now c.args.models.now c.loop-index.rows.items c.loop-index.index c.index-models-index.result c.made_row.result c.loop-index.invariant (omega arith) c.index-models-index.is
+    (rows_more c.args.fresh c.args.before.now c.args.models.now c.loop-index.rows.items
+    c.loop-index.index c.index-models-index.result c.made_row.result c.loop-index.invariant
+    (omega arith) c.index-models-index.is
     (rw c.model_before.ensures at c.made_row.ensures))
 
 pub returns : goal.returns
 returns c =
-    subst (λ (l : List NamedModel). AreModelsMade c.args.fresh c.args.before.now l c.loop-index.rows.items) (taken_all c.args.models.now c.loop-index.index (omega arith)) c.loop-index.invariant
+    subst
+    (λ (l : List NamedModel).
+    AreModelsMade c.args.fresh c.args.before.now l c.loop-index.rows.items)
+    (taken_all c.args.models.now c.loop-index.index (omega arith)) c.loop-index.invariant

@@ -5,5 +5,7 @@ returns c = record {
   rows = rw c.next_number-fresh.ensures at c.in_ok-rows.ensures;
   faults = c.in_ok-faults.ensures;
   items = rw c.next_number-fresh.ensures at c.in_ok-items.ensures;
-  slots = rw (c.deref.ensures.value, c.deref-2.ensures.value, c.deref-3.ensures.value) at c.in_ok-slots.ensures;
+  slots =
+      rw (c.deref.ensures.value, c.deref-2.ensures.value, c.deref-3.ensures.value) at
+      c.in_ok-slots.ensures;
 }

@@ -15,4 +15,5 @@ returns c =
     let second : iter_rest (zip_second start) ≡ models = search rules in
     let taken = zip_end rows models c.loop-row.yielded start c.loop-row.row-iterator c.next.new.self c.next.result first second c.loop-row.yielded_by c.in-None.is c.next.ensures.steps in
     let past : min (length rows) (length models) ≤ length c.loop-row.yielded = omega (arith, taken) in
-    sym (all_read (histories_in c.args.histories.now) (map plain c.loop-row.slots.items) rows models (length c.loop-row.yielded) past) ∙ c.loop-row.invariant
+    sym (all_read (histories_in c.args.histories.now) (map plain c.loop-row.slots.items) rows models
+    (length c.loop-row.yielded) past) ∙ c.loop-row.invariant

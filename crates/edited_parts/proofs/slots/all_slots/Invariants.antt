@@ -6,4 +6,9 @@ use Rattle.edited_parts.specs.Readings.{readings_of}
 use Rattle.edited_parts.proofs.slots.all_slots.Given as goal
 
 abbrev pub invariant-loop-row : goal.invariant-loop-row
-invariant-loop-row l = map plain l.slots.items ++ flat_map (slots_in (histories_in l.histories)) (readings_of (drop (length l.yielded) l.rows) (map (λ m. m.now) (drop (length l.yielded) l.models))) ≡ all_slots (histories_in l.histories) (readings_of l.rows (map (λ m. m.now) l.models))
+invariant-loop-row l =
+    map plain l.slots.items
+    ++ flat_map (slots_in (histories_in l.histories)) (readings_of
+    (drop (length l.yielded) l.rows)
+    (map (λ m. m.now) (drop (length l.yielded) l.models)))
+    ≡ all_slots (histories_in l.histories) (readings_of l.rows (map (λ m. m.now) l.models))

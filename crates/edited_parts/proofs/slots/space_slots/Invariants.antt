@@ -5,4 +5,7 @@ use Rattle.edited_parts.proofs.slots.space_slots.Given as goal
 
 abbrev pub invariant-loop-row : goal.invariant-loop-row
 invariant-loop-row l =
-    (l.slots.items ≡ []) × (space_slots (readings_of (drop (length l.yielded) l.rows) (map (λ m. m.now) (drop (length l.yielded) l.models))) ≡ space_slots (readings_of l.rows (map (λ m. m.now) l.models)))
+    (l.slots.items ≡ [])
+    × (space_slots (readings_of (drop (length l.yielded) l.rows)
+    (map (λ m. m.now) (drop (length l.yielded) l.models)))
+    ≡ space_slots (readings_of l.rows (map (λ m. m.now) l.models)))

@@ -7,7 +7,11 @@ use Rattle.event_origins.proofs.Replaying.{threads_more}
 use Rattle.event_origins.proofs.events.all_made.Goals as goal
 
 pub loop-thread-init : goal.loop-thread-init
-loop-thread-init c = record { made = λ test domain count over. rw c.new-found.ensures.items NoThread; none = λ e. c.new-found.ensures.items }
+loop-thread-init c =
+    record {
+      made = λ test domain count over. rw c.new-found.ensures.items NoThread;
+      none = λ e. c.new-found.ensures.items;
+    }
 
 pub loop-thread-preserved : goal.loop-thread-preserved
 loop-thread-preserved c =
@@ -19,8 +23,11 @@ loop-thread-preserved c =
     let made = rw c.deref.ensures.value at c.in_ok-made.ensures in
     record {
       made = λ test domain count over.
-          subst (λ (xs : List (Option Instruction)). AreMadeBelow test domain events (n + 1) xs) (sym {A = List (Option Instruction)} c.in_ok-append.ensures.items)
-          (threads_more test domain events count n threads runs c.loop-thread.found.items c.in_ok-made.made.items over is made (c.loop-thread.invariant.made test domain count over));
+          subst (λ (xs : List (Option Instruction)). AreMadeBelow test domain events (n + 1) xs)
+          (sym {A = List (Option Instruction)} c.in_ok-append.ensures.items)
+          (threads_more test domain events count n threads runs c.loop-thread.found.items
+          c.in_ok-made.made.items over is made
+          (c.loop-thread.invariant.made test domain count over));
       none = λ e. absurd (omega (arith, e));
     }
 
@@ -31,7 +38,15 @@ returns c = λ test all.
     elim all [
       | inl over ↦
           let (domain, is, runs) = over in
-          inl (domain, is, subst (λ (k : ℕ). AreMadeBelow test domain c.args.events.now k c.loop-thread.found.items) (full ∙ runs.all) (c.loop-thread.invariant.made test domain (vec_len test.threads) runs))
+          inl (
+            domain,
+            is,
+            subst
+                (λ (k : ℕ).
+                AreMadeBelow test domain c.args.events.now k c.loop-thread.found.items)
+                (full ∙ runs.all)
+                (c.loop-thread.invariant.made test domain (vec_len test.threads) runs),
+          )
       | inr refused ↦
           let (r, fault, empty) = refused in
           inr (r, fault, c.loop-thread.invariant.none (rw empty at full))

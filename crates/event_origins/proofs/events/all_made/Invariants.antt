@@ -6,6 +6,7 @@ use Rattle.event_origins.proofs.events.all_made.Given as goal
 
 abbrev pub invariant-loop-thread : goal.invariant-loop-thread
 invariant-loop-thread l = record {
-  made : (test : Test) (domain : List Value) (count : ℕ) → AreRunsOver test domain count l.threads → AreMadeBelow test domain l.events l.thread l.found.items;
+  made : (test : Test) (domain : List Value) (count : ℕ) → AreRunsOver test domain count l.threads
+      → AreMadeBelow test domain l.events l.thread l.found.items;
   none : l.thread ≡ 0 → l.found.items ≡ [];
 }

@@ -7,7 +7,8 @@ use Rattle.event_origins.proofs.Replaying.{no_runs, runs_more}
 use Rattle.event_origins.proofs.runs.runs_over.Goals as goal
 
 pub loop-thread-init : goal.loop-thread-init
-loop-thread-init c = rw c.new-threads.ensures.items (no_runs c.args.test.now c.args.domain.now.values.items)
+loop-thread-init c =
+    rw c.new-threads.ensures.items (no_runs c.args.test.now c.args.domain.now.values.items)
 
 pub loop-thread-preserved : goal.loop-thread-preserved
 loop-thread-preserved c =
@@ -15,5 +16,7 @@ loop-thread-preserved c =
     let V = c.args.domain.now.values.items in
     let n = c.loop-thread.thread in
     let shows = c.in_ok-runs.ensures.runs c.requires.rising (omega (arith, c.loop-thread-test.true)) in
-    subst (λ (ts : List (Vec code_run.Run Global)). AreRunsOver test V (n + 1) ts) (sym {A = List (Vec code_run.Run Global)} c.in_ok-push.ensures.items)
-    (runs_more test V n c.loop-thread.threads.items c.in_ok-runs.field-0 shows c.loop-thread.invariant)
+    subst (λ (ts : List (Vec code_run.Run Global)). AreRunsOver test V (n + 1) ts)
+    (sym {A = List (Vec code_run.Run Global)} c.in_ok-push.ensures.items)
+    (runs_more test V n c.loop-thread.threads.items c.in_ok-runs.field-0 shows
+    c.loop-thread.invariant)

@@ -4,4 +4,5 @@ use Rattle.execution_graph.proofs.Growing.{DrawnBelow}
 use Rattle.execution_graph.proofs.events.drawn_events.Given as goal
 
 abbrev pub invariant-loop-number : goal.invariant-loop-number
-invariant-loop-number l = IsEvents l.drawn (length l.events) (DrawnBelow l.events (l.sources ++ l.ends) l.number)
+invariant-loop-number l =
+    IsEvents l.drawn (length l.events) (DrawnBelow l.events (l.sources ++ l.ends) l.number)

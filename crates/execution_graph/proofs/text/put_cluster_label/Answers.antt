@@ -6,4 +6,6 @@ use Rattle.execution_graph.proofs.text.put_cluster_label.Goals as goal
 pub returns : goal.returns
 unfolding cluster_label
 returns c =
-    rw (c.in_ok-put_bytes-2.ensures, c.in_ok-put_decimal.ensures, c.in_ok-put_bytes.ensures) (three_parts c.args.text.now.items (codes " {\nlabel=\"P") (decimal c.args.thread) (codes "\";\n"))
+    rw (c.in_ok-put_bytes-2.ensures, c.in_ok-put_decimal.ensures, c.in_ok-put_bytes.ensures)
+    (three_parts c.args.text.now.items (codes " {\nlabel=\"P") (decimal c.args.thread)
+    (codes "\";\n"))

@@ -4,4 +4,8 @@ use Rattle.execution_graph.specs.Texts.{cluster_text}
 use Rattle.execution_graph.proofs.text.put_clusters.Given as goal
 
 abbrev pub invariant-loop-cluster : goal.invariant-loop-cluster
-invariant-loop-cluster l = l.text.items ≡ l.initial.text.items ++ flat_map (cluster_text l.telling.locations.now l.telling.initial_count) (take l.cluster-index l.clusters)
+invariant-loop-cluster l =
+    l.text.items
+    ≡ l.initial.text.items
+    ++ flat_map (cluster_text l.telling.locations.now l.telling.initial_count)
+    (take l.cluster-index l.clusters)

@@ -4,4 +4,7 @@ use Rattle.execution_graph.specs.Texts.{edges_text}
 use Rattle.execution_graph.proofs.text.put_relations.Given as goal
 
 abbrev pub invariant-loop-relation : goal.invariant-loop-relation
-invariant-loop-relation l = l.text.items ≡ l.initial.text.items ++ flat_map (edges_text l.initial_count) (take l.relation-index l.relations)
+invariant-loop-relation l =
+    l.text.items
+    ≡ l.initial.text.items
+    ++ flat_map (edges_text l.initial_count) (take l.relation-index l.relations)

@@ -5,4 +5,7 @@ use Rattle.factor_walks.specs.Values.{IsLinkAt}
 use Rattle.factor_walks.proofs.value.links_at.Given as goal
 
 abbrev pub invariant-loop-factor : goal.invariant-loop-factor
-invariant-loop-factor l = (length l.links.items ≡ l.factor-index) × ((j : ℕ) → j < l.factor-index → (f : FactorValues) (k : Link) → IsLinkAt l.candidate (get_or l.factors j f) (get_or l.links.items j k))
+invariant-loop-factor l =
+    (length l.links.items ≡ l.factor-index)
+    × ((j : ℕ) → j < l.factor-index → (f : FactorValues) (k : Link)
+    → IsLinkAt l.candidate (get_or l.factors j f) (get_or l.links.items j k))

@@ -13,5 +13,9 @@ returns-else-size-gt-MAX_SIZE c = λ ss kept alike.
     let names = reverse (map entry_of c.args.entries.now) in
     let xs = c.args.arguments.now in
     let h = c.in-Ok.ensures ss kept in
-    clashing c.in-Ok.function.now ss names xs _ h.0 _ c.args.size c.combination_of-combination.result c.unless.result h.1 h.2 (sym (found_arity ss (length xs) _ h.0 h.1)) (c.combination_of-combination.ensures ss kept) alike
-    (omega (arith, c.if-size-gt-MAX_SIZE.false)) (c.unless.ensures ∙ ap (λ (x : Signature). unless (not x.clashes) faults.Kind) c.signature.ensures)
+    clashing c.in-Ok.function.now ss names xs _ h.0 _ c.args.size
+    c.combination_of-combination.result c.unless.result h.1 h.2
+    (sym (found_arity ss (length xs) _ h.0 h.1)) (c.combination_of-combination.ensures ss kept)
+    alike
+    (omega (arith, c.if-size-gt-MAX_SIZE.false)) (c.unless.ensures
+    ∙ ap (λ (x : Signature). unless (not x.clashes) faults.Kind) c.signature.ensures)

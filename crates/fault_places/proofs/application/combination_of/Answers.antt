@@ -17,7 +17,21 @@ arguments-preserved c =
       combined = λ ss kept few.
           let names = reverse (map entry_of c.args.entries.now) in
           let xs = c.args.arguments.now in
-          combined_before ss names xs (c.arguments.end - 1) c.index-arguments-end.result c.judge-judged.result.kind c.arguments.combination c.saturating_add-combination.result (omega (arith, within, some)) few c.index-arguments-end.is (c.judge-judged.ensures.kind_in ss kept)
-          (c.arguments.invariant.combined ss kept few ∙ ap (λ (n : ℕ). number_of (kinds_in ss names (gathered (map term_of (drop n xs))))) before)
-          (λ small. omega (arith, small, c.saturating_mul.ensures, c.saturating_add-combination.ensures, c.digit-digit.ensures.value, c.digit-digit.ensures.small));
+          combined_before ss names xs (c.arguments.end - 1) c.index-arguments-end.result
+          c.judge-judged.result.kind c.arguments.combination c.saturating_add-combination.result
+          (omega (arith, within, some)) few c.index-arguments-end.is
+          (c.judge-judged.ensures.kind_in ss kept)
+          (c.arguments.invariant.combined ss kept few
+          ∙ ap
+          (λ (n : ℕ).
+          number_of (kinds_in ss names (gathered (map term_of (drop n xs)))))
+          before)
+          (λ small. omega (
+            arith,
+            small,
+            c.saturating_mul.ensures,
+            c.saturating_add-combination.ensures,
+            c.digit-digit.ensures.value,
+            c.digit-digit.ensures.small,
+          ));
     }

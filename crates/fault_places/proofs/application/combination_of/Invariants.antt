@@ -9,7 +9,10 @@ use Rattle.fault_places.proofs.application.combination_of.Given as goal
 abbrev pub invariant-arguments : goal.invariant-arguments
 invariant-arguments l = record {
   within : l.end ≤ length l.arguments;
-  combined : (senses : List Sense) → AreKept l.functions senses → length l.arguments ≤ 8 → l.combination ≡ number_of (kinds_in senses (reverse (map entry_of l.entries)) (gathered (map term_of (drop l.end l.arguments))));
+  combined : (senses : List Sense) → AreKept l.functions senses → length l.arguments ≤ 8
+      → l.combination
+      ≡ number_of (kinds_in senses (reverse (map entry_of l.entries))
+      (gathered (map term_of (drop l.end l.arguments))));
 }
 
 abbrev pub decreases-arguments : goal.decreases-arguments

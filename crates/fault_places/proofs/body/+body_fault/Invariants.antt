@@ -11,5 +11,7 @@ abbrev pub invariant-loop-argument : goal.invariant-loop-argument
 invariant-loop-argument l =
     (senses : List Sense) → AreKept l.sight.functions.now senses →
     (let names = reverse (map entry_of l.sight.entries.now) in
-    or_later (option_map signed_fault_of l.all) (first_fault_in_bodies senses names l.sight.parameters.now (gathered (map term_of (drop l.argument-index l.argument-items))))
+    or_later (option_map signed_fault_of l.all) (first_fault_in_bodies senses names
+    l.sight.parameters.now (gathered
+    (map term_of (drop l.argument-index l.argument-items))))
     ≡ first_fault_in_body senses names l.sight.parameters.now (term_of l.term))

@@ -14,8 +14,14 @@ loop-position-preserved c =
     let is = c.index-group-position.is in
     record {
       before = rw c.in_ok-push.ensures.items (rw length-append (omega arith));
-      outer = rw c.in_ok-push.ensures.items (rw (take-append-le c.len-before.result c.loop-position.entries.items _ before) c.loop-position.invariant.outer);
+      outer =
+          rw c.in_ok-push.ensures.items (rw
+          (take-append-le c.len-before.result c.loop-position.entries.items _ before)
+          c.loop-position.invariant.outer);
       names = λ ss kept.
           let k = rw outer at (c.judge-body.ensures.kind_in ss kept) in
-          rw c.in_ok-push.ensures.items (c.loop-position.invariant.names ss kept ∙ all_more ss _ c.args.group.now _ c.args.item c.index-group-position.result c.loop-position.entries.items e lt (rw (← is) c.in_ok-copied.ensures) (rw (← is) k) refl);
+          rw c.in_ok-push.ensures.items (c.loop-position.invariant.names ss kept
+          ∙ all_more ss _ c.args.group.now _ c.args.item c.index-group-position.result
+          c.loop-position.entries.items e lt (rw (← is) c.in_ok-copied.ensures)
+          (rw (← is) k) refl);
     }

@@ -9,6 +9,9 @@ invariant-loop-position l = record {
   before : l.before ≤ length l.entries.items;
   outer : take l.before l.entries.items ≡ l.fn.entries.items;
   names : (senses : List Sense) → AreKept l.functions senses →
-      with_all senses (reverse (map entry_of l.fn.entries.items)) (reverse (map entry_of l.fn.entries.items)) l.item 0 (map bound_of l.group)
-      ≡ with_all senses (reverse (map entry_of l.fn.entries.items)) (reverse (map entry_of l.entries.items)) l.item l.position (map bound_of (drop l.position l.group));
+      with_all senses (reverse (map entry_of l.fn.entries.items))
+      (reverse (map entry_of l.fn.entries.items)) l.item 0 (map bound_of l.group)
+      ≡ with_all senses (reverse (map entry_of l.fn.entries.items))
+      (reverse (map entry_of l.entries.items)) l.item l.position
+      (map bound_of (drop l.position l.group));
 }

@@ -12,5 +12,7 @@ abbrev pub invariant-loop-index : goal.invariant-loop-index
 invariant-loop-index l =
     (senses : List Sense) → AreKept l.functions senses →
     (let names = reverse (map entry_of l.entries) in
-    or_later (option_map signed_fault_of l.all) (first_fault_among senses names l.from l.under (under_of (sense_of senses (length l.argument-items) (found names l.name))) l.index (gathered (map term_of (drop l.index l.argument-items))))
+    or_later (option_map signed_fault_of l.all) (first_fault_among senses names l.from l.under
+    (under_of (sense_of senses (length l.argument-items) (found names l.name))) l.index
+    (gathered (map term_of (drop l.index l.argument-items))))
     ≡ first_fault_in senses names l.from l.under (term_of l.term))

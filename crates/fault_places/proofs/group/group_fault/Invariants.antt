@@ -9,5 +9,8 @@ use Rattle.fault_places.proofs.group.group_fault.Given as goal
 abbrev pub invariant-loop-index : goal.invariant-loop-index
 invariant-loop-index l =
     (senses : List Sense) → AreKept l.functions senses →
-    or_later (option_map signed_fault_of l.all) (first_fault_in_group senses (reverse (map entry_of l.entries)) l.from l.recursive (names_of (take l.index l.group)) (map bound_of (drop l.index l.group)))
-    ≡ first_fault_in_group senses (reverse (map entry_of l.entries)) l.from l.recursive [] (map bound_of l.group)
+    or_later (option_map signed_fault_of l.all) (first_fault_in_group senses
+    (reverse (map entry_of l.entries)) l.from l.recursive (names_of (take l.index l.group))
+    (map bound_of (drop l.index l.group)))
+    ≡ first_fault_in_group senses (reverse (map entry_of l.entries)) l.from l.recursive []
+    (map bound_of l.group)

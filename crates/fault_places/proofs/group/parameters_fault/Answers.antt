@@ -6,8 +6,13 @@ use Rattle.fault_places.proofs.group.parameters_fault.Goals as goal
 pub loop-index-preserved : goal.loop-index-preserved
 loop-index-preserved c =
     let own = c.one_parameter_fault-own.result in
-    next_parameter c.args.parameters.now c.loop-index.index c.index-parameters-index.result own _ _ _ _ (omega (arith, c.loop-index-test.true)) c.index-parameters-index.is
-    c.one_parameter_fault-own.ensures (c.signed_fault-one.ensures ∙ ap (λ (b : List ℕ). signed_fault own b) c.as_bytes.ensures) c.or_later-all.ensures c.loop-index.invariant
+    next_parameter c.args.parameters.now c.loop-index.index c.index-parameters-index.result own _ _
+    _ _ (omega (arith, c.loop-index-test.true)) c.index-parameters-index.is
+    c.one_parameter_fault-own.ensures
+    (c.signed_fault-one.ensures ∙ ap (λ (b : List ℕ). signed_fault own b) c.as_bytes.ensures)
+    c.or_later-all.ensures c.loop-index.invariant
 
 pub returns : goal.returns
-returns c = all_parameters _ c.args.parameters.now c.loop-index.index _ _ (omega (arith, c.loop-index-test.false)) c.loop-index.invariant
+returns c =
+    all_parameters _ c.args.parameters.now c.loop-index.index _ _
+    (omega (arith, c.loop-index-test.false)) c.loop-index.invariant

@@ -7,4 +7,5 @@ use Rattle.fault_places.proofs.items.find_fault.Given as goal
 abbrev pub invariant-loop-index : goal.invariant-loop-index
 invariant-loop-index l =
     (senses : List Sense) → AreKept l.fn.scope.functions.items senses →
-    AreSearched senses (reverse (map entry_of l.fn.scope.entries.items)) (reverse (map entry_of l.scope.entries.items)) l.scope.functions.items l.items l.index
+    AreSearched senses (reverse (map entry_of l.fn.scope.entries.items))
+    (reverse (map entry_of l.scope.entries.items)) l.scope.functions.items l.items l.index

@@ -14,4 +14,5 @@ returns-clause-complete c = λ threads ps x few.
 
 pub returns-clause-fault : goal.returns-clause-fault
 returns-clause-fault c = λ threads ps rule offset few e.
-    fault_found (IsConditionText limits threads) kinds.Condition threads (condition_reading threads few) ps rule offset e
+    fault_found (IsConditionText limits threads) kinds.Condition threads
+    (condition_reading threads few) ps rule offset e

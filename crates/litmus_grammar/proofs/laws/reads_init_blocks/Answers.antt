@@ -19,4 +19,5 @@ returns-clause-complete c = λ threads ps x.
 
 pub returns-clause-fault : goal.returns-clause-fault
 returns-clause-fault c = λ threads ps rule offset e.
-    fault_found (IsStart IsInitText (stages.Init true false)) kinds.Init threads (init_reading threads) ps rule offset e
+    fault_found (IsStart IsInitText (stages.Init true false)) kinds.Init threads
+    (init_reading threads) ps rule offset e

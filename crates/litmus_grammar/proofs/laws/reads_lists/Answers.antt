@@ -8,7 +8,8 @@ use Rattle.litmus_grammar.proofs.Outcomes.{fault_found}
 use Rattle.litmus_grammar.proofs.laws.reads_lists.Goals as goal
 
 pub returns-clause-found : goal.returns-clause-found
-returns-clause-found c = λ threads ps s e d. list_whole threads ps Tail (nothing kinds.Locations) s e d
+returns-clause-found c =
+    λ threads ps s e d. list_whole threads ps Tail (nothing kinds.Locations) s e d
 
 pub returns-clause-complete : goal.returns-clause-complete
 returns-clause-complete c = λ threads ps x few.
@@ -17,4 +18,5 @@ returns-clause-complete c = λ threads ps x few.
 
 pub returns-clause-fault : goal.returns-clause-fault
 returns-clause-fault c = λ threads ps rule offset few e.
-    fault_found (IsLocationsText threads) kinds.Locations threads (list_reading threads few) ps rule offset e
+    fault_found (IsLocationsText threads) kinds.Locations threads (list_reading threads few) ps rule
+    offset e

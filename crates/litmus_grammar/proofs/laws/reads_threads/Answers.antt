@@ -17,4 +17,5 @@ returns-clause-complete c = λ threads ps x.
 
 pub returns-clause-fault : goal.returns-clause-fault
 returns-clause-fault c = λ threads bytes rule offset e.
-    fault_where AreInner IsThreadText kinds.Thread threads (thread_reading threads) (lexed CellBegins bytes) (lexed_inner CellBegins bytes) rule offset e
+    fault_where AreInner IsThreadText kinds.Thread threads (thread_reading threads)
+    (lexed CellBegins bytes) (lexed_inner CellBegins bytes) rule offset e

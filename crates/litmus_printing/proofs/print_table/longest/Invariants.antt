@@ -5,4 +5,6 @@ use Rattle.litmus_printing.specs.Printing.{longest}
 use Rattle.litmus_printing.proofs.print_table.longest.Given as goal
 
 abbrev pub invariant-loop-thread : goal.invariant-loop-thread
-invariant-loop-thread l = max l.most (longest (map steps_of (drop l.thread-index l.threads))) ≡ longest (map steps_of l.threads)
+invariant-loop-thread l =
+    max l.most (longest (map steps_of (drop l.thread-index l.threads)))
+    ≡ longest (map steps_of l.threads)

@@ -7,10 +7,15 @@ use Rattle.litmus_printing.proofs.print_table.put_cell.Goals as goal
 
 pub returns-then-number-steps : goal.returns-then-number-steps
 returns-then-number-steps c =
-    subst (λ (l : List ℕ). OnOk c.put_step.result (c.put_step.new.text.items ≡ c.args.text.now.items ++ l))
-    (ap step_text c.index-steps-number.is ∙ sym (cell_there c.args.number c.args.steps.now c.index-steps-number.result (omega arith)))
+    subst (λ (l : List ℕ).
+    OnOk c.put_step.result (c.put_step.new.text.items ≡ c.args.text.now.items ++ l))
+    (ap step_text c.index-steps-number.is
+    ∙ sym (cell_there c.args.number c.args.steps.now c.index-steps-number.result
+    (omega arith)))
     c.put_step.ensures
 
 pub returns-else-number-steps : goal.returns-else-number-steps
 returns-else-number-steps c =
-    sym (ap (λ l. c.args.text.now.items ++ l) (cell_ended c.args.number c.args.steps.now (omega arith)) ∙ append-nil c.args.text.now.items)
+    sym (ap (λ l. c.args.text.now.items ++ l)
+    (cell_ended c.args.number c.args.steps.now (omega arith))
+    ∙ append-nil c.args.text.now.items)

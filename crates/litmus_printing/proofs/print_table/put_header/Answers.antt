@@ -11,7 +11,12 @@ loop-thread-init c = ap (λ l. c.args.text.now.items ++ l) (header_begins c.args
 
 pub loop-thread-preserved : goal.loop-thread-preserved
 loop-thread-preserved c =
-    ap (λ l. l ++ from (codes " | ") (c.loop-thread.thread + 1) (names (c.loop-thread.thread + 1) (c.args.threads - (c.loop-thread.thread + 1))))
-    (c.in_ok-put_decimal.ensures ∙ ap (λ l. l ++ decimal c.loop-thread.thread) (c.in_ok-put_bytes.ensures ∙ ap (λ l. l ++ codes "P") c.in_ok-put_between.ensures))
-    ∙ header_more c.loop-thread.text.items c.loop-thread.thread c.args.threads c.loop-thread-test.true
+    ap (λ l. l
+    ++ from (codes " | ") (c.loop-thread.thread + 1) (names (c.loop-thread.thread + 1)
+    (c.args.threads - (c.loop-thread.thread + 1))))
+    (c.in_ok-put_decimal.ensures
+    ∙ ap (λ l. l ++ decimal c.loop-thread.thread) (c.in_ok-put_bytes.ensures
+    ∙ ap (λ l. l ++ codes "P") c.in_ok-put_between.ensures))
+    ∙ header_more c.loop-thread.text.items c.loop-thread.thread c.args.threads
+    c.loop-thread-test.true
     ∙ c.loop-thread.invariant

@@ -6,4 +6,6 @@ use Rattle.text_values.proofs.Separated.{from}
 use Rattle.litmus_printing.proofs.print_table.put_observed.Given as goal
 
 abbrev pub invariant-loop-i : goal.invariant-loop-i
-invariant-loop-i l = l.text.items ++ from (codes " ") l.i (map item_text (drop l.i l.observed)) ≡ l.initial.text.items ++ joined (codes " ") (map item_text l.observed)
+invariant-loop-i l =
+    l.text.items ++ from (codes " ") l.i (map item_text (drop l.i l.observed))
+    ≡ l.initial.text.items ++ joined (codes " ") (map item_text l.observed)

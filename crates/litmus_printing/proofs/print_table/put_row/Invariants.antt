@@ -6,4 +6,6 @@ use Rattle.text_values.proofs.Separated.{from}
 use Rattle.litmus_printing.proofs.print_table.put_row.Given as goal
 
 abbrev pub invariant-loop-i : goal.invariant-loop-i
-invariant-loop-i l = l.text.items ++ from (codes " | ") l.i (cells l.number (drop l.i l.threads)) ≡ l.initial.text.items ++ joined (codes " | ") (cells l.number l.threads)
+invariant-loop-i l =
+    l.text.items ++ from (codes " | ") l.i (cells l.number (drop l.i l.threads))
+    ≡ l.initial.text.items ++ joined (codes " | ") (cells l.number l.threads)

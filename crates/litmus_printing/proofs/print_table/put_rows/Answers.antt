@@ -7,6 +7,11 @@ use Rattle.litmus_printing.proofs.print_table.put_rows.Goals as goal
 
 pub loop-number-preserved : goal.loop-number-preserved
 loop-number-preserved c =
-    ap (λ l. l ++ rows_text (c.loop-number.number + 1) (c.longest-most.result - (c.loop-number.number + 1)) (map steps_of c.args.threads.now)) c.in_ok-put_row.ensures
-    ∙ rows_more c.loop-number.text.items c.loop-number.number c.longest-most.result (map steps_of c.args.threads.now) c.loop-number-test.true
+    ap
+    (λ l. l
+    ++ rows_text (c.loop-number.number + 1)
+    (c.longest-most.result - (c.loop-number.number + 1))
+    (map steps_of c.args.threads.now)) c.in_ok-put_row.ensures
+    ∙ rows_more c.loop-number.text.items c.loop-number.number c.longest-most.result
+    (map steps_of c.args.threads.now) c.loop-number-test.true
     ∙ c.loop-number.invariant

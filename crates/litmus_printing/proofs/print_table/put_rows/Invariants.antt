@@ -5,4 +5,6 @@ use Rattle.litmus_printing.specs.Printing.{rows_text}
 use Rattle.litmus_printing.proofs.print_table.put_rows.Given as goal
 
 abbrev pub invariant-loop-number : goal.invariant-loop-number
-invariant-loop-number l = l.text.items ++ rows_text l.number (l.most - l.number) (map steps_of l.threads) ≡ l.initial.text.items ++ rows_text 0 l.most (map steps_of l.threads)
+invariant-loop-number l =
+    l.text.items ++ rows_text l.number (l.most - l.number) (map steps_of l.threads)
+    ≡ l.initial.text.items ++ rows_text 0 l.most (map steps_of l.threads)

@@ -6,7 +6,8 @@ use Rattle.litmus_tokens.proofs.condition.joined.Given as goal
 
 abbrev pub invariant-loop-frame : goal.invariant-loop-frame
 invariant-loop-frame l =
-    fold_to l.level (stack_of l.initial.frames.items) (formula_of l.initial.operand) ≡ fold_to l.level (stack_of l.frames.items) (formula_of l.operand)
+    fold_to l.level (stack_of l.initial.frames.items) (formula_of l.initial.operand)
+    ≡ fold_to l.level (stack_of l.frames.items) (formula_of l.operand)
 
 abbrev pub decreases-loop-frame : goal.decreases-loop-frame
 decreases-loop-frame l = vec_len l.frames

@@ -8,4 +8,5 @@ pub returns : goal.returns
 returns c =
     let n : c.open_frames.result ≡ open_count (stack_of c.args.frames.items) = c.open_frames.ensures ∙ ap (λ fs. open_count (stack_of fs)) c.deref.ensures.value in
     let f = c.if-open_frames-ge-MAX_NESTING.false in
-    opened_below c.args.frames.items c.push.new.self.items c.args.frame c.args.operators c.in_ok-push.ensures.items (omega arith)
+    opened_below c.args.frames.items c.push.new.self.items c.args.frame c.args.operators
+    c.in_ok-push.ensures.items (omega arith)

@@ -14,4 +14,5 @@ pub returns-clause-stops : goal.returns-clause-stops
 returns-clause-stops c = λ most threads few. takes_beginnings most threads few
 
 pub returns-clause-finishes : goal.returns-clause-finishes
-returns-clause-finishes c = λ most threads frames used expected. finishes most threads frames used expected
+returns-clause-finishes c =
+    λ most threads frames used expected. finishes most threads frames used expected

@@ -8,7 +8,8 @@ use Rattle.litmus_tokens.proofs.lexer.line_front.Goals as goal
 pub returns-in-Some : goal.returns-in-Some
 returns-in-Some c =
     ap (Lexeme Keyline) c.ascii_length.ensures.value
-    ∙ sym (keyline (take c.line_length-n.result c.args.text.now) c.in-Some.field-0 c.in-Some.ensures)
+    ∙ sym (keyline (take c.line_length-n.result c.args.text.now) c.in-Some.field-0
+    c.in-Some.ensures)
     ∙ ap (λ n. line_front (take n c.args.text.now)) c.line_length-n.ensures.value
 
 pub returns-in-None : goal.returns-in-None

@@ -12,12 +12,15 @@ both : (a b m : ℕ) → m ≤ a → m ≤ b → min a m ≡ min b m
 both a b m h k = omega arith
 
 -- a number over the bound stays over it
-capped : (a b m : ℕ) (ds : List ℕ) → b ≡ min a m → min (decimal_from a ds) m ≡ min (decimal_from b ds) m
+capped : (a b m : ℕ) (ds : List ℕ) → b ≡ min a m
+    → min (decimal_from a ds) m ≡ min (decimal_from b ds) m
 capped a b m ds e = choose (cases_lt a m)
   where
     choose : (a < m) ⊎ (m ≤ a) → min (decimal_from a ds) m ≡ min (decimal_from b ds) m
     choose (inl lt) = let same : a ≡ b = omega arith in ap (λ x. min (decimal_from x ds) m) same
-    choose (inr le) = let high : m ≤ b = omega arith in both (decimal_from a ds) (decimal_from b ds) m (at_least a m ds le) (at_least b m ds high)
+    choose (inr le) =
+        let high : m ≤ b = omega arith in
+        both (decimal_from a ds) (decimal_from b ds) m (at_least a m ds le) (at_least b m ds high)
 
 pub loop-digit-preserved : goal.loop-digit-preserved
 loop-digit-preserved c =
@@ -29,8 +32,10 @@ loop-digit-preserved c =
       fits = omega arith;
       same =
           c.loop-digit.invariant.same
-          ∙ ap (λ x. min x 18446744073709551615) (at_drop_more (decimal_from n) ds i 0 (omega arith))
-          ∙ capped (n * 10 + (get_or ds i 0 - 48)) c.saturating_add-n.result 18446744073709551615 (drop (i + 1) ds) next;
+          ∙ ap (λ x. min x 18446744073709551615)
+          (at_drop_more (decimal_from n) ds i 0 (omega arith))
+          ∙ capped (n * 10 + (get_or ds i 0 - 48)) c.saturating_add-n.result 18446744073709551615
+          (drop (i + 1) ds) next;
     }
 
 pub returns : goal.returns

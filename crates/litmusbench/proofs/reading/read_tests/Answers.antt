@@ -7,4 +7,7 @@ loop-file-init c = no_tests c.args.faults.items c.new.result.items c.new.ensures
 
 pub loop-file-preserved : goal.loop-file-preserved
 loop-file-preserved c =
-    tests_more c.args.faults.items c.args.files.now c.loop-file.file-index c.file-item.result c.loop-file.read.tests.items c.read_test_file.new.read.tests.items c.loop-file.read.faults.items c.read_test_file.new.read.faults.items (search rules) (search rules) c.loop-file.invariant c.in_ok-read_test_file.ensures
+    tests_more c.args.faults.items c.args.files.now c.loop-file.file-index c.file-item.result
+    c.loop-file.read.tests.items c.read_test_file.new.read.tests.items
+    c.loop-file.read.faults.items c.read_test_file.new.read.faults.items (search rules)
+    (search rules) c.loop-file.invariant c.in_ok-read_test_file.ensures

@@ -5,4 +5,6 @@ use Rattle.litmusbench.proofs.stream.write_answer.Goals as goal
 
 pub returns-clause-written : goal.returns-clause-written
 returns-clause-written g c =
-    written_so (λ (text : List ℕ) (refused : Bool). IsAnswer c.args.model.now c.args.test.now text refused) c.answer_to.result _ _ c.write_made.result c.answer_to.ensures c.write_made.ensures.written
+    written_so
+    (λ (text : List ℕ) (refused : Bool). IsAnswer c.args.model.now c.args.test.now text refused)
+    c.answer_to.result _ _ c.write_made.result c.answer_to.ensures c.write_made.ensures.written

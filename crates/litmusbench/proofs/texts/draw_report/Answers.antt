@@ -9,5 +9,9 @@ returns-in-Ok-draw-clause-report c = record {
   model_read = c.in-Ok.ensures.model_read;
   known = c.in-Ok.known.test;
   test_read = c.in-Ok.ensures.test_read;
-  pictured = subst (λ (w : Wanted). IsDrawn w c.args.most c.in-Ok.known.test c.in-Ok.known.model c.in-Ok-draw.text.items) c.wanted.ensures c.in-Ok-draw.ensures;
+  pictured =
+      subst
+      (λ (w : Wanted).
+      IsDrawn w c.args.most c.in-Ok.known.test c.in-Ok.known.model c.in-Ok-draw.text.items)
+      c.wanted.ensures c.in-Ok-draw.ensures;
 }

@@ -7,7 +7,9 @@ use Rattle.litmusbench.proofs.told.model_fault.Goals as goal
 
 pub returns-in-Ok : goal.returns-in-Ok
 returns-in-Ok c =
-    fault_told_of c.model_fault_lines.result c.args.file.now c.in-Ok.model c.deref.result.now c.as_bytes.result.now c.deref-in-Ok.result.now (search rules) (search rules) (search rules) (search rules) c.model_fault_lines.ensures
+    fault_told_of c.model_fault_lines.result c.args.file.now c.in-Ok.model c.deref.result.now
+    c.as_bytes.result.now c.deref-in-Ok.result.now (search rules) (search rules) (search rules)
+    (search rules) c.model_fault_lines.ensures
 
 pub returns-in-Err-Refused : goal.returns-in-Err-Refused
 returns-in-Err-Refused c =

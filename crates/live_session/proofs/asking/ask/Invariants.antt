@@ -5,4 +5,7 @@ use Rattle.live_session.proofs.asking.ask.Given as goal
 
 -- the texts stay, and the session stays ready
 abbrev pub invariant-loop : goal.invariant-loop
-invariant-loop g l = (goal.iterator-loop g).can_next l.iterator' × (goal.iterator-loop g).is_finite l.iterator' × (l.session.texts ≡ l.initial.session.texts) × IsReady l.session.viewer l.session.made (texts_of l.session.texts)
+invariant-loop g l =
+    (goal.iterator-loop g).can_next l.iterator' × (goal.iterator-loop g).is_finite l.iterator'
+    × (l.session.texts ≡ l.initial.session.texts)
+    × IsReady l.session.viewer l.session.made (texts_of l.session.texts)

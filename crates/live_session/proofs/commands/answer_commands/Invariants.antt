@@ -8,8 +8,11 @@ use Rattle.live_session.proofs.commands.answer_commands.Given as goal
 -- the commands so far are answered
 abbrev pub invariant-commands : goal.invariant-commands
 invariant-commands g l = record {
-  under_way : IsUnderWay (g.S.ByteSource.remaining l.initial.source) (left_to l.script (g.S.ByteSource.remaining l.source)) (g.K.ByteSink.contents l.initial.sink) (g.K.ByteSink.contents l.sink) (texts_of l.session.texts) l.is_refused;
-  paid : IsPaid 16777216 (turns_of l.script) (g.S.ByteSource.remaining l.initial.source) (g.S.ByteSource.remaining l.source);
+  under_way : IsUnderWay (g.S.ByteSource.remaining l.initial.source)
+      (left_to l.script (g.S.ByteSource.remaining l.source)) (g.K.ByteSink.contents l.initial.sink)
+      (g.K.ByteSink.contents l.sink) (texts_of l.session.texts) l.is_refused;
+  paid : IsPaid 16777216 (turns_of l.script) (g.S.ByteSource.remaining l.initial.source)
+      (g.S.ByteSource.remaining l.source);
   ready : IsReady l.session.viewer l.session.made (texts_of l.session.texts);
   reads : g.S.ByteSource.failed_calls l.source ≡ g.S.ByteSource.failed_calls l.initial.source;
   writes : g.K.ByteSink.failed_calls l.sink ≡ g.K.ByteSink.failed_calls l.initial.sink;

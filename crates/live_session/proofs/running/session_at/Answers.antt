@@ -4,10 +4,14 @@ use Rattle.running_bench.proofs.Crossings.{bench_crosses}
 use Rattle.live_session.proofs.running.session_at.Goals as goal
 
 pub returns-in_default-clause-written : goal.returns-in_default-clause-written
-returns-in_default-clause-written g c = not_begun (g.S.ByteSource.remaining c.args.source.now) (g.K.ByteSink.contents c.args.sink.now) faults.Memory tt
+returns-in_default-clause-written g c =
+    not_begun (g.S.ByteSource.remaining c.args.source.now) (g.K.ByteSink.contents c.args.sink.now)
+    faults.Memory tt
 
 pub returns-in_default-hire_crew-clause-written : goal.returns-in_default-hire_crew-clause-written
-returns-in_default-hire_crew-clause-written g c = not_begun (g.S.ByteSource.remaining c.args.source.now) (g.K.ByteSink.contents c.args.sink.now) faults.Memory tt
+returns-in_default-hire_crew-clause-written g c =
+    not_begun (g.S.ByteSource.remaining c.args.source.now) (g.K.ByteSink.contents c.args.sink.now)
+    faults.Memory tt
 
 -- what crosses to the workers holds no thread's own
 pub hire_crew-requires-send-X : goal.hire_crew-requires-send-X

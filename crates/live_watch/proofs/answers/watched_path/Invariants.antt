@@ -5,4 +5,5 @@ use Rattle.live_watch.proofs.answers.watched_path.Given as goal
 
 -- no path so far is the line
 abbrev pub invariant-loop-index : goal.invariant-loop-index
-invariant-loop-index l = list_any (λ t. bytes_eq t.now l.line) (take l.index l.paths.tests.now) ≡ false
+invariant-loop-index l =
+    list_any (λ t. bytes_eq t.now l.line) (take l.index l.paths.tests.now) ≡ false

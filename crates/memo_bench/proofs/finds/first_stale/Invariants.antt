@@ -8,4 +8,5 @@ abbrev pub invariant-loop-i : goal.invariant-loop-i
 invariant-loop-i g l =
     let net = g.T.Texts.net l.texts in
     let present = present_inputs net (as_memos l.memos.entries) in
-    stale_stamp l.last (present (drop l.i (net.inputs l.node))) (drop l.i l.inputs) ≡ stale_stamp 0 (present (net.inputs l.node)) l.inputs
+    stale_stamp l.last (present (drop l.i (net.inputs l.node))) (drop l.i l.inputs)
+    ≡ stale_stamp 0 (present (net.inputs l.node)) l.inputs

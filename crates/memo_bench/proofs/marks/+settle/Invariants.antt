@@ -14,6 +14,8 @@ invariant-loop-i g l =
     record {
       same : as_memos l.memos.entries ≡ as_memos l.fn.memos.entries;
       fewer : unmarked_count l.memos.entries < unmarked_count l.fn.memos.entries;
-      marks : g.T.Texts.is_valid l.texts → (rest : List Node) → IsMarkedTo net l.fn.memos.entries (l.node ∷ rest) → IsMarkedTo net l.memos.entries (drop l.i (g.T.Texts.users l.texts l.node) ++ rest);
+      marks : g.T.Texts.is_valid l.texts → (rest : List Node)
+          → IsMarkedTo net l.fn.memos.entries (l.node ∷ rest)
+          → IsMarkedTo net l.memos.entries (drop l.i (g.T.Texts.users l.texts l.node) ++ rest);
       room : spare l.memos ≡ spare l.fn.memos;
     }

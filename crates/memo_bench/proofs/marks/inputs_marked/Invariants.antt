@@ -6,4 +6,5 @@ use Rattle.memo_bench.proofs.marks.inputs_marked.Given as goal
 abbrev pub invariant-loop-i : goal.invariant-loop-i
 invariant-loop-i g l =
     let net = g.T.Texts.net l.texts in
-    all_nodes (mark_of l.memos.entries) (drop l.i (net.inputs l.node)) ≡ all_nodes (mark_of l.memos.entries) (net.inputs l.node)
+    all_nodes (mark_of l.memos.entries) (drop l.i (net.inputs l.node))
+    ≡ all_nodes (mark_of l.memos.entries) (net.inputs l.node)

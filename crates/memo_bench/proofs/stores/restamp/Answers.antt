@@ -9,8 +9,15 @@ loop-i-preserved g c =
     let same = g.T.Texts.same in
     let within : c.loop-i.i < length c.loop-i.outputs = omega arith in
     record {
-      outputs = restamp_step same (shown_outputs c.args.old.now) c.args.number c.loop-i.outputs c.loop-i.i c.index-outputs-i.result c.restamp_one.new.output within c.restamp_one.ensures.output ∙ c.loop-i.invariant.outputs;
-      names = changed_push same (shown_outputs c.args.old.now) c.loop-i.names.items c.restamp_one.new.names.items c.loop-i.outputs c.loop-i.i c.index-outputs-i.result c.restamp_one.new.output within c.restamp_one.ensures.names ∙ c.loop-i.invariant.names;
+      outputs =
+          restamp_step same (shown_outputs c.args.old.now) c.args.number c.loop-i.outputs c.loop-i.i
+          c.index-outputs-i.result c.restamp_one.new.output within c.restamp_one.ensures.output
+          ∙ c.loop-i.invariant.outputs;
+      names =
+          changed_push same (shown_outputs c.args.old.now) c.loop-i.names.items
+          c.restamp_one.new.names.items c.loop-i.outputs c.loop-i.i c.index-outputs-i.result
+          c.restamp_one.new.output within c.restamp_one.ensures.names
+          ∙ c.loop-i.invariant.names;
       few = omega (arith, c.restamp_one.ensures.len, c.loop-i.invariant.few);
       room = omega (arith, c.restamp_one.ensures.capacity, c.loop-i.invariant.room);
     }
@@ -18,7 +25,11 @@ loop-i-preserved g c =
 pub returns-clause-outputs : goal.returns-clause-outputs
 returns-clause-outputs g c =
     let over : length c.loop-i.outputs ≤ c.loop-i.i = omega arith in
-    rw (take_all c.loop-i.i c.loop-i.outputs over, drop_all c.loop-i.i c.loop-i.outputs over, append-nil) at c.loop-i.invariant.outputs
+    rw (
+      take_all c.loop-i.i c.loop-i.outputs over,
+      drop_all c.loop-i.i c.loop-i.outputs over,
+      append-nil,
+    ) at c.loop-i.invariant.outputs
 
 pub returns-clause-names : goal.returns-clause-names
 returns-clause-names g c =

@@ -9,4 +9,5 @@ abbrev pub invariant-loop-i : goal.invariant-loop-i
 invariant-loop-i g l =
     let net = g.T.Texts.net l.texts in
     let there = values_at (at (as_memos l.memos.entries)) in
-    option_map (λ rest. shown_values l.values.items ++ rest) (there (drop l.i (net.inputs l.node))) ≡ there (net.inputs l.node)
+    option_map (λ rest. shown_values l.values.items ++ rest) (there (drop l.i (net.inputs l.node)))
+    ≡ there (net.inputs l.node)

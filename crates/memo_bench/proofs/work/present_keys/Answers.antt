@@ -3,7 +3,9 @@ use Rattle.memo_bench.proofs.PushLemmas.{pushed_next, pushed_all}
 use Rattle.memo_bench.proofs.work.present_keys.Goals as goal
 
 pub loop-i-preserved : goal.loop-i-preserved
-loop-i-preserved g c = pushed_next c.loop-i.keys.items c.push.new.self.items _ _ _ c.input_at.result c.in_ok-push.ensures.items c.input_at.ensures.rest c.loop-i.invariant
+loop-i-preserved g c =
+    pushed_next c.loop-i.keys.items c.push.new.self.items _ _ _ c.input_at.result
+    c.in_ok-push.ensures.items c.input_at.ensures.rest c.loop-i.invariant
 
 pub returns : goal.returns
 returns g c =

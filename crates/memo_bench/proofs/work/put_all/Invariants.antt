@@ -5,4 +5,8 @@ use Rattle.memo_core.specs.Views.{shown_outputs, KeepsToken}
 use Rattle.memo_bench.proofs.work.put_all.Given as goal
 
 abbrev pub invariant-loop-output : goal.invariant-loop-output
-invariant-loop-output g l = record { values : named_values (shown_outputs l.all.items) ≡ named_values l.yielded; kept : Each (λ o. KeepsToken l.before o.name o.value) l.all.items }
+invariant-loop-output g l =
+    record {
+      values : named_values (shown_outputs l.all.items) ≡ named_values l.yielded;
+      kept : Each (λ o. KeepsToken l.before o.name o.value) l.all.items;
+    }

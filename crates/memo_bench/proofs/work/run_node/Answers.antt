@@ -7,8 +7,14 @@ use Rattle.memo_bench.proofs.work.run_node.Goals as goal
 pub loop-value-preserved : goal.loop-value-preserved
 loop-value-preserved g c =
     let value = c.value-item.result in
-    pushed_next (map (λ v. v.now) c.loop-value.all.items) (map (λ v. v.now) c.push.new.self.items) _ _ _ value.value (rw (c.in_ok-push.ensures.items, map_push (λ v. v.now) c.loop-value.all.items c.see.result, c.see.ensures) refl)
-    (ap shown_values (item_next c.args.values.now c.loop-value.value-index value (omega arith) c.value-item.is)) c.loop-value.invariant
+    pushed_next (map (λ v. v.now) c.loop-value.all.items) (map (λ v. v.now) c.push.new.self.items) _
+    _ _ value.value (rw (
+      c.in_ok-push.ensures.items,
+      map_push (λ v. v.now) c.loop-value.all.items c.see.result,
+      c.see.ensures,
+    ) refl)
+    (ap shown_values (item_next c.args.values.now c.loop-value.value-index value (omega arith)
+    c.value-item.is)) c.loop-value.invariant
 
 pub returns : goal.returns
 returns g c =

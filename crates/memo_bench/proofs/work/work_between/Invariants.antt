@@ -3,4 +3,8 @@ use Rattle.memo_core.specs.Marks.{IsIdle}
 use Rattle.memo_bench.proofs.work.work_between.Given as goal
 
 abbrev pub invariant-loop-i : goal.invariant-loop-i
-invariant-loop-i g l = record { order : l.i ≤ l.end; idle : IsIdle (g.T.Texts.net l.texts) l.memos.entries l.claims.entries l.first l.i }
+invariant-loop-i g l =
+    record {
+      order : l.i ≤ l.end;
+      idle : IsIdle (g.T.Texts.net l.texts) l.memos.entries l.claims.entries l.first l.i;
+    }

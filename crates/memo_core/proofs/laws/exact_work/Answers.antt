@@ -11,5 +11,8 @@ returns g c =
       since_same = λ x v. laws.since_same x v;
       since_edited = λ x u w e k s h. laws.since_edited x u w e k s h;
       given_stays = λ x u m given v s i p h. laws.given_stays x u m given v s i p h;
-    }) t.rank (record { falls = λ x v. laws.falls x v; used_closed = λ x v. laws.used_closed x v }) in
+    }) t.rank (record {
+      falls = λ x v. laws.falls x v;
+      used_closed = λ x v. laws.used_closed x v;
+    }) in
     record { lowers = all.0; bounded = all.1; kept = all.2; decided = all.3; quiet = all.4 }

@@ -4,7 +4,9 @@ use Rattle.memo_core.proofs.Slots.{found_memo, mark_found_at}
 use Rattle.memo_core.proofs.table.find.Goals as goal
 
 pub returns-clause-memo : goal.returns-clause-memo
-returns-clause-memo g c = found_memo c.args.node c.args.memos.now.entries c.get.result c.get.ensures.value
+returns-clause-memo g c =
+    found_memo c.args.node c.args.memos.now.entries c.get.result c.get.ensures.value
 
 pub returns-clause-mark : goal.returns-clause-mark
-returns-clause-mark g c = ap mark_in c.get.ensures.value ∙ mark_found_at c.args.node c.args.memos.now.entries
+returns-clause-mark g c =
+    ap mark_in c.get.ensures.value ∙ mark_found_at c.args.node c.args.memos.now.entries

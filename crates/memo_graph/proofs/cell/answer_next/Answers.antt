@@ -7,4 +7,7 @@ pub returns-clause-answered : goal.returns-clause-answered
 returns-clause-answered c =
     let answered = c.answer_item.new.answers in
     let new : ItemAnswers = record { columns = c.let_go_behind.new.columns; kept = answered.kept; flags = answered.flags } in
-    answered_less c.args.last.now c.as_slice-wanted.result.now c.args.space.now c.args.at c.args.item.now c.args.answers.now answered new (rw c.as_slice-wanted.ensures.value c.in_ok-list_wanted.ensures) c.in_ok-answer_item.ensures.answered c.let_go_behind.ensures refl refl
+    answered_less c.args.last.now c.as_slice-wanted.result.now c.args.space.now c.args.at
+    c.args.item.now c.args.answers.now answered new
+    (rw c.as_slice-wanted.ensures.value c.in_ok-list_wanted.ensures)
+    c.in_ok-answer_item.ensures.answered c.let_go_behind.ensures refl refl

@@ -15,7 +15,9 @@ loop-at-init c =
     record {
       known = λ ordered.
           let indexes = c.deref-at-items.result.now in
-          kept_start c.args.space.now items c.in_ok-last.last indexes c.in_ok-answers.answers (known_start c.args.space.now items indexes _ c.in_ok-answers.answers (search rules) a.count a.empty (rw a.kept c.in_ok-all_kept.ensures) a.flags);
+          kept_start c.args.space.now items c.in_ok-last.last indexes c.in_ok-answers.answers
+          (known_start c.args.space.now items indexes _ c.in_ok-answers.answers (search rules)
+          a.count a.empty (rw a.kept c.in_ok-all_kept.ensures) a.flags);
       over = c.prepare.ensures;
       long = rw a.kept c.in_ok-all_kept.ensures.long;
       count = count;
@@ -37,21 +39,34 @@ loop-at-preserved c =
     record {
       known = λ ordered.
           let h = c.loop-at.invariant.known ordered in
-          kept_next c.args.space.now items last indexes c.loop-at.at-index index r c.loop-at.answers whole _ all users ordered (omega arith) (λ d. same_at indexes c.loop-at.at-index 0 d (omega arith)) (slice_get_read items (length items) index r refl reached.0 is) h one gone kept flags;
+          kept_next c.args.space.now items last indexes c.loop-at.at-index index r c.loop-at.answers
+          whole _ all users ordered (omega arith)
+          (λ d. same_at indexes c.loop-at.at-index 0 d (omega arith))
+          (slice_get_read items (length items) index r refl reached.0 is) h one gone kept flags;
       over = c.answer_next.ensures.over;
-      long = ap length kept ∙ answered_long c.args.space.now index r c.loop-at.answers whole one c.loop-at.invariant.long;
+      long =
+          ap length kept
+          ∙ answered_long c.args.space.now index r c.loop-at.answers whole one
+          c.loop-at.invariant.long;
       count = gone.count ∙ one.count ∙ c.loop-at.invariant.count;
-      no_others = no_others_next (IsGone last (index + 1)) c.args.space.now items index r c.loop-at.answers whole c.answer_next.new.answers reached.1 reached.0 (slice_get_read items (length items) index r refl reached.0 is) c.loop-at.invariant.count c.loop-at.invariant.no_others one gone;
+      no_others =
+          no_others_next (IsGone last (index + 1)) c.args.space.now items index r c.loop-at.answers
+          whole c.answer_next.new.answers reached.1 reached.0
+          (slice_get_read items (length items) index r refl reached.0 is) c.loop-at.invariant.count
+          c.loop-at.invariant.no_others one gone;
     }
 
 pub returns-clause-said : goal.returns-clause-said
 returns-clause-said c = λ ordered.
     let items = c.args.resolved.now.items.items in
     let all = subst (λ (xs : List ℕ). AreReached items xs) (sym c.deref-at-items.ensures.value) c.in_ok-indexes.ensures.reached in
-    kept_end c.args.space.now items c.in_ok-last.last c.deref-at-items.result.now c.loop-at.at-index c.loop-at.answers all (omega arith) (c.loop-at.invariant.known ordered)
+    kept_end c.args.space.now items c.in_ok-last.last c.deref-at-items.result.now c.loop-at.at-index
+    c.loop-at.answers all (omega arith) (c.loop-at.invariant.known ordered)
 
 pub returns-clause-columns : goal.returns-clause-columns
 returns-clause-columns c = λ keeping ordered.
     let items = c.args.resolved.now.items.items in
     let all = subst (λ (xs : List ℕ). AreReached items xs) (sym c.deref-at-items.ensures.value) c.in_ok-indexes.ensures.reached in
-    kept_columns c.args.space.now items c.in_ok-last.last c.deref-at-items.result.now c.loop-at.at-index c.loop-at.answers all (omega arith) (c.in_ok-last.ensures.all keeping) (c.loop-at.invariant.known ordered)
+    kept_columns c.args.space.now items c.in_ok-last.last c.deref-at-items.result.now
+    c.loop-at.at-index c.loop-at.answers all (omega arith) (c.in_ok-last.ensures.all keeping)
+    (c.loop-at.invariant.known ordered)

@@ -8,7 +8,8 @@ use Rattle.memo_graph.proofs.cell.answers_by.Given as goal
 
 abbrev pub invariant-loop-at : goal.invariant-loop-at
 invariant-loop-at l = record {
-  known : AreSound l.resolved.items.items → AreKeptTo l.space l.resolved.items.items l.last l.at-items l.at-index l.answers;
+  known : AreSound l.resolved.items.items
+      → AreKeptTo l.space l.resolved.items.items l.last l.at-items l.at-index l.answers;
   over : IsOver l.evaluator l.space;
   long : length (kept_of l.answers) ≡ length (shown_in l.space);
   count : vec_len l.answers.columns ≡ length l.resolved.items.items;

@@ -5,5 +5,6 @@ use Rattle.memo_graph.proofs.cell.no_answers.Given as goal
 abbrev pub invariant-items : goal.invariant-items
 invariant-items l = record {
   count : vec_len l.columns ≡ l._at;
-  empty : (j : ℕ) → j < l._at → (d : Vec Column Global) → (slice_index_or l.columns.items j d).items ≡ [];
+  empty : (j : ℕ) → j < l._at → (d : Vec Column Global)
+      → (slice_index_or l.columns.items j d).items ≡ [];
 }

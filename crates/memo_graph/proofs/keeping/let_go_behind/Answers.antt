@@ -7,7 +7,9 @@ pub loop-name-init : goal.loop-name-init
 loop-name-init c = lets_none (IsGone c.args.last.now (c.args.at + 1)) c.args.columns.now
 
 pub loop-name-preserved : goal.loop-name-preserved
-loop-name-preserved c = lets_more (IsGone c.args.last.now (c.args.at + 1)) c.args.columns.now c.loop-name.columns c.let_go_if_gone.new.columns c.loop-name.invariant c.let_go_if_gone.ensures
+loop-name-preserved c =
+    lets_more (IsGone c.args.last.now (c.args.at + 1)) c.args.columns.now c.loop-name.columns
+    c.let_go_if_gone.new.columns c.loop-name.invariant c.let_go_if_gone.ensures
 
 pub returns : goal.returns
 returns c = c.loop-name.invariant

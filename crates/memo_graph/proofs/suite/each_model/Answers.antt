@@ -8,8 +8,12 @@ use Rattle.memo_graph.proofs.suite.each_model.Goals as goal
 pub loop-model-preserved : goal.loop-model-preserved
 loop-model-preserved c = (
   (λ texts all.
-      beside_more (λ m r. IsResolvedAs m.now r) (λ m o. IsFromScratch c.args.test.now m.now o) texts c.args.models.now c.loop-model.model-index c.model-item.result c.loop-model.outcomes.items c.push.new.self.items c.in_ok-under_model.field-0 all c.loop-model-test.true c.model-item.is
-      c.in_ok-push.ensures.items (λ text is. c.in_ok-under_model.ensures.outcome text.now is) (c.loop-model.invariant.0 texts all)),
+      beside_more (λ m r. IsResolvedAs m.now r) (λ m o. IsFromScratch c.args.test.now m.now o) texts
+      c.args.models.now c.loop-model.model-index c.model-item.result c.loop-model.outcomes.items
+      c.push.new.self.items c.in_ok-under_model.field-0 all c.loop-model-test.true
+      c.model-item.is
+      c.in_ok-push.ensures.items (λ text is. c.in_ok-under_model.ensures.outcome text.now is)
+      (c.loop-model.invariant.0 texts all)),
   c.under_model.ensures.over,
 )
 

@@ -6,4 +6,7 @@ use Rattle.memo_graph.specs.Suites.{AreOutcomes, AreResolvedAs}
 use Rattle.memo_graph.proofs.suite.each_model.Given as goal
 
 abbrev pub invariant-loop-model : goal.invariant-loop-model
-invariant-loop-model l = ((texts : List (Bor ModelText)) → AreResolvedAs texts l.models → AreOutcomes (take l.model-index texts) l.test l.outcomes.items) × ForOk l.space (IsOver l.evaluator)
+invariant-loop-model l =
+    ((texts : List (Bor ModelText)) → AreResolvedAs texts l.models
+    → AreOutcomes (take l.model-index texts) l.test l.outcomes.items)
+    × ForOk l.space (IsOver l.evaluator)

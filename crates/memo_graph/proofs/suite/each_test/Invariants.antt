@@ -4,4 +4,6 @@ use Rattle.memo_graph.specs.Suites.{AreRows, AreResolvedAs}
 use Rattle.memo_graph.proofs.suite.each_test.Given as goal
 
 abbrev pub invariant-loop-test : goal.invariant-loop-test
-invariant-loop-test l = (texts : List (Bor ModelText)) → AreResolvedAs texts l.models → AreRows texts (take l.test-index l.tests) l.rows.items
+invariant-loop-test l =
+    (texts : List (Bor ModelText)) → AreResolvedAs texts l.models
+    → AreRows texts (take l.test-index l.tests) l.rows.items

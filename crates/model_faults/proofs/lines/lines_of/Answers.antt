@@ -11,5 +11,8 @@ returns c =
     let place = c.args.place.now in
     let item = c.index-items-place.result in
     let told : ℕ → List ℕ = λ n. fault_told c.args.name.now n place.fault place.sign.now (clause_of item) in
-    IsFaulty place c.requires item (slice_get_read xs (length xs) place.item item refl (place_below xs place c.requires) c.index-items-place.is)
-    (c.in_ok-put_fault.ensures ∙ (ap (λ (l : List ℕ). l ++ told c.item_number-number.result) c.new-lines.ensures.items ∙ ap told c.item_number-number.ensures))
+    IsFaulty place c.requires item (slice_get_read xs (length xs) place.item item refl
+    (place_below xs place c.requires) c.index-items-place.is)
+    (c.in_ok-put_fault.ensures
+    ∙ (ap (λ (l : List ℕ). l ++ told c.item_number-number.result) c.new-lines.ensures.items
+    ∙ ap told c.item_number-number.ensures))

@@ -14,5 +14,7 @@ pub returns-then-position-len : goal.returns-then-position-len
 returns-then-position-len c =
     let bodies = c.in-Group.bodies in
     ap (spelt c.index-body.result.now.code.kind) c.as_bytes.ensures
-    ∙ body_name_at bodies.items c.args.position c.index-body.result.now (omega (arith, c.if-position-len.true, c.len.ensures, bodies.ok.0)) c.index-body.ensures
-    ∙ ap (λ (r : Role). get_or (names_in (role_content r)) c.args.position no_name) (sym c.in-Group.is)
+    ∙ body_name_at bodies.items c.args.position c.index-body.result.now
+    (omega (arith, c.if-position-len.true, c.len.ensures, bodies.ok.0)) c.index-body.ensures
+    ∙ ap (λ (r : Role). get_or (names_in (role_content r)) c.args.position no_name)
+    (sym c.in-Group.is)

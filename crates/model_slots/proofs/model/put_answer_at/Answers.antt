@@ -4,4 +4,6 @@ use Rattle.model_slots.proofs.Growing.{no_key}
 use Rattle.model_slots.proofs.model.put_answer_at.Goals as goal
 
 pub returns-in-None : goal.returns-in-None
-returns-in-None c = no_key answer_key c.args.numbers.now c.args.items.now c.args.index c.args.keys.now.items (slice_get_past c.args.items.now c.args.index c.in-None.ensures.lookup.3)
+returns-in-None c =
+    no_key answer_key c.args.numbers.now c.args.items.now c.args.index c.args.keys.now.items
+    (slice_get_past c.args.items.now c.args.index c.in-None.ensures.lookup.3)

@@ -10,6 +10,10 @@ loop-value-preserved c =
     let found = c.loop-value.found.items in
     let new = c.match-check.found.items in
     elim c.match-check.branch [
-      | in-Some+in_ok-push w ↦ found_some check_in c.args.values.now i c.value-item.result found new w.in-Some.answers c.loop-value-test.true c.value-item.is c.loop-value.invariant w.in-Some.ensures (ap (λ v. v.items) w.found-is ∙ w.in_ok-push.ensures.items)
-      | in_default w ↦ found_none check_in c.args.values.now i c.value-item.result found new c.loop-value-test.true c.value-item.is c.loop-value.invariant w.in_default.ensures (ap (λ v. v.items) w.found-is)
+      | in-Some+in_ok-push w ↦ found_some check_in c.args.values.now i c.value-item.result found new
+          w.in-Some.answers c.loop-value-test.true c.value-item.is c.loop-value.invariant
+          w.in-Some.ensures (ap (λ v. v.items) w.found-is ∙ w.in_ok-push.ensures.items)
+      | in_default w ↦ found_none check_in c.args.values.now i c.value-item.result found new
+          c.loop-value-test.true c.value-item.is c.loop-value.invariant w.in_default.ensures
+          (ap (λ v. v.items) w.found-is)
     ]

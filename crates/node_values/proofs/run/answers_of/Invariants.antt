@@ -3,4 +3,5 @@ use Rattle.node_values.specs.Values.{answers_of}
 use Rattle.node_values.proofs.run.answers_of.Given as goal
 
 abbrev pub invariant-loop-value : goal.invariant-loop-value
-invariant-loop-value l = map (λ a. a.now) l.found.items ≡ answers_of (map (λ v. v.now) (take l.value-index l.values))
+invariant-loop-value l =
+    map (λ a. a.now) l.found.items ≡ answers_of (map (λ v. v.now) (take l.value-index l.values))

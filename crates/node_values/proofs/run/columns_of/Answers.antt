@@ -10,6 +10,10 @@ loop-value-preserved c =
     let found = c.loop-value.columns.items in
     let new = c.match-column.columns.items in
     elim c.match-column.branch [
-      | in-Some+in_ok-push w ↦ found_some column_in c.args.values.now i c.value-item.result found new w.in-Some.column c.loop-value-test.true c.value-item.is c.loop-value.invariant w.in-Some.ensures (ap (λ v. v.items) w.columns-is ∙ w.in_ok-push.ensures.items)
-      | in_default w ↦ found_none column_in c.args.values.now i c.value-item.result found new c.loop-value-test.true c.value-item.is c.loop-value.invariant w.in_default.ensures (ap (λ v. v.items) w.columns-is)
+      | in-Some+in_ok-push w ↦ found_some column_in c.args.values.now i c.value-item.result found
+          new w.in-Some.column c.loop-value-test.true c.value-item.is c.loop-value.invariant
+          w.in-Some.ensures (ap (λ v. v.items) w.columns-is ∙ w.in_ok-push.ensures.items)
+      | in_default w ↦ found_none column_in c.args.values.now i c.value-item.result found new
+          c.loop-value-test.true c.value-item.is c.loop-value.invariant w.in_default.ensures
+          (ap (λ v. v.items) w.columns-is)
     ]

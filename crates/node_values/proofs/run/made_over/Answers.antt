@@ -10,4 +10,7 @@ pub returns-in-Item : goal.returns-in-Item
 returns-in-Item c = λ over.
     let item = c.in-Item.item in
     let made = item_over c.item.result.now.role (shared_role item) (shared_history item) (map (λ v. v.now) c.args.values.now) c.item_values.result c.item.ensures.role (c.item_values.ensures over) in
-    subst (λ (p : GivenParts). IfOk c.item_values.result (λ v. Makes (given_content p) (map (λ v. v.now) c.args.values.now) v.items)) (sym c.in-Item.is) made
+    subst
+    (λ (p : GivenParts). IfOk c.item_values.result (λ v.
+    Makes (given_content p) (map (λ v. v.now) c.args.values.now) v.items))
+    (sym c.in-Item.is) made

@@ -9,5 +9,8 @@ returns c =
     record {
       init = init;
       threads = c.in_ok-copied_threads.ensures ∙ ap (map steps_of) c.deref-2.ensures.value;
-      locations = part_names c.args.parts.now.init.items c.in_ok-copied_entries.field-0.items c.args.parts.now.locations.items c.in_ok-places_of.field-0.items init (c.in_ok-places_of.ensures ∙ ap (map _) c.deref-3.ensures.value);
+      locations =
+          part_names c.args.parts.now.init.items c.in_ok-copied_entries.field-0.items
+          c.args.parts.now.locations.items c.in_ok-places_of.field-0.items init
+          (c.in_ok-places_of.ensures ∙ ap (map _) c.deref-3.ensures.value);
     }

@@ -6,8 +6,12 @@ use Rattle.ppc_semantics.proofs.lowering.labels_of.Goals as goal
 pub loop-step-preserved : goal.loop-step-preserved
 loop-step-preserved c = record {
   rising = c.note_label.ensures.rising;
-  added = adds_more labels_in c.args.steps.now c.loop-step.step-index c.step-item.result _ _ _ c.loop-step-test.true c.loop-step.invariant.added (search rules);
+  added =
+      adds_more labels_in c.args.steps.now c.loop-step.step-index c.step-item.result _ _ _
+      c.loop-step-test.true c.loop-step.invariant.added (search rules);
 }
 
 pub returns : goal.returns
-returns c = are_names _ _ c.loop-step.invariant.rising (adds_all labels_in c.args.steps.now c.loop-step.step-index _ _ c.loop-step-test.false c.loop-step.invariant.added)
+returns c =
+    are_names _ _ c.loop-step.invariant.rising (adds_all labels_in c.args.steps.now
+    c.loop-step.step-index _ _ c.loop-step-test.false c.loop-step.invariant.added)

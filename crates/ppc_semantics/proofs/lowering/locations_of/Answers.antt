@@ -11,4 +11,5 @@ returns c =
     let first : Adds (flat_map entry_names test.init.items) [] c.note_init.new.names.items = search rules in
     let then : Adds (formula_names (formula_of test.condition.proposition)) c.note_init.new.names.items c.note_proposition.new.names.items = search rules in
     let last : Adds (flat_map place_names test.observed.items) c.note_proposition.new.names.items c.note_places.new.names.items = search rules in
-    are_names _ _ c.note_places.ensures.rising (adds_after _ _ _ _ _ (adds_after _ _ _ _ _ first then) last)
+    are_names _ _ c.note_places.ensures.rising (adds_after _ _ _ _ _
+    (adds_after _ _ _ _ _ first then) last)

@@ -6,5 +6,6 @@ use Rattle.ppc_semantics.proofs.lowering.note_init.Given as goal
 abbrev pub invariant-loop-entry : goal.invariant-loop-entry
 invariant-loop-entry l = record {
   rising : AllPairs IsBefore l.names.items;
-  added : Adds (flat_map entry_names (take l.entry-index l.init)) l.initial.names.items l.names.items;
+  added : Adds (flat_map entry_names (take l.entry-index l.init)) l.initial.names.items
+      l.names.items;
 }

@@ -4,4 +4,8 @@ use Rattle.ppc_semantics.specs.Lowering.{Adds, labels_in}
 use Rattle.ppc_semantics.proofs.lowering.note_label.Goals as goal
 
 pub returns-in-Label-clause-noted : goal.returns-in-Label-clause-noted
-returns-in-Label-clause-noted c = subst (λ (s : Step). OnOk c.note.result (Adds (labels_in s) c.args.labels.now.items c.note.new.names.items)) (sym c.in-Label.is) c.note.ensures.noted
+returns-in-Label-clause-noted c =
+    subst
+    (λ (s : Step).
+    OnOk c.note.result (Adds (labels_in s) c.args.labels.now.items c.note.new.names.items))
+    (sym c.in-Label.is) c.note.ensures.noted

@@ -4,4 +4,8 @@ use Rattle.ppc_semantics.specs.Lowering.{Adds, place_names}
 use Rattle.ppc_semantics.proofs.lowering.note_place.Goals as goal
 
 pub returns-in-Location-clause-noted : goal.returns-in-Location-clause-noted
-returns-in-Location-clause-noted c = subst (λ (p : Place). OnOk c.note.result (Adds (place_names p) c.args.names.now.items c.note.new.names.items)) (sym c.in-Location.is) c.note.ensures.noted
+returns-in-Location-clause-noted c =
+    subst
+    (λ (p : Place).
+    OnOk c.note.result (Adds (place_names p) c.args.names.now.items c.note.new.names.items))
+    (sym c.in-Location.is) c.note.ensures.noted

@@ -6,5 +6,6 @@ use Rattle.ppc_semantics.proofs.lowering.note_places.Given as goal
 abbrev pub invariant-loop-place : goal.invariant-loop-place
 invariant-loop-place l = record {
   rising : AllPairs IsBefore l.names.items;
-  added : Adds (flat_map place_names (take l.place-index l.places)) l.initial.names.items l.names.items;
+  added : Adds (flat_map place_names (take l.place-index l.places)) l.initial.names.items
+      l.names.items;
 }

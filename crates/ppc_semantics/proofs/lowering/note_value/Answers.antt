@@ -4,4 +4,8 @@ use Rattle.ppc_semantics.specs.Lowering.{Adds, value_names}
 use Rattle.ppc_semantics.proofs.lowering.note_value.Goals as goal
 
 pub returns-in-Address-clause-noted : goal.returns-in-Address-clause-noted
-returns-in-Address-clause-noted c = subst (λ (v : Value). OnOk c.note.result (Adds (value_names v) c.args.names.now.items c.note.new.names.items)) (sym c.in-Address.is) c.note.ensures.noted
+returns-in-Address-clause-noted c =
+    subst
+    (λ (v : Value).
+    OnOk c.note.result (Adds (value_names v) c.args.names.now.items c.note.new.names.items))
+    (sym c.in-Address.is) c.note.ensures.noted

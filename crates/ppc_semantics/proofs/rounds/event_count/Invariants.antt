@@ -6,4 +6,10 @@ use Rattle.ppc_semantics.specs.Domain.{has_event}
 use Rattle.ppc_semantics.proofs.rounds.event_count.Given as goal
 
 abbrev pub invariant-loop-lines : goal.invariant-loop-lines
-invariant-loop-lines l = l.count ≡ min (length l.program.locations.items + sum_by (λ (lines : Vec Line Global). count_by has_event lines.items) (take l.lines-index l.program.threads.items)) (2 ^ 64 - 1)
+invariant-loop-lines l =
+    l.count
+    ≡ min
+    (length l.program.locations.items
+    + sum_by (λ (lines : Vec Line Global). count_by has_event lines.items)
+    (take l.lines-index l.program.threads.items))
+    (2 ^ 64 - 1)

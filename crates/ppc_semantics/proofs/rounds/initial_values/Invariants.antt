@@ -7,5 +7,7 @@ use Rattle.ppc_semantics.proofs.rounds.initial_values.Given as goal
 abbrev pub invariant-loop-value : goal.invariant-loop-value
 invariant-loop-value l = record {
   set : IsSet l.values.items;
-  exact : (u : Value) → Contains l.values.items u ↔ (Contains (take l.value-index l.program.initial.items) u × IsOne u);
+  exact : (u : Value)
+      → Contains l.values.items u
+      ↔ (Contains (take l.value-index l.program.initial.items) u × IsOne u);
 }

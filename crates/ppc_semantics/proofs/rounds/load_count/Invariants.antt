@@ -6,4 +6,9 @@ use Rattle.ppc_semantics.specs.Domain.{has_load}
 use Rattle.ppc_semantics.proofs.rounds.load_count.Given as goal
 
 abbrev pub invariant-loop-lines : goal.invariant-loop-lines
-invariant-loop-lines l = l.count ≡ min (sum_by (λ (lines : Vec Line Global). count_by has_load lines.items) (take l.lines-index l.program.threads.items)) (2 ^ 64 - 1)
+invariant-loop-lines l =
+    l.count
+    ≡ min
+    (sum_by (λ (lines : Vec Line Global). count_by has_load lines.items)
+    (take l.lines-index l.program.threads.items))
+    (2 ^ 64 - 1)

@@ -8,5 +8,6 @@ use Rattle.ppc_semantics.proofs.rounds.next_values.Given as goal
 abbrev pub invariant-loop-thread : goal.invariant-loop-thread
 invariant-loop-thread l = record {
   set : IsSet l.next.items;
-  added : AreAdded (StoresFreely (threads_from l.program l.thread) (Contains l.values)) l.values l.next.items;
+  added : AreAdded (StoresFreely (threads_from l.program l.thread) (Contains l.values)) l.values
+      l.next.items;
 }

@@ -14,7 +14,11 @@ returns-then-not-is_satisfied c =
         shown = shown;
         stands = c.requires.shown;
         events = refl;
-        holds = ap (λ (names : List (List ℕ)). is_satisfied names (formula_of c.args.test.now.condition.proposition) shown) (sym c.deref.ensures.value)
+        holds =
+            ap
+            (λ (names : List (List ℕ)).
+            is_satisfied names (formula_of c.args.test.now.condition.proposition) shown)
+            (sym c.deref.ensures.value)
             ∙ sym c.is_satisfied.ensures ∙ c.if-not-is_satisfied.true;
       };
     }

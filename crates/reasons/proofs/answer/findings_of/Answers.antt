@@ -19,7 +19,9 @@ loop-candidate-preserved c =
     let new = c.add_outcome.new.findings in
     let outcome = c.in_ok-outcome.outcome in
     record {
-      found = found_more case k old new outcome c.loop-candidate.invariant.found c.in_ok-outcome.ensures c.in_ok-add_outcome.ensures;
+      found =
+          found_more case k old new outcome c.loop-candidate.invariant.found c.in_ok-outcome.ensures
+          c.in_ok-add_outcome.ensures;
       few = few_more k old new outcome c.loop-candidate.invariant.few c.in_ok-add_outcome.ensures;
     }
 
@@ -27,4 +29,5 @@ pub returns : goal.returns
 returns c =
     let case = case_of c.args.test.now c.args.space.now c.args.judged c.args.is_deep in
     let all : c.loop-candidate.candidate ≡ candidate_count c.args.space.now = omega arith in
-    subst (λ (k : ℕ). AreFoundOf case k c.loop-candidate.findings) all c.loop-candidate.invariant.found
+    subst (λ (k : ℕ). AreFoundOf case k c.loop-candidate.findings) all
+    c.loop-candidate.invariant.found

@@ -23,7 +23,9 @@ returns c =
         all_names = rw seen.predefined is.all_names;
         findings = findings;
         gathered = rw (seen.text, seen.items, seen.checks) at c.in_ok-findings.ensures;
-        told = ap (λ (names : List (List ℕ)). findings_text c.args.asked.is_forbidden names findings) c.deref.ensures.value;
+        told =
+            ap (λ (names : List (List ℕ)). findings_text c.args.asked.is_forbidden names findings)
+            c.deref.ensures.value;
       };
       text = e;
     }) c.put_findings.ensures

@@ -17,10 +17,14 @@ loop-number-preserved c =
     elim c.if-is_boxed.branch [
       | then-is_boxed+in_ok-push w ↦
           subst Goal (sym (ap (λ v. v.items) w.boxes-is ∙ w.in_ok-push.ensures.items))
-          (one_boxed scene P i c.loop-number.boxes.items w.boxed.result (c.is_boxed.ensures.0 w.if-is_boxed.true) w.boxed.ensures.number w.boxed.ensures.event w.boxed.ensures.instruction c.loop-number.invariant)
+          (one_boxed scene P i c.loop-number.boxes.items w.boxed.result
+          (c.is_boxed.ensures.0 w.if-is_boxed.true) w.boxed.ensures.number
+          w.boxed.ensures.event w.boxed.ensures.instruction c.loop-number.invariant)
       | else-is_boxed w ↦
           subst Goal (sym (ap (λ v. v.items) w.boxes-is))
-          (one_left scene P i c.loop-number.boxes.items (λ h. false≢true (sym w.if-is_boxed.false ∙ c.is_boxed.ensures.1 h)) c.loop-number.invariant)
+          (one_left scene P i c.loop-number.boxes.items
+          (λ h. false≢true (sym w.if-is_boxed.false ∙ c.is_boxed.ensures.1 h))
+          c.loop-number.invariant)
     ]
 
 pub returns : goal.returns
@@ -28,5 +32,9 @@ returns c =
     let events = c.args.told.events.now in
     let D = IsMember c.args.drawn.now in
     let inside = boxed_within events D c.args.thread in
-    all_boxed (scene_of c.args.told) (IsBoxed events D c.args.thread) c.loop-number.number c.loop-number.boxes.items
-    (λ n h. let lt : n < length events = inside n h in omega (arith, lt, c.loop-number-test.false, c.loop-number.auto.number-end)) c.loop-number.invariant
+    all_boxed (scene_of c.args.told) (IsBoxed events D c.args.thread) c.loop-number.number
+    c.loop-number.boxes.items
+    (λ n h.
+    let lt : n < length events = inside n h in
+    omega (arith, lt, c.loop-number-test.false, c.loop-number.auto.number-end))
+    c.loop-number.invariant

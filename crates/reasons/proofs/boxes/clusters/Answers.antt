@@ -11,5 +11,7 @@ loop-thread-preserved c =
     let scene = scene_of c.args.told in
     let D = IsMember c.args.drawn.now in
     let i = c.loop-thread.thread in
-    subst (λ (cs : List Cluster). AreClusters scene D (i + 1) cs) (sym {A = List Cluster} c.in_ok-push.ensures.items)
-    (cluster_more scene D i c.loop-thread.clusters.items c.in_ok-cluster.field-0 c.in_ok-cluster.ensures c.loop-thread.invariant)
+    subst (λ (cs : List Cluster). AreClusters scene D (i + 1) cs)
+    (sym {A = List Cluster} c.in_ok-push.ensures.items)
+    (cluster_more scene D i c.loop-thread.clusters.items c.in_ok-cluster.field-0
+    c.in_ok-cluster.ensures c.loop-thread.invariant)

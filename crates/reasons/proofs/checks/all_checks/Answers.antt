@@ -28,7 +28,12 @@ loop-index-preserved c =
           let here = rw w.in_default.is at c.in_ok-check.ensures.all in
           let all = listed items i c.index-items-index.result checks [] (omega arith) c.index-items-index.is here c.loop-index.invariant.1 in
           let same : checks ++ [] ≡ checks = append-nil checks in
-          subst Goal (sym (ap (λ v. v.items) w.checks-is)) (c.loop-index.invariant.0, subst (λ (xs : List CheckValues). items_of xs ≡ check_indexes 0 (take (i + 1) items)) same all)
+          subst Goal (sym (ap (λ v. v.items) w.checks-is)) (
+            c.loop-index.invariant.0,
+            subst
+                (λ (xs : List CheckValues). items_of xs
+                ≡ check_indexes 0 (take (i + 1) items)) same all,
+          )
     ]
 
 pub returns-clause-all : goal.returns-clause-all

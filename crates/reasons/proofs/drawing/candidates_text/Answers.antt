@@ -21,7 +21,8 @@ loop-candidate-preserved c =
       | then-count-most+in_ok-put_candidate+then-branch w ↦
           let adds = rw w.if-branch.true at w.in_ok-put_candidate.ensures in
           let more = more_drawn wanted most s k count old w.put_candidate.new.text.items (omega (arith, w.if-count-most.true)) adds c.loop-candidate.invariant in
-          subst (λ (t : List ℕ). Goal c.if-count-most.count t) (sym (ap (λ v. v.items) w.text-is)) (subst (λ (n : ℕ). Goal n w.put_candidate.new.text.items) (sym w.count-is) more)
+          subst (λ (t : List ℕ). Goal c.if-count-most.count t) (sym (ap (λ v. v.items) w.text-is))
+          (subst (λ (n : ℕ). Goal n w.put_candidate.new.text.items) (sym w.count-is) more)
       | else-count-most w ↦ elim w.else-count-most.branch [
         | else-count-most-via-then-count-most+in_ok-put_candidate+else-branch v ↦
             let adds = rw v.if-branch.false at v.in_ok-put_candidate.ensures in
@@ -29,6 +30,7 @@ loop-candidate-preserved c =
             rw (w.text-is, w.count-is, v.text-is) more
         | else-count-most-via-else-count-most v ↦
             let full : most ≤ count = omega (arith, v.if-count-most.false) in
-            rw (w.text-is, w.count-is, v.text-is) (too_many wanted most s k count old full c.loop-candidate.invariant)
+            rw (w.text-is, w.count-is, v.text-is) (too_many wanted most s k count old full
+            c.loop-candidate.invariant)
       ]
     ]

@@ -18,4 +18,12 @@ returns c =
     let written = subst (λ (x : CheckValues). item ≡ get_or texts x.item item) (sym c.index-judged-refusal.is) c.index-judged-check.is in
     let here = slice_get_read checks (length checks) first check refl c.requires.within c.index-judged-refusal.is in
     let there = slice_get_read texts (length texts) check.item item refl within written in
-    IfOk-weaker c.print_item.result _ _ (λ v h. (check, here, item, there, h ∙ ap (λ (x : Item). printed_item (clause_of x)) (sym c.index-judged-check.is))) c.print_item.ensures
+    IfOk-weaker c.print_item.result _ _
+    (λ v h. (
+      check,
+      here,
+      item,
+      there,
+      h ∙ ap (λ (x : Item). printed_item (clause_of x)) (sym c.index-judged-check.is),
+    ))
+    c.print_item.ensures

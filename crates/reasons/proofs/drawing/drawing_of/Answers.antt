@@ -16,8 +16,13 @@ edges_of-requires-clause-count c =
     let k = c.args.candidate in
     let e = c.args.execution.now in
     let (one, is) = shown_there space k e c.requires.shown in
-    let long : c.drawn_events-drawn.result.count ≡ length e.events.items = rw c.deref-4.ensures.value at c.drawn_events-drawn.ensures.count in
-    (one, is, long ∙ ap (λ (xs : List Event). length xs) (events_shown space k e one c.requires.shown is))
+    let long : c.drawn_events-drawn.result.count ≡ length e.events.items = rw c.deref-4.ensures.value at c.drawn_events-drawn.ensures.count in (
+      one,
+      is,
+      long
+          ∙ ap (λ (xs : List Event). length xs)
+          (events_shown space k e one c.requires.shown is),
+    )
 
 pub returns : goal.returns
 returns c = λ one is.
@@ -46,8 +51,14 @@ returns c = λ one is.
       fate = c.in_ok-fate.fate.items;
       told = c.in_ok-fate.ensures;
       title = rw (c.as_bytes.ensures, c.deref-7.ensures.value) at c.in_ok-title_of.ensures;
-      initial = boxed_as scene (IsMember drawn) (IsDrawnIn one ends) None members c.in_ok-boxes.field-0.items c.in_ok-boxes.ensures;
-      clusters = clusters_as scene (IsMember drawn) (IsDrawnIn one ends) _ members c.in_ok-clusters.field-0.items (rw c.len.ensures at c.in_ok-clusters.ensures);
-      edges = edges_as_drawn (subject_of c.args.scene) k one (IsMember drawn) (IsDrawnIn one ends) members c.in_ok-edges_of.field-0.items (c.in_ok-edges_of.ensures one is);
+      initial =
+          boxed_as scene (IsMember drawn) (IsDrawnIn one ends) None members
+          c.in_ok-boxes.field-0.items c.in_ok-boxes.ensures;
+      clusters =
+          clusters_as scene (IsMember drawn) (IsDrawnIn one ends) _ members
+          c.in_ok-clusters.field-0.items (rw c.len.ensures at c.in_ok-clusters.ensures);
+      edges =
+          edges_as_drawn (subject_of c.args.scene) k one (IsMember drawn) (IsDrawnIn one ends)
+          members c.in_ok-edges_of.field-0.items (c.in_ok-edges_of.ensures one is);
       steps = c.in_ok-first.ensures;
     }

@@ -8,7 +8,9 @@ candidates_text-requires-clause-ready c =
     let is = c.in_ok-evaluated.ensures in
     let seen = c.as_judged.ensures in
     rw (seen.text, seen.checks, c.deref.ensures.value, c.deref-3.ensures.value) record {
-      named = checks_within c.args.space.now _ c.args.model.now c.args.resolved.now.items.items c.in_ok-evaluated.evaluated.checks.items c.requires.items is.each_check;
+      named =
+          checks_within c.args.space.now _ c.args.model.now c.args.resolved.now.items.items
+          c.in_ok-evaluated.evaluated.checks.items c.requires.items is.each_check;
       all = c.in_ok-relations.ensures;
       sized = c.in_ok-shown.ensures.sized;
     }
@@ -17,7 +19,8 @@ pub candidates_text-requires-clause-runs : goal.candidates_text-requires-clause-
 candidates_text-requires-clause-runs c = rw c.deref-2.ensures.value c.in_ok-runs.ensures
 
 pub candidates_text-requires-clause-few : goal.candidates_text-requires-clause-few
-candidates_text-requires-clause-few c = omega (arith, few_candidates c.args.test.now c.args.space.now c.requires.executions)
+candidates_text-requires-clause-few c =
+    omega (arith, few_candidates c.args.test.now c.args.space.now c.requires.executions)
 
 pub returns : goal.returns
 returns c =
@@ -34,7 +37,9 @@ returns c =
       all_shown = c.in_ok-shown.ensures.all;
       checked = record {
         answers = c.in_ok-evaluated.evaluated.answers;
-        valued = is.columns (resolved_sound c.args.model.now c.args.resolved.now.items.items c.requires.faultless c.requires.items);
+        valued =
+            is.columns (resolved_sound c.args.model.now c.args.resolved.now.items.items
+            c.requires.faultless c.requires.items);
         each = is.each_check;
         all = is.all_checks;
         bound = seen.bound;

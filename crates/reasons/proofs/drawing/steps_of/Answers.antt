@@ -10,5 +10,8 @@ returns-in_ok-reason-in-Some c =
     let model = judgement_of c.args.judged false in
     let scene = scene_of c.args.told in
     let reason = c.in_ok-reason-in-Some.reason in
-    subst (λ (found : Option FirstRefusal). AreSteps model c.args.judged.checks.now scene found reason.first reason.steps.items) (sym c.in-Some.is)
+    subst
+    (λ (found : Option FirstRefusal).
+    AreSteps model c.args.judged.checks.now scene found reason.first reason.steps.items)
+    (sym c.in-Some.is)
     (reason, c.in_ok-reason-in-Some.ensures, refl, refl)

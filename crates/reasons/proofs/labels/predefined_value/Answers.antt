@@ -12,7 +12,9 @@ returns c =
       value = record {
         code = record { kind = kinds.OfRelation; steps = c.push.new.self };
         kind = refl;
-        steps = c.in_ok-push.ensures.items ∙ ap (λ (xs : List Step). xs ++ name ∷ []) c.new-steps.ensures.items;
+        steps =
+            c.in_ok-push.ensures.items
+            ∙ ap (λ (xs : List Step). xs ++ name ∷ []) c.new-steps.ensures.items;
         values = c.in_ok-column.ensures;
       };
       name = refl;

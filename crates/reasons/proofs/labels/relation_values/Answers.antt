@@ -27,7 +27,12 @@ loop-index-preserved c =
           let here = adds_none _ (sym c.is_set.ensures ∙ w.if-not-is_set.false) in
           let all = named names i _ values [] (omega arith) here c.loop-index.invariant.1 in
           let same : values ++ [] ≡ values = append-nil values in
-          subst Goal (sym (ap (λ v. v.items) w.values-is)) (c.loop-index.invariant.0, subst (λ (xs : List PredefinedValue). names_in xs ≡ relation_names (take (i + 1) names)) same all)
+          subst Goal (sym (ap (λ v. v.items) w.values-is)) (
+            c.loop-index.invariant.0,
+            subst
+                (λ (xs : List PredefinedValue). names_in xs
+                ≡ relation_names (take (i + 1) names)) same all,
+          )
     ]
 
 pub returns-clause-all : goal.returns-clause-all

@@ -32,8 +32,10 @@ loop-index-preserved c = λ one is.
     let lines = lines_with one S x _ c.args.space.now e here (c.in_ok-lines_of.ensures one is) in
     let long : length values ≡ length relations = AllZip-long (AreValuesOf c.args.space.now) relations values c.requires.values in
     let lt : i < length relations = omega (arith, c.loop-index-test.true, long) in
-    subst (λ (es : List Edges). AllZip (AreLines one S) (take (i + 1) relations) es) (sym {A = List Edges} c.in_ok-push.ensures.items)
-    (zip_more (AreLines one S) relations i some c.loop-index.lines.items e lt (c.loop-index.invariant one is) lines)
+    subst (λ (es : List Edges). AllZip (AreLines one S) (take (i + 1) relations) es)
+    (sym {A = List Edges} c.in_ok-push.ensures.items)
+    (zip_more (AreLines one S) relations i some c.loop-index.lines.items e lt
+    (c.loop-index.invariant one is) lines)
 
 pub returns : goal.returns
 returns c = λ one is.
@@ -41,4 +43,8 @@ returns c = λ one is.
     let i : ℕ = c.loop-index.index in
     let long : length values ≡ length relations = AllZip-long (AreValuesOf c.args.space.now) relations values c.requires.values in
     let full : length relations ≤ i = omega (arith, c.loop-index-test.false, c.loop-index.auto.index-end, long) in
-    subst (λ (rs : List (Predefined × Ink)). AllZip (AreLines one (IsMember c.args.drawn.now)) rs c.loop-index.lines.items) (take_all i relations full) (c.loop-index.invariant one is)
+    subst
+    (λ (rs : List (Predefined × Ink)).
+    AllZip (AreLines one (IsMember c.args.drawn.now)) rs c.loop-index.lines.items)
+    (take_all i relations full)
+    (c.loop-index.invariant one is)

@@ -6,4 +6,6 @@ use Rattle.reasons.specs.Drawings.{AreLines, IsAt, relations}
 use Rattle.reasons.proofs.lines.all_lines.Given as goal
 
 abbrev pub invariant-loop-index : goal.invariant-loop-index
-invariant-loop-index l = (one : Candidate) → IsAt l.space l.candidate one → AllZip (AreLines one (IsMember l.drawn)) (take l.index relations) l.lines.items
+invariant-loop-index l =
+    (one : Candidate) → IsAt l.space l.candidate one
+    → AllZip (AreLines one (IsMember l.drawn)) (take l.index relations) l.lines.items

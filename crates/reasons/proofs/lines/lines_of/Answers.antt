@@ -11,5 +11,7 @@ returns c = λ one is.
     record {
       name = c.in_ok-name.ensures.items ∙ c.spelling.ensures;
       ink = refl;
-      pairs = edges_as S S (Has c.relation_of-pairs.result) (PairsOf one c.args.relation.now.value.name) (λ a. ((λ x. x), (λ x. x))) found.pairs c.in_ok-pairs.pairs.items c.in_ok-pairs.ensures;
+      pairs =
+          edges_as S S (Has c.relation_of-pairs.result) (PairsOf one c.args.relation.now.value.name)
+          (λ a. ((λ x. x), (λ x. x))) found.pairs c.in_ok-pairs.pairs.items c.in_ok-pairs.ensures;
     }

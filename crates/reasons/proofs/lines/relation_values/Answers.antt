@@ -11,5 +11,7 @@ loop-index-preserved c =
     let i = c.loop-index.index in
     let R = AreValuesOf c.args.space.now in
     let found = c.in_ok-drawn_relation.field-0 in
-    subst (λ (vs : List DrawnRelation). AllZip R (take (i + 1) relations) vs) (sym {A = List DrawnRelation} c.in_ok-push.ensures.items)
-    (zip_more R relations i _ c.loop-index.found.items found (omega arith) c.loop-index.invariant c.in_ok-drawn_relation.ensures)
+    subst (λ (vs : List DrawnRelation). AllZip R (take (i + 1) relations) vs)
+    (sym {A = List DrawnRelation} c.in_ok-push.ensures.items)
+    (zip_more R relations i _ c.loop-index.found.items found (omega arith) c.loop-index.invariant
+    c.in_ok-drawn_relation.ensures)

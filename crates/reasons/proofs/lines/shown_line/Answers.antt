@@ -11,5 +11,8 @@ returns c =
     record {
       name = c.in_ok-name.ensures.items ∙ c.as_bytes.ensures;
       ink = refl;
-      pairs = edges_as S S (Has c.shown_at-pairs.result) (HasPair v.values c.args.candidate) (λ a. ((λ x. x), (λ x. x))) c.shown_at-pairs.ensures.pairs c.in_ok-pairs.pairs.items c.in_ok-pairs.ensures;
+      pairs =
+          edges_as S S (Has c.shown_at-pairs.result) (HasPair v.values c.args.candidate)
+          (λ a. ((λ x. x), (λ x. x))) c.shown_at-pairs.ensures.pairs c.in_ok-pairs.pairs.items
+          c.in_ok-pairs.ensures;
     }

@@ -5,4 +5,5 @@ use Rattle.reasons.specs.Drawings.{AreShownLines}
 use Rattle.reasons.proofs.lines.shown_lines.Given as goal
 
 abbrev pub invariant-loop-index : goal.invariant-loop-index
-invariant-loop-index l = AllZip (AreShownLines l.candidate (IsMember l.drawn)) (take l.index l.shown) l.lines.items
+invariant-loop-index l =
+    AllZip (AreShownLines l.candidate (IsMember l.drawn)) (take l.index l.shown) l.lines.items

@@ -13,5 +13,7 @@ loop-index-preserved c =
     let f = c.index-factors-index.result in
     let before = map start_of c.loop-index.starts.items in
     let added = c.in_ok-add_starts.ensures ∙ ap (λ (g : FactorValues). before ++ starts_at g.code c.run_at.result.now) (sym c.index-factors-index.is) in
-    through_more factors runs c.loop-index.index f before (starts_at f.code c.run_at.result.now) (map start_of c.add_starts.new.starts.items)
-    (starts_through factors runs) (omega arith) c.index-factors-index.is (ap (starts_at f.code) c.run_at.ensures) added c.loop-index.invariant
+    through_more factors runs c.loop-index.index f before (starts_at f.code c.run_at.result.now)
+    (map start_of c.add_starts.new.starts.items)
+    (starts_through factors runs) (omega arith) c.index-factors-index.is
+    (ap (starts_at f.code) c.run_at.ensures) added c.loop-index.invariant

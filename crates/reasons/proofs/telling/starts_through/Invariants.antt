@@ -6,4 +6,6 @@ use Rattle.reasons.proofs.telling.starts_through.Given as goal
 
 abbrev pub invariant-loop-index : goal.invariant-loop-index
 invariant-loop-index l =
-    map start_of l.starts.items ++ starts_through (drop l.index l.factors) (drop l.index (runs_of l.runs)) ≡ starts_through l.factors (runs_of l.runs)
+    map start_of l.starts.items
+    ++ starts_through (drop l.index l.factors) (drop l.index (runs_of l.runs))
+    ≡ starts_through l.factors (runs_of l.runs)

@@ -5,4 +5,6 @@ use Rattle.reasons.specs.Views.{judgement_of, leg_of}
 use Rattle.reasons.proofs.telling.steps_to.Given as goal
 
 abbrev pub invariant-loop-leg : goal.invariant-loop-leg
-invariant-loop-leg l = AllZip (IsStep (judgement_of l.judged l.is_deep) l.item l.candidate) (map leg_of (take l.leg-index l.leg-items)) l.steps.items
+invariant-loop-leg l =
+    AllZip (IsStep (judgement_of l.judged l.is_deep) l.item l.candidate)
+    (map leg_of (take l.leg-index l.leg-items)) l.steps.items

@@ -6,4 +6,6 @@ pub loop-a-init : goal.loop-a-init
 loop-a-init c = λ a b lt h. absurd (omega (arith, lt))
 
 pub returns : goal.returns
-returns c = all_words c.args.words.now c.args.others.now c.args.used c.loop-a.a (omega arith) c.loop-a.invariant
+returns c =
+    all_words c.args.words.now c.args.others.now c.args.used c.loop-a.a (omega arith)
+    c.loop-a.invariant

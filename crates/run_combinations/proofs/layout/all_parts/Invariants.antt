@@ -3,4 +3,5 @@ use Rattle.run_combinations.specs.Parts.{AreThreads}
 use Rattle.run_combinations.proofs.layout.all_parts.Given as goal
 
 abbrev pub invariant-loop-thread : goal.invariant-loop-thread
-invariant-loop-thread l = AreThreads 0 (take l.thread l.runs) (take l.thread l.sketches) l.threads.items
+invariant-loop-thread l =
+    AreThreads 0 (take l.thread l.runs) (take l.thread l.sketches) l.threads.items

@@ -5,4 +5,7 @@ use Rattle.thread_runs.specs.Held.{ShowsServed}
 use Rattle.run_combinations.proofs.layout.served_runs.Given as goal
 
 abbrev pub invariant-loop-thread : goal.invariant-loop-thread
-invariant-loop-thread l = (length l.threads.items ≡ l.thread) × ((t : ℕ) (v : Vec Run Global) → slice_get l.threads.items t ≡ Some v → ShowsServed l.program t l.domain.values.items v.items)
+invariant-loop-thread l =
+    (length l.threads.items ≡ l.thread)
+    × ((t : ℕ) (v : Vec Run Global) → slice_get l.threads.items t ≡ Some v
+    → ShowsServed l.program t l.domain.values.items v.items)

@@ -17,9 +17,19 @@ all_parts-requires c =
     let em : c.deref_mut.result.now ≡ c.in_ok-sketches.sketches.items = c.deref_mut.ensures.value in
     let made : AllSketches c.args.domain.now.values.items c.deref.result.now c.in_ok-sketches.sketches.items = c.in_ok-sketches.ensures in
     let sketched : AllSketches c.args.domain.now.values.items c.in_ok-runs.runs.items c.deref_mut.result.now =
-    subst (λ (l : List (Vec Sketch Global)). AllSketches c.args.domain.now.values.items c.in_ok-runs.runs.items l) (sym em) (subst (λ (l : List (Vec Run Global)). AllSketches c.args.domain.now.values.items l c.in_ok-sketches.sketches.items) e1 made) in
+    subst
+    (λ (l : List (Vec Sketch Global)).
+    AllSketches c.args.domain.now.values.items c.in_ok-runs.runs.items l)
+    (sym em)
+    (subst
+    (λ (l : List (Vec Run Global)).
+    AllSketches c.args.domain.now.values.items l c.in_ok-sketches.sketches.items) e1
+    made) in
     let facts : AllFacts c.args.domain.now.values.items c.in_ok-runs.runs.items c.sift.new.threads = all_facts c.args.domain.now.values.items c.in_ok-runs.runs.items c.deref_mut.result.now c.sift.new.threads sketched c.sift.ensures.some in
-    subst (λ (l : List (Vec Run Global)). AllZip NamesRuns l c.deref-3.result.now) (sym e2) (subst (λ (l : List (Vec Sketch Global)). AllZip NamesRuns c.in_ok-runs.runs.items l) (sym e3) (all_named c.args.domain.now.values.items c.in_ok-runs.runs.items c.sift.new.threads facts))
+    subst (λ (l : List (Vec Run Global)). AllZip NamesRuns l c.deref-3.result.now) (sym e2)
+    (subst (λ (l : List (Vec Sketch Global)). AllZip NamesRuns c.in_ok-runs.runs.items l)
+    (sym e3) (all_named c.args.domain.now.values.items c.in_ok-runs.runs.items
+    c.sift.new.threads facts))
 
 pub returns : goal.returns
 returns c =
@@ -30,7 +40,23 @@ returns c =
     let em : c.deref_mut.result.now ≡ c.in_ok-sketches.sketches.items = c.deref_mut.ensures.value in
     let made : AllSketches c.args.domain.now.values.items c.deref.result.now c.in_ok-sketches.sketches.items = c.in_ok-sketches.ensures in
     let sketched : AllSketches c.args.domain.now.values.items c.in_ok-runs.runs.items c.deref_mut.result.now =
-    subst (λ (l : List (Vec Sketch Global)). AllSketches c.args.domain.now.values.items c.in_ok-runs.runs.items l) (sym em) (subst (λ (l : List (Vec Run Global)). AllSketches c.args.domain.now.values.items l c.in_ok-sketches.sketches.items) e1 made) in
+    subst
+    (λ (l : List (Vec Sketch Global)).
+    AllSketches c.args.domain.now.values.items c.in_ok-runs.runs.items l)
+    (sym em)
+    (subst
+    (λ (l : List (Vec Run Global)).
+    AllSketches c.args.domain.now.values.items l c.in_ok-sketches.sketches.items) e1
+    made) in
     let parts : AreThreads 0 c.deref-2.result.now c.deref-3.result.now c.in_ok-threads.threads.items = c.in_ok-threads.ensures in
-    let threads : AreThreads 0 c.in_ok-runs.runs.items c.sift.new.threads c.in_ok-threads.threads.items = subst (λ (l : List (Vec Run Global)). AreThreads 0 l c.sift.new.threads c.in_ok-threads.threads.items) e2 (subst (λ (l : List (Vec Sketch Global)). AreThreads 0 c.deref-2.result.now l c.in_ok-threads.threads.items) e3 parts) in
-    (c.in_ok-runs.runs.items, c.in_ok-runs.ensures, record { all = c.deref_mut.result.now; left = c.sift.new.threads; sketched = sketched; sifted = c.sift.ensures; made = threads })
+    let threads : AreThreads 0 c.in_ok-runs.runs.items c.sift.new.threads c.in_ok-threads.threads.items = subst (λ (l : List (Vec Run Global)). AreThreads 0 l c.sift.new.threads c.in_ok-threads.threads.items) e2 (subst (λ (l : List (Vec Sketch Global)). AreThreads 0 c.deref-2.result.now l c.in_ok-threads.threads.items) e3 parts) in (
+      c.in_ok-runs.runs.items,
+      c.in_ok-runs.ensures,
+      record {
+        all = c.deref_mut.result.now;
+        left = c.sift.new.threads;
+        sketched = sketched;
+        sifted = c.sift.ensures;
+        made = threads;
+      },
+    )

@@ -8,15 +8,19 @@ use Rattle.run_combinations.proofs.orders.+growing.Goals.{add_rows-then-not-has_
 pub add_rows-returns-clause-found : goal.add_rows-returns-clause-found
 add_rows-returns-clause-found t c =
     let some : 0 < c.args.left = search (rules, tests) in
-    rows_done (store_lists c.args.later.now) c.args.others.now c.args.begin c.args.left c.loop-store.store-index c.args.front.now.items _ c.args.found.now.items
+    rows_done (store_lists c.args.later.now) c.args.others.now c.args.begin c.args.left
+    c.loop-store.store-index c.args.front.now.items _ c.args.found.now.items
     some c.loop-store-test.false c.loop-store.invariant.found
 
 pub add_orders-returns-in_ok-add_rows-in-Some-clause-found : goal.add_orders-returns-in_ok-add_rows-in-Some-clause-found
 add_orders-returns-in_ok-add_rows-in-Some-clause-found t c =
     let begin : c.len-begin.result ≡ length c.args.front.now.items = search rules in
     let left : c.len-left.result ≡ length c.in-Some.location.now.others.items = search rules in
-    location_found c.args.locations.now c.in-Some.later.now c.in-Some.location.now c.deref-in-Some.result.now c.len-begin.result c.len-left.result c.args.front.now.items c.push.new.self.items _ c.args.found.now.items
-    c.in-Some.ensures.cases.0 c.deref-in-Some.ensures.value begin left c.in_ok-push-in-Some.ensures.items c.in_ok-add_rows-in-Some.ensures.found
+    location_found c.args.locations.now c.in-Some.later.now c.in-Some.location.now
+    c.deref-in-Some.result.now c.len-begin.result c.len-left.result c.args.front.now.items
+    c.push.new.self.items _ c.args.found.now.items
+    c.in-Some.ensures.cases.0 c.deref-in-Some.ensures.value begin left
+    c.in_ok-push-in-Some.ensures.items c.in_ok-add_rows-in-Some.ensures.found
 
 pub add_rows-loop-store-preserved : goal.add_rows-loop-store-preserved
 add_rows-loop-store-preserved t c =
@@ -26,13 +30,27 @@ add_rows-loop-store-preserved t c =
     elim c.if-not-has_store.branch [
       | add_rows-then-not-has_store+in_ok-push+in_ok-add_rows w ↦
           let pushed = rw c.loop-store.invariant.front at w.in_ok-push.ensures.items in record {
-            front = rw w.front-is (cut_back c.args.front.now.items w.push.new.self.items w.add_rows.new.front.items w.pop.new.self.items _ _ pushed w.in_ok-add_rows.ensures.front w.add_rows.new.front.ok.0 w.pop.ensures.rest);
+            front =
+                rw w.front-is (cut_back c.args.front.now.items w.push.new.self.items
+                w.add_rows.new.front.items w.pop.new.self.items _ _ pushed
+                w.in_ok-add_rows.ensures.front w.add_rows.new.front.ok.0 w.pop.ensures.rest);
             found =
-                rw w.found-is (store_found (rows_on later c.args.others.now c.args.begin (c.args.left - 1)) c.args.begin c.args.others.now c.args.front.now.items c.args.found.now.items c.loop-store.found.items _ c.loop-store.store-index _ 0 c.has_store.result c.loop-store-test.true refl test
-                (search (rules, tests)) c.loop-store.invariant.found (rw pushed at w.in_ok-add_rows.ensures.found));
+                rw w.found-is (store_found
+                (rows_on later c.args.others.now c.args.begin (c.args.left - 1)) c.args.begin
+                c.args.others.now c.args.front.now.items c.args.found.now.items
+                c.loop-store.found.items _ c.loop-store.store-index _ 0 c.has_store.result
+                c.loop-store-test.true refl test
+                (search (rules, tests)) c.loop-store.invariant.found
+                (rw pushed at w.in_ok-add_rows.ensures.found));
           }
       | add_rows-else-not-has_store w ↦ record {
         front = rw w.front-is c.loop-store.invariant.front;
-        found = rw w.found-is (store_passed (rows_on later c.args.others.now c.args.begin (c.args.left - 1)) c.args.begin c.args.others.now c.args.front.now.items c.args.found.now.items c.loop-store.found.items c.loop-store.store-index _ 0 c.has_store.result c.loop-store-test.true refl test (search (rules, tests)) c.loop-store.invariant.found);
+        found =
+            rw w.found-is (store_passed
+            (rows_on later c.args.others.now c.args.begin (c.args.left - 1)) c.args.begin
+            c.args.others.now c.args.front.now.items c.args.found.now.items
+            c.loop-store.found.items c.loop-store.store-index _ 0 c.has_store.result
+            c.loop-store-test.true refl test (search (rules, tests))
+            c.loop-store.invariant.found);
       }
     ]

@@ -13,5 +13,8 @@ decreases-add_rows l = 1 + l.left + weight (store_lists l.later.now)
 abbrev pub invariant-add_rows-loop-store : goal.invariant-add_rows-loop-store
 invariant-add_rows-loop-store l = record {
   front : l.front.items ≡ l.initial.front.items;
-  found : l.found.items ≡ l.initial.found.items ++ concat (flat_map (rows_on (store_lists l.later) l.others l.begin (l.left - 1)) (with_new_from l.begin (take l.store-index l.others) l.initial.front.items));
+  found : l.found.items
+      ≡ l.initial.found.items
+      ++ concat (flat_map (rows_on (store_lists l.later) l.others l.begin (l.left - 1))
+      (with_new_from l.begin (take l.store-index l.others) l.initial.front.items));
 }

@@ -4,6 +4,7 @@ use Rattle.run_combinations.proofs.orders.all_ordered.Given as goal
 
 abbrev pub invariant-loop-combination : goal.invariant-loop-combination
 invariant-loop-combination l = record {
-  made : map combination_lists l.made.items ≡ map (λ c. ordered (length l.initial.stores.items) (combination_lists c)) l.yielded;
+  made : map combination_lists l.made.items
+      ≡ map (λ c. ordered (length l.initial.stores.items) (combination_lists c)) l.yielded;
   many : length l.stores.items ≡ length l.initial.stores.items;
 }

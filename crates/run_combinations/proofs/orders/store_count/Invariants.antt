@@ -4,4 +4,5 @@ use Rattle.run_combinations.specs.Orders.{is_thread_store}
 use Rattle.run_combinations.proofs.orders.store_count.Given as goal
 
 abbrev pub invariant-loop-number : goal.invariant-loop-number
-invariant-loop-number l = l.count ≡ length (numbers (is_thread_store l.location) 0 (take l.number l.events))
+invariant-loop-number l =
+    l.count ≡ length (numbers (is_thread_store l.location) 0 (take l.number l.events))

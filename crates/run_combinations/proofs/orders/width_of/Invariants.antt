@@ -3,4 +3,5 @@ use Rattle.run_combinations.specs.Growing.{store_lists, width_of}
 use Rattle.run_combinations.proofs.orders.width_of.Given as goal
 
 abbrev pub invariant-loop-location : goal.invariant-loop-location
-invariant-loop-location l = l.width ≡ min (width_of (store_lists (take l.location-index l.locations))) (2 ^ 64 - 1)
+invariant-loop-location l =
+    l.width ≡ min (width_of (store_lists (take l.location-index l.locations))) (2 ^ 64 - 1)

@@ -7,4 +7,6 @@ use Rattle.run_combinations.proofs.part.join_writes.Goals as goal
 pub loop-run-preserved : goal.loop-run-preserved
 loop-run-preserved c =
     let Joined : Sketch → Type 0 = λ s. (a b : ℕ) → HasKey c.join.new.self a b ↔ (HasKey c.loop-run.set a b ⊎ HasKey s.writes a b) in
-    joined_more c.args.set.now c.args.runs.now c.loop-run.run-index c.run-item.result c.loop-run.set c.join.new.self (omega arith) (subst Joined c.run-item.is c.join.ensures) c.loop-run.invariant
+    joined_more c.args.set.now c.args.runs.now c.loop-run.run-index c.run-item.result c.loop-run.set
+    c.join.new.self (omega arith) (subst Joined c.run-item.is c.join.ensures)
+    c.loop-run.invariant

@@ -4,4 +4,5 @@ use Rattle.std.specs.List.{AllZip}
 use Rattle.run_combinations.proofs.part.parts.Given as goal
 
 abbrev pub invariant-loop-sketch : goal.invariant-loop-sketch
-invariant-loop-sketch l = AllZip (IsMade l.thread l.runs) (take l.sketch-index l.sketches) l.parts.items
+invariant-loop-sketch l =
+    AllZip (IsMade l.thread l.runs) (take l.sketch-index l.sketches) l.parts.items

@@ -5,7 +5,9 @@ pub loop-init : goal.loop-init
 loop-init c = sifted_none c.args.initial.now c.args.threads.now
 
 pub loop-preserved : goal.loop-preserved
-loop-preserved c = sifted_more c.args.initial.now c.args.threads.now _ _ c.loop.invariant c.keep_readable.ensures
+loop-preserved c =
+    sifted_more c.args.initial.now c.args.threads.now _ _ c.loop.invariant c.keep_readable.ensures
 
 pub returns-then-left-count : goal.returns-then-left-count
-returns-then-left-count c = sifted_more c.args.initial.now c.args.threads.now _ _ c.loop.invariant c.keep_readable.ensures
+returns-then-left-count c =
+    sifted_more c.args.initial.now c.args.threads.now _ _ c.loop.invariant c.keep_readable.ensures

@@ -4,4 +4,5 @@ use Rattle.run_combinations.specs.Parts.{HasWritesOfAll}
 use Rattle.run_combinations.proofs.part.stored_by.Given as goal
 
 abbrev pub invariant-loop-runs : goal.invariant-loop-runs
-invariant-loop-runs l = IsWithin l.initial' l.stored × HasWritesOfAll l.stored (take l.runs-index l.threads)
+invariant-loop-runs l =
+    IsWithin l.initial' l.stored × HasWritesOfAll l.stored (take l.runs-index l.threads)

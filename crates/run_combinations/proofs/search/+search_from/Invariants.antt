@@ -11,6 +11,13 @@ decreases-search_from l = length l.threads.now
 
 abbrev pub invariant-loop-run : goal.invariant-loop-run
 invariant-loop-run l = record {
-  found : (key : ℕ → Value → Option (ℕ × ℕ)) → AreKeys key l.initial.prefix.runs.events.items l.initial.prefix.reads l.initial.prefix.writes → ThreadsAreKeyed key l.threads → AllFit (min l.locations 128) (combinations (prefix_lists l.initial.prefix) l.threads) → l.initial.found.count ≤ 16384 → Searched (min l.locations 128) (going_on (prefix_lists l.initial.prefix) l.others 0 (take l.run l.part-items)) (tally l.initial.found) (tally l.found) × (l.found.count ≤ 16384);
+  found : (key : ℕ → Value → Option (ℕ × ℕ))
+      → AreKeys key l.initial.prefix.runs.events.items l.initial.prefix.reads
+      l.initial.prefix.writes → ThreadsAreKeyed key l.threads
+      → AllFit (min l.locations 128) (combinations (prefix_lists l.initial.prefix) l.threads)
+      → l.initial.found.count ≤ 16384
+      → Searched (min l.locations 128)
+      (going_on (prefix_lists l.initial.prefix) l.others 0 (take l.run l.part-items))
+      (tally l.initial.found) (tally l.found) × (l.found.count ≤ 16384);
   back : IsBack l.initial.prefix l.prefix;
 }

@@ -13,10 +13,12 @@ empty_tally cs e = ap (λ (c : List Combination). tally_of c) e
 
 pub returns-then-branch : goal.returns-then-branch
 returns-then-branch c = λ key k fit.
-    found_all (location_count c.args.layout.now) (all_combinations c.args.layout.now) c.in_ok-search_all.field-0 (tally c.search_all.new.found) c.if-branch.true
+    found_all (location_count c.args.layout.now) (all_combinations c.args.layout.now)
+    c.in_ok-search_all.field-0 (tally c.search_all.new.found) c.if-branch.true
     (c.in_ok-search_all.ensures key k fit (empty_tally c.new.result.items c.new.ensures.items))
 
 pub returns-else-branch : goal.returns-else-branch
 returns-else-branch c = λ key k fit.
-    found_over (location_count c.args.layout.now) (all_combinations c.args.layout.now) c.in_ok-search_all.field-0 (tally c.search_all.new.found) c.if-branch.false
+    found_over (location_count c.args.layout.now) (all_combinations c.args.layout.now)
+    c.in_ok-search_all.field-0 (tally c.search_all.new.found) c.if-branch.false
     (c.in_ok-search_all.ensures key k fit (empty_tally c.new.result.items c.new.ensures.items))

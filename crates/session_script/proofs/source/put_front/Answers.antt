@@ -6,4 +6,5 @@ pub returns : goal.returns
 returns c =
     let joined = front_joined c.args.most c.args.bytes.now.items c.args.more.now (search rules) in
     let count : c.min-count.result ≡ min (length c.args.more.now) (c.args.most - length c.args.bytes.now.items) = search rules in
-    grown c.extend_from_slice.result _ _ _ _ c.extend_from_slice.ensures.items (ap (λ (n : ℕ). c.args.bytes.now.items ++ take n c.args.more.now) count ∙ joined)
+    grown c.extend_from_slice.result _ _ _ _ c.extend_from_slice.ensures.items
+    (ap (λ (n : ℕ). c.args.bytes.now.items ++ take n c.args.more.now) count ∙ joined)

@@ -9,5 +9,9 @@ loop-turn-preserved g c =
     let more = take c.in-Ok.n c.read_some.new.buffer in
     let count = length-take-le c.in-Ok.n c.read_some.new.buffer (search rules) in
     let read = c.in-Ok.ensures.bytes in
-    let on = read_on c.args.most _ _ (g.S.ByteSource.remaining c.read_some.new.self) c.loop-turn.bytes.items more c.loop-turn._turn c.loop-turn.invariant.3 read.0 (search rules) in
-    (search rules, search rules, front_is_short _ c.args.most _ put, is_kept c.args.most _ _ _ _ _ put on)
+    let on = read_on c.args.most _ _ (g.S.ByteSource.remaining c.read_some.new.self) c.loop-turn.bytes.items more c.loop-turn._turn c.loop-turn.invariant.3 read.0 (search rules) in (
+      search rules,
+      search rules,
+      front_is_short _ c.args.most _ put,
+      is_kept c.args.most _ _ _ _ _ put on,
+    )

@@ -7,10 +7,12 @@ use Rattle.session_views.proofs.find.asked_outcome.Goals as goal
 
 pub returns-clause-settled : goal.returns-clause-settled
 returns-clause-settled c =
-    outcome_shown (texts_of c.args.texts.now) c.args.board.now c.requires.shows c.args.index c.args.asked.now.index (content_of c.args.test.now) (asked_model c.args.asked.now)
+    outcome_shown (texts_of c.args.texts.now) c.args.board.now c.requires.shows c.args.index
+    c.args.asked.now.index (content_of c.args.test.now) (asked_model c.args.asked.now)
     c.requires.test c.requires.model c.settled_at.result c.settled_at.ensures.settled
 
 pub returns-clause-waits : goal.returns-clause-waits
 returns-clause-waits c =
-    open_shown (texts_of c.args.texts.now) c.args.board.now c.requires.shows c.args.index c.args.asked.now.index (content_of c.args.test.now) (asked_model c.args.asked.now)
+    open_shown (texts_of c.args.texts.now) c.args.board.now c.requires.shows c.args.index
+    c.args.asked.now.index (content_of c.args.test.now) (asked_model c.args.asked.now)
     c.requires.test c.requires.model c.settled_at.result c.settled_at.ensures.unsettled

@@ -6,4 +6,5 @@ use Rattle.session_views.proofs.laws.own_edits_are_known.Goals as goal
 
 pub returns : goal.returns
 returns c = λ e number seen later made new k h applies.
-    knows_own_edit e number seen later made (texts_of c.args.own.now) new k h (result_one c.args.own.now (edit_of e)) applies
+    knows_own_edit e number seen later made (texts_of c.args.own.now) new k h
+    (result_one c.args.own.now (edit_of e)) applies

@@ -9,9 +9,12 @@ use Rattle.session_views.proofs.rows.asked_row.Goals as goal
 
 pub loop-asked-preserved : goal.loop-asked-preserved
 loop-asked-preserved c =
-    zip_more (IsCell (content_of c.args.test.now)) asked_model cell_of c.args.models.now c.loop-asked.asked-index c.asked-item.result c.loop-asked.cells.items c.push.new.self.items c.in-Some.cell
+    zip_more (IsCell (content_of c.args.test.now)) asked_model cell_of c.args.models.now
+    c.loop-asked.asked-index c.asked-item.result c.loop-asked.cells.items c.push.new.self.items
+    c.in-Some.cell
     (search rules) (search rules) (search rules) c.loop-asked.invariant c.in-Some.ensures.settled
 
 pub returns-in-None-clause-waits : goal.returns-in-None-clause-waits
 returns-in-None-clause-waits c =
-    open_among c.args.board.now c.args.models.now c.loop-asked.asked-index c.args.index c.asked-item.result (search rules) (search rules) c.in-None.ensures.waits
+    open_among c.args.board.now c.args.models.now c.loop-asked.asked-index c.args.index
+    c.asked-item.result (search rules) (search rules) c.in-None.ensures.waits

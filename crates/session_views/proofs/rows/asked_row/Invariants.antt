@@ -7,4 +7,6 @@ use Rattle.session_views.specs.Asked.{asked_model}
 use Rattle.session_views.proofs.rows.asked_row.Given as goal
 
 abbrev pub invariant-loop-asked : goal.invariant-loop-asked
-invariant-loop-asked l = AllZip (IsCell (content_of l.test)) (map asked_model (take l.asked-index l.models)) (map cell_of l.cells.items)
+invariant-loop-asked l =
+    AllZip (IsCell (content_of l.test)) (map asked_model (take l.asked-index l.models))
+    (map cell_of l.cells.items)

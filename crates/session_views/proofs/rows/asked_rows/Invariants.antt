@@ -7,4 +7,6 @@ use Rattle.session_views.specs.Asked.{asked_model}
 use Rattle.session_views.proofs.rows.asked_rows.Given as goal
 
 abbrev pub invariant-loop-index : goal.invariant-loop-index
-invariant-loop-index l = AllZip (IsRow (map asked_model l.models)) (map content_of (take l.index l.tests)) (map row_of l.rows.items)
+invariant-loop-index l =
+    AllZip (IsRow (map asked_model l.models)) (map content_of (take l.index l.tests))
+    (map row_of l.rows.items)

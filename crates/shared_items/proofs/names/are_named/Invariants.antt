@@ -4,4 +4,6 @@ use Rattle.shared_items.specs.Naming.{body_names, IsNamed}
 use Rattle.shared_items.proofs.names.are_named.Given as goal
 
 abbrev pub invariant-loop-body : goal.invariant-loop-body
-invariant-loop-body l = Each (IsNamed l.history) (body_names l.bodies) ↔ Each (IsNamed l.history) (body_names (drop l.body-index l.bodies))
+invariant-loop-body l =
+    Each (IsNamed l.history) (body_names l.bodies)
+    ↔ Each (IsNamed l.history) (body_names (drop l.body-index l.bodies))

@@ -5,4 +5,5 @@ use Rattle.shown_relations.specs.Shown.{is_binding}
 use Rattle.shown_relations.proofs.texts.bindings.Given as goal
 
 abbrev pub invariant-loop-item : goal.invariant-loop-item
-invariant-loop-item l = clauses_of l.found.items ≡ filter is_binding (clauses_of (take l.item-index l.items))
+invariant-loop-item l =
+    clauses_of l.found.items ≡ filter is_binding (clauses_of (take l.item-index l.items))

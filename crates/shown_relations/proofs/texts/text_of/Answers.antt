@@ -13,6 +13,8 @@ returns c =
     let bound = c.in_ok-items.ensures in (
       term_of body,
       sym (rw c.in-Some.is at c.in_ok-body.ensures),
-      subst (λ (is : List Item). clauses_of is ≡ clauses_for (clauses_of items) x (term_of body)) (sym {A = List Item} c.in_ok-push.ensures.items)
-          (clauses_are items c.in_ok-items.items.items x (term_of body) c.check_on.result bound c.check_on.ensures),
+      subst (λ (is : List Item). clauses_of is ≡ clauses_for (clauses_of items) x (term_of body))
+          (sym {A = List Item} c.in_ok-push.ensures.items)
+          (clauses_are items c.in_ok-items.items.items x (term_of body) c.check_on.result bound
+          c.check_on.ensures),
     )

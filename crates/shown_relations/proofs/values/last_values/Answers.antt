@@ -14,4 +14,6 @@ returns-in-Some c =
     let valued = c.in_ok-found.ensures.columns (items_sound text resolved c.requires.faultless c.requires.items) in
     let last : IsLast resolved item = sym (rw c.deref.ensures.value at c.in-Some.ensures.value) in
     let checked = rw c.deref-in-Some.ensures.value at c.check_values.ensures in
-    IfOk-weaker c.check_values.result _ _ (λ found h. last_found space text resolved answers item found c.requires.faultless c.requires.items valued last h) checked
+    IfOk-weaker c.check_values.result _ _
+    (λ found h. last_found space text resolved answers item found c.requires.faultless
+    c.requires.items valued last h) checked

@@ -13,6 +13,10 @@ returns c =
     let same : c.in_ok-names.names.items ≡ names_shown clauses = rw c.deref.ensures.value at c.in_ok-names.ensures in
     let found = rw (c.deref-2.ensures.value, c.deref-3.ensures.value) at c.found_values.ensures.all in
     record {
-      all = IfOk-weaker c.found_values.result _ _ (λ v h. subst (λ (xs : List ShownName). AreShown space clauses xs (length xs) v.items) same h) found;
+      all =
+          IfOk-weaker c.found_values.result _ _
+          (λ v h.
+          subst (λ (xs : List ShownName). AreShown space clauses xs (length xs) v.items) same h)
+          found;
       sized = c.found_values.ensures.sized;
     }

@@ -14,7 +14,8 @@ returns-in_ok-last_values-in-Ok c =
     let resolved = c.in-Ok.resolved.items.items in
     let items : AreItemsOf text resolved = (c.in-Ok.ensures.items, c.in-Ok.ensures.labels) in
     IfOk-weaker c.named.result _ _
-    (λ found h. named_shown clauses space x text resolved c.in_ok-last_values-in-Ok.field-0 found c.requires items c.in_ok-last_values-in-Ok.ensures h) c.named.ensures
+    (λ found h. named_shown clauses space x text resolved c.in_ok-last_values-in-Ok.field-0 found
+    c.requires items c.in_ok-last_values-in-Ok.ensures h) c.named.ensures
 
 pub returns-in-Err-Refused : goal.returns-in-Err-Refused
 returns-in-Err-Refused c =

@@ -11,7 +11,9 @@ returns-in-Some c =
     let beside = c.args.faults.now in
     let index = c.model_index-index.result in
     let own = slice_get-get_or beside index None c.if-index-faults.true in
-    ap fault_part (sym c.in-Some.is) ∙ sym (fault_at rows beside c.args.id index (get_or beside index None) (sym c.model_index-index.ensures.found) c.if-index-models.true own)
+    ap fault_part (sym c.in-Some.is)
+    ∙ sym (fault_at rows beside c.args.id index (get_or beside index None)
+    (sym c.model_index-index.ensures.found) c.if-index-models.true own)
 
 pub returns-in-None : goal.returns-in-None
 returns-in-None c =
@@ -19,7 +21,9 @@ returns-in-None c =
     let beside = c.args.faults.now in
     let index = c.model_index-index.result in
     let own = slice_get-get_or beside index None c.if-index-faults.true in
-    ap fault_part (sym c.in-None.is) ∙ sym (fault_at rows beside c.args.id index (get_or beside index None) (sym c.model_index-index.ensures.found) c.if-index-models.true own)
+    ap fault_part (sym c.in-None.is)
+    ∙ sym (fault_at rows beside c.args.id index (get_or beside index None)
+    (sym c.model_index-index.ensures.found) c.if-index-models.true own)
 
 pub returns-else-index-models : goal.returns-else-index-models
 returns-else-index-models c =
@@ -28,6 +32,8 @@ returns-else-index-models c =
     let index = c.model_index-index.result in
     let found = sym c.model_index-index.ensures.found in
     elim c.else-index-models.branch [
-      | else-index-models-via-then-index-models+else-index-faults w ↦ sym (no_fault rows beside c.args.id index found (omega (arith, w.if-index-faults.false)))
-      | else-index-models-via-else-index-models w ↦ sym (no_model rows beside c.args.id index found (omega (arith, w.if-index-models.false)))
+      | else-index-models-via-then-index-models+else-index-faults w ↦ sym
+          (no_fault rows beside c.args.id index found (omega (arith, w.if-index-faults.false)))
+      | else-index-models-via-else-index-models w ↦ sym (no_model rows beside c.args.id index found
+          (omega (arith, w.if-index-models.false)))
     ]

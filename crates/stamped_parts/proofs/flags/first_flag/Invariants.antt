@@ -4,4 +4,6 @@ use Rattle.stamped_parts.proofs.Among.{flags_of}
 use Rattle.stamped_parts.proofs.flags.first_flag.Given as goal
 
 abbrev pub invariant-loop-index : goal.invariant-loop-index
-invariant-loop-index l = flags_of (state_of l.parts l.tests) l.test l.keys (drop l.index l.rest) ≡ flags_of (state_of l.parts l.tests) l.test l.keys l.rest
+invariant-loop-index l =
+    flags_of (state_of l.parts l.tests) l.test l.keys (drop l.index l.rest)
+    ≡ flags_of (state_of l.parts l.tests) l.test l.keys l.rest

@@ -4,4 +4,6 @@ use Rattle.stamped_parts.proofs.Equality.{value_exact}
 use Rattle.stamped_parts.proofs.jobs.is_same.Goals as goal
 
 pub returns : goal.returns
-returns c = same_from_decides c.is_same.result (same_value c.args.a.now c.args.b.now) c.is_same.ensures (value_exact c.args.a.now c.args.b.now)
+returns c =
+    same_from_decides c.is_same.result (same_value c.args.a.now c.args.b.now) c.is_same.ensures
+    (value_exact c.args.a.now c.args.b.now)

@@ -9,4 +9,7 @@ returns-in_ok-push-clause-named c = λ lt.
     let outputs = c.args.outputs.now in
     let at : c.len-at.result ≡ length outputs.items = omega (arith, c.len-at.ensures, outputs.ok.0) in
     ap named_values c.in_ok-push.ensures.items ∙ named_push outputs.items _
-    ∙ ap (λ (k : ℕ). let last : List (ℕ × NodeContent) = (get_or c.args.names.now k 0, c.args.value) ∷ [] in named_values outputs.items ++ last) at
+    ∙ ap
+    (λ (k : ℕ).
+    let last : List (ℕ × NodeContent) = (get_or c.args.names.now k 0, c.args.value) ∷ [] in
+    named_values outputs.items ++ last) at

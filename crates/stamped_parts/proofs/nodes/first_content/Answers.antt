@@ -13,4 +13,5 @@ returns-in-Some c =
 pub returns-in-None : goal.returns-in-None
 returns-in-None c =
     let s = state_of c.args.parts.now c.args.tests.now in
-    ap (contents_at s c.args.test) c.in-None.ensures ∙ sym (contents_are s c.args.test c.args.keys.now)
+    ap (contents_at s c.args.test) c.in-None.ensures
+    ∙ sym (contents_are s c.args.test c.args.keys.now)

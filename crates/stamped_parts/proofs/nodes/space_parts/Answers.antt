@@ -4,11 +4,15 @@ use Rattle.stamped_parts.specs.Views.{test_view, view_of}
 use Rattle.stamped_parts.proofs.SpaceParts.{no_space, space_is, threads_lack}
 use Rattle.stamped_parts.proofs.nodes.space_parts.Goals as goal
 
-found_in : (c : goal.Else-count-len) → view_of c.args.parts.now.table.tests.items c.args.tests.now c.args.parts.now.locations.items c.args.test ≡ Some (test_view c.in-Some.found)
+found_in : (c : goal.Else-count-len)
+    → view_of c.args.parts.now.table.tests.items c.args.tests.now c.args.parts.now.locations.items
+    c.args.test ≡ Some (test_view c.in-Some.found)
 found_in c =
     let parts = c.args.parts.now in
     let tests = c.args.tests.now in
-    sym (c.in-Some.ensures ∙ ap (λ l. view_of l tests c.deref-2.result.now c.args.test) c.deref.ensures.value ∙ ap (λ l. view_of parts.table.tests.items tests l c.args.test) c.deref-2.ensures.value)
+    sym (c.in-Some.ensures
+    ∙ ap (λ l. view_of l tests c.deref-2.result.now c.args.test) c.deref.ensures.value
+    ∙ ap (λ l. view_of parts.table.tests.items tests l c.args.test) c.deref-2.ensures.value)
 
 pub returns-then-count-len : goal.returns-then-count-len
 returns-then-count-len c =

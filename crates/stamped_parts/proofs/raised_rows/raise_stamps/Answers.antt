@@ -5,4 +5,6 @@ use Rattle.stamped_parts.proofs.raised_rows.raise_stamps.Goals as goal
 
 pub loop-stamp-preserved : goal.loop-stamp-preserved
 loop-stamp-preserved c =
-    changed_more (raised c.args.last c.args.number) c.args.stamps.now c.loop-stamp.stamps c.loop-stamp.stamp-index 0 c.raised.result (omega arith) c.loop-stamp.invariant c.raised.ensures
+    changed_more (raised c.args.last c.args.number) c.args.stamps.now c.loop-stamp.stamps
+    c.loop-stamp.stamp-index 0 c.raised.result (omega arith) c.loop-stamp.invariant
+    c.raised.ensures

@@ -10,11 +10,15 @@ returns c =
     let row : TestRow = record { id = c.args.id; condition = c.condition_stamp.result; observed = c.observed_stamp.result; locations = c.locations_stamp.result; init = c.init_stamp.result; threads = c.in_ok-threads.threads } in
     record {
       id_is = refl;
-      stamps = row_stamps c.args.fresh (option_map (λ h. entry_of h.now) c.args.before) c.args.test.now c.args.locations.now row
+      stamps =
+          row_stamps c.args.fresh (option_map (λ h. entry_of h.now) c.args.before) c.args.test.now
+          c.args.locations.now row
           c.condition_stamp.ensures
           (rw c.deref-2.ensures.value at c.observed_stamp.ensures)
           c.locations_stamp.ensures
           (rw c.deref-3.ensures.value at c.init_stamp.ensures)
           (rw c.deref.ensures.value at c.in_ok-threads.ensures.each);
-      each_thread = c.in_ok-threads.ensures.count ∙ ap (λ (ts : List Thread). length ts) c.deref.ensures.value;
+      each_thread =
+          c.in_ok-threads.ensures.count
+          ∙ ap (λ (ts : List Thread). length ts) c.deref.ensures.value;
     }

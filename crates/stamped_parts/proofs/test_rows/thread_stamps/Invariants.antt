@@ -5,4 +5,8 @@ use Rattle.stamped_parts.proofs.test_rows.thread_stamps.Given as goal
 
 abbrev pub invariant-loop-k : goal.invariant-loop-k
 invariant-loop-k l =
-    (length l.stamps.items ≡ l.k) × ((k : ℕ) → k < l.k → IsStampOf l.fresh (thread_by (option_map (λ h. entry_of h.now) l.before) k) (thread_stamp_by (option_map (λ h. entry_of h.now) l.before) k) (thread_at l.threads k) (get_or l.stamps.items k 0))
+    (length l.stamps.items ≡ l.k)
+    × ((k : ℕ) → k < l.k
+    → IsStampOf l.fresh (thread_by (option_map (λ h. entry_of h.now) l.before) k)
+    (thread_stamp_by (option_map (λ h. entry_of h.now) l.before) k)
+    (thread_at l.threads k) (get_or l.stamps.items k 0))

@@ -3,7 +3,9 @@ use Rattle.step_labels.specs.Scanning.{open_from, names_from}
 use Rattle.step_labels.proofs.unions.union_sources.Given as goal
 
 abbrev pub invariant-back : goal.invariant-back
-invariant-back l = (l.left ≤ length l.steps) × (reverse l.pending.items ≡ open_from (drop l.left l.steps)) × (reverse l.sources.items ≡ names_from (drop l.left l.steps))
+invariant-back l =
+    (l.left ≤ length l.steps) × (reverse l.pending.items ≡ open_from (drop l.left l.steps))
+    × (reverse l.sources.items ≡ names_from (drop l.left l.steps))
 
 abbrev pub decreases-back : goal.decreases-back
 decreases-back l = l.left

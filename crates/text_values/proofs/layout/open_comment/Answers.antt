@@ -18,4 +18,5 @@ loop-i-preserved c =
 
 pub returns-clause-value : goal.returns-clause-value
 returns-clause-value c =
-    sym (c.loop-i.invariant.2 ∙ comment_ends c.args.bytes.now _ c.loop-i.depth c.loop-i.i (omega arith))
+    sym (c.loop-i.invariant.2
+    ∙ comment_ends c.args.bytes.now _ c.loop-i.depth c.loop-i.i (omega arith))

@@ -10,4 +10,5 @@ pub returns-in-Applied : goal.returns-in-Applied
 returns-in-Applied c =
     ap term_of c.in-Applied.is
     ∙ applied_term c.in-Applied.name c.in-Applied.arguments
-    ∙ ap (λ (l : List Expression). Apply c.in-Applied.name (gathered (map term_of l))) (sym c.as_slice.ensures.value)
+    ∙ ap (λ (l : List Expression). Apply c.in-Applied.name (gathered (map term_of l)))
+    (sym c.as_slice.ensures.value)

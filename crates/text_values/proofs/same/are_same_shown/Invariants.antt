@@ -4,4 +4,6 @@ use Rattle.text_values.proofs.same.are_same_shown.Given as goal
 
 abbrev pub invariant-loop-this : goal.invariant-loop-this
 invariant-loop-this l =
-    (map shown_of l.these ≡ map shown_of l.those) ↔ (map shown_of (drop (length l.yielded) l.these) ≡ map shown_of (drop (length l.yielded) l.those))
+    (map shown_of l.these ≡ map shown_of l.those)
+    ↔ (map shown_of (drop (length l.yielded) l.these)
+    ≡ map shown_of (drop (length l.yielded) l.those))

@@ -6,9 +6,14 @@ use Rattle.thread_runs.proofs.enumerate.beginnings_of.Goals as goal
 
 pub loop-line-preserved : goal.loop-line-preserved
 loop-line-preserved c =
-    ap (flat_map (all_over c.args.values.now c.args.held.now (drop (c.loop-line.line-index + 1) c.args.lines.now))) c.in_ok-beginnings.ensures
-    ∙ sym (line_step c.args.values.now c.args.held.now c.args.lines.now c.loop-line.line-index c.loop-line.beginnings.items _ c.loop-line-test.true)
+    ap
+    (flat_map (all_over c.args.values.now c.args.held.now
+    (drop (c.loop-line.line-index + 1) c.args.lines.now))) c.in_ok-beginnings.ensures
+    ∙ sym (line_step c.args.values.now c.args.held.now c.args.lines.now c.loop-line.line-index
+    c.loop-line.beginnings.items _ c.loop-line-test.true)
     ∙ c.loop-line.invariant
 
 pub returns : goal.returns
-returns c = sym (end_step c.args.values.now c.args.held.now c.args.lines.now c.loop-line.line-index _ c.loop-line-test.false) ∙ c.loop-line.invariant
+returns c =
+    sym (end_step c.args.values.now c.args.held.now c.args.lines.now c.loop-line.line-index _
+    c.loop-line-test.false) ∙ c.loop-line.invariant

@@ -4,7 +4,8 @@ use Rattle.thread_runs.proofs.free.add_stored.Goals as goal
 
 pub returns-then-end-eq0-clause-added : goal.returns-then-end-eq0-clause-added
 returns-then-end-eq0-clause-added c =
-    no_store c.args.lines.now c.args.first c.args.values.now _ (λ k d le lt. c.stores_end-end.ensures.none k d (omega (arith, c.if-end-eq0.true)) lt)
+    no_store c.args.lines.now c.args.first c.args.values.now _ (λ k d le lt.
+    c.stores_end-end.ensures.none k d (omega (arith, c.if-end-eq0.true)) lt)
 
 pub returns-then-count_at-eq0-clause-added : goal.returns-then-count_at-eq0-clause-added
 returns-then-count_at-eq0-clause-added c =
@@ -18,16 +19,24 @@ loop-index-init c =
     let counted = c.in_ok-counts.ensures 0 (omega arith) (omega arith) in
     record {
       rising = c.requires;
-      way = rw (c.in_ok-push.ensures.items, c.new-walks.ensures.items) (under_way c.args.lines.now c.args.first c.args.values.now _ (omega (arith, here, counted)));
+      way =
+          rw (c.in_ok-push.ensures.items, c.new-walks.ensures.items) (under_way c.args.lines.now
+          c.args.first c.args.values.now _ (omega (arith, here, counted)));
     }
 
 pub loop-index-preserved : goal.loop-index-preserved
 loop-index-preserved c = record {
   rising = c.note_all.ensures.set;
   way =
-      way_on c.args.lines.now c.args.first c.args.values.now c.loop-index.index _ _ _ _ _ _ _ _ (omega (arith, c.loop-index-test.true, c.stores_end-end.ensures.within)) c.goes_by-on.ensures c.goes_by-there.ensures c.loop-index.invariant.way
-      (rw c.deref-in-loop-index.ensures.value at c.in_ok-note_all.ensures.added) c.in_ok-walks.ensures;
+      way_on c.args.lines.now c.args.first c.args.values.now c.loop-index.index _ _ _ _ _ _ _ _
+      (omega (arith, c.loop-index-test.true, c.stores_end-end.ensures.within))
+      c.goes_by-on.ensures c.goes_by-there.ensures c.loop-index.invariant.way
+      (rw c.deref-in-loop-index.ensures.value at c.in_ok-note_all.ensures.added)
+      c.in_ok-walks.ensures;
 }
 
 pub returns-clause-added : goal.returns-clause-added
-returns-clause-added c = way_ends c.args.lines.now c.args.first c.args.values.now c.loop-index.index _ _ _ (λ k d le lt. c.stores_end-end.ensures.none k d (omega (arith, le, c.loop-index-test.false)) lt) c.loop-index.invariant.way
+returns-clause-added c =
+    way_ends c.args.lines.now c.args.first c.args.values.now c.loop-index.index _ _ _
+    (λ k d le lt. c.stores_end-end.ensures.none k d (omega (arith, le, c.loop-index-test.false)) lt)
+    c.loop-index.invariant.way

@@ -7,5 +7,7 @@ loop-walk-init c = record { rising = c.requires; added = added_none _ _ (some_no
 pub loop-walk-preserved : goal.loop-walk-preserved
 loop-walk-preserved c = record {
   rising = c.note_one.ensures.set;
-  added = added_after _ _ _ _ _ _ c.loop-walk.invariant.added c.in_ok-note_one.ensures.added (some_more c.args.line c.args.walks.now c.loop-walk.walk-index _ c.loop-walk-test.true);
+  added =
+      added_after _ _ _ _ _ _ c.loop-walk.invariant.added c.in_ok-note_one.ensures.added
+      (some_more c.args.line c.args.walks.now c.loop-walk.walk-index _ c.loop-walk-test.true);
 }

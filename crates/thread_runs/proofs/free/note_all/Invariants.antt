@@ -6,5 +6,6 @@ use Rattle.thread_runs.proofs.free.note_all.Given as goal
 abbrev pub invariant-loop-walk : goal.invariant-loop-walk
 invariant-loop-walk l = record {
   rising : IsSet l.stored.items;
-  added : AreAdded (SomeStores l.line (take l.walk-index l.walks)) l.initial.stored.items l.stored.items;
+  added : AreAdded (SomeStores l.line (take l.walk-index l.walks)) l.initial.stored.items
+      l.stored.items;
 }

@@ -5,4 +5,8 @@ use Rattle.thread_runs.specs.Held.{line_may_store}
 use Rattle.thread_runs.proofs.held.thread_may_store.Given as goal
 
 abbrev pub invariant-loop-line : goal.invariant-loop-line
-invariant-loop-line l = list_any (line_may_store (thread_of l.program l.thread).lines (first_of l.program l.thread) l.location l.value) (take l.line-index l.line-items) ≡ false
+invariant-loop-line l =
+    list_any
+    (line_may_store (thread_of l.program l.thread).lines (first_of l.program l.thread)
+    l.location l.value)
+    (take l.line-index l.line-items) ≡ false

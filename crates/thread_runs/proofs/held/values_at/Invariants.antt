@@ -3,4 +3,5 @@ use Rattle.thread_runs.specs.Held.{AreLeft, MayHold}
 use Rattle.thread_runs.proofs.held.values_at.Given as goal
 
 abbrev pub invariant-loop-value : goal.invariant-loop-value
-invariant-loop-value l = AreLeft (λ u. MayHold l.program l.location u → ⊥) (take l.value-index l.values) l.found.items
+invariant-loop-value l =
+    AreLeft (λ u. MayHold l.program l.location u → ⊥) (take l.value-index l.values) l.found.items

@@ -7,5 +7,9 @@ use Rattle.verdict.proofs.final_states.final_states.Given as goal
 
 abbrev pub invariant-loop-combination : goal.invariant-loop-combination
 invariant-loop-combination l =
-    (l.rest ≡ drop (length (candidates_in (take l.combination-index l.space.combinations.items))) l.kept)
-    × Counts [] l.tally.counts.entries (λ v. count_kept (λ x. is_state v (final_state l.space l.places x)) l.kept (candidates_in (take l.combination-index l.space.combinations.items)))
+    (l.rest
+    ≡ drop (length (candidates_in (take l.combination-index l.space.combinations.items)))
+    l.kept)
+    × Counts [] l.tally.counts.entries (λ v. count_kept
+    (λ x. is_state v (final_state l.space l.places x)) l.kept (candidates_in
+    (take l.combination-index l.space.combinations.items)))

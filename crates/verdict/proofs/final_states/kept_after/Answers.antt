@@ -7,5 +7,6 @@ pub returns : goal.returns
 returns c =
     let fits : length c.args.kept.now ≤ 2 ^ 64 - 1 = omega arith in
     c.kept_from.ensures
-    ∙ ap (λ (n : ℕ). drop n c.args.kept.now) (c.min.ensures ∙ ap (λ (n : ℕ). min n (length c.args.kept.now)) c.candidate_count.ensures)
+    ∙ ap (λ (n : ℕ). drop n c.args.kept.now) (c.min.ensures
+    ∙ ap (λ (n : ℕ). min n (length c.args.kept.now)) c.candidate_count.ensures)
     ∙ drop_up_to (length (candidates_of c.args.combination.now)) (2 ^ 64 - 1) c.args.kept.now fits

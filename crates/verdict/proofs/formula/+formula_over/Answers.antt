@@ -10,9 +10,23 @@ pub returns-in_ok-right-in-Joined : goal.returns-in_ok-right-in-Joined
 returns-in_ok-right-in-Joined t c =
     let is : formula_of c.args.proposition.now ≡ Join c.in-Joined.connective (formula_of c.deref-in-Joined.result.now) (formula_of c.deref-in-Joined-2.result.now) =
     ap formula_of c.in-Joined.is
-    ∙ ap (λ (p : text.Proposition). Join c.in-Joined.connective (formula_of p) (formula_of c.in-Joined.right.value)) (sym c.deref-in-Joined.ensures)
-    ∙ ap (λ (p : text.Proposition). Join c.in-Joined.connective (formula_of c.deref-in-Joined.result.now) (formula_of p)) (sym c.deref-in-Joined-2.ensures) in
-    both_meant c.args.locations.now c.args.places.now c.in-Joined.connective (formula_of c.deref-in-Joined.result.now) (formula_of c.deref-in-Joined-2.result.now) (formula_of c.args.proposition.now)
+    ∙ ap
+    (λ (p : text.Proposition).
+    Join c.in-Joined.connective (formula_of p) (formula_of c.in-Joined.right.value))
+    (sym c.deref-in-Joined.ensures)
+    ∙ ap
+    (λ (p : text.Proposition).
+    Join c.in-Joined.connective (formula_of c.deref-in-Joined.result.now) (formula_of p))
+    (sym c.deref-in-Joined-2.ensures) in
+    both_meant c.args.locations.now c.args.places.now c.in-Joined.connective
+    (formula_of c.deref-in-Joined.result.now) (formula_of c.deref-in-Joined-2.result.now)
+    (formula_of c.args.proposition.now)
     c.in_ok-left-in-Joined.left.value c.in_ok-right-in-Joined.right.value is
-    (subst (λ (f : code.Formula). Means c.args.locations.now c.args.places.now (formula_of c.deref-in-Joined.result.now) f) (sym c.in_ok-left-in-Joined.ensures.ok) c.in_ok-formula_over-in-Joined.ensures)
-    (subst (λ (f : code.Formula). Means c.args.locations.now c.args.places.now (formula_of c.deref-in-Joined-2.result.now) f) (sym c.in_ok-right-in-Joined.ensures.ok) c.in_ok-formula_over-in-Joined-2.ensures)
+    (subst
+    (λ (f : code.Formula). Means c.args.locations.now c.args.places.now
+    (formula_of c.deref-in-Joined.result.now) f)
+    (sym c.in_ok-left-in-Joined.ensures.ok) c.in_ok-formula_over-in-Joined.ensures)
+    (subst
+    (λ (f : code.Formula). Means c.args.locations.now c.args.places.now
+    (formula_of c.deref-in-Joined-2.result.now) f)
+    (sym c.in_ok-right-in-Joined.ensures.ok) c.in_ok-formula_over-in-Joined-2.ensures)

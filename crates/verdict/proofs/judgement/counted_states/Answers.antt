@@ -21,14 +21,21 @@ loop-values-preserved c =
           ∙ one_more_state c.loop-values.states.items s (pairs_in c.next.new.self)
           ∙ ap (λ (l : Entries). pairs_of c.loop-values.states.items ++ pairs_in l) (sym front)
           ∙ c.loop-values.invariant.0,
-      All-same (IsWorded c.args.locations.now c.args.places.now c.args.formula.now) c.push.new.self.items (c.loop-values.states.items ++ s ∷ []) pushed
-          (All-push (IsWorded c.args.locations.now c.args.places.now c.args.formula.now) c.loop-values.states.items s c.loop-values.invariant.1 (
-            c.in_ok-text.ensures ∙ ap (state_text c.args.locations.now c.args.places.now) c.deref.ensures.value,
-            c.satisfies-holds.ensures ∙ ap (λ (v : List FinalValue). value_of v c.args.formula.now) c.deref-in-loop-values.ensures.value,
+      All-same (IsWorded c.args.locations.now c.args.places.now c.args.formula.now)
+          c.push.new.self.items (c.loop-values.states.items ++ s ∷ []) pushed
+          (All-push (IsWorded c.args.locations.now c.args.places.now c.args.formula.now)
+          c.loop-values.states.items s c.loop-values.invariant.1 (
+            c.in_ok-text.ensures
+                ∙ ap (state_text c.args.locations.now c.args.places.now) c.deref.ensures.value,
+            c.satisfies-holds.ensures
+                ∙ ap (λ (v : List FinalValue). value_of v c.args.formula.now)
+                c.deref-in-loop-values.ensures.value,
           )),
     )
 
 pub returns-clause-rising : goal.returns-clause-rising
 returns-clause-rising c = states_rise c.loop-values.states.items c.args.counts.entries
-    (sym (append-nil (pairs_of c.loop-values.states.items)) ∙ ap (λ (l : Entries). pairs_of c.loop-values.states.items ++ pairs_in l) (sym c.in-None.ensures.steps.0) ∙ c.loop-values.invariant.0)
+    (sym (append-nil (pairs_of c.loop-values.states.items))
+    ∙ ap (λ (l : Entries). pairs_of c.loop-values.states.items ++ pairs_in l)
+    (sym c.in-None.ensures.steps.0) ∙ c.loop-values.invariant.0)
     c.into_iter-values-iterator.ensures.into_iter_gives.5

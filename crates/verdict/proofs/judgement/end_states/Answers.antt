@@ -18,12 +18,26 @@ returns c =
     let p : Formula = formula_of c.args.condition.now.proposition in
     let are : AreShown c.args.space.now.locations.items (places_of p ++ c.args.observed.now) c.in_ok-places.places.items = subst (λ (l : List (List ℕ)). AreShown l (places_of p ++ c.args.observed.now) c.in_ok-places.places.items) c.deref.ensures.value c.in_ok-places.ensures in
     let means : Means c.args.space.now.locations.items c.in_ok-places.places.items p c.in_ok-formula.formula =
-    subst (λ (l : List ShownPlace). Means c.args.space.now.locations.items l p c.in_ok-formula.formula) c.deref-2.ensures.value
-    (subst (λ (l : List (List ℕ)). Means l c.deref-2.result.now p c.in_ok-formula.formula) c.deref-3.ensures.value c.in_ok-formula.ensures) in
+    subst
+    (λ (l : List ShownPlace).
+    Means c.args.space.now.locations.items l p c.in_ok-formula.formula)
+    c.deref-2.ensures.value
+    (subst (λ (l : List (List ℕ)). Means l c.deref-2.result.now p c.in_ok-formula.formula)
+    c.deref-3.ensures.value c.in_ok-formula.ensures) in
     let tallies : (v : List FinalValue) → tally c.in_ok-counts.counts.entries v ≡ min (count_kept (λ x. is_state v (final_state c.in_ok-places.places.items x)) c.args.kept.now (shown_in c.args.space.now)) (2 ^ 64 - 1) = λ v.
     c.in_ok-counts.ensures.tally v
-    ∙ ap (λ (l : List ShownPlace). min (count_kept (λ x. is_state v (final_state l x)) c.args.kept.now (shown_in c.args.space.now)) (2 ^ 64 - 1)) c.deref-4.ensures.value in
+    ∙ ap
+    (λ (l : List ShownPlace). min
+    (count_kept (λ x. is_state v (final_state l x)) c.args.kept.now
+    (shown_in c.args.space.now))
+    (2 ^ 64 - 1)) c.deref-4.ensures.value in
     let words : All (IsWorded c.args.space.now.locations.items c.in_ok-places.places.items c.in_ok-formula.formula) c.in_ok-states.states.items =
-    subst (λ (l : List ShownPlace). All (IsWorded c.args.space.now.locations.items l c.in_ok-formula.formula) c.in_ok-states.states.items) c.deref-6.ensures.value
-    (subst (λ (l : List (List ℕ)). All (IsWorded l c.deref-6.result.now c.in_ok-formula.formula) c.in_ok-states.states.items) c.deref-5.ensures.value c.in_ok-states.ensures.words) in
+    subst
+    (λ (l : List ShownPlace). All
+    (IsWorded c.args.space.now.locations.items l c.in_ok-formula.formula)
+    c.in_ok-states.states.items) c.deref-6.ensures.value
+    (subst
+    (λ (l : List (List ℕ)). All (IsWorded l c.deref-6.result.now c.in_ok-formula.formula)
+    c.in_ok-states.states.items) c.deref-5.ensures.value c.in_ok-states.ensures.words)
+    in
     record { shown = c.in_ok-places.places.items; compiled = c.in_ok-formula.formula; entries = c.in_ok-counts.counts.entries; are_shown = are; means = means; tallies = tallies; above = c.in_ok-counts.ensures.above; counts = c.in_ok-states.ensures.counts; rising = c.in_ok-states.ensures.rising; words = words }

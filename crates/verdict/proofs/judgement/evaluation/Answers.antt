@@ -19,12 +19,23 @@ returns-clause-said c = λ checks given.
     let fits : length (shown_in c.args.space.now) ≤ 2 ^ 64 - 1 = omega (arith, given.long) in (
       ends.shown,
       ends.are_shown,
-      says c.args.space.now.locations.items (shown_in c.args.space.now) c.args.condition.now.quantifier p ends.shown checks (of_raised c.args.flags.now) keep ends.compiled e ends.entries
+      says c.args.space.now.locations.items (shown_in c.args.space.now)
+          c.args.condition.now.quantifier p ends.shown checks (of_raised c.args.flags.now) keep
+          ends.compiled e ends.entries
           fits given.long given.each ends.tallies ends.above
           ends.counts ends.rising ends.words
-          ends.means (shows_all c.args.space.now.locations.items (places_of p) c.args.observed.now ends.shown ends.are_shown)
-          (c.total-positive.ensures ∙ ap (λ (l : List CountedState). min (total_of (λ s. is_same s.holds true) l) (2 ^ 64 - 1)) c.deref.ensures.value)
-          (c.total-negative.ensures ∙ ap (λ (l : List CountedState). min (total_of (λ s. is_same s.holds false) l) (2 ^ 64 - 1)) c.deref-2.ensures.value)
+          ends.means (shows_all c.args.space.now.locations.items (places_of p) c.args.observed.now
+          ends.shown ends.are_shown)
+          (c.total-positive.ensures
+          ∙ ap
+          (λ (l : List CountedState).
+          min (total_of (λ s. is_same s.holds true) l) (2 ^ 64 - 1))
+          c.deref.ensures.value)
+          (c.total-negative.ensures
+          ∙ ap
+          (λ (l : List CountedState).
+          min (total_of (λ s. is_same s.holds false) l) (2 ^ 64 - 1))
+          c.deref-2.ensures.value)
           c.in_ok-raised_names.ensures
           (c.observation.ensures, c.is_met.ensures),
     )

@@ -5,4 +5,6 @@ use Rattle.verdict.proofs.judgement.kept_candidates.Given as goal
 abbrev pub invariant-loop-holds : goal.invariant-loop-holds
 invariant-loop-holds l =
     (vec_len l.kept ≡ l.candidates)
-    × ((k : ℕ) → k < l.candidates → slice_index_or l.kept.items k false ≡ is_kept (map (λ c. c.now) (take l.holds-index l.checks)) k)
+    × ((k : ℕ) → k < l.candidates
+    → slice_index_or l.kept.items k false
+    ≡ is_kept (map (λ c. c.now) (take l.holds-index l.checks)) k)

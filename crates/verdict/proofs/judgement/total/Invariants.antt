@@ -3,4 +3,5 @@ use Rattle.verdict.specs.Judgement.{is_same, total_of}
 use Rattle.verdict.proofs.judgement.total.Given as goal
 
 abbrev pub invariant-loop-state : goal.invariant-loop-state
-invariant-loop-state l = l.all ≡ min (total_of (λ s. is_same s.holds l.holds) (take l.state-index l.states)) (2 ^ 64 - 1)
+invariant-loop-state l =
+    l.all ≡ min (total_of (λ s. is_same s.holds l.holds) (take l.state-index l.states)) (2 ^ 64 - 1)

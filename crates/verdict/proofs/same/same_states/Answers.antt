@@ -4,6 +4,7 @@ use Rattle.verdict.proofs.same.same_states.Goals as goal
 
 pub returns : goal.returns
 returns c = (
-  λ t. same_lists c.args.left.now c.args.right.now (omega arith) (λ k d lt. c.loop-index.invariant k d (omega (arith, lt))),
+  λ t. same_lists c.args.left.now c.args.right.now (omega arith)
+      (λ k d lt. c.loop-index.invariant k d (omega (arith, lt))),
   λ e. search (rules, tests),
 )

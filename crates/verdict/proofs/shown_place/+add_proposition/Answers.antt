@@ -12,10 +12,22 @@ pub returns-in_ok-add_proposition-in-Joined : goal.returns-in_ok-add_proposition
 returns-in_ok-add_proposition-in-Joined t c =
     let both : places_of (formula_of c.args.proposition.now) ≡ places_of (formula_of c.deref-in-Joined.result.now) ++ places_of (formula_of c.deref-in-Joined-2.result.now) =
     ap (λ (p : code.Proposition). places_of (formula_of p)) c.in-Joined.is
-    ∙ ap (λ (p : code.Proposition). places_of (formula_of p) ++ places_of (formula_of c.in-Joined.right.value)) (sym c.deref-in-Joined.ensures)
-    ∙ ap (λ (p : code.Proposition). places_of (formula_of c.deref-in-Joined.result.now) ++ places_of (formula_of p)) (sym c.deref-in-Joined-2.ensures) in
+    ∙ ap
+    (λ (p : code.Proposition). places_of (formula_of p)
+    ++ places_of (formula_of c.in-Joined.right.value))
+    (sym c.deref-in-Joined.ensures)
+    ∙ ap
+    (λ (p : code.Proposition). places_of (formula_of c.deref-in-Joined.result.now)
+    ++ places_of (formula_of p))
+    (sym c.deref-in-Joined-2.ensures) in
     on_ok_weaker c.add_proposition-in-Joined-2.result
-    (λ more. subst (λ (l : List Place). Adds c.args.shown.now.keys c.add_proposition-in-Joined-2.new.shown.keys (known_places c.args.locations.now l)) (sym both)
-    (added_twice c.args.locations.now c.args.shown.now.keys c.add_proposition-in-Joined.new.shown.keys c.add_proposition-in-Joined-2.new.shown.keys
-    (places_of (formula_of c.deref-in-Joined.result.now)) (places_of (formula_of c.deref-in-Joined-2.result.now)) c.in_ok-add_proposition-in-Joined.ensures more))
+    (λ more. subst
+    (λ (l : List Place). Adds c.args.shown.now.keys c.add_proposition-in-Joined-2.new.shown.keys
+    (known_places c.args.locations.now l))
+    (sym both)
+    (added_twice c.args.locations.now c.args.shown.now.keys
+    c.add_proposition-in-Joined.new.shown.keys c.add_proposition-in-Joined-2.new.shown.keys
+    (places_of (formula_of c.deref-in-Joined.result.now))
+    (places_of (formula_of c.deref-in-Joined-2.result.now))
+    c.in_ok-add_proposition-in-Joined.ensures more))
     c.add_proposition-in-Joined-2.ensures

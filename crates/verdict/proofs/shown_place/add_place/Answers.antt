@@ -9,5 +9,9 @@ use Rattle.verdict.proofs.shown_place.add_place.Goals as goal
 pub returns-in_ok-insert : goal.returns-in_ok-insert
 returns-in_ok-insert c =
     let is : known_place c.args.locations.now c.args.place.now ≡ Some c.in-Some.place = sym c.in-Some.ensures in
-    subst (λ (o : Option ShownPlace). Adds c.args.shown.now.keys c.insert.new.self.keys (cons_option o [])) (sym is)
-    (one_added c.args.shown.now.keys c.insert.new.self.keys c.in-Some.place c.in_ok-insert.ensures.updates.0)
+    subst
+    (λ (o : Option ShownPlace).
+    Adds c.args.shown.now.keys c.insert.new.self.keys (cons_option o []))
+    (sym is)
+    (one_added c.args.shown.now.keys c.insert.new.self.keys c.in-Some.place
+    c.in_ok-insert.ensures.updates.0)

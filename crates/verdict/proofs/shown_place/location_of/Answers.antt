@@ -12,7 +12,10 @@ loop-i-preserved c =
 
 pub returns-then-is_same : goal.returns-then-is_same
 returns-then-is_same c =
-    sym (first_found (is_name c.args.name.now) c.args.locations.now c.loop-i.i [] c.loop-i-test.true c.loop-i.invariant (grind (arith, common_steps, is_name-Decides)))
+    sym (first_found (is_name c.args.name.now) c.args.locations.now c.loop-i.i [] c.loop-i-test.true
+    c.loop-i.invariant (grind (arith, common_steps, is_name-Decides)))
 
 pub returns : goal.returns
-returns c = sym (none_found (is_name c.args.name.now) c.args.locations.now [] (λ k lt. c.loop-i.invariant k (omega arith)))
+returns c =
+    sym (none_found (is_name c.args.name.now) c.args.locations.now []
+    (λ k lt. c.loop-i.invariant k (omega arith)))

@@ -5,4 +5,6 @@ use Rattle.verdict.specs.Shown.{known_places, Adds}
 use Rattle.verdict.proofs.shown_place.shown_places.Given as goal
 
 abbrev pub invariant-loop-place : goal.invariant-loop-place
-invariant-loop-place l = Adds [] l.shown.keys (known_places l.locations (places_of (formula_of l.proposition) ++ take l.place-index l.observed))
+invariant-loop-place l =
+    Adds [] l.shown.keys (known_places l.locations (places_of (formula_of l.proposition)
+    ++ take l.place-index l.observed))

@@ -6,4 +6,6 @@ use Rattle.verdict.proofs.HeldTexts.{texts}
 use Rattle.verdict.proofs.state_text.state_text.Given as goal
 
 abbrev pub invariant-loop-i : goal.invariant-loop-i
-invariant-loop-i l = l.text.items ++ from (codes " ") l.i (texts l.locations (drop l.i l.places) (drop l.i l.values)) ≡ state_text l.locations l.places l.values
+invariant-loop-i l =
+    l.text.items ++ from (codes " ") l.i (texts l.locations (drop l.i l.places) (drop l.i l.values))
+    ≡ state_text l.locations l.places l.values

@@ -6,5 +6,9 @@ use Rattle.version_edits.proofs.parts.push_threads.Given as goal
 
 abbrev pub invariant-loop-index : goal.invariant-loop-index
 invariant-loop-index l =
-    (all_put (content_of l.new) l.parts.items (content_of l.old) ≡ with_threads (take l.index (content_of l.new).threads ++ drop l.index (content_of l.old).threads) (with_init (content_of l.new).init (content_of l.old))) ×
+    (all_put (content_of l.new) l.parts.items (content_of l.old)
+    ≡ with_threads
+    (take l.index (content_of l.new).threads
+    ++ drop l.index (content_of l.old).threads)
+    (with_init (content_of l.new).init (content_of l.old))) ×
     All (Differs (content_of l.old) (content_of l.new)) l.parts.items

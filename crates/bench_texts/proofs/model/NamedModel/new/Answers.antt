@@ -9,5 +9,12 @@ pub returns-clause-value : goal.returns-clause-value
 returns-clause-value c =
     let count : c.len.result ≡ length c.args.text.items.items = omega arith in
     let e = items_of-numbered c.in_ok-numbers.numbers.items c.args.first c.len.result c.args.text.items.items c.in_ok-numbers.ensures.value count in
-    subst (λ n. IfOk c.of_items.result (λ m. model_of m ≡ record { name = n; items = numbered_items c.args.first (clauses_of c.args.text.items.items) })) c.in_ok-name.ensures
-    (subst (λ is. IfOk c.of_items.result (λ m. model_of m ≡ record { name = c.in_ok-name.name; items = is })) e c.of_items.ensures.value)
+    subst
+    (λ n. IfOk c.of_items.result (λ m. model_of m ≡ record {
+      name = n;
+      items = numbered_items c.args.first (clauses_of c.args.text.items.items);
+    }))
+    c.in_ok-name.ensures
+    (subst
+    (λ is. IfOk c.of_items.result (λ m. model_of m
+    ≡ record { name = c.in_ok-name.name; items = is })) e c.of_items.ensures.value)

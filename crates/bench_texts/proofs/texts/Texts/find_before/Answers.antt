@@ -9,5 +9,6 @@ returns-then-before-eq0 c =
     let e : model_items (texts_of c.args.self.now) c.args.model.now ≡ (model_of c.index.result.now).items = rw (← c.requires.found) (index-map model_of (λ m. m.items) c.args.self.now.models.items c.args.at c.index.result.now [] (omega arith) c.index.ensures) in (
       rw (c.if-before-eq0.true, e) c.len.ensures,
       rw c.if-before-eq0.true refl,
-      held_here model_of (λ m. c.len.result ≤ length m.items) c.args.self.now.models.items c.args.at c.index.result.now (omega arith) c.index.ensures (omega arith),
+      held_here model_of (λ m. c.len.result ≤ length m.items) c.args.self.now.models.items c.args.at
+          c.index.result.now (omega arith) c.index.ensures (omega arith),
     )

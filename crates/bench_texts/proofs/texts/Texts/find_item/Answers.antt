@@ -12,7 +12,9 @@ returns-then-index-len c =
     let l : c.item_index-index.result < length (model_of c.index-model.result.now).items = omega arith in (
       rw e c.item_index-index.ensures,
       rw (e, ← c.item_index-index.ensures) (lt-ltb _ _ l),
-      held_here model_of (λ m. c.item_index-index.result < length m.items) c.args.self.now.models.items c.args.at c.index-model.result.now (omega arith) c.index-model.ensures l,
+      held_here model_of (λ m. c.item_index-index.result < length m.items)
+          c.args.self.now.models.items c.args.at c.index-model.result.now (omega arith)
+          c.index-model.ensures l,
     )
 
 pub returns-else-index-len : goal.returns-else-index-len

@@ -14,13 +14,37 @@ use Rattle.bench_texts.proofs.texts.Texts.prepare_drop_model.Goals as goal
 
 pub returns-clause-answer : goal.returns-clause-answer
 returns-clause-answer c =
-    limited_answers (texts_of c.args.self.now) c.args.spent (DropModel c.args.model.now) (changes.DropModel c.in_ok-at.at) c.limited.result
+    limited_answers (texts_of c.args.self.now) c.args.spent (DropModel c.args.model.now)
+    (changes.DropModel c.in_ok-at.at) c.limited.result
     (rw c.in_ok-at.ensures.1 refl)
-    (ap (λ i. with_models (λ ms. remove ms i) (texts_of c.args.self.now).next (texts_of c.args.self.now)) c.in_ok-at.ensures.0)
+    (ap
+    (λ i. with_models (λ ms. remove ms i) (texts_of c.args.self.now).next
+    (texts_of c.args.self.now)) c.in_ok-at.ensures.0)
     (λ r put. put ∙ ap made.DropModel c.in_ok-at.ensures.0)
-    (c.limited.ensures (texts_after (changes.DropModel c.in_ok-at.at) (texts_of c.args.self.now)) (grind (arith, common_steps)) (grind (arith, common_steps, length-remove (texts_of c.args.self.now).models c.in_ok-at.at)) (c.outputs_around.ensures ∙ ap (λ n. min n 18446744073709551615) (sym (outputs-remove (texts_of c.args.self.now).models c.in_ok-at.at))))
+    (c.limited.ensures (texts_after (changes.DropModel c.in_ok-at.at) (texts_of c.args.self.now))
+    (grind (arith, common_steps))
+    (grind (
+      arith,
+      common_steps,
+      length-remove (texts_of c.args.self.now).models c.in_ok-at.at,
+    ))
+    (c.outputs_around.ensures
+    ∙ ap (λ n. min n 18446744073709551615) (sym (outputs-remove
+    (texts_of c.args.self.now).models c.in_ok-at.at))))
 
 pub returns-clause-ready : goal.returns-clause-ready
 returns-clause-ready c =
-    limited_ready (texts_of c.args.self.now) c.args.self.now c.args.spent (changes.DropModel c.in_ok-at.at) (texts_after (changes.DropModel c.in_ok-at.at) (texts_of c.args.self.now)) c.limited.result c.in_ok-at.ensures.2
-    (c.limited.ensures (texts_after (changes.DropModel c.in_ok-at.at) (texts_of c.args.self.now)) (grind (arith, common_steps)) (grind (arith, common_steps, length-remove (texts_of c.args.self.now).models c.in_ok-at.at)) (c.outputs_around.ensures ∙ ap (λ n. min n 18446744073709551615) (sym (outputs-remove (texts_of c.args.self.now).models c.in_ok-at.at))))
+    limited_ready (texts_of c.args.self.now) c.args.self.now c.args.spent
+    (changes.DropModel c.in_ok-at.at)
+    (texts_after (changes.DropModel c.in_ok-at.at) (texts_of c.args.self.now)) c.limited.result
+    c.in_ok-at.ensures.2
+    (c.limited.ensures (texts_after (changes.DropModel c.in_ok-at.at) (texts_of c.args.self.now))
+    (grind (arith, common_steps))
+    (grind (
+      arith,
+      common_steps,
+      length-remove (texts_of c.args.self.now).models c.in_ok-at.at,
+    ))
+    (c.outputs_around.ensures
+    ∙ ap (λ n. min n 18446744073709551615) (sym (outputs-remove
+    (texts_of c.args.self.now).models c.in_ok-at.at))))

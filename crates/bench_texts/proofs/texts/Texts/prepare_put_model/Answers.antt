@@ -17,8 +17,12 @@ returns-in-Some-clause-answer c =
     let named : is_model_name c.args.model.now ≡ true = grind (arith, common_steps) in
     let read : c.deref.result.now ≡ items = grind (arith, common_steps) in
     let fault : c.put_fault.result ≡ limit_fault t c.args.spent (with_models (put_at at m) next t) = c.put_fault.ensures c.args.model.now next ∙ ap (λ is. limit_fault t c.args.spent (with_models (put_at at (record { name = c.args.model.now; items = numbered_items t.next (clauses_of is) })) next t)) read in
-    refused_by_limit t (with_models (put_at at m) next t) c.args.spent (PutModel c.args.model.now c.args.text.now) c.in-Some.fault (rw named refl)
-    (clauses_of items, c.in-Ok.ensures.found, ap (λ i. with_models (put_at i m) next t) c.model_index-at.ensures.value)
+    refused_by_limit t (with_models (put_at at m) next t) c.args.spent
+    (PutModel c.args.model.now c.args.text.now) c.in-Some.fault (rw named refl) (
+      clauses_of items,
+      c.in-Ok.ensures.found,
+      ap (λ i. with_models (put_at i m) next t) c.model_index-at.ensures.value,
+    )
     (sym fault ∙ c.in-Some.is)
 
 pub make_model-requires-clause-next : goal.make_model-requires-clause-next
@@ -41,7 +45,18 @@ returns-in-Ok-make_model-clause-answer c =
     let read : c.deref.result.now ≡ items = grind (arith, common_steps) in
     let fault : c.put_fault.result ≡ limit_fault t c.args.spent (with_models (put_at at m) next t) = c.put_fault.ensures c.args.model.now next ∙ ap (λ is. limit_fault t c.args.spent (with_models (put_at at (record { name = c.args.model.now; items = numbered_items t.next (clauses_of is) })) next t)) read in
     let none : c.put_fault.result ≡ None = grind (arith, common_steps) in (
-      subst (λ n. Applies t c.args.spent (PutModel c.args.model.now c.args.text.now) n) (sym c.in-Ok-make_model.ensures.change)
-          (record { all_there = rw named refl; makes = (clauses_of items, c.in-Ok.ensures.found, ap (λ i. with_models (put_at i m) next t) c.model_index-at.ensures.value); within = sym fault ∙ none }),
-      λ r put. subst (λ i. IsModelPut i r) c.model_index-at.ensures.value (c.in-Ok-make_model.ensures.target r put),
+      subst (λ n. Applies t c.args.spent (PutModel c.args.model.now c.args.text.now) n)
+          (sym c.in-Ok-make_model.ensures.change)
+          (record {
+            all_there = rw named refl;
+            makes = (
+              clauses_of items,
+              c.in-Ok.ensures.found,
+              ap (λ i. with_models (put_at i m) next t)
+                  c.model_index-at.ensures.value,
+            );
+            within = sym fault ∙ none;
+          }),
+      λ r put. subst (λ i. IsModelPut i r) c.model_index-at.ensures.value
+          (c.in-Ok-make_model.ensures.target r put),
     )

@@ -15,7 +15,9 @@ use Rattle.bench_texts.proofs.texts.Texts.prepare_set_item.Goals as goal
 
 pub outputs_without-others-requires : goal.outputs_without-others-requires
 outputs_without-others-requires c =
-    held_at model_of (λ m. c.in_ok-index.index < length m.items) c.args.self.now.models.items c.in_ok-at.at c.index.result.now (omega (arith, c.in_ok-at.ensures.2)) c.index.ensures c.in_ok-index.ensures.2
+    held_at model_of (λ m. c.in_ok-index.index < length m.items) c.args.self.now.models.items
+    c.in_ok-at.at c.index.result.now (omega (arith, c.in_ok-at.ensures.2)) c.index.ensures
+    c.in_ok-index.ensures.2
 
 pub returns-clause-answer : goal.returns-clause-answer
 returns-clause-answer c =
@@ -25,9 +27,24 @@ returns-clause-answer c =
     let of_items = c.saturating_add-of_items.ensures ∙ counted-more _ _ _ _ c.outputs_without-others.ensures c.outputs_of.ensures ∙ ap (λ n. min n 18446744073709551615) (sym (items-put m.items c.in_ok-index.index y)) in
     let total = c.outputs_with-of_models.ensures (items_outputs (put_at c.in_ok-index.index y m.items)) of_items ∙ ap (λ n. min n 18446744073709551615) (sym (outputs-with (put_at c.in_ok-index.index y) (texts_of c.args.self.now).models c.in_ok-at.at m (grind (arith, common_steps, c.in_ok-at.ensures.2)) here)) in
     let within = c.limited.ensures (texts_after (changes.SetItem c.in_ok-at.at c.in_ok-index.index c.args.number c.in-Ok.item) (texts_of c.args.self.now)) (grind (arith, common_steps)) (length-changed_at (with_items (put_at c.in_ok-index.index y)) (texts_of c.args.self.now).models c.in_ok-at.at ∙ grind (arith, common_steps)) total in
-    limited_answers (texts_of c.args.self.now) c.args.spent (SetItem c.args.model.now c.args.number c.args.text.now) (changes.SetItem c.in_ok-at.at c.in_ok-index.index c.args.number c.in-Ok.item) c.limited.result
-    (rw (c.in_ok-at.ensures.1, c.in_ok-index.ensures.1) refl)
-    (clause_of c.in-Ok.item, c.in-Ok.ensures.found, ap (λ i. with_models (changed_at i (with_items (put_at c.in_ok-index.index y))) (texts_of c.args.self.now).next (texts_of c.args.self.now)) c.in_ok-at.ensures.0 ∙ ap (λ k. with_models (changed_at (model_index c.args.model.now (texts_of c.args.self.now).models) (with_items (put_at k y))) (texts_of c.args.self.now).next (texts_of c.args.self.now)) c.in_ok-index.ensures.0)
+    limited_answers (texts_of c.args.self.now) c.args.spent
+    (SetItem c.args.model.now c.args.number c.args.text.now)
+    (changes.SetItem c.in_ok-at.at c.in_ok-index.index c.args.number c.in-Ok.item)
+    c.limited.result
+    (rw (c.in_ok-at.ensures.1, c.in_ok-index.ensures.1) refl) (
+      clause_of c.in-Ok.item,
+      c.in-Ok.ensures.found,
+      ap
+          (λ i. with_models (changed_at i (with_items (put_at c.in_ok-index.index y)))
+          (texts_of c.args.self.now).next (texts_of c.args.self.now))
+          c.in_ok-at.ensures.0
+          ∙ ap
+          (λ k. with_models
+          (changed_at (model_index c.args.model.now (texts_of c.args.self.now).models)
+          (with_items (put_at k y)))
+          (texts_of c.args.self.now).next
+          (texts_of c.args.self.now)) c.in_ok-index.ensures.0,
+    )
     (λ r put. subst (λ i. IsModelPut i r) c.in_ok-at.ensures.0 put)
     within
 
@@ -39,6 +56,9 @@ returns-clause-ready c =
     let of_items = c.saturating_add-of_items.ensures ∙ counted-more _ _ _ _ c.outputs_without-others.ensures c.outputs_of.ensures ∙ ap (λ n. min n 18446744073709551615) (sym (items-put m.items c.in_ok-index.index y)) in
     let total = c.outputs_with-of_models.ensures (items_outputs (put_at c.in_ok-index.index y m.items)) of_items ∙ ap (λ n. min n 18446744073709551615) (sym (outputs-with (put_at c.in_ok-index.index y) (texts_of c.args.self.now).models c.in_ok-at.at m (grind (arith, common_steps, c.in_ok-at.ensures.2)) here)) in
     let within = c.limited.ensures (texts_after (changes.SetItem c.in_ok-at.at c.in_ok-index.index c.args.number c.in-Ok.item) (texts_of c.args.self.now)) (grind (arith, common_steps)) (length-changed_at (with_items (put_at c.in_ok-index.index y)) (texts_of c.args.self.now).models c.in_ok-at.at ∙ grind (arith, common_steps)) total in
-    limited_ready (texts_of c.args.self.now) c.args.self.now c.args.spent (changes.SetItem c.in_ok-at.at c.in_ok-index.index c.args.number c.in-Ok.item) (texts_after (changes.SetItem c.in_ok-at.at c.in_ok-index.index c.args.number c.in-Ok.item) (texts_of c.args.self.now)) c.limited.result
+    limited_ready (texts_of c.args.self.now) c.args.self.now c.args.spent
+    (changes.SetItem c.in_ok-at.at c.in_ok-index.index c.args.number c.in-Ok.item)
+    (texts_after (changes.SetItem c.in_ok-at.at c.in_ok-index.index c.args.number c.in-Ok.item)
+    (texts_of c.args.self.now)) c.limited.result
     (c.in_ok-at.ensures.2, c.in_ok-index.ensures.2)
     within

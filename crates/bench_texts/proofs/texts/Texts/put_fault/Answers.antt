@@ -10,4 +10,6 @@ pub returns : goal.returns
 returns c = λ name next.
     let t = texts_of c.args.self.now in
     let m : PlainModel = record { name = name; items = numbered_items t.next (clauses_of c.args.items.now) } in
-    c.limit_fault.ensures (with_models (put_at c.args.at m) next t) (grind (arith, common_steps)) (grind (arith, common_steps, length-put_at t.models c.args.at m)) (c.outputs_put.ensures name t.next)
+    c.limit_fault.ensures (with_models (put_at c.args.at m) next t) (grind (arith, common_steps))
+    (grind (arith, common_steps, length-put_at t.models c.args.at m))
+    (c.outputs_put.ensures name t.next)

@@ -7,4 +7,7 @@ use Rattle.bench_texts.proofs.texts.Texts.replace_condition.Goals as goal
 
 pub returns-clause-texts : goal.returns-clause-texts
 returns-clause-texts c =
-    ap (λ ts. with_tests (λ was. ts) (texts_of c.args.self.now)) (put_at-changed content_of (with_condition (c.args.condition.quantifier, formula_of c.args.condition.proposition)) c.args.self.now.tests.items c.args.at c.index.result.now (content_of c.in_ok-test.test) (omega (arith, c.requires)) c.index.ensures c.in_ok-test.ensures)
+    ap (λ ts. with_tests (λ was. ts) (texts_of c.args.self.now)) (put_at-changed content_of
+    (with_condition (c.args.condition.quantifier, formula_of c.args.condition.proposition))
+    c.args.self.now.tests.items c.args.at c.index.result.now (content_of c.in_ok-test.test)
+    (omega (arith, c.requires)) c.index.ensures c.in_ok-test.ensures)

@@ -7,9 +7,13 @@ use Rattle.bench_texts.proofs.texts.Texts.replace_insert.Goals as goal
 
 pub with_inserted-requires : goal.with_inserted-requires
 with_inserted-requires c =
-    held_at model_of (λ m. c.args.index ≤ length m.items) c.args.self.now.models.items c.args.at c.index.result.now (omega (arith, c.requires.0)) c.index.ensures c.requires.1
+    held_at model_of (λ m. c.args.index ≤ length m.items) c.args.self.now.models.items c.args.at
+    c.index.result.now (omega (arith, c.requires.0)) c.index.ensures c.requires.1
 
 pub returns-clause-texts : goal.returns-clause-texts
 returns-clause-texts c =
     let change = with_items (λ is. insert is c.args.index (record { number = c.args.self.now.next; clause = clause_of c.args.item })) in
-    ap (λ ms. with_models (λ was. ms) (c.args.self.now.next + 1) (texts_of c.args.self.now)) (put_at-changed model_of change c.args.self.now.models.items c.args.at c.index.result.now (model_of c.in_ok-model.model) (omega (arith, c.requires.0)) c.index.ensures c.in_ok-model.ensures.value)
+    ap (λ ms. with_models (λ was. ms) (c.args.self.now.next + 1) (texts_of c.args.self.now))
+    (put_at-changed model_of change c.args.self.now.models.items c.args.at c.index.result.now
+    (model_of c.in_ok-model.model) (omega (arith, c.requires.0)) c.index.ensures
+    c.in_ok-model.ensures.value)

@@ -7,9 +7,13 @@ use Rattle.bench_texts.proofs.texts.Texts.replace_set.Goals as goal
 
 pub with_set-requires : goal.with_set-requires
 with_set-requires c =
-    held_at model_of (λ m. c.args.index < length m.items) c.args.self.now.models.items c.args.at c.index.result.now (omega (arith, c.requires.0)) c.index.ensures c.requires.1
+    held_at model_of (λ m. c.args.index < length m.items) c.args.self.now.models.items c.args.at
+    c.index.result.now (omega (arith, c.requires.0)) c.index.ensures c.requires.1
 
 pub returns-clause-texts : goal.returns-clause-texts
 returns-clause-texts c =
     let change = with_items (put_at c.args.index (record { number = c.args.number; clause = clause_of c.args.item })) in
-    ap (λ ms. with_models (λ was. ms) c.args.self.now.next (texts_of c.args.self.now)) (put_at-changed model_of change c.args.self.now.models.items c.args.at c.index.result.now (model_of c.in_ok-model.model) (omega (arith, c.requires.0)) c.index.ensures c.in_ok-model.ensures.value)
+    ap (λ ms. with_models (λ was. ms) c.args.self.now.next (texts_of c.args.self.now))
+    (put_at-changed model_of change c.args.self.now.models.items c.args.at c.index.result.now
+    (model_of c.in_ok-model.model) (omega (arith, c.requires.0)) c.index.ensures
+    c.in_ok-model.ensures.value)

@@ -6,5 +6,7 @@ pub returns : goal.returns
 returns c = λ ss names ps rows under op a inner. record {
   fault = inner.fault;
   marks = inner.marks;
-  column = λ few. c.in_ok-postfix_column.ensures (length ps) rows (signature_in ss names ps a) (rw c.deref.ensures.value (inner.column few));
+  column =
+      λ few. c.in_ok-postfix_column.ensures (length ps) rows (signature_in ss names ps a)
+      (rw c.deref.ensures.value (inner.column few));
 }

@@ -13,4 +13,5 @@ returns-in-Some c = λ wholes all.
 pub returns-in-None : goal.returns-in-None
 returns-in-None c = λ wholes all.
     let none = zip_none c.args.arguments.now wholes c.in-Parameter.index (pieces.NoPairs ∷ []) all (slice_get_past c.args.arguments.now c.in-Parameter.index c.in-None.ensures.lookup.3) in
-    rw c.in-Parameter.is (on_ok_as c.put.result _ _ (λ g. grown_as _ _ _ _ _ _ (sym none) (λ bad. absurd bad) g) c.put.ensures)
+    rw c.in-Parameter.is (on_ok_as c.put.result _ _
+    (λ g. grown_as _ _ _ _ _ _ (sym none) (λ bad. absurd bad) g) c.put.ensures)

@@ -5,8 +5,11 @@ use Rattle.binding_graph.proofs.uses.Uses.note_all.Given as goal
 
 abbrev pub invariant-loop-value : goal.invariant-loop-value
 invariant-loop-value l = record {
-  uses : IsIndexed l.fn.self.indexes.items l.fn.self.values.items → all_noted (reverse l.self.values.items) (drop l.value-index l.values) ≡ all_noted (reverse l.fn.self.values.items) l.values;
-  indexed : IsIndexed l.fn.self.indexes.items l.fn.self.values.items → IsIndexed l.self.indexes.items l.self.values.items;
+  uses : IsIndexed l.fn.self.indexes.items l.fn.self.values.items
+      → all_noted (reverse l.self.values.items) (drop l.value-index l.values)
+      ≡ all_noted (reverse l.fn.self.values.items) l.values;
+  indexed : IsIndexed l.fn.self.indexes.items l.fn.self.values.items
+      → IsIndexed l.self.indexes.items l.self.values.items;
   functions : l.self.functions ≡ l.fn.self.functions;
   applied : l.self.applied ≡ l.fn.self.applied;
 }

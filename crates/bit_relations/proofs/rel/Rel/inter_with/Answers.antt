@@ -3,7 +3,20 @@ use Rattle.bit_relations.proofs.Making.{met}
 use Rattle.bit_relations.proofs.rel.Rel.inter_with.Goals as goal
 
 pub invariant_of-self : goal.invariant_of-self
-invariant_of-self c = put_together (met (taken_apart _ _ _ c.self.invariant) (taken_apart _ _ _ c.other.invariant) (record { few = c.end_of_high.ensures.few; none = c.end_of_high.ensures.none; all = c.end_of_high.ensures.all }) c.meet.ensures c.meet-2.ensures)
+invariant_of-self c =
+    put_together (met (taken_apart _ _ _ c.self.invariant) (taken_apart _ _ _ c.other.invariant)
+    (record {
+      few = c.end_of_high.ensures.few;
+      none = c.end_of_high.ensures.none;
+      all = c.end_of_high.ensures.all;
+    }) c.meet.ensures c.meet-2.ensures)
 
 pub returns : goal.returns
-returns c = rw (← c.self.view_is, ← c.other.view_is) (made_relation (met (taken_apart _ _ _ c.self.invariant) (taken_apart _ _ _ c.other.invariant) (record { few = c.end_of_high.ensures.few; none = c.end_of_high.ensures.none; all = c.end_of_high.ensures.all }) c.meet.ensures c.meet-2.ensures))
+returns c =
+    rw (← c.self.view_is, ← c.other.view_is) (made_relation (met
+    (taken_apart _ _ _ c.self.invariant) (taken_apart _ _ _ c.other.invariant)
+    (record {
+      few = c.end_of_high.ensures.few;
+      none = c.end_of_high.ensures.none;
+      all = c.end_of_high.ensures.all;
+    }) c.meet.ensures c.meet-2.ensures))

@@ -9,7 +9,8 @@ returns-then-count-le64 c =
     let same = one_word _ _ _ c.if-count-le64.true c.self.invariant in
     rw (← c.self.view_is) (
       (λ t a p. c.is_low_acyclic.ensures.0 t a (Plus-map _ _ (λ x y r. (same x y).1 r) a a p)),
-      (λ none. c.is_low_acyclic.ensures.1 (λ a p. none a (Plus-map _ _ (λ x y r. (same x y).0 r) a a p))),
+      (λ none. c.is_low_acyclic.ensures.1 (λ a p.
+          none a (Plus-map _ _ (λ x y r. (same x y).0 r) a a p))),
     )
 
 pub returns-else-count-le64 : goal.returns-else-count-le64

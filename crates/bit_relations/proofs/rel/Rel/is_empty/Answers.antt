@@ -7,7 +7,14 @@ pub returns-then-are_empty : goal.returns-then-are_empty
 returns-then-are_empty c =
     let m = taken_apart _ _ _ c.self.invariant in
     rw (← c.self.view_is) (
-      (λ t. none_there m (record { few = c.end_of_high.ensures.few; none = c.end_of_high.ensures.none; all = c.end_of_high.ensures.all }) (c.are_empty.ensures.0 c.if-are_empty.true) (c.are_empty-then-are_empty.ensures.0 t)),
+      (λ t. none_there m
+          (record {
+            few = c.end_of_high.ensures.few;
+            none = c.end_of_high.ensures.none;
+            all = c.end_of_high.ensures.all;
+          })
+          (c.are_empty.ensures.0 c.if-are_empty.true)
+          (c.are_empty-then-are_empty.ensures.0 t)),
       (λ none. c.are_empty-then-are_empty.ensures.1 (λ a lt. zero_high m none a)),
     )
 
@@ -16,5 +23,8 @@ returns-else-are_empty c =
     let m = taken_apart _ _ _ c.self.invariant in
     rw (← c.self.view_is) (
       (λ t. absurd cc),
-      (λ none. let t : IsTrue c.are_empty.result = c.are_empty.ensures.1 (λ a lt. zero_low m none a) in let f = c.if-are_empty.false in absurd cc),
+      (λ none.
+          let t : IsTrue c.are_empty.result =
+          c.are_empty.ensures.1 (λ a lt. zero_low m none a) in
+          let f = c.if-are_empty.false in absurd cc),
     )

@@ -4,4 +4,5 @@ use Rattle.std.specs.Arc.{arc_value}
 use Rattle.board.proofs.row.Row.open.Given as goal
 
 abbrev pub invariant-loop-column : goal.invariant-loop-column
-invariant-loop-column l = map (option_map arc_value) l.cells.items ≡ map (λ c. None) (take l.column-index l.columns)
+invariant-loop-column l =
+    map (option_map arc_value) l.cells.items ≡ map (λ c. None) (take l.column-index l.columns)

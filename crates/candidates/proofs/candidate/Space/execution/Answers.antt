@@ -12,10 +12,26 @@ pub returns-then-has-clause-some : goal.returns-then-has-clause-some
 returns-then-has-clause-some c =
     let inside : c.loop-combination.left < length (candidates_of c.combination-item.result) = search rules in
     let at_index : c.combination-item.result ≡ get_or c.args.self.now.combinations.items c.loop-combination.combination-index c.combination-item.result =
-    c.combination-item.is ∙ ap (λ (l : List Combination). get_or l c.loop-combination.combination-index c.combination-item.result) c.deref-combination-items.ensures.value in (
-      place_within c.args.self.now.combinations.items c.loop-combination.combination-index c.loop-combination.left c.args.index c.combination-item.result (omega arith) at_index inside c.loop-combination.invariant,
-      shown_there c.args.self.now.registers.items (candidates_in c.args.self.now.combinations.items) c.args.index c.in_ok-found.found
-          (place_within c.args.self.now.combinations.items c.loop-combination.combination-index c.loop-combination.left c.args.index c.combination-item.result (omega arith) at_index inside c.loop-combination.invariant)
-          (found_there c.args.self.now.registers.items c.args.self.now.combinations.items c.loop-combination.combination-index c.loop-combination.left c.args.index c.combination-item.result c.in_ok-found.found (omega arith) at_index inside c.loop-combination.invariant
-          (subst (λ (l : List (Vec (List Value) Global)). HoldsAt (λ t. IsExecution l c.combination-item.result t c.in_ok-found.found) (candidates_of c.combination-item.result) c.loop-combination.left) c.deref.ensures.value c.in_ok-found.ensures)),
+    c.combination-item.is
+    ∙ ap
+    (λ (l : List Combination).
+    get_or l c.loop-combination.combination-index c.combination-item.result)
+    c.deref-combination-items.ensures.value in (
+      place_within c.args.self.now.combinations.items c.loop-combination.combination-index
+          c.loop-combination.left c.args.index c.combination-item.result (omega arith) at_index
+          inside c.loop-combination.invariant,
+      shown_there c.args.self.now.registers.items (candidates_in c.args.self.now.combinations.items)
+          c.args.index c.in_ok-found.found
+          (place_within c.args.self.now.combinations.items c.loop-combination.combination-index
+          c.loop-combination.left c.args.index c.combination-item.result (omega arith)
+          at_index inside c.loop-combination.invariant)
+          (found_there c.args.self.now.registers.items c.args.self.now.combinations.items
+          c.loop-combination.combination-index c.loop-combination.left c.args.index
+          c.combination-item.result c.in_ok-found.found (omega arith) at_index inside
+          c.loop-combination.invariant
+          (subst
+          (λ (l : List (Vec (List Value) Global)). HoldsAt
+          (λ t. IsExecution l c.combination-item.result t c.in_ok-found.found)
+          (candidates_of c.combination-item.result) c.loop-combination.left)
+          c.deref.ensures.value c.in_ok-found.ensures)),
     )

@@ -14,5 +14,8 @@ returns-clause-at c = λ bases given.
     let long : candidate ≡ length mid.answers.items = omega (arith, c.len-candidate.ensures, run.answers.ok.0, same) in
     let here : candidate ≡ length bases = long ∙ same ∙ many in
     let (before, evaluated) = c.evaluate_asked.ensures.at bases here given in
-    asked_taken c.args.named.now run.check.now run.inputs.now run.kept bases mid _ c.args.count c.is_asked_at-asked.result c.is_held.result before (same ∙ many)
-    (rw (← long) c.is_asked_at-asked.ensures) (λ so. let (of, lt) = evaluated so in (of, rw (← here) lt)) c.is_held.ensures refl refl refl c.in_ok-push.ensures.items
+    asked_taken c.args.named.now run.check.now run.inputs.now run.kept bases mid _ c.args.count
+    c.is_asked_at-asked.result c.is_held.result before (same ∙ many)
+    (rw (← long) c.is_asked_at-asked.ensures)
+    (λ so. let (of, lt) = evaluated so in (of, rw (← here) lt)) c.is_held.ensures refl refl refl
+    c.in_ok-push.ensures.items

@@ -8,6 +8,9 @@ invariant-loop-at l = record {
   check : l.self.check ≡ l.initial.self.check;
   inputs : l.self.inputs ≡ l.initial.self.inputs;
   kept : l.self.kept ≡ l.initial.self.kept;
-  at : (bases : List Known) → IsAskedAt l.named l.initial.self.check.now l.initial.self.inputs.now l.initial.self.kept bases l.initial.self
-      → IsAskedAt l.named l.initial.self.check.now l.initial.self.inputs.now l.initial.self.kept (bases ++ seen_run l.named (length bases) l.count l._at) l.self;
+  at : (bases : List Known)
+      → IsAskedAt l.named l.initial.self.check.now l.initial.self.inputs.now l.initial.self.kept
+      bases l.initial.self
+      → IsAskedAt l.named l.initial.self.check.now l.initial.self.inputs.now l.initial.self.kept
+      (bases ++ seen_run l.named (length bases) l.count l._at) l.self;
 }

@@ -8,5 +8,8 @@ returns-clause-at c = λ bases here given.
     let run = c.args.self.now in
     let body = run.body.now in
     let said = rw c.deref.ensures.value at c.run-self.ensures in
-    body_evaluated c.args.named.now body run.inputs.now bases run _ c.args.candidate c.args.count here given refl
-    (said given.ready (subst (AreRight body.code.steps.items c.args.named.now run.inputs.now run.keeper) (sym here) given.right))
+    body_evaluated c.args.named.now body run.inputs.now bases run _ c.args.candidate c.args.count
+    here given refl
+    (said given.ready (subst
+    (AreRight body.code.steps.items c.args.named.now run.inputs.now run.keeper)
+    (sym here) given.right))

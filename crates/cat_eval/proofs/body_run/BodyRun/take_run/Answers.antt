@@ -7,8 +7,26 @@ pub returns-clause-longer : goal.returns-clause-longer
 returns-clause-longer c =
     let mid = c.evaluate.new.self in
     let grown = adds_run_long mid.column c.push_run.new.self _ _ _ c.in_ok-push_run.ensures in
-    let same : column_len mid.column ≡ column_len c.args.self.now.column = ap column_len c.evaluate.ensures.fixed.2 in
-    (omega (arith, grown, same, c.len-candidate.ensures, c.max-end.ensures, c.min.ensures, c.requires.more), omega (arith, grown, same, c.len-candidate.ensures, c.max-end.ensures, c.min.ensures, c.requires.more))
+    let same : column_len mid.column ≡ column_len c.args.self.now.column = ap column_len c.evaluate.ensures.fixed.2 in (
+      omega (
+        arith,
+        grown,
+        same,
+        c.len-candidate.ensures,
+        c.max-end.ensures,
+        c.min.ensures,
+        c.requires.more,
+      ),
+      omega (
+        arith,
+        grown,
+        same,
+        c.len-candidate.ensures,
+        c.max-end.ensures,
+        c.min.ensures,
+        c.requires.more,
+      ),
+    )
 
 pub returns-clause-at : goal.returns-clause-at
 returns-clause-at c = λ bases given.
@@ -21,5 +39,8 @@ returns-clause-at c = λ bases given.
     let same : column_len mid.column ≡ column_len run.column = ap column_len c.evaluate.ensures.fixed.2 in
     let more : column_len c.push_run.new.self - column_len run.column ≡ c.max-end.result - column_len mid.column = omega (arith, grown, same) in
     let within : length bases + (c.max-end.result - column_len mid.column) ≤ mid.until = omega (arith, here, same, c.len-candidate.ensures, c.max-end.ensures, c.min.ensures, c.requires.more, after) in
-    rw more (body_taken c.args.named.now run.body.now run.inputs.now bases c.args.count (c.max-end.result - column_len mid.column) c.set.result c.relation.result.now mid _ before count within refl refl
-    (top_is run.body.now.code.steps.items mid.keeper c.set.result c.relation.result.now before.ready c.set.ensures c.relation.ensures) c.in_ok-push_run.ensures)
+    rw more (body_taken c.args.named.now run.body.now run.inputs.now bases c.args.count
+    (c.max-end.result - column_len mid.column) c.set.result c.relation.result.now mid _ before
+    count within refl refl
+    (top_is run.body.now.code.steps.items mid.keeper c.set.result c.relation.result.now before.ready
+    c.set.ensures c.relation.ensures) c.in_ok-push_run.ensures)

@@ -34,7 +34,9 @@ runs-preserved c =
           let b = column_len new.column - column_len mid.column in
           let before = body_moved named first.body mid.body first.inputs mid.inputs (bases ++ seen_run named (length bases) c.args.count a) mid (sym inv.body) (sym inv.inputs) (inv.at bases given) in
           let next = body_moved named mid.body first.body mid.inputs first.inputs _ new inv.body inv.inputs (c.in_ok-take_run.ensures.at (bases ++ seen_run named (length bases) c.args.count a) before) in
-          body_next named first.body.now first.inputs.now bases new c.args.count a b (column_len new.column - column_len first.column) (omega (arith, inv.more, longer.0)) next;
+          body_next named first.body.now first.inputs.now bases new c.args.count a b
+          (column_len new.column - column_len first.column) (omega (arith, inv.more, longer.0))
+          next;
     }
 
 pub returns : goal.returns
@@ -45,5 +47,10 @@ returns c = λ first bases given.
     let inv = c.runs.invariant in
     let many : column_len now.column - column_len start.column ≡ c.args.many = omega (arith, inv.within, inv.more, c.runs-test.false) in
     let before = body_moved named first.body start.body first.inputs start.inputs bases start (sym given.0) (sym given.1) given.2 in
-    let after = rw many at (inv.at bases before) in
-    (inv.body ∙ given.0, inv.inputs ∙ given.1, body_moved named start.body first.body start.inputs first.inputs (bases ++ seen_run named (length bases) c.args.count c.args.many) now given.0 given.1 after)
+    let after = rw many at (inv.at bases before) in (
+      inv.body ∙ given.0,
+      inv.inputs ∙ given.1,
+      body_moved named start.body first.body start.inputs first.inputs
+          (bases ++ seen_run named (length bases) c.args.count c.args.many) now given.0
+          given.1 after,
+    )

@@ -10,8 +10,12 @@ invariant-runs l = record {
   inputs : l.self.inputs ≡ l.initial.self.inputs;
   more : column_len l.initial.self.column ≤ column_len l.self.column;
   within : column_len l.self.column ≤ l.stop;
-  at : (bases : List Known) → IsBodyAt l.named l.initial.self.body.now l.initial.self.inputs.now bases l.initial.self
-      → IsBodyAt l.named l.initial.self.body.now l.initial.self.inputs.now (bases ++ seen_run l.named (length bases) l.count (column_len l.self.column - column_len l.initial.self.column)) l.self;
+  at : (bases : List Known)
+      → IsBodyAt l.named l.initial.self.body.now l.initial.self.inputs.now bases l.initial.self
+      → IsBodyAt l.named l.initial.self.body.now l.initial.self.inputs.now
+      (bases
+      ++ seen_run l.named (length bases) l.count (column_len l.self.column
+      - column_len l.initial.self.column)) l.self;
 }
 
 abbrev pub decreases-runs : goal.decreases-runs

@@ -16,6 +16,8 @@ returns c =
     let us = reverse c.run.new.self.sets.items in
     let vs = c.run.new.self.relations in
     answer_is check inputs base k c.is_as_asked-met.result us vs
-    (λ t code. set_left base.count events pairs c.deref.result.now us vs c.in_ok-run.ensures t (c.deref.ensures.value ∙ code))
-    (λ t code. relation_left base.count events pairs c.deref.result.now us vs c.in_ok-run.ensures t (c.deref.ensures.value ∙ code))
+    (λ t code. set_left base.count events pairs c.deref.result.now us vs c.in_ok-run.ensures t
+    (c.deref.ensures.value ∙ code))
+    (λ t code. relation_left base.count events pairs c.deref.result.now us vs c.in_ok-run.ensures t
+    (c.deref.ensures.value ∙ code))
     c.is_as_asked-met.ensures.set c.is_as_asked-met.ensures.relation check.code.kind refl

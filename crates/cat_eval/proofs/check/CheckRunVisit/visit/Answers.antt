@@ -25,7 +25,10 @@ returns c = λ first bases many ends given.
     let held : IsSteady inputs n run.steady = subst (λ m. IsSteady inputs m run.steady) (sym long) still in
     let right : (a : Bool) → known ≡ Some a → IsAnswerOver check inputs base n check.code.kind a = λ a e.
     elim (c.in_ok-self.ensures.right a e) [
-      | inl t ↦ let as_before = c.is_as_before-same.ensures t.0 in answer_before check inputs bases base run.known a n run.steady many (ends as_before.0) last held as_before.1 t.1
+      | inl t ↦
+          let as_before = c.is_as_before-same.ensures t.0 in
+          answer_before check inputs bases base run.known a n run.steady many (ends as_before.0)
+          last held as_before.1 t.1
       | inr now ↦ now
     ] in
     let new = c.push.new.self.items in
@@ -33,8 +36,12 @@ returns c = λ first bases many ends given.
       given.0,
       given.1,
       given.2,
-      asked_moved run.check first.check run.inputs first.inputs given.0 given.1 (bases ++ base ∷ []) run.kept first.kept given.2 new now,
-      last_moved run.check first.check run.inputs first.inputs given.0 given.1 (bases ++ base ∷ []) known (last_now check inputs bases base known n many right),
-      steady_more run.inputs first.inputs given.1 (length answers) (length new) n run.steady c.steady_after-self.result long
-          (ap length c.in_ok-push.ensures.items ∙ length-append answers (_ ∷ [])) c.steady_after-self.ensures given.5,
+      asked_moved run.check first.check run.inputs first.inputs given.0 given.1 (bases ++ base ∷ [])
+          run.kept first.kept given.2 new now,
+      last_moved run.check first.check run.inputs first.inputs given.0 given.1 (bases ++ base ∷ [])
+          known (last_now check inputs bases base known n many right),
+      steady_more run.inputs first.inputs given.1 (length answers) (length new) n run.steady
+          c.steady_after-self.result long
+          (ap length c.in_ok-push.ensures.items ∙ length-append answers (_ ∷ []))
+          c.steady_after-self.ensures given.5,
     )

@@ -18,7 +18,8 @@ returns-clause-answers c = λ role.
     let listed : AreListed (column_names named) (names_in check.code.steps.items) = λ name inside. c.in_ok-list.ensures.all name (rw c.deref.ensures.value (needed name inside)) (c.in_ok-need_names.ensures.there name (needed name inside)) in
     let right = c.in_ok-list.ensures.columns candidates c.need_names.ensures.over in
     IfOk-weaker c.answers_over.result _ _
-    (λ (v : Vec Bool Global) (asked : AreAskedOver check inputs c.args.kept (seen_in c.as_slice.result.now 0 candidates) v.items).
+    (λ (v : Vec Bool Global) (asked : AreAskedOver check inputs c.args.kept
+    (seen_in c.as_slice.result.now 0 candidates) v.items).
     let (all, are, where_asked) = rw c.as_slice.ensures at asked in
     (all, answers_exact check inputs named candidates all right listed are, where_asked))
     c.answers_over.ensures

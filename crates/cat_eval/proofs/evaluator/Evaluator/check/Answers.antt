@@ -10,4 +10,7 @@ returns-in-Check-clause-answers c =
     let check = c.in-Check.check in
     let inputs = c.args.inputs.now in
     let candidates = candidates_in c.args.space.now.combinations.items in
-    rw c.in-Check.is (IfOk-weaker c.ask.result _ _ (λ v (all, are, same). subst (λ (xs : List Bool). AreAnswers check inputs candidates xs) (sym (where_all all v.items same)) are) (c.ask.ensures.answers c.in-Check.is))
+    rw c.in-Check.is (IfOk-weaker c.ask.result _ _
+    (λ v (all, are, same). subst (λ (xs : List Bool). AreAnswers check inputs candidates xs)
+    (sym (where_all all v.items same)) are)
+    (c.ask.ensures.answers c.in-Check.is))

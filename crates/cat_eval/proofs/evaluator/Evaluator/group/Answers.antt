@@ -8,8 +8,15 @@ use Rattle.cat_eval.proofs.evaluator.Evaluator.group.Goals as goal
 
 pub returns-clause-values : goal.returns-clause-values
 returns-clause-values c =
-    IfOk-weaker c.group_wanted.result _ _ (λ (v : Vec Column Global) (given : WantedColumnsOf [] c.args.item.now.role c.args.inputs.now c.args.space.now v.items). all_wanted c.args.item.now.role c.args.inputs.now c.args.space.now v.items given) c.group_wanted.ensures.values
+    IfOk-weaker c.group_wanted.result _ _
+    (λ (v : Vec Column Global) (given : WantedColumnsOf [] c.args.item.now.role c.args.inputs.now
+    c.args.space.now v.items).
+    all_wanted c.args.item.now.role c.args.inputs.now c.args.space.now v.items given)
+    c.group_wanted.ensures.values
 
 pub returns-clause-long : goal.returns-clause-long
 returns-clause-long c =
-    IfOk-weaker c.group_wanted.result _ _ (λ v values. columns_named c.args.item.now.role c.args.inputs.now c.args.space.now v.items values) (returns-clause-values c)
+    IfOk-weaker c.group_wanted.result _ _
+    (λ v values.
+    columns_named c.args.item.now.role c.args.inputs.now c.args.space.now v.items values)
+    (returns-clause-values c)

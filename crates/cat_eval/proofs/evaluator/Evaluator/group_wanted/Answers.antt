@@ -23,9 +23,15 @@ returns-then-keeps_steps-clause-values c =
     let right = c.in_ok-list-in-Group.ensures.columns candidates c.need_names.ensures.over in
     rw (c.in-Group.is, plain)
     (IfOk-weaker c.plain_columns.result _ _
-    (λ (v : Vec Column Global) (over : AreWantedOver wanted false c.deref-then-keeps_steps.result.now inputs (seen_in c.as_slice-named.result.now 0 candidates) v.items).
+    (λ (v : Vec Column Global) (over : AreWantedOver wanted false
+    c.deref-then-keeps_steps.result.now inputs
+    (seen_in c.as_slice-named.result.now 0 candidates) v.items).
     shown_exact wanted false bodies inputs named candidates v.items right listed
-    (subst (λ (bs : List Body). AreWantedOver wanted false bs inputs (seen_in named 0 candidates) v.items) c.deref-then-keeps_steps.ensures.value (rw c.as_slice-named.ensures at over)))
+    (subst
+    (λ (bs : List Body).
+    AreWantedOver wanted false bs inputs (seen_in named 0 candidates) v.items)
+    c.deref-then-keeps_steps.ensures.value
+    (rw c.as_slice-named.ensures at over)))
     c.plain_columns.ensures)
 
 pub returns-else-keeps_steps-clause-values : goal.returns-else-keeps_steps-clause-values
@@ -41,7 +47,12 @@ returns-else-keeps_steps-clause-values c =
     let right = c.in_ok-list-in-Group.ensures.columns candidates c.need_names.ensures.over in
     rw c.in-Group.is
     (IfOk-weaker c.visited_columns.result _ _
-    (λ (v : Vec Column Global) (over : AreWantedOver wanted recursive c.deref-in-Group.result.now inputs (seen_in c.as_slice-named.result.now 0 candidates) v.items).
+    (λ (v : Vec Column Global) (over : AreWantedOver wanted recursive c.deref-in-Group.result.now
+    inputs (seen_in c.as_slice-named.result.now 0 candidates) v.items).
     shown_exact wanted recursive bodies inputs named candidates v.items right listed
-    (subst (λ (bs : List Body). AreWantedOver wanted recursive bs inputs (seen_in named 0 candidates) v.items) c.deref-in-Group.ensures.value (rw c.as_slice-named.ensures at over)))
+    (subst
+    (λ (bs : List Body).
+    AreWantedOver wanted recursive bs inputs (seen_in named 0 candidates) v.items)
+    c.deref-in-Group.ensures.value
+    (rw c.as_slice-named.ensures at over)))
     c.visited_columns.ensures)

@@ -30,10 +30,22 @@ loop-position-preserved c =
             rw same (
               s,
               r,
-              subst (λ (x : Bor (List Bool)). AddsIf (is_wanted x.now at) (get_or c.args.self.now.columns.items at col) (get_or c.evaluate_one.new.self.columns.items at col) s r) before.8 (rw (before.5 at (omega arith) col) at adds),
+              subst
+                  (λ (x : Bor (List Bool)). AddsIf (is_wanted x.now at)
+                  (get_or c.args.self.now.columns.items at col)
+                  (get_or c.evaluate_one.new.self.columns.items at col) s r) before.8
+                  (rw (before.5 at (omega arith) col) at adds),
               (λ b.
-                  subst (λ (x : Bor (List Body)). IsMeaningOver (get_or x.now at b).code.kind (get_or x.now at b).code.steps.items c.args.self.now.inputs.now base k s r) before.0
-                  (subst (λ (y : Bor (List (Bor Column))). IsMeaningOver (get_or run.bodies.now at b).code.kind (get_or run.bodies.now at b).code.steps.items y.now base k s r) before.1 (meant b))),
+                  subst
+                  (λ (x : Bor (List Body)). IsMeaningOver (get_or x.now at b).code.kind
+                  (get_or x.now at b).code.steps.items c.args.self.now.inputs.now base k s
+                  r) before.0
+                  (subst
+                  (λ (y : Bor (List (Bor Column))). IsMeaningOver
+                  (get_or run.bodies.now at b).code.kind
+                  (get_or run.bodies.now at b).code.steps.items y.now base k s r)
+                  before.1
+                  (meant b))),
             )
         | inr other ↦
             let (s, r, adds, meant) = before.6 none j (omega (arith, less, other)) inside col in
@@ -44,4 +56,6 @@ loop-position-preserved c =
     )
 
 pub returns-clause-added : goal.returns-clause-added
-returns-clause-added c = λ none j lt less col. c.loop-position.invariant.6 none j (omega (arith, lt, c.loop-position-test.false)) less col
+returns-clause-added c =
+    λ none j lt less col.
+    c.loop-position.invariant.6 none j (omega (arith, lt, c.loop-position-test.false)) less col

@@ -13,6 +13,9 @@ returns-clause-added c = λ none lt col.
       c.relation.result.now,
       c.in_ok-put.ensures.added lt col,
       (λ b. rw (← read b)
-          (meant_is run.inputs.now c.args.base.now c.args.candidate body.code.steps.items c.set-set.result c.relation.result.now (reverse c.evaluate.new.machine.sets.items) c.evaluate.new.machine.relations
-          c.in_ok-evaluate.ensures.set (rw none at c.in_ok-evaluate.ensures.relation) c.set-set.ensures c.relation.ensures body.code.kind)),
+          (meant_is run.inputs.now c.args.base.now c.args.candidate body.code.steps.items
+          c.set-set.result c.relation.result.now (reverse c.evaluate.new.machine.sets.items)
+          c.evaluate.new.machine.relations
+          c.in_ok-evaluate.ensures.set (rw none at c.in_ok-evaluate.ensures.relation)
+          c.set-set.ensures c.relation.ensures body.code.kind)),
     )

@@ -18,8 +18,11 @@ loop-step-preserved c =
     let step = get_or xs l.step-index any in
     let is : step ≡ get_or xs l.step-index step = get_or_default xs l.step-index any step c.loop-step-test.true in
     let added = c.in_ok-add_step.ensures in (
-      any_more (step_passes changes_with_reads) xs l.step-index step old.reads l.self.reads new.reads c.loop-step-test.true is l.invariant.0 added.changes.0,
-      any_more (step_passes changes_with_orders) xs l.step-index step old.orders l.self.orders new.orders c.loop-step-test.true is l.invariant.1 added.changes.1,
+      any_more (step_passes changes_with_reads) xs l.step-index step old.reads l.self.reads
+          new.reads c.loop-step-test.true is l.invariant.0 added.changes.0,
+      any_more (step_passes changes_with_orders) xs l.step-index step old.orders l.self.orders
+          new.orders c.loop-step-test.true is l.invariant.1 added.changes.1,
       rw (flat_step step_names xs l.step-index step c.loop-step-test.true is)
-          (listed_more old.names.items l.self.names.items new.names.items (names_in (take l.step-index xs)) (step_names step) l.invariant.2 added.names),
+          (listed_more old.names.items l.self.names.items new.names.items
+          (names_in (take l.step-index xs)) (step_names step) l.invariant.2 added.names),
     )

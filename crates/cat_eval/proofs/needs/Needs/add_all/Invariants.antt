@@ -6,4 +6,5 @@ abbrev pub invariant-loop-step : goal.invariant-loop-step
 invariant-loop-step l =
     (l.self.reads ≡ (l.initial.self.reads || steps_read (take l.step-index l.steps)))
     × (l.self.orders ≡ (l.initial.self.orders || steps_order (take l.step-index l.steps)))
-    × AreListed l.self.names.items (l.initial.self.names.items ++ names_in (take l.step-index l.steps))
+    × AreListed l.self.names.items (l.initial.self.names.items
+    ++ names_in (take l.step-index l.steps))

@@ -6,4 +6,5 @@ abbrev pub invariant-loop-body : goal.invariant-loop-body
 invariant-loop-body l =
     (l.self.reads ≡ (l.initial.self.reads || bodies_read (take l.body-index l.bodies)))
     × (l.self.orders ≡ (l.initial.self.orders || bodies_order (take l.body-index l.bodies)))
-    × AreListed l.self.names.items (l.initial.self.names.items ++ bodies_names (take l.body-index l.bodies))
+    × AreListed l.self.names.items (l.initial.self.names.items
+    ++ bodies_names (take l.body-index l.bodies))

@@ -23,9 +23,13 @@ loop-position-preserved c =
             omega (arith, less, before.1),
             w.with_name-grew.type_inv,
             (λ trees codes fit first.
-                turn_grows base.count events pairs trees c.args.bodies.now l.self.own.items c.args.names l.position l.grew w.index-bodies-position.result w.evaluate.new.machine.relations
-                codes fit (before.3 trees codes fit first) c.loop-position-test.true w.index-bodies-position.is w.in_ok-evaluate.ensures.relation
-                w.keep.new.self.own.items w.with_name-grew.result w.keep.ensures.value w.with_name-grew.ensures),
+                turn_grows base.count events pairs trees c.args.bodies.now l.self.own.items
+                c.args.names l.position l.grew w.index-bodies-position.result
+                w.evaluate.new.machine.relations
+                codes fit (before.3 trees codes fit first) c.loop-position-test.true
+                w.index-bodies-position.is w.in_ok-evaluate.ensures.relation
+                w.keep.new.self.own.items w.with_name-grew.result w.keep.ensures.value
+                w.with_name-grew.ensures),
           )
       | then-has_name+then-position-len+in_ok-evaluate+else-keep w ↦
           let kept : w.keep.new.self.own.items ≡ l.self.own.items = w.keep.ensures.kept w.if-keep.false in
@@ -34,8 +38,11 @@ loop-position-preserved c =
             rw kept before.1,
             before.2,
             (λ trees codes fit first.
-                turn_stays base.count events pairs trees c.args.bodies.now l.self.own.items c.args.names l.position l.grew w.index-bodies-position.result w.evaluate.new.machine.relations
-                codes fit (before.3 trees codes fit first) c.loop-position-test.true w.index-bodies-position.is w.in_ok-evaluate.ensures.relation
+                turn_stays base.count events pairs trees c.args.bodies.now l.self.own.items
+                c.args.names l.position l.grew w.index-bodies-position.result
+                w.evaluate.new.machine.relations
+                codes fit (before.3 trees codes fit first) c.loop-position-test.true
+                w.index-bodies-position.is w.in_ok-evaluate.ensures.relation
                 w.keep.new.self.own.items kept w.keep.ensures.value),
           )
       | else-has_name w ↦
@@ -47,9 +54,17 @@ loop-position-preserved c =
                 let round = before.3 trees codes fit first in
                 elim w.else-has_name.branch [
                   | else-has_name-via-then-has_name+else-position-len w' ↦
-                      absurd (omega (arith, w'.if-position-len.false, w'.len.ensures, round.sound.as_many, codes_long trees c.args.bodies.now codes, c.loop-position-test.true))
+                      absurd (omega (
+                        arith,
+                        w'.if-position-len.false,
+                        w'.len.ensures,
+                        round.sound.as_many,
+                        codes_long trees c.args.bodies.now codes,
+                        c.loop-position-test.true,
+                      ))
                   | else-has_name-via-else-has_name w' ↦
-                      round_skips base.count events pairs trees l.self.own.items c.args.names l.position l.grew round
+                      round_skips base.count events pairs trees l.self.own.items c.args.names
+                      l.position l.grew round
                       (λ among. false≢true (sym w'.if-has_name.false ∙ c.has_name.ensures.1 among))
                 ]),
           )

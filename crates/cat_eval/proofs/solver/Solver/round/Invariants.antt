@@ -11,5 +11,7 @@ invariant-loop-position l =
     × (rooms l.self.own.items ≤ rooms l.initial.self.own.items)
     × (l.grew < 2 ^ 64)
     × ((trees : List RelTree) → AreCodes trees l.bodies → AreMonotone trees
-    → IsRound l.base.count (EventsIn l.base l.inputs l.candidate) (PairsOutside l.base l.inputs l.candidate) trees l.initial.self.own.items l.names 0 0
-    → IsRound l.base.count (EventsIn l.base l.inputs l.candidate) (PairsOutside l.base l.inputs l.candidate) trees l.self.own.items l.names l.position l.grew)
+    → IsRound l.base.count (EventsIn l.base l.inputs l.candidate)
+    (PairsOutside l.base l.inputs l.candidate) trees l.initial.self.own.items l.names 0 0
+    → IsRound l.base.count (EventsIn l.base l.inputs l.candidate)
+    (PairsOutside l.base l.inputs l.candidate) trees l.self.own.items l.names l.position l.grew)

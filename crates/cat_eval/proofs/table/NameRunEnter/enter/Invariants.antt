@@ -10,6 +10,13 @@ use Rattle.cat_eval.proofs.table.NameRunEnter.enter.Given as goal
 abbrev pub invariant-loop-index : goal.invariant-loop-index
 invariant-loop-index l =
     (length l.self.entries.items ≡ length l.initial.self.entries.items)
-    × ((j : ℕ) (d : Entry) → (slice_index_or l.self.entries.items j d).name ≡ (slice_index_or l.initial.self.entries.items j d).name)
-    × ((j : ℕ) → l.index ≤ j → (d : Entry) → slice_index_or l.self.entries.items j d ≡ slice_index_or l.initial.self.entries.items j d)
-    × ((bases : List Known) → (IsTrue l.again → EndsWith bases l.base) → (IsTrue l.reordered → EndsReordered bases l.base) → AreFilled l.initial.self.entries.items bases → (j : ℕ) → j < l.index → (d : Entry) → IsFilled (slice_index_or l.self.entries.items j d) (bases ++ l.base ∷ []))
+    × ((j : ℕ) (d : Entry)
+    → (slice_index_or l.self.entries.items j d).name
+    ≡ (slice_index_or l.initial.self.entries.items j d).name)
+    × ((j : ℕ) → l.index ≤ j → (d : Entry)
+    → slice_index_or l.self.entries.items j d
+    ≡ slice_index_or l.initial.self.entries.items j d)
+    × ((bases : List Known) → (IsTrue l.again → EndsWith bases l.base)
+    → (IsTrue l.reordered → EndsReordered bases l.base)
+    → AreFilled l.initial.self.entries.items bases → (j : ℕ) → j < l.index → (d : Entry)
+    → IsFilled (slice_index_or l.self.entries.items j d) (bases ++ l.base ∷ []))

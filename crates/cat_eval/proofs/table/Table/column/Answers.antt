@@ -31,12 +31,18 @@ returns-in-Some c =
       (
         index,
         less,
-        (λ d. subst (λ (v : Vec Entry Global). Contains (entry_names v.items) c.args.name) (is ∙ get_or_default blocks index item d less) found.0),
+        (λ d. subst (λ (v : Vec Entry Global). Contains (entry_names v.items) c.args.name)
+            (is ∙ get_or_default blocks index item d less) found.0),
       ),
-      (λ candidates right. found.1 candidates (subst (λ (v : Vec Entry Global). IsBlock v.items candidates) (sym is) (right index less item))),
+      (λ candidates right. found.1 candidates (subst
+          (λ (v : Vec Entry Global). IsBlock v.items candidates) (sym is)
+          (right index less item))),
     )
 
 pub returns : goal.returns
 returns c = λ inside.
     let blocks = c.args.self.now.blocks.items in
-    no_name blocks c.args.name (λ b lt d here. c.loop-block.invariant b (omega (arith, lt, c.loop-block-test.false, c.deref-block-items.ensures.len)) d here) inside
+    no_name blocks c.args.name
+    (λ b lt d here. c.loop-block.invariant b
+    (omega (arith, lt, c.loop-block-test.false, c.deref-block-items.ensures.len)) d here)
+    inside

@@ -15,7 +15,8 @@ loop-name-preserved c = λ x inside.
     let more : take (index + 1) xs ≡ take index xs ++ name ∷ [] = take_more xs index names.Loads c.loop-name-test.true in
     elim (Contains-append_cases (take index xs) (name ∷ []) x (rw more at inside)) [
       | inl before ↦ c.loop-name.invariant x before
-      | inr last ↦ subst (λ (y : Predefined). HasName c.args.self.now.blocks.items y) (single name x last) (c.has.ensures c.if-not-has.false)
+      | inr last ↦ subst (λ (y : Predefined). HasName c.args.self.now.blocks.items y)
+          (single name x last) (c.has.ensures c.if-not-has.false)
     ]
 
 pub returns : goal.returns

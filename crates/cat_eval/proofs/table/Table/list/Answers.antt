@@ -23,15 +23,20 @@ loop-name-preserved c =
           let one : NamedColumn = record { name = name; column = w.in-Some.column } in
           let grown : column_names (old ++ one ∷ []) ≡ column_names old ++ name ∷ [] = map-append (λ (x : NamedColumn). x.name) old (one ∷ []) in
           rw (w.named-is, w.in_ok-push.ensures.added) (
-            (λ candidates right. columns_with old one candidates (before.0 candidates right) (w.in-Some.ensures.1 candidates right)),
-            found_more (λ x. HasName blocks x) (column_names old) (column_names (old ++ one ∷ [])) (take index xs) name
-                (λ x inside. rw grown (Contains-append_left (column_names old) (name ∷ []) x inside))
-                (λ has. rw grown (Contains-append_right (column_names old) (name ∷ []) name (0, omega arith, refl)))
+            (λ candidates right. columns_with old one candidates (before.0 candidates right)
+                (w.in-Some.ensures.1 candidates right)),
+            found_more (λ x. HasName blocks x) (column_names old) (column_names (old ++ one ∷ []))
+                (take index xs) name
+                (λ x inside.
+                rw grown (Contains-append_left (column_names old) (name ∷ []) x inside))
+                (λ has. rw grown (Contains-append_right (column_names old) (name ∷ []) name
+                (0, omega arith, refl)))
                 before.1,
           )
       | in_default w ↦ rw w.named-is (
         before.0,
-        found_more (λ x. HasName blocks x) (column_names old) (column_names old) (take index xs) name (λ x inside. inside) (λ has. absurd (w.in_default.ensures has)) before.1,
+        found_more (λ x. HasName blocks x) (column_names old) (column_names old) (take index xs)
+            name (λ x inside. inside) (λ has. absurd (w.in_default.ensures has)) before.1,
       )
     ])
 

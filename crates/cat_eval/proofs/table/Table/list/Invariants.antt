@@ -6,5 +6,7 @@ use Rattle.cat_eval.proofs.table.Table.list.Given as goal
 
 abbrev pub invariant-loop-name : goal.invariant-loop-name
 invariant-loop-name l =
-    ((candidates : List Candidate) → AreBlocks l.self.blocks.items candidates → AreColumnsFor l.named candidates)
-    × ((name : Predefined) → Contains (take l.name-index l.names) name → HasName l.self.blocks.items name → Contains (column_names l.named) name)
+    ((candidates : List Candidate) → AreBlocks l.self.blocks.items candidates
+    → AreColumnsFor l.named candidates)
+    × ((name : Predefined) → Contains (take l.name-index l.names) name
+    → HasName l.self.blocks.items name → Contains (column_names l.named) name)

@@ -10,7 +10,8 @@ use Rattle.cat_eval.proofs.table.Table.missing.Goals as goal
 use Rattle.cat_eval.proofs.table.Table.missing.Goals.{then-lacks+in_ok-add, else-lacks}
 
 pub loop-name-init : goal.loop-name-init
-loop-name-init c = (c.none-missing.ensures.suited, (λ name inside same. absurd (nothing_in name inside)))
+loop-name-init c =
+    (c.none-missing.ensures.suited, (λ name inside same. absurd (nothing_in name inside)))
 
 pub loop-name-preserved : goal.loop-name-preserved
 loop-name-preserved c =
@@ -24,14 +25,18 @@ loop-name-preserved c =
     rw more (elim c.if-lacks.branch [
       | then-lacks+in_ok-add w ↦ rw w.missing-is (
         w.in_ok-add.ensures.suited before.0,
-        missing_more (λ x. is_changing_name x ≡ c.args.is_changing) (λ x. HasName blocks x) old _ (take index xs) name
-            (λ x inside. w.in_ok-add.ensures.names x (Contains-append_left old (name ∷ []) x inside))
-            (λ same. inr (w.in_ok-add.ensures.names name (Contains-append_right old (name ∷ []) name (0, omega arith, refl))))
+        missing_more (λ x. is_changing_name x ≡ c.args.is_changing) (λ x. HasName blocks x) old _
+            (take index xs) name
+            (λ x inside.
+            w.in_ok-add.ensures.names x (Contains-append_left old (name ∷ []) x inside))
+            (λ same. inr (w.in_ok-add.ensures.names name (Contains-append_right old (name ∷ []) name
+            (0, omega arith, refl))))
             before.1,
       )
       | else-lacks w ↦ rw w.missing-is (
         before.0,
-        missing_more (λ x. is_changing_name x ≡ c.args.is_changing) (λ x. HasName blocks x) old old (take index xs) name
+        missing_more (λ x. is_changing_name x ≡ c.args.is_changing) (λ x. HasName blocks x) old old
+            (take index xs) name
             (λ x inside. inside)
             (λ same. inl (c.lacks.ensures w.if-lacks.false same))
             before.1,

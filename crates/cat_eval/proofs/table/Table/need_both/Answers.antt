@@ -13,4 +13,5 @@ pub returns-clause-right : goal.returns-clause-right
 returns-clause-right c = λ right. c.need_some-2.ensures.right (c.need_some.ensures.right right)
 
 pub returns-in_err-need_some-2-clause-right : goal.returns-in_err-need_some-2-clause-right
-returns-in_err-need_some-2-clause-right c = λ right. c.need_some-2.ensures.right (c.need_some.ensures.right right)
+returns-in_err-need_some-2-clause-right c =
+    λ right. c.need_some-2.ensures.right (c.need_some.ensures.right right)

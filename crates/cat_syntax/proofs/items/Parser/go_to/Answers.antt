@@ -9,4 +9,6 @@ abbrev state_at : List Clause → Part → State
 state_at is p = record { items = is; part = p }
 
 pub returns-clause-state : goal.returns-clause-state
-returns-clause-state c = ap (state_at (clauses_of c.args.self.now.items.items)) (part_restarted c.restart.new.self c.args.next c.restart.ensures)
+returns-clause-state c =
+    ap (state_at (clauses_of c.args.self.now.items.items)) (part_restarted c.restart.new.self
+    c.args.next c.restart.ensures)

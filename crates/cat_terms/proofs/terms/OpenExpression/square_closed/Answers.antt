@@ -9,13 +9,18 @@ use Rattle.cat_terms.proofs.terms.OpenExpression.square_closed.Goals as goal
 
 pub returns-then-not-is_square : goal.returns-then-not-is_square
 returns-then-not-is_square c =
-    ap (square_closed c.args.self.now.operators) (popped_of _ _ _ _ _ c.in_ok-join.ensures c.in-Some.ensures.items)
-    ∙ square_refused c.args.self.now.operators c.in-Some.frame _ _ (sym c.is_square.ensures ∙ c.if-not-is_square.true)
+    ap (square_closed c.args.self.now.operators) (popped_of _ _ _ _ _ c.in_ok-join.ensures
+    c.in-Some.ensures.items)
+    ∙ square_refused c.args.self.now.operators c.in-Some.frame _ _
+    (sym c.is_square.ensures ∙ c.if-not-is_square.true)
 
 pub returns : goal.returns
 returns c =
     steps_same CloseSquare _ _ _ _
-    (ap (square_closed c.args.self.now.operators) (popped_of _ _ _ _ _ c.in_ok-join.ensures c.in-Some.ensures.items)
-    ∙ square_matched c.args.self.now.operators c.in-Some.frame _ _ (sym c.is_square.ensures ∙ c.if-not-is_square.false)
-    ∙ ap (λ (t : Term). Goes (stack_of c.pop.new.self.items) c.args.self.now.operators (Has (On t))) (sym (ap term_of c.in_ok-new.ensures.ok)))
+    (ap (square_closed c.args.self.now.operators) (popped_of _ _ _ _ _ c.in_ok-join.ensures
+    c.in-Some.ensures.items)
+    ∙ square_matched c.args.self.now.operators c.in-Some.frame _ _
+    (sym c.is_square.ensures ∙ c.if-not-is_square.false)
+    ∙ ap (λ (t : Term). Goes (stack_of c.pop.new.self.items) c.args.self.now.operators (Has (On t)))
+    (sym (ap term_of c.in_ok-new.ensures.ok)))
     (c.goes.ensures CloseSquare)

@@ -8,7 +8,8 @@ abbrev pub invariant-loop-event : goal.invariant-loop-event
 invariant-loop-event g l =
     let t = g.T.Texts in
     record {
-      answered : AreAnswered (meaning t.net t.is_valid t.since t.makes t.keeps t.edited t.last) t.refuses t.last l.fn.self [] l.yielded l.replies.items l.self (tasks_in l.jobs.items);
+      answered : AreAnswered (meaning t.net t.is_valid t.since t.makes t.keeps t.edited t.last)
+          t.refuses t.last l.fn.self [] l.yielded l.replies.items l.self (tasks_in l.jobs.items);
       rest : l.yielded ++ l.event-iterator.rest.items ≡ l.fn.events.items;
       total : length l.yielded + length l.event-iterator.rest.items ≡ length l.fn.events.items;
       replied : vec_len l.replies ≡ length l.yielded;

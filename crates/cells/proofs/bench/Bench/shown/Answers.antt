@@ -26,7 +26,8 @@ unreachable-requires-in-None-outcome_in g c =
     let solved = bench_solved t.is_valid t.since t.net t.makes t.is_there laws.given_stays laws.sound laws.used_there laws.used_closed s.texts ms s.taken valid c.self.invariant.right.1 in
     let held = g.met.T.CellTexts.solved s.texts c.args.test.now c.args.model.now valid ms c.in-Some.verdict solved (sym c.in-Some.ensures) c.in-Some-shown.ensures.settled in
     let found = value_shows g.T.CellTexts.outcome_in ms c.in-Some.verdict (shown_outputs c.in-Some-shown.outputs.now) held.0 held.1 c.in-Some-shown.ensures.stored (Some c.in-Some-output_token.token.now.value) c.in-Some-output_token.ensures.value in
-    none-some held.0 (c.in-None-outcome_in.ensures ∙ ap g.T.CellTexts.outcome_in (c.see.ensures ∙ same_Some _ _ found.1) ∙ found.2)
+    none-some held.0 (c.in-None-outcome_in.ensures
+    ∙ ap g.T.CellTexts.outcome_in (c.see.ensures ∙ same_Some _ _ found.1) ∙ found.2)
 
 pub returns-clause-shown : goal.returns-clause-shown
 returns-clause-shown g c =
@@ -43,7 +44,9 @@ returns-clause-shown g c =
       verdict = c.in-Some.verdict;
       is = sym c.in-Some.ensures;
       settled = c.in-Some-shown.ensures.settled;
-      carries = carries_same g.T.CellTexts.outcome_in ms c.in-Some.verdict held.0 c.in-Some-outcome_in.outcome.now (sym is) held.1;
+      carries =
+          carries_same g.T.CellTexts.outcome_in ms c.in-Some.verdict held.0
+          c.in-Some-outcome_in.outcome.now (sym is) held.1;
     })
 
 pub returns-clause-from_scratch : goal.returns-clause-from_scratch

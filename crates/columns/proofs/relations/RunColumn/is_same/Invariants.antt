@@ -3,7 +3,8 @@ use Rattle.columns.specs.Runs.{value_at}
 use Rattle.columns.proofs.relations.RunColumn.is_same.Given as goal
 
 abbrev pub invariant-runs : goal.invariant-runs
-invariant-runs l = (l.done ≤ l.count) × ((k : ℕ) → k < l.done → value_at l.self k ≡ value_at l.other k)
+invariant-runs l =
+    (l.done ≤ l.count) × ((k : ℕ) → k < l.done → value_at l.self k ≡ value_at l.other k)
 
 abbrev pub decreases-runs : goal.decreases-runs
 decreases-runs l = l.count - l.done

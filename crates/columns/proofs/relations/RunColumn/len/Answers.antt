@@ -5,4 +5,7 @@ use Rattle.columns.proofs.Expanding.{length-runs}
 use Rattle.columns.proofs.relations.RunColumn.len.Goals as goal
 
 pub returns : goal.returns
-returns c = c.end_of.ensures ∙ (ap (λ rs. last_end 0 (ends_of rs)) c.deref.ensures.value ∙ (sym (length-runs _ _ c.self.invariant.0) ∙ ap length c.self.view_is))
+returns c =
+    c.end_of.ensures
+    ∙ (ap (λ rs. last_end 0 (ends_of rs)) c.deref.ensures.value
+    ∙ (sym (length-runs _ _ c.self.invariant.0) ∙ ap length c.self.view_is))

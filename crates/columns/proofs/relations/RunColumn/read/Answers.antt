@@ -13,7 +13,9 @@ pub returns-clause-value : goal.returns-clause-value
 returns-clause-value c =
     let same : ends_of c.as_slice-runs.result.now ≡ ends_of c.self.inside.runs.items = ap (λ rs. ends_of rs) c.as_slice-runs.ensures.value in
     let inside : c.run_at-run.result < length (ends_of c.as_slice-runs.result.now) = rw (as_many_ends c.as_slice-runs.result.now) c.run_at-run.ensures.run in
-    read_value no_slot _ _ _ _ _ _ _ c.self.invariant.0 c.self.view_is same inside c.run_at-run.ensures.from_start c.run_at-run.ensures.open (rw (c.as_slice-runs.ensures.value, c.deref.ensures.value) at c.read_value.ensures)
+    read_value no_slot _ _ _ _ _ _ _ c.self.invariant.0 c.self.view_is same inside
+    c.run_at-run.ensures.from_start c.run_at-run.ensures.open (rw
+    (c.as_slice-runs.ensures.value, c.deref.ensures.value) at c.read_value.ensures)
 
 pub returns-clause-within : goal.returns-clause-within
 returns-clause-within c =
@@ -25,4 +27,5 @@ pub returns-clause-same : goal.returns-clause-same
 returns-clause-same c =
     let same : ends_of c.as_slice-runs.result.now ≡ ends_of c.self.inside.runs.items = ap (λ rs. ends_of rs) c.as_slice-runs.ensures.value in
     let inside : c.run_at-run.result < length (ends_of c.as_slice-runs.result.now) = rw (as_many_ends c.as_slice-runs.result.now) c.run_at-run.ensures.run in
-    read_same no_slot _ _ _ _ _ _ _ c.self.invariant.0 c.self.view_is same inside c.run_at-run.ensures.from_start c.run_at-run.ensures.open c.end_at.ensures
+    read_same no_slot _ _ _ _ _ _ _ c.self.invariant.0 c.self.view_is same inside
+    c.run_at-run.ensures.from_start c.run_at-run.ensures.open c.end_at.ensures

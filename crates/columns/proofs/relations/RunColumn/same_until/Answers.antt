@@ -19,4 +19,5 @@ pub returns-clause-same : goal.returns-clause-same
 returns-clause-same c =
     let same : ends_of c.as_slice-runs.result.now ≡ ends_of c.self.inside.runs.items = ap (λ rs. ends_of rs) c.as_slice-runs.ensures.value in
     let inside : c.run_at.result < length (ends_of c.as_slice-runs.result.now) = rw (as_many_ends c.as_slice-runs.result.now) c.run_at.ensures.run in
-    read_same no_slot _ _ _ _ _ _ _ c.self.invariant.0 c.self.view_is same inside c.run_at.ensures.from_start c.run_at.ensures.open c.end_at.ensures
+    read_same no_slot _ _ _ _ _ _ _ c.self.invariant.0 c.self.view_is same inside
+    c.run_at.ensures.from_start c.run_at.ensures.open c.end_at.ensures

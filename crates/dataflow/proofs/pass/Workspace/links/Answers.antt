@@ -5,13 +5,30 @@ use Rattle.dataflow.proofs.LinkLists.{list_of, reach_loads, ctrl_loads, ctrlisyn
 use Rattle.dataflow.proofs.pass.Workspace.links.Goals as goal
 
 pub returns-then-count-gt128-clause-within : goal.returns-then-count-gt128-clause-within
-returns-then-count-gt128-clause-within c = c.no_links.ensures.within (event_place (executed c.args.run.now.steps.items) (length c.args.run.now.steps.items))
+returns-then-count-gt128-clause-within c =
+    c.no_links.ensures.within (event_place (executed c.args.run.now.steps.items)
+    (length c.args.run.now.steps.items))
 
 pub returns-clause-exact : goal.returns-clause-exact
 returns-clause-exact c = λ few. record {
-  addr = list_of IsAddr _ _ _ _ _ _ (reach_loads is_plain false) c.deref.ensures.value c.deref-2.ensures.value c.event_count-count.ensures c.reach.ensures.columns c.in_ok-addr_pairs.ensures.exact;
-  «data» = list_of IsData _ _ _ _ _ _ (reach_loads is_plain true) c.deref.ensures.value c.deref-3.ensures.value c.event_count-count.ensures c.reach-2.ensures.columns c.in_ok-data_pairs.ensures.exact;
-  ctrl = list_of IsCtrl _ _ _ _ _ _ ctrl_loads c.deref.ensures.value c.deref-4.ensures.value c.event_count-count.ensures c.control_columns.ensures.columns c.in_ok-ctrl_pairs.ensures.exact;
-  ctrlisync = list_of IsCtrlIsync _ _ _ _ _ _ ctrlisync_loads c.deref.ensures.value c.deref-5.ensures.value c.event_count-count.ensures c.control_columns-2.ensures.columns c.in_ok-ctrlisync_pairs.ensures.exact;
-  need = list_of IsNeed _ _ _ _ _ _ (reach_loads is_narrow true) c.deref.ensures.value c.deref-6.ensures.value c.event_count-count.ensures c.reach-3.ensures.columns c.in_ok-need_pairs.ensures.exact;
+  addr =
+      list_of IsAddr _ _ _ _ _ _ (reach_loads is_plain false) c.deref.ensures.value
+      c.deref-2.ensures.value c.event_count-count.ensures c.reach.ensures.columns
+      c.in_ok-addr_pairs.ensures.exact;
+  «data» =
+      list_of IsData _ _ _ _ _ _ (reach_loads is_plain true) c.deref.ensures.value
+      c.deref-3.ensures.value c.event_count-count.ensures c.reach-2.ensures.columns
+      c.in_ok-data_pairs.ensures.exact;
+  ctrl =
+      list_of IsCtrl _ _ _ _ _ _ ctrl_loads c.deref.ensures.value c.deref-4.ensures.value
+      c.event_count-count.ensures c.control_columns.ensures.columns
+      c.in_ok-ctrl_pairs.ensures.exact;
+  ctrlisync =
+      list_of IsCtrlIsync _ _ _ _ _ _ ctrlisync_loads c.deref.ensures.value c.deref-5.ensures.value
+      c.event_count-count.ensures c.control_columns-2.ensures.columns
+      c.in_ok-ctrlisync_pairs.ensures.exact;
+  need =
+      list_of IsNeed _ _ _ _ _ _ (reach_loads is_narrow true) c.deref.ensures.value
+      c.deref-6.ensures.value c.event_count-count.ensures c.reach-3.ensures.columns
+      c.in_ok-need_pairs.ensures.exact;
 }

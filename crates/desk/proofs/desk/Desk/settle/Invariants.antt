@@ -2,4 +2,6 @@ use Rattle.std.proofs.Common.{◌≡◌}
 use Rattle.desk.proofs.desk.Desk.settle.Given as goal
 
 abbrev pub invariant-loop : goal.invariant-loop
-invariant-loop g l = (goal.iterator-loop g).can_next l.iterator' × (goal.iterator-loop g).is_finite l.iterator' × (l.me ≡ l.initial.me)
+invariant-loop g l =
+    (goal.iterator-loop g).can_next l.iterator' × (goal.iterator-loop g).is_finite l.iterator'
+    × (l.me ≡ l.initial.me)

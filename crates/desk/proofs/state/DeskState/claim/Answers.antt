@@ -22,19 +22,30 @@ invariant_of-self-2 g c =
       rw e.texts inv.0,
       rw e.texts inv.1,
       omega (arith, inv.2, later),
-      λ owes. ((inv.3 owes).0, given_or_none c.in-Ok.job _ _ _ e.given e.none (λ j step. posted_claimed means of old new cells j.claim j.node j.given j.keys j.values step (inv.3 owes).1) (λ step. posted_idle means of old new cells step (inv.3 owes).1)),
+      λ owes. (
+        (inv.3 owes).0,
+        given_or_none c.in-Ok.job _ _ _ e.given e.none
+            (λ j step. posted_claimed means of old new cells j.claim j.node j.given j.keys
+            j.values step (inv.3 owes).1)
+            (λ step. posted_idle means of old new cells step (inv.3 owes).1),
+      ),
     )
 
 pub returns-clause-appends : goal.returns-clause-appends
 returns-clause-appends g c =
     let s = c.self.inside in
-    appends_since g.X.BoardTexts.is_settle s.bench c.claim.new.self s.ledger.all s.ledger.published s.seats s.closed _ _ c.args.self.now c.try_again.new.self c.self.view_is c.try_again.ensures.appends
+    appends_since g.X.BoardTexts.is_settle s.bench c.claim.new.self s.ledger.all s.ledger.published
+    s.seats s.closed _ _ c.args.self.now c.try_again.new.self c.self.view_is
+    c.try_again.ensures.appends
 
 pub returns-clause-grows : goal.returns-clause-grows
-returns-clause-grows g c = grown_from _ _ _ (ap (λ (h : Held _ _ _). h.published) c.self.view_is) c.try_again.ensures.grows
+returns-clause-grows g c =
+    grown_from _ _ _ (ap (λ (h : Held _ _ _). h.published) c.self.view_is) c.try_again.ensures.grows
 
 pub returns-clause-closed : goal.returns-clause-closed
-returns-clause-closed g c = other_closed _ _ (not_ok _) (sym (ap (λ (h : Held _ _ _). h.closed) c.self.view_is) ∙ c.if-self.false)
+returns-clause-closed g c =
+    other_closed _ _ (not_ok _) (sym (ap (λ (h : Held _ _ _). h.closed) c.self.view_is)
+    ∙ c.if-self.false)
 
 pub invariant_of-self : goal.invariant_of-self
 invariant_of-self g c =
@@ -47,10 +58,13 @@ pub returns-in-Err-OutOfMemory-clause-err : goal.returns-in-Err-OutOfMemory-clau
 returns-in-Err-OutOfMemory-clause-err g c =
     let means = meaning g.X.Texts.net g.X.Texts.is_valid g.X.Texts.since g.X.Texts.makes g.X.Texts.keeps g.X.Texts.edited g.X.Texts.last in
     let s = c.self.inside in
-    refused_since means s.bench c.claim.new.self s.ledger.all s.ledger.published s.seats s.closed _ _ c.args.self.now c.self.view_is c.in-Err-OutOfMemory.ensures.refused
+    refused_since means s.bench c.claim.new.self s.ledger.all s.ledger.published s.seats s.closed _
+    _ c.args.self.now c.self.view_is c.in-Err-OutOfMemory.ensures.refused
 
 pub returns-in-Err-OutOfMemory-clause-closed : goal.returns-in-Err-OutOfMemory-clause-closed
-returns-in-Err-OutOfMemory-clause-closed g c = other_closed _ _ not_memory (sym (ap (λ (h : Held _ _ _). h.closed) c.self.view_is) ∙ c.if-self.false)
+returns-in-Err-OutOfMemory-clause-closed g c =
+    other_closed _ _ not_memory (sym (ap (λ (h : Held _ _ _). h.closed) c.self.view_is)
+    ∙ c.if-self.false)
 
 pub invariant_of-self-in-Err-Spent : goal.invariant_of-self-in-Err-Spent
 invariant_of-self-in-Err-Spent g c =
@@ -63,30 +77,41 @@ pub returns-in-Err-Spent-clause-err : goal.returns-in-Err-Spent-clause-err
 returns-in-Err-Spent-clause-err g c =
     let means = meaning g.X.Texts.net g.X.Texts.is_valid g.X.Texts.since g.X.Texts.makes g.X.Texts.keeps g.X.Texts.edited g.X.Texts.last in
     let s = c.self.inside in
-    refused_since means s.bench c.claim.new.self s.ledger.all s.ledger.published s.seats s.closed _ _ c.args.self.now c.self.view_is c.in-Err-Spent.ensures.refused
+    refused_since means s.bench c.claim.new.self s.ledger.all s.ledger.published s.seats s.closed _
+    _ c.args.self.now c.self.view_is c.in-Err-Spent.ensures.refused
 
 pub returns-in-Err-Spent-clause-closed : goal.returns-in-Err-Spent-clause-closed
-returns-in-Err-Spent-clause-closed g c = other_closed _ _ (not_claim _) (sym (ap (λ (h : Held _ _ _). h.closed) c.self.view_is) ∙ c.if-self.false)
+returns-in-Err-Spent-clause-closed g c =
+    other_closed _ _ (not_claim _) (sym (ap (λ (h : Held _ _ _). h.closed) c.self.view_is)
+    ∙ c.if-self.false)
 
 pub returns-clause-given : goal.returns-clause-given
 returns-clause-given g c =
     let means = meaning g.X.Texts.net g.X.Texts.is_valid g.X.Texts.since g.X.Texts.makes g.X.Texts.keeps g.X.Texts.edited g.X.Texts.last in
     let s = c.self.inside in
     let after = subst (λ (n : Bench _ _). IfSome c.in-Ok.job (λ j. Step means s.bench (Claim j.claim j.node j.given j.keys j.values) n)) (sym c.try_again.ensures.bench) c.in-Ok.ensures.given in
-    subst (λ (b : Bench _ _). IfSome c.in-Ok.job (λ j. Step means b (Claim j.claim j.node j.given j.keys j.values) c.try_again.new.self.bench)) (ap (λ (h : Held _ _ _). h.bench) c.self.view_is) after
+    subst
+    (λ (b : Bench _ _). IfSome c.in-Ok.job (λ j. Step means b
+    (Claim j.claim j.node j.given j.keys j.values) c.try_again.new.self.bench))
+    (ap (λ (h : Held _ _ _). h.bench) c.self.view_is) after
 
 pub returns-clause-none : goal.returns-clause-none
 returns-clause-none g c =
     let means = meaning g.X.Texts.net g.X.Texts.is_valid g.X.Texts.since g.X.Texts.makes g.X.Texts.keeps g.X.Texts.edited g.X.Texts.last in
     let s = c.self.inside in
     let after = subst (λ (n : Bench _ _). IfNone c.in-Ok.job (Step means s.bench NoClaim n)) (sym c.try_again.ensures.bench) c.in-Ok.ensures.none in
-    subst (λ (b : Bench _ _). IfNone c.in-Ok.job (Step means b NoClaim c.try_again.new.self.bench)) (ap (λ (h : Held _ _ _). h.bench) c.self.view_is) after
+    subst (λ (b : Bench _ _). IfNone c.in-Ok.job (Step means b NoClaim c.try_again.new.self.bench))
+    (ap (λ (h : Held _ _ _). h.bench) c.self.view_is) after
 
 pub returns-clause-still : goal.returns-clause-still
 returns-clause-still g c owes =
     let s = c.self.inside in
     let before : s.owes ≡ false = ap (λ (h : Held _ _ _). h.owes) c.self.view_is ∙ owes in
-    still_since s.bench c.claim.new.self s.ledger.all s.ledger.published s.seats s.closed s.owes c.args.self.now c.try_again.new.self c.self.view_is before (c.try_again.ensures.still before)
+    still_since s.bench c.claim.new.self s.ledger.all s.ledger.published s.seats s.closed s.owes
+    c.args.self.now c.try_again.new.self c.self.view_is before
+    (c.try_again.ensures.still before)
 
 pub returns-clause-whole : goal.returns-clause-whole
-returns-clause-whole g c = whole_from _ _ _ _ (ap (λ (h : Held _ _ _). h.published) c.self.view_is) c.try_again.ensures.whole
+returns-clause-whole g c =
+    whole_from _ _ _ _ (ap (λ (h : Held _ _ _). h.published) c.self.view_is)
+    c.try_again.ensures.whole

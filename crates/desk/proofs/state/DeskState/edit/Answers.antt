@@ -10,8 +10,12 @@ pub invariant_of-self-2 : goal.invariant_of-self-2
 invariant_of-self-2 g c =
     let p = c.if-not-publish.ensures in
     let q = c.post.ensures in
-    let made = c.in_ok-number.ensures in
-    (made.valid, rw p.all q.posts.after, rw (p.all, q.posts.number) made.last, λ owes. (p.published ∙ sym p.all, rw p.all (q.posted (was_so c.post.result owes))))
+    let made = c.in_ok-number.ensures in (
+      made.valid,
+      rw p.all q.posts.after,
+      rw (p.all, q.posts.number) made.last,
+      λ owes. (p.published ∙ sym p.all, rw p.all (q.posted (was_so c.post.result owes))),
+    )
 
 pub returns-clause-published : goal.returns-clause-published
 returns-clause-published g c =
@@ -30,38 +34,65 @@ returns-clause-told g c =
     let behind = c.if-not-begins_with.ensures.begins refl in
     let begins = subst (λ (l : List _). IsPrefix c.args.me.now l) (sym p.all) (begins_edit _ _ made.op _ posts.more _ behind made.list posts.all) in
     let told = c.tell_all.ensures.told begins in
-    has_edit _ g.X.Operations.is_legal g.X.BoardTexts.is_edit g.X.BoardTexts.is_settle c.args.edit c.in_ok-number.number _ _ c.args.me.now _ _ posts.more c.post.new.self.all _ behind made posts.are_settles posts.all (told ∙ p.all) (rw told c.tell_all.ensures.legal)
+    has_edit _ g.X.Operations.is_legal g.X.BoardTexts.is_edit g.X.BoardTexts.is_settle c.args.edit
+    c.in_ok-number.number _ _ c.args.me.now _ _ posts.more c.post.new.self.all _ behind made
+    posts.are_settles posts.all (told ∙ p.all) (rw told c.tell_all.ensures.legal)
 
 pub returns-then-not-publish-clause-told : goal.returns-then-not-publish-clause-told
 returns-then-not-publish-clause-told g c =
     let p = c.if-not-publish.ensures in
     let made = c.in_ok-number.ensures.made in
     let posts = c.post.ensures.posts in
-    let behind = c.if-not-begins_with.ensures.begins refl in
-    (refl, (c.publish.new.self.all, has_edit _ g.X.Operations.is_legal g.X.BoardTexts.is_edit g.X.BoardTexts.is_settle c.args.edit c.in_ok-number.number _ _ c.args.me.now _ _ posts.more c.post.new.self.all _ behind made posts.are_settles posts.all p.all p.legal))
+    let behind = c.if-not-begins_with.ensures.begins refl in (
+      refl,
+      (
+        c.publish.new.self.all,
+        has_edit _ g.X.Operations.is_legal g.X.BoardTexts.is_edit
+            g.X.BoardTexts.is_settle c.args.edit c.in_ok-number.number _ _ c.args.me.now
+            _ _ posts.more c.post.new.self.all _ behind made posts.are_settles posts.all
+            p.all p.legal,
+      ),
+    )
 
 pub invariant_of-self : goal.invariant_of-self
-invariant_of-self g c = let made = c.make_edit.ensures in (made.valid, made.after, made.last, λ owes. absurd (never owes))
+invariant_of-self g c =
+    let made = c.make_edit.ensures in
+    (made.valid, made.after, made.last, λ owes. absurd (never owes))
 
 pub invariant_of-self-then-not-publish : goal.invariant_of-self-then-not-publish
 invariant_of-self-then-not-publish g c =
     let p = c.if-not-publish.ensures in
     let posts = c.post.ensures.posts in
-    let made = c.in_ok-number.ensures in
-    (made.valid, rw p.all posts.after, rw (p.all, posts.number) made.last, λ owes. absurd (never owes))
+    let made = c.in_ok-number.ensures in (
+      made.valid,
+      rw p.all posts.after,
+      rw (p.all, posts.number) made.last,
+      λ owes. absurd (never owes),
+    )
 
 pub returns-then-not-publish-clause-published : goal.returns-then-not-publish-clause-published
-returns-then-not-publish-clause-published g c =
-    (c.if-not-publish.ensures.published ∙ (c.post.ensures.posts.published ∙ (c.in_ok-number.ensures.published ∙ ap (λ (h : Held _ _ _). h.published) c.self.view_is)), refl)
+returns-then-not-publish-clause-published g c = (
+  c.if-not-publish.ensures.published
+      ∙ (c.post.ensures.posts.published
+      ∙ (c.in_ok-number.ensures.published
+      ∙ ap (λ (h : Held _ _ _). h.published) c.self.view_is)),
+  refl,
+)
 
 pub returns-then-not-begins_with-clause-closed : goal.returns-then-not-begins_with-clause-closed
-returns-then-not-begins_with-clause-closed g c = other_closed _ _ not_seat (sym (ap (λ (h : Held _ _ _). h.closed) c.self.view_is) ∙ c.if-self.false)
+returns-then-not-begins_with-clause-closed g c =
+    other_closed _ _ not_seat (sym (ap (λ (h : Held _ _ _). h.closed) c.self.view_is)
+    ∙ c.if-self.false)
 
 pub returns-then-not-publish-clause-closed : goal.returns-then-not-publish-clause-closed
-returns-then-not-publish-clause-closed g c = other_closed _ _ (not_ok _) (sym (ap (λ (h : Held _ _ _). h.closed) c.self.view_is) ∙ c.if-self.false)
+returns-then-not-publish-clause-closed g c =
+    other_closed _ _ (not_ok _) (sym (ap (λ (h : Held _ _ _). h.closed) c.self.view_is)
+    ∙ c.if-self.false)
 
 pub returns-clause-closed : goal.returns-clause-closed
-returns-clause-closed g c = other_closed _ _ (not_ok _) (sym (ap (λ (h : Held _ _ _). h.closed) c.self.view_is) ∙ c.if-self.false)
+returns-clause-closed g c =
+    other_closed _ _ (not_ok _) (sym (ap (λ (h : Held _ _ _). h.closed) c.self.view_is)
+    ∙ c.if-self.false)
 
 pub returns-then-not-publish-clause-shown : goal.returns-then-not-publish-clause-shown
 returns-then-not-publish-clause-shown g c = λ owes. absurd (never owes)
@@ -72,12 +103,18 @@ returns-clause-shown g c = λ owes.
     (p.published ∙ sym p.all, rw p.published (c.post.ensures.posted (was_so c.post.result owes)))
 
 pub returns-then-not-publish-clause-no_seat : goal.returns-then-not-publish-clause-no_seat
-returns-then-not-publish-clause-no_seat g c = other_seat _ _ _ _ (seat_not_ok _) (behind_of _ c.args.self.now c.args.me.now c.self.view_is (c.if-not-begins_with.ensures.length.0 refl))
+returns-then-not-publish-clause-no_seat g c =
+    other_seat _ _ _ _ (seat_not_ok _) (behind_of _ c.args.self.now c.args.me.now c.self.view_is
+    (c.if-not-begins_with.ensures.length.0 refl))
 
 pub returns-clause-no_seat : goal.returns-clause-no_seat
-returns-clause-no_seat g c = other_seat _ _ _ _ (seat_not_ok _) (behind_of _ c.args.self.now c.args.me.now c.self.view_is (c.if-not-begins_with.ensures.length.0 refl))
+returns-clause-no_seat g c =
+    other_seat _ _ _ _ (seat_not_ok _) (behind_of _ c.args.self.now c.args.me.now c.self.view_is
+    (c.if-not-begins_with.ensures.length.0 refl))
 
 pub returns-then-not-begins_with-clause-no_seat : goal.returns-then-not-begins_with-clause-no_seat
 returns-then-not-begins_with-clause-no_seat g c =
-    let less : length c.args.self.now.all < length c.args.me.now = ahead_of _ c.args.self.now c.args.me.now c.self.view_is (λ le. never (sym (c.if-not-begins_with.ensures.length.1 le))) in
-    (λ e. (sym (ap (λ (h : Held _ _ _). h.closed) c.self.view_is) ∙ c.if-self.false, less), λ h. refl)
+    let less : length c.args.self.now.all < length c.args.me.now = ahead_of _ c.args.self.now c.args.me.now c.self.view_is (λ le. never (sym (c.if-not-begins_with.ensures.length.1 le))) in (
+      λ e. (sym (ap (λ (h : Held _ _ _). h.closed) c.self.view_is) ∙ c.if-self.false, less),
+      λ h. refl,
+    )

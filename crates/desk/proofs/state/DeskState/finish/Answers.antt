@@ -15,18 +15,25 @@ returns-clause-posted g c =
     let s = c.self.inside in
     let before : Held _ _ _ = held c.take-finish.new.bench s.ledger.all s.ledger.published s.seats s.closed true in
     let published : before.published ≡ c.args.self.now.published = ap (λ (h : Held _ _ _). h.published) c.self.view_is in
-    publishes_same P before c.args.self.now c.catch_up-posted.new.self c.catch_up-posted.result published c.catch_up-posted.ensures.posted
+    publishes_same P before c.args.self.now c.catch_up-posted.new.self c.catch_up-posted.result
+    published c.catch_up-posted.ensures.posted
 
 pub returns-clause-grows : goal.returns-clause-grows
-returns-clause-grows g c = grown_from _ _ _ (ap (λ (h : Held _ _ _). h.published) c.self.view_is) c.catch_up-posted.ensures.grows
+returns-clause-grows g c =
+    grown_from _ _ _ (ap (λ (h : Held _ _ _). h.published) c.self.view_is)
+    c.catch_up-posted.ensures.grows
 
 pub returns-clause-appends : goal.returns-clause-appends
 returns-clause-appends g c =
     let s = c.self.inside in
-    appends_since g.X.BoardTexts.is_settle s.bench c.take-finish.new.bench s.ledger.all s.ledger.published s.seats s.closed _ _ c.args.self.now c.catch_up-posted.new.self c.self.view_is c.catch_up-posted.ensures.appends
+    appends_since g.X.BoardTexts.is_settle s.bench c.take-finish.new.bench s.ledger.all
+    s.ledger.published s.seats s.closed _ _ c.args.self.now c.catch_up-posted.new.self
+    c.self.view_is c.catch_up-posted.ensures.appends
 
 pub returns-clause-closed : goal.returns-clause-closed
-returns-clause-closed g c = other_closed _ _ (not_ok _) (sym (ap (λ (h : Held _ _ _). h.closed) c.self.view_is) ∙ c.if-self.false)
+returns-clause-closed g c =
+    other_closed _ _ (not_ok _) (sym (ap (λ (h : Held _ _ _). h.closed) c.self.view_is)
+    ∙ c.if-self.false)
 
 pub take-finish-requires : goal.take-finish-requires
 take-finish-requires g c = record { posted = λ owes. (c.self.invariant.3 owes).1 }

@@ -8,16 +8,24 @@ use Rattle.desk.proofs.Returning.{ahead_of, behind_of, is_owed, is_unowed}
 use Rattle.desk.proofs.state.DeskState.settle.Goals as goal
 
 pub returns-then-not-begins_with-clause-closed : goal.returns-then-not-begins_with-clause-closed
-returns-then-not-begins_with-clause-closed g c = other_closed _ _ not_seat (sym (ap (λ (h : Held _ _ _). h.closed) c.self.view_is) ∙ c.if-self.false)
+returns-then-not-begins_with-clause-closed g c =
+    other_closed _ _ not_seat (sym (ap (λ (h : Held _ _ _). h.closed) c.self.view_is)
+    ∙ c.if-self.false)
 
 pub returns-then-not-show_all-clause-closed : goal.returns-then-not-show_all-clause-closed
-returns-then-not-show_all-clause-closed g c = other_closed _ _ (not_ok _) (sym (ap (λ (h : Held _ _ _). h.closed) c.self.view_is) ∙ c.if-self.false)
+returns-then-not-show_all-clause-closed g c =
+    other_closed _ _ (not_ok _) (sym (ap (λ (h : Held _ _ _). h.closed) c.self.view_is)
+    ∙ c.if-self.false)
 
 pub returns-then-not-is_settled-clause-closed : goal.returns-then-not-is_settled-clause-closed
-returns-then-not-is_settled-clause-closed g c = other_closed _ _ (not_ok _) (sym (ap (λ (h : Held _ _ _). h.closed) c.self.view_is) ∙ c.if-self.false)
+returns-then-not-is_settled-clause-closed g c =
+    other_closed _ _ (not_ok _) (sym (ap (λ (h : Held _ _ _). h.closed) c.self.view_is)
+    ∙ c.if-self.false)
 
 pub returns-clause-closed : goal.returns-clause-closed
-returns-clause-closed g c = other_closed _ _ (not_ok _) (sym (ap (λ (h : Held _ _ _). h.closed) c.self.view_is) ∙ c.if-self.false)
+returns-clause-closed g c =
+    other_closed _ _ (not_ok _) (sym (ap (λ (h : Held _ _ _). h.closed) c.self.view_is)
+    ∙ c.if-self.false)
 
 pub returns-then-not-show_all-clause-bench : goal.returns-then-not-show_all-clause-bench
 returns-then-not-show_all-clause-bench g c = c.show_all.ensures.bench
@@ -77,24 +85,37 @@ returns-clause-settles g c =
       list = told ∙ (all ∙ sym whole);
       whole = whole;
       begins = subst (λ (l : List _). IsPrefix me l) (sym (told ∙ all)) begins;
-      settled = subst (λ (l : List _). AreSettled (g.X.BoardTexts.cells (fold g.X.Operations.after g.X.Operations.none l))) (sym told) (c.is_settled.ensures c.if-not-is_settled.false);
+      settled =
+          subst
+          (λ (l : List _).
+          AreSettled (g.X.BoardTexts.cells (fold g.X.Operations.after g.X.Operations.none l)))
+          (sym told)
+          (c.is_settled.ensures c.if-not-is_settled.false);
       legal = subst (λ (l : List _). g.X.Operations.is_legal l) (sym told) c.tell_all.ensures.legal;
       owes = owes;
     }
 
 pub returns-then-not-show_all-clause-no_seat : goal.returns-then-not-show_all-clause-no_seat
-returns-then-not-show_all-clause-no_seat g c = other_seat _ _ _ _ (seat_not_ok _) (behind_of _ c.args.self.now c.args.me.now c.self.view_is (c.if-not-begins_with.ensures.length.0 refl))
+returns-then-not-show_all-clause-no_seat g c =
+    other_seat _ _ _ _ (seat_not_ok _) (behind_of _ c.args.self.now c.args.me.now c.self.view_is
+    (c.if-not-begins_with.ensures.length.0 refl))
 
 pub returns-then-not-is_settled-clause-no_seat : goal.returns-then-not-is_settled-clause-no_seat
-returns-then-not-is_settled-clause-no_seat g c = other_seat _ _ _ _ (seat_not_ok _) (behind_of _ c.args.self.now c.args.me.now c.self.view_is (c.if-not-begins_with.ensures.length.0 refl))
+returns-then-not-is_settled-clause-no_seat g c =
+    other_seat _ _ _ _ (seat_not_ok _) (behind_of _ c.args.self.now c.args.me.now c.self.view_is
+    (c.if-not-begins_with.ensures.length.0 refl))
 
 pub returns-clause-no_seat : goal.returns-clause-no_seat
-returns-clause-no_seat g c = other_seat _ _ _ _ (seat_not_ok _) (behind_of _ c.args.self.now c.args.me.now c.self.view_is (c.if-not-begins_with.ensures.length.0 refl))
+returns-clause-no_seat g c =
+    other_seat _ _ _ _ (seat_not_ok _) (behind_of _ c.args.self.now c.args.me.now c.self.view_is
+    (c.if-not-begins_with.ensures.length.0 refl))
 
 pub returns-then-not-begins_with-clause-no_seat : goal.returns-then-not-begins_with-clause-no_seat
 returns-then-not-begins_with-clause-no_seat g c =
-    let less : length c.args.self.now.all < length c.args.me.now = ahead_of _ c.args.self.now c.args.me.now c.self.view_is (λ le. never (sym (c.if-not-begins_with.ensures.length.1 le))) in
-    (λ e. (sym (ap (λ (h : Held _ _ _). h.closed) c.self.view_is) ∙ c.if-self.false, less), λ h. refl)
+    let less : length c.args.self.now.all < length c.args.me.now = ahead_of _ c.args.self.now c.args.me.now c.self.view_is (λ le. never (sym (c.if-not-begins_with.ensures.length.1 le))) in (
+      λ e. (sym (ap (λ (h : Held _ _ _). h.closed) c.self.view_is) ∙ c.if-self.false, less),
+      λ h. refl,
+    )
 
 pub returns-then-not-show_all-clause-whole : goal.returns-then-not-show_all-clause-whole
 returns-then-not-show_all-clause-whole g c = c.show_all.ensures.whole

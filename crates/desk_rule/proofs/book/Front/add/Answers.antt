@@ -13,5 +13,6 @@ compare_exchange-found-requires g c =
       book,
       pen.0 ∙ book,
       offer.0,
-      rw (ap (λ w. w.key) h, pen.1, offer.1, offer.3, ap (λ s. s.log) same) (adds_moves c.self.inside.seen.log c.args.op.now c.self.inside.count (sym c.self.invariant.0)),
+      rw (ap (λ w. w.key) h, pen.1, offer.1, offer.3, ap (λ s. s.log) same) (adds_moves
+          c.self.inside.seen.log c.args.op.now c.self.inside.count (sym c.self.invariant.0)),
     )

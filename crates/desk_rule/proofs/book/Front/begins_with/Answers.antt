@@ -10,4 +10,5 @@ returns-clause-begins g c le =
     let mine : IsPrefix c.self.inside.seen.log both = subst (λ l. IsPrefix l both) (ap (λ s. s.log) c.again-both.ensures) c.learn.ensures.2 in
     let fewer : c.other.inside.count ≤ c.self.inside.count = grind (arith, nat_tests) in
     let less : length c.other.inside.seen.log ≤ length c.self.inside.seen.log = omega (arith, c.self.invariant.0, c.other.invariant.0) in
-    rw (← c.self.view_is, ← c.other.view_is) (prefix_shorter c.other.inside.seen.log c.self.inside.seen.log both c.learn.ensures.3 mine less)
+    rw (← c.self.view_is, ← c.other.view_is) (prefix_shorter c.other.inside.seen.log
+    c.self.inside.seen.log both c.learn.ensures.3 mine less)

@@ -13,4 +13,5 @@ invariant_of-self-2 g c =
     let after = g.L.Operations.after in
     let none = g.L.Operations.none in
     let made = c.in_ok-apply.ensures ∙ ap (λ b. after b op) c.self.invariant in
-    rw c.again.ensures (taken_in after none c.apply.new.board old c.entry.invariant.0 new op begins longer c.entry.invariant.1 made)
+    rw c.again.ensures (taken_in after none c.apply.new.board old c.entry.invariant.0 new op begins
+    longer c.entry.invariant.1 made)

@@ -16,4 +16,7 @@ invariant_of-self-2 g c =
     let waits = without w.behind w.log.items ++ c.self.inside.queue.items in
     let is = ap (λ l. latest handed.desk.shown.value l) h.waits ∙ (ap (λ s. latest s waits) same ∙ i.0) in
     let begins = subst (λ s. IsPrefix s c.self.inside.front) (sym same) i.1 in
-    turned c.replace_with.result dest.desk.shown.value handed.desk.shown.value c.self.inside.front (without dest.behind dest.log.items) (without handed.behind handed.log.items) c.hand_over.new.queue.items c.replace_with.ensures (c.if-not-hand_over.ensures.done refl) is begins
+    turned c.replace_with.result dest.desk.shown.value handed.desk.shown.value c.self.inside.front
+    (without dest.behind dest.log.items) (without handed.behind handed.log.items)
+    c.hand_over.new.queue.items c.replace_with.ensures (c.if-not-hand_over.ensures.done refl) is
+    begins

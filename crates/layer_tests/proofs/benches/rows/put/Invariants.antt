@@ -6,5 +6,6 @@ abbrev pub invariant-loop-i : goal.invariant-loop-i
 invariant-loop-i l =
     record {
       same : l.rows ≡ l.fn.rows;
-      rest : take l.i l.rows.items ++ put_row l.name l.value l.number (drop l.i l.rows.items) ≡ put_row l.name l.value l.number l.fn.rows.items;
+      rest : take l.i l.rows.items ++ put_row l.name l.value l.number (drop l.i l.rows.items)
+          ≡ put_row l.name l.value l.number l.fn.rows.items;
     }

@@ -4,7 +4,8 @@ use Rattle.layer_tests.proofs.benches.rows.remove.Given as goal
 
 abbrev pub invariant-loop-i : goal.invariant-loop-i
 invariant-loop-i l = record {
-  rows : take l.i l.rows.items ++ without_row l.name (drop l.i l.rows.items) ≡ without_row l.name l.fn.rows.items;
+  rows : take l.i l.rows.items ++ without_row l.name (drop l.i l.rows.items)
+      ≡ without_row l.name l.fn.rows.items;
   within : l.i ≤ vec_len l.rows;
 }
 

@@ -18,6 +18,14 @@ loop-i-preserved c =
     let there : i < length ps = omega arith in
     let item : get_or ss i d ≡ d = ap (λ (l : List Step). get_or l i d) (sym c.deref-step-items.ensures.value) ∙ sym c.step-item.is in
     let found : c.step_rule.result ≡ step_rule f d i
-    = c.step_rule.ensures ∙ step_rule-same (λ w. get_by {K = Bor (List ℕ)} (λ k. slice_cmp nat_cmp w k.now) c.in_ok-definitions.definitions) f (λ w. c.in_ok-definitions.ensures w) i d in
+    =
+    c.step_rule.ensures
+    ∙ step_rule-same
+    (λ w. get_by {K = Bor (List ℕ)} (λ k. slice_cmp nat_cmp w k.now)
+    c.in_ok-definitions.definitions) f
+    (λ w. c.in_ok-definitions.ensures w) i d in
     let none : step_rule f (get_or ss i d) i ≡ None = ap (λ (s : Step). step_rule f s i) item ∙ sym found ∙ c.in_default.is in
-    c.loop-i.invariant ∙ checked_here f ss ps i d 0 lt there ∙ ap (λ (o : Option LitmusRule). or_later o (get_or ps i 0) (first_fault f (i + 1) (drop (i + 1) ss) (drop (i + 1) ps))) none
+    c.loop-i.invariant ∙ checked_here f ss ps i d 0 lt there
+    ∙ ap
+    (λ (o : Option LitmusRule). or_later o (get_or ps i 0)
+    (first_fault f (i + 1) (drop (i + 1) ss) (drop (i + 1) ps))) none

@@ -27,7 +27,8 @@ returns-in-Some-clause-found c = λ text notes a.
     let lt : i < length ts = omega arith in
     let item : get_or ts i d ≡ d = ap (λ (l : List PlacedThread). get_or l i d) (sym c.deref-thread-items.ensures.value) ∙ sym c.thread-item.is in
     let found : found_in (thread_of (get_or ts i d)) ≡ Some c.in-Some.fault = ap (λ (t : PlacedThread). found_in (thread_of t)) item ∙ sym c.in_ok-fault.ensures.found ∙ c.in-Some.is in
-    subst (IsFoundAt text (Some c.in-Some.fault)) (sym (c.loop-thread.invariant text notes a)) (stopped text notes ts i d c.in-Some.fault a lt found)
+    subst (IsFoundAt text (Some c.in-Some.fault)) (sym (c.loop-thread.invariant text notes a))
+    (stopped text notes ts i d c.in-Some.fault a lt found)
 
 pub loop-thread-preserved : goal.loop-thread-preserved
 loop-thread-preserved c = λ text notes a.

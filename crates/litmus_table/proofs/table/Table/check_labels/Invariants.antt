@@ -6,4 +6,7 @@ use Rattle.litmus_table.specs.Reading.{threads_of}
 use Rattle.litmus_table.proofs.table.Table.check_labels.Given as goal
 
 abbrev pub invariant-loop-thread : goal.invariant-loop-thread
-invariant-loop-thread l = (text : List texts.TokenAt) (notes : List (List Note)) → AreNoted text notes (threads_of l.fn.self.threads.items) → first_late notes ≡ first_late (drop l.thread-index notes)
+invariant-loop-thread l =
+    (text : List texts.TokenAt) (notes : List (List Note))
+    → AreNoted text notes (threads_of l.fn.self.threads.items)
+    → first_late notes ≡ first_late (drop l.thread-index notes)

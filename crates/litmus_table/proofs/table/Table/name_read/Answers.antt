@@ -7,4 +7,5 @@ use Rattle.litmus_table.proofs.table.Table.name_read.Goals as goal
 
 pub returns-then-is_column-clause-within : goal.returns-then-is_column-clause-within
 returns-then-is_column-clause-within c = λ n h.
-    subst (λ (s : State). AreWithin n s.threads) (sym c.in_ok-add_thread-in-Word.ensures) (widened_within n (threads_of c.args.self.now.threads.items) h)
+    subst (λ (s : State). AreWithin n s.threads) (sym c.in_ok-add_thread-in-Word.ensures)
+    (widened_within n (threads_of c.args.self.now.threads.items) h)

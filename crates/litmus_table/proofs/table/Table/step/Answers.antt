@@ -4,4 +4,6 @@ use Rattle.litmus_table.proofs.table.Table.step.Goals as goal
 
 pub returns-clause-within : goal.returns-clause-within
 returns-clause-within c = λ n le h.
-    expectation_within n c.args.offset le (threads_of c.args.self.now.threads.items) c.args.self.now.column h (expectation_of c.args.self.now.cell) c.args.token _ c.in_ok-go.ensures
+    expectation_within n c.args.offset le (threads_of c.args.self.now.threads.items)
+    c.args.self.now.column h (expectation_of c.args.self.now.cell) c.args.token _
+    c.in_ok-go.ensures

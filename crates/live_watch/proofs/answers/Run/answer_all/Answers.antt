@@ -4,17 +4,21 @@ use Rattle.live_watch.proofs.answers.Run.answer_all.Goals as goal
 
 pub returns-clause-run : goal.returns-clause-run
 returns-clause-run g c =
-    run_of _ _ _ _ _ _ _ _ _ c.in_ok-text.text.items _ _ _ c.in_ok-text.ensures.begun (rw c.deref.ensures.value at c.in_ok-write_text.ensures.gains)
+    run_of _ _ _ _ _ _ _ _ _ c.in_ok-text.text.items _ _ _ c.in_ok-text.ensures.begun
+    (rw c.deref.ensures.value at c.in_ok-write_text.ensures.gains)
     (rw c.in_ok-text.ensures.paths at c.in_ok-answer_lines.ensures.answers)
 
 pub returns-in_err-text-clause-cut : goal.returns-in_err-text-clause-cut
-returns-in_err-text-clause-cut g c = on_err _ _ (cut_none _ _ _ _ _ _ _ c.in_err-text.ensures.readings)
+returns-in_err-text-clause-cut g c =
+    on_err _ _ (cut_none _ _ _ _ _ _ _ c.in_err-text.ensures.readings)
 
 pub returns-in_err-write_text-clause-cut : goal.returns-in_err-write_text-clause-cut
 returns-in_err-write_text-clause-cut g c =
-    on_err _ _ (cut_first _ _ _ _ _ _ _ c.in_ok-text.text.items _ _ c.in_ok-text.ensures.begun (rw c.deref.ensures.value at c.write_text.ensures.front))
+    on_err _ _ (cut_first _ _ _ _ _ _ _ c.in_ok-text.text.items _ _ c.in_ok-text.ensures.begun
+    (rw c.deref.ensures.value at c.write_text.ensures.front))
 
 pub returns-in_err-answer_lines-clause-cut : goal.returns-in_err-answer_lines-clause-cut
 returns-in_err-answer_lines-clause-cut g c =
-    on_err _ _ (cut_later _ _ _ _ _ _ _ _ c.in_ok-text.text.items _ _ _ c.in_ok-text.ensures.begun (rw c.deref.ensures.value at c.in_ok-write_text.ensures.gains)
+    on_err _ _ (cut_later _ _ _ _ _ _ _ _ c.in_ok-text.text.items _ _ _ c.in_ok-text.ensures.begun
+    (rw c.deref.ensures.value at c.in_ok-write_text.ensures.gains)
     (rw c.in_ok-text.ensures.paths at c.in_err-answer_lines.ensures.cut))

@@ -2,7 +2,9 @@ use Rattle.live_watch.proofs.Gaining.{text_answered, unread_answered}
 use Rattle.live_watch.proofs.answers.Run.answer_version.Goals as goal
 
 pub returns-in-Text-clause-answer : goal.returns-in-Text-clause-answer
-returns-in-Text-clause-answer g c = text_answered _ _ _ _ c.args.version c.in-Text.version c.in-Text.is c.answer_text.result c.answer_text.ensures.answer
+returns-in-Text-clause-answer g c =
+    text_answered _ _ _ _ c.args.version c.in-Text.version c.in-Text.is c.answer_text.result
+    c.answer_text.ensures.answer
 
 pub returns-in_ok-memory-in-Unread-clause-answer : goal.returns-in_ok-memory-in-Unread-clause-answer
 returns-in_ok-memory-in-Unread-clause-answer g c =

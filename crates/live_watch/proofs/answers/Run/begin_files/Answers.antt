@@ -7,22 +7,28 @@ pub loop-index-init : goal.loop-index-init
 loop-index-init g c = record {
   ready = c.in_ok-begin_file.ensures.ready;
   paths = c.in_ok-begin_file.ensures.paths;
-  begun = begun_first _ c.args.paths.tests.now _ _ _ _ _ (rw c.new-text.ensures.items at c.in_ok-begin_file.ensures.begun);
+  begun =
+      begun_first _ c.args.paths.tests.now _ _ _ _ _ (rw c.new-text.ensures.items at
+      c.in_ok-begin_file.ensures.begun);
 }
 
 pub loop-index-preserved : goal.loop-index-preserved
 loop-index-preserved g c = record {
   ready = c.in_ok-begin_file-2.ensures.ready;
   paths = c.in_ok-begin_file-2.ensures.paths ∙ c.loop-index.invariant.paths;
-  begun = begun_next _ _ _ _ _ _ _ _ _ _ _ _ (omega arith) c.loop-index.invariant.begun c.in_ok-begin_file-2.ensures.begun;
+  begun =
+      begun_next _ _ _ _ _ _ _ _ _ _ _ _ (omega arith) c.loop-index.invariant.begun
+      c.in_ok-begin_file-2.ensures.begun;
 }
 
 pub returns-clause-begun : goal.returns-clause-begun
 returns-clause-begun g c = begun_all _ _ _ _ _ _ _ _ (omega arith) c.loop-index.invariant.begun
 
 pub returns-in_err-begin_file-clause-readings : goal.returns-in_err-begin_file-clause-readings
-returns-in_err-begin_file-clause-readings g c = on_err _ _ (few_read 1 _ _ _ (omega arith) c.in_err-begin_file.ensures.readings)
+returns-in_err-begin_file-clause-readings g c =
+    on_err _ _ (few_read 1 _ _ _ (omega arith) c.in_err-begin_file.ensures.readings)
 
 pub returns-in_err-begin_file-2-clause-readings : goal.returns-in_err-begin_file-2-clause-readings
 returns-in_err-begin_file-2-clause-readings g c =
-    on_err _ _ (begun_and_one _ c.args.paths.tests.now c.loop-index.index _ _ _ _ _ _ (omega arith) c.loop-index.invariant.begun c.in_err-begin_file-2.ensures.readings)
+    on_err _ _ (begun_and_one _ c.args.paths.tests.now c.loop-index.index _ _ _ _ _ _ (omega arith)
+    c.loop-index.invariant.begun c.in_err-begin_file-2.ensures.readings)

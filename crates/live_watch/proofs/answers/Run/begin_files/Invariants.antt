@@ -14,5 +14,10 @@ invariant-loop-index g l =
     record {
       ready : KnowsTexts l.self.watched.viewer l.self.watched.made (texts_of l.self.watched.texts);
       paths : l.self.paths ≡ l.fn.self.paths;
-      begun : HasBegun files (standing_of l.fn.self.watched.texts l.fn.self.watched.names l.fn.self.lines l.fn.self.is_refused) (standing_of l.self.watched.texts l.self.watched.names l.self.lines l.self.is_refused) (readings l.fn.versions) (readings l.versions) l.text.items;
+      begun : HasBegun files
+          (standing_of l.fn.self.watched.texts l.fn.self.watched.names l.fn.self.lines
+          l.fn.self.is_refused)
+          (standing_of l.self.watched.texts l.self.watched.names l.self.lines l.self.is_refused)
+          (readings l.fn.versions)
+          (readings l.versions) l.text.items;
     }

@@ -17,6 +17,9 @@ invariant-loop-byte g l =
       writes : calls l.sink ≡ calls l.initial.sink;
       answers : HasAnswers (model_path l.initial.self.paths) (test_paths l.initial.self.paths)
           (AreIn l.initial.line.items (take l.byte-index l.bytes) l.line.items)
-          (standing_of l.initial.self.watched.texts l.initial.self.watched.names l.initial.self.lines l.initial.self.is_refused) (standing_of l.self.watched.texts l.self.watched.names l.self.lines l.self.is_refused)
-          (readings l.initial.versions) (readings l.versions) (contents l.initial.sink) (contents l.sink);
+          (standing_of l.initial.self.watched.texts l.initial.self.watched.names
+          l.initial.self.lines l.initial.self.is_refused)
+          (standing_of l.self.watched.texts l.self.watched.names l.self.lines l.self.is_refused)
+          (readings l.initial.versions) (readings l.versions) (contents l.initial.sink)
+          (contents l.sink);
     }

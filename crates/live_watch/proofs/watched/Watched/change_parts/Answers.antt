@@ -3,7 +3,8 @@ use Rattle.live_watch.proofs.Taking.{but_again}
 use Rattle.live_watch.proofs.watched.Watched.change_parts.Goals as goal
 
 pub returns-then-not-accepted-clause-tests : goal.returns-then-not-accepted-clause-tests
-returns-then-not-accepted-clause-tests g c = but_again _ _ _ _ c.loop-part.invariant.tests c.in_ok-accepted.ensures.tests
+returns-then-not-accepted-clause-tests g c =
+    but_again _ _ _ _ c.loop-part.invariant.tests c.in_ok-accepted.ensures.tests
 
 pub loop-part-preserved : goal.loop-part-preserved
 loop-part-preserved g c = record {

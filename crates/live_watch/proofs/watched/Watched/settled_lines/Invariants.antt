@@ -5,4 +5,9 @@ use Rattle.live_watch.proofs.watched.Watched.settled_lines.Given as goal
 
 -- the viewer knows the texts, which are the same
 abbrev pub invariant-loop : goal.invariant-loop
-invariant-loop g l = record { ready : KnowsTexts l.self.viewer l.self.made (texts_of l.self.texts); texts : l.self.texts ≡ l.initial.self.texts; names : l.self.names ≡ l.initial.self.names }
+invariant-loop g l =
+    record {
+      ready : KnowsTexts l.self.viewer l.self.made (texts_of l.self.texts);
+      texts : l.self.texts ≡ l.initial.self.texts;
+      names : l.self.names ≡ l.initial.self.names;
+    }

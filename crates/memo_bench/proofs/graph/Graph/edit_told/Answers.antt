@@ -12,7 +12,8 @@ use Rattle.memo_bench.proofs.graph.Graph.edit_told.Goals as goal
 pub returns-clause-edited : goal.returns-clause-edited
 returns-clause-edited g c =
     let s = c.args.self.now in
-    g.met.T.Texts.commits_edit s.texts c.prepare.new.self c.put_in_place.new.texts c.args.edit c.in-Ok.prepared _ c.in-Ok.ensures.prepares c.put_in_place.ensures.commits
+    g.met.T.Texts.commits_edit s.texts c.prepare.new.self c.put_in_place.new.texts c.args.edit
+    c.in-Ok.prepared _ c.in-Ok.ensures.prepares c.put_in_place.ensures.commits
 
 pub returns-clause-right : goal.returns-clause-right
 returns-clause-right g c =
@@ -21,7 +22,16 @@ returns-clause-right g c =
     let laws = g.met.T.Texts in
     let edited = laws.commits_edit s.texts c.prepare.new.self c.put_in_place.new.texts c.args.edit c.in-Ok.prepared _ c.in-Ok.ensures.prepares c.put_in_place.ensures.commits in (
       laws.valid_edited s.texts c.put_in_place.new.texts c.args.edit _ c.requires.right.0 edited,
-      rw c.put_in_place.ensures.memos (edit_right (IsCounted t.since t.net t.makes s.texts) (IsCounted t.since t.net t.makes c.put_in_place.new.texts) (λ n is vs os k. counted_later t.is_valid t.since t.net t.makes s.texts c.put_in_place.new.texts (λ w f. laws.since_edited w s.texts c.put_in_place.new.texts c.args.edit _ f edited) n is vs os k) (t.net s.texts) (t.net c.put_in_place.new.texts) (as_memos s.memos.entries) s.taken (t.keeps c.put_in_place.new.texts) c.requires.right.1
+      rw c.put_in_place.ensures.memos (edit_right (IsCounted t.since t.net t.makes s.texts)
+          (IsCounted t.since t.net t.makes c.put_in_place.new.texts)
+          (λ n is vs os k. counted_later t.is_valid t.since t.net t.makes s.texts
+          c.put_in_place.new.texts
+          (λ w f. laws.since_edited w s.texts c.put_in_place.new.texts c.args.edit _ f edited) n
+          is vs os k)
+          (t.net s.texts)
+          (t.net c.put_in_place.new.texts)
+          (as_memos s.memos.entries) s.taken
+          (t.keeps c.put_in_place.new.texts) c.requires.right.1
           (laws.goes_on s.texts c.put_in_place.new.texts c.args.edit _ c.requires.right.0 edited)),
     )
 
@@ -30,24 +40,44 @@ returns-clause-marks g c =
     let s = c.args.self.now in
     let laws = g.met.T.Texts in
     let edited = laws.commits_edit s.texts c.prepare.new.self c.put_in_place.new.texts c.args.edit c.in-Ok.prepared _ c.in-Ok.ensures.prepares c.put_in_place.ensures.commits in
-    c.put_in_place.ensures.marks (laws.valid_edited s.texts c.put_in_place.new.texts c.args.edit _ c.requires.right.0 edited)
+    c.put_in_place.ensures.marks (laws.valid_edited s.texts c.put_in_place.new.texts c.args.edit _
+    c.requires.right.0 edited)
 
 pub returns-in-Err-clause-right : goal.returns-in-Err-clause-right
 returns-in-Err-clause-right g c =
     let s = c.args.self.now in
-    let t = g.T.Texts in
-    (c.prepare.ensures.valid c.requires.right.0, right_kept (IsCounted t.since t.net t.makes s.texts) (IsCounted t.since t.net t.makes c.prepare.new.self) (λ n is vs os k. counted_later t.is_valid t.since t.net t.makes s.texts c.prepare.new.self (λ w f. c.prepare.ensures.since w f) n is vs os k) (t.net s.texts) (t.net c.prepare.new.self) c.prepare.ensures.net (as_memos s.memos.entries) s.taken c.requires.right.1)
+    let t = g.T.Texts in (
+      c.prepare.ensures.valid c.requires.right.0,
+      right_kept (IsCounted t.since t.net t.makes s.texts)
+          (IsCounted t.since t.net t.makes c.prepare.new.self)
+          (λ n is vs os k. counted_later t.is_valid t.since t.net t.makes s.texts
+          c.prepare.new.self (λ w f. c.prepare.ensures.since w f) n is vs os k)
+          (t.net s.texts)
+          (t.net c.prepare.new.self) c.prepare.ensures.net
+          (as_memos s.memos.entries) s.taken c.requires.right.1,
+    )
 
 pub returns-then-not-tell-clause-right : goal.returns-then-not-tell-clause-right
 returns-then-not-tell-clause-right g c =
     let s = c.args.self.now in
-    let t = g.T.Texts in
-    (c.prepare.ensures.valid c.requires.right.0, right_kept (IsCounted t.since t.net t.makes s.texts) (IsCounted t.since t.net t.makes c.prepare.new.self) (λ n is vs os k. counted_later t.is_valid t.since t.net t.makes s.texts c.prepare.new.self (λ w f. c.prepare.ensures.since w f) n is vs os k) (t.net s.texts) (t.net c.prepare.new.self) c.prepare.ensures.net (as_memos s.memos.entries) s.taken c.requires.right.1)
+    let t = g.T.Texts in (
+      c.prepare.ensures.valid c.requires.right.0,
+      right_kept (IsCounted t.since t.net t.makes s.texts)
+          (IsCounted t.since t.net t.makes c.prepare.new.self)
+          (λ n is vs os k. counted_later t.is_valid t.since t.net t.makes s.texts
+          c.prepare.new.self (λ w f. c.prepare.ensures.since w f) n is vs os k)
+          (t.net s.texts)
+          (t.net c.prepare.new.self) c.prepare.ensures.net
+          (as_memos s.memos.entries) s.taken c.requires.right.1,
+    )
 
 pub returns-clause-fresh : goal.returns-clause-fresh
 returns-clause-fresh g c =
-    let s = c.args.self.now in
-    (rw c.put_in_place.ensures.memos (keep_fresh (g.T.Texts.keeps c.put_in_place.new.texts) (as_memos s.memos.entries) (open_claims s.claims.entries) c.requires.fresh.0), numbered_later s.taken (open_claims s.claims.entries) c.requires.fresh.1)
+    let s = c.args.self.now in (
+      rw c.put_in_place.ensures.memos (keep_fresh (g.T.Texts.keeps c.put_in_place.new.texts)
+          (as_memos s.memos.entries) (open_claims s.claims.entries) c.requires.fresh.0),
+      numbered_later s.taken (open_claims s.claims.entries) c.requires.fresh.1,
+    )
 
 pub returns-clause-step : goal.returns-clause-step
 returns-clause-step g c =

@@ -14,7 +14,13 @@ returns-in-Late-clause-step g c =
 pub returns-in-Late-clause-fresh : goal.returns-in-Late-clause-fresh
 returns-in-Late-clause-fresh g c =
     let s = c.args.self.now in
-    rw (c.remove.ensures.entries, closed c.args.done.claim s.claims.entries) (fresh_closed (as_memos s.memos.entries) c.args.done.claim (open_claims s.claims.entries) c.requires.fresh.0, numbered_closed s.taken c.args.done.claim (open_claims s.claims.entries) c.requires.fresh.1)
+    rw (c.remove.ensures.entries, closed c.args.done.claim s.claims.entries) (
+      fresh_closed
+          (as_memos s.memos.entries) c.args.done.claim (open_claims s.claims.entries)
+          c.requires.fresh.0,
+      numbered_closed s.taken c.args.done.claim (open_claims s.claims.entries)
+          c.requires.fresh.1,
+    )
 
 pub returns-in-Due-clause-right : goal.returns-in-Due-clause-right
 returns-in-Due-clause-right g c = c.accept.ensures.taken.right

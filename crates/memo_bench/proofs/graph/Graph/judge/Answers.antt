@@ -10,7 +10,8 @@ returns-in-None g c =
     let s = c.args.self.now in
     let d = c.args.done.now in
     let r = return_of d.claim d.node d.given d.keys.items (shown_values d.values.items) (shown_outputs d.outputs.items) in
-    none_out (g.T.Texts.net s.texts) (as_memos s.memos.entries) s.claims.entries s.taken r (ap option_copied (sym c.in-None.is) ∙ c.get.ensures.value)
+    none_out (g.T.Texts.net s.texts) (as_memos s.memos.entries) s.claims.entries s.taken r
+    (ap option_copied (sym c.in-None.is) ∙ c.get.ensures.value)
 
 pub returns-then-not-is_same_node : goal.returns-then-not-is_same_node
 returns-then-not-is_same_node g c =
@@ -18,7 +19,8 @@ returns-then-not-is_same_node g c =
     let d = c.args.done.now in
     let r = return_of d.claim d.node d.given d.keys.items (shown_values d.values.items) (shown_outputs d.outputs.items) in
     let is = ap option_copied (sym c.in-Some.is) ∙ c.get.ensures.value in
-    other_node (g.T.Texts.net s.texts) (as_memos s.memos.entries) s.claims.entries s.taken r c.in-Some.claim.now is
+    other_node (g.T.Texts.net s.texts) (as_memos s.memos.entries) s.claims.entries s.taken r
+    c.in-Some.claim.now is
     (sym c.is_same_node.ensures ∙ c.if-not-is_same_node.true)
 
 pub returns-then-not-is_used : goal.returns-then-not-is_used
@@ -27,8 +29,10 @@ returns-then-not-is_used g c =
     let d = c.args.done.now in
     let r = return_of d.claim d.node d.given d.keys.items (shown_values d.values.items) (shown_outputs d.outputs.items) in
     let is = ap option_copied (sym c.in-Some.is) ∙ c.get.ensures.value in
-    not_used (g.T.Texts.net s.texts) (as_memos s.memos.entries) s.claims.entries s.taken r c.in-Some.claim.now is
-    (sym c.is_same_node.ensures ∙ c.if-not-is_same_node.false) (sym c.is_used.ensures ∙ c.if-not-is_used.true)
+    not_used (g.T.Texts.net s.texts) (as_memos s.memos.entries) s.claims.entries s.taken r
+    c.in-Some.claim.now is
+    (sym c.is_same_node.ensures ∙ c.if-not-is_same_node.false)
+    (sym c.is_used.ensures ∙ c.if-not-is_used.true)
 
 pub returns-then-not-are_present : goal.returns-then-not-are_present
 returns-then-not-are_present g c =
@@ -36,9 +40,12 @@ returns-then-not-are_present g c =
     let d = c.args.done.now in
     let r = return_of d.claim d.node d.given d.keys.items (shown_values d.values.items) (shown_outputs d.outputs.items) in
     let is = ap option_copied (sym c.in-Some.is) ∙ c.get.ensures.value in
-    not_present (g.T.Texts.net s.texts) (as_memos s.memos.entries) s.claims.entries s.taken r c.in-Some.claim.now is
-    (sym c.is_same_node.ensures ∙ c.if-not-is_same_node.false) (sym c.is_used.ensures ∙ c.if-not-is_used.false)
-    c.first_stale-stamp.result (rw c.as_slice.ensures.value at (sym c.are_present.ensures ∙ c.if-not-are_present.true))
+    not_present (g.T.Texts.net s.texts) (as_memos s.memos.entries) s.claims.entries s.taken r
+    c.in-Some.claim.now is
+    (sym c.is_same_node.ensures ∙ c.if-not-is_same_node.false)
+    (sym c.is_used.ensures ∙ c.if-not-is_used.false)
+    c.first_stale-stamp.result (rw c.as_slice.ensures.value at
+    (sym c.are_present.ensures ∙ c.if-not-are_present.true))
     (rw c.as_slice-then-not-are_present.ensures.value at c.first_stale-stamp.ensures)
 
 pub returns-then-not-keys_are : goal.returns-then-not-keys_are
@@ -47,8 +54,10 @@ returns-then-not-keys_are g c =
     let d = c.args.done.now in
     let r = return_of d.claim d.node d.given d.keys.items (shown_values d.values.items) (shown_outputs d.outputs.items) in
     let is = ap option_copied (sym c.in-Some.is) ∙ c.get.ensures.value in
-    other_inputs (g.T.Texts.net s.texts) (as_memos s.memos.entries) s.claims.entries s.taken r c.in-Some.claim.now is
-    (sym c.is_same_node.ensures ∙ c.if-not-is_same_node.false) (sym c.is_used.ensures ∙ c.if-not-is_used.false)
+    other_inputs (g.T.Texts.net s.texts) (as_memos s.memos.entries) s.claims.entries s.taken r
+    c.in-Some.claim.now is
+    (sym c.is_same_node.ensures ∙ c.if-not-is_same_node.false)
+    (sym c.is_used.ensures ∙ c.if-not-is_used.false)
     (rw c.as_slice.ensures.value at (sym c.are_present.ensures ∙ c.if-not-are_present.false))
     (rw c.as_slice-2.ensures.value at (sym c.keys_are.ensures ∙ c.if-not-keys_are.true))
 
@@ -57,7 +66,9 @@ is_given-requires g c =
     let s = c.args.self.now in
     let t = g.T.Texts in
     let laws = g.met.T.Texts in
-    has_there (t.is_there s.texts) (t.net s.texts).used c.args.done.now.node (laws.used_there s.texts c.requires.0) (has_yes c.args.done.now.node (t.net s.texts).used (sym c.is_used.ensures ∙ c.if-not-is_used.false))
+    has_there (t.is_there s.texts) (t.net s.texts).used c.args.done.now.node
+    (laws.used_there s.texts c.requires.0) (has_yes c.args.done.now.node (t.net s.texts).used
+    (sym c.is_used.ensures ∙ c.if-not-is_used.false))
 
 pub returns-then-not-is_given : goal.returns-then-not-is_given
 returns-then-not-is_given g c =
@@ -65,8 +76,10 @@ returns-then-not-is_given g c =
     let d = c.args.done.now in
     let r = return_of d.claim d.node d.given d.keys.items (shown_values d.values.items) (shown_outputs d.outputs.items) in
     let is = ap option_copied (sym c.in-Some.is) ∙ c.get.ensures.value in
-    other_given (g.T.Texts.net s.texts) (as_memos s.memos.entries) s.claims.entries s.taken r c.in-Some.claim.now is
-    (sym c.is_same_node.ensures ∙ c.if-not-is_same_node.false) (sym c.is_used.ensures ∙ c.if-not-is_used.false)
+    other_given (g.T.Texts.net s.texts) (as_memos s.memos.entries) s.claims.entries s.taken r
+    c.in-Some.claim.now is
+    (sym c.is_same_node.ensures ∙ c.if-not-is_same_node.false)
+    (sym c.is_used.ensures ∙ c.if-not-is_used.false)
     (rw c.as_slice.ensures.value at (sym c.are_present.ensures ∙ c.if-not-are_present.false))
     (sym c.is_given.ensures ∙ c.if-not-is_given.true)
 
@@ -76,11 +89,15 @@ returns-then-not-values_are g c =
     let d = c.args.done.now in
     let r = return_of d.claim d.node d.given d.keys.items (shown_values d.values.items) (shown_outputs d.outputs.items) in
     let is = ap option_copied (sym c.in-Some.is) ∙ c.get.ensures.value in
-    others_values (g.T.Texts.net s.texts) (as_memos s.memos.entries) s.claims.entries s.taken r c.in-Some.claim.now is
-    (sym c.is_same_node.ensures ∙ c.if-not-is_same_node.false) (sym c.is_used.ensures ∙ c.if-not-is_used.false)
+    others_values (g.T.Texts.net s.texts) (as_memos s.memos.entries) s.claims.entries s.taken r
+    c.in-Some.claim.now is
+    (sym c.is_same_node.ensures ∙ c.if-not-is_same_node.false)
+    (sym c.is_used.ensures ∙ c.if-not-is_used.false)
     (rw c.as_slice.ensures.value at (sym c.are_present.ensures ∙ c.if-not-are_present.false))
-    g.T.Texts.same g.met.T.Texts.same_exact (rw c.as_slice-2.ensures.value at (sym c.keys_are.ensures ∙ c.if-not-keys_are.false))
-    (rw (c.as_slice-3.ensures.value, c.as_slice-values.ensures.value) at (sym c.values_are.ensures ∙ c.if-not-values_are.true))
+    g.T.Texts.same g.met.T.Texts.same_exact (rw c.as_slice-2.ensures.value at
+    (sym c.keys_are.ensures ∙ c.if-not-keys_are.false))
+    (rw (c.as_slice-3.ensures.value, c.as_slice-values.ensures.value) at
+    (sym c.values_are.ensures ∙ c.if-not-values_are.true))
 
 pub returns : goal.returns
 returns g c =
@@ -88,8 +105,13 @@ returns g c =
     let d = c.args.done.now in
     let r = return_of d.claim d.node d.given d.keys.items (shown_values d.values.items) (shown_outputs d.outputs.items) in
     let is = ap option_copied (sym c.in-Some.is) ∙ c.get.ensures.value in
-    is_due (g.T.Texts.net s.texts) (as_memos s.memos.entries) s.claims.entries s.taken r c.in-Some.claim.now is
-    (sym c.is_same_node.ensures ∙ c.if-not-is_same_node.false) (sym c.is_used.ensures ∙ c.if-not-is_used.false)
+    is_due (g.T.Texts.net s.texts) (as_memos s.memos.entries) s.claims.entries s.taken r
+    c.in-Some.claim.now is
+    (sym c.is_same_node.ensures ∙ c.if-not-is_same_node.false)
+    (sym c.is_used.ensures ∙ c.if-not-is_used.false)
     (rw c.as_slice.ensures.value at (sym c.are_present.ensures ∙ c.if-not-are_present.false))
-    g.T.Texts.same g.met.T.Texts.same_exact (rw c.as_slice-2.ensures.value at (sym c.keys_are.ensures ∙ c.if-not-keys_are.false))
-    (sym c.is_given.ensures ∙ c.if-not-is_given.false) (rw (c.as_slice-3.ensures.value, c.as_slice-values.ensures.value) at (sym c.values_are.ensures ∙ c.if-not-values_are.false))
+    g.T.Texts.same g.met.T.Texts.same_exact (rw c.as_slice-2.ensures.value at
+    (sym c.keys_are.ensures ∙ c.if-not-keys_are.false))
+    (sym c.is_given.ensures ∙ c.if-not-is_given.false) (rw
+    (c.as_slice-3.ensures.value, c.as_slice-values.ensures.value) at
+    (sym c.values_are.ensures ∙ c.if-not-values_are.false))

@@ -7,7 +7,9 @@ pub loop-at-init : goal.loop-at-init
 loop-at-init c = last_none c.args.items.now c.args.indexes.now c.in_ok-last.last
 
 pub loop-at-preserved : goal.loop-at-preserved
-loop-at-preserved c = last_more c.args.items.now c.args.indexes.now c.loop-at.at-index 0 c.loop-at.last c.note_item.new.self c.requires (omega arith) c.loop-at.invariant c.note_item.ensures
+loop-at-preserved c =
+    last_more c.args.items.now c.args.indexes.now c.loop-at.at-index 0 c.loop-at.last
+    c.note_item.new.self c.requires (omega arith) c.loop-at.invariant c.note_item.ensures
 
 pub returns : goal.returns
 returns c =

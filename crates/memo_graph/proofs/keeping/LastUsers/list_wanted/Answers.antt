@@ -12,5 +12,6 @@ loop-position-preserved c =
     let before = c.loop-position.invariant in
     rw c.in_ok-push.ensures.items (
       length_push ws (not c.is_gone.result) ∙ ap (λ n. n + 1) before.0,
-      enough_more c.args.self.now c.args.at c.loop-position.position ws c.is_gone.result before.0 before.1 c.is_gone.ensures.0,
+      enough_more c.args.self.now c.args.at c.loop-position.position ws c.is_gone.result before.0
+          before.1 c.is_gone.ensures.0,
     )

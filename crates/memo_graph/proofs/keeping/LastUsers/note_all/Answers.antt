@@ -7,7 +7,9 @@ pub loop-name-init : goal.loop-name-init
 loop-name-init c = notes_none c.args.user c.args.names.now c.args.self.now
 
 pub loop-name-preserved : goal.loop-name-preserved
-loop-name-preserved c = notes_more c.args.user c.args.names.now c.loop-name.name-index _ c.args.self.now c.loop-name.self c.note.new.self (omega arith) c.loop-name.invariant c.note.ensures
+loop-name-preserved c =
+    notes_more c.args.user c.args.names.now c.loop-name.name-index _ c.args.self.now
+    c.loop-name.self c.note.new.self (omega arith) c.loop-name.invariant c.note.ensures
 
 pub returns : goal.returns
 returns c =

@@ -8,8 +8,14 @@ use Rattle.memo_graph.proofs.keeping.LastUsers.note_item.Goals as goal
 pub returns-in-Some : goal.returns-in-Some
 returns-in-Some c =
     let items = c.args.items.now in
-    notes_item items c.args.at c.in-Some.item.now c.args.self.now c.note_all.new.self (slice_get_read items (length items) c.args.at c.in-Some.item.now refl c.in-Some.ensures.lookup.3.0 c.in-Some.ensures.lookup.1)
-    (subst (λ (names : List Input). Notes c.args.at (Contains names) c.args.self.now c.note_all.new.self) c.deref.ensures.value c.note_all.ensures)
+    notes_item items c.args.at c.in-Some.item.now c.args.self.now c.note_all.new.self
+    (slice_get_read items (length items) c.args.at c.in-Some.item.now refl
+    c.in-Some.ensures.lookup.3.0 c.in-Some.ensures.lookup.1)
+    (subst
+    (λ (names : List Input).
+    Notes c.args.at (Contains names) c.args.self.now c.note_all.new.self)
+    c.deref.ensures.value c.note_all.ensures)
 
 pub returns-in-None : goal.returns-in-None
-returns-in-None c = notes_no_item c.args.items.now c.args.at c.args.self.now c.in-None.ensures.lookup.3
+returns-in-None c =
+    notes_no_item c.args.items.now c.args.at c.args.self.now c.in-None.ensures.lookup.3

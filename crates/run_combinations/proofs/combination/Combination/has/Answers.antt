@@ -4,11 +4,18 @@ use Rattle.run_combinations.proofs.Pairs.{has_none, has_index}
 use Rattle.run_combinations.proofs.combination.Combination.has.Goals as goal
 
 pub returns-then-orders-eq0 : goal.returns-then-orders-eq0
-returns-then-orders-eq0 c = (λ t. search (rules, tests), λ lt. absurd (has_none c.args.self.now c.args.index (omega arith) lt))
+returns-then-orders-eq0 c = (
+  λ t. search (rules, tests),
+  λ lt. absurd (has_none c.args.self.now c.args.index (omega arith) lt),
+)
 
 pub returns : goal.returns
 returns c =
     let orders : c.len-orders.result ≡ length c.args.self.now.orders = omega arith in
     let sources : c.len.result ≡ length c.args.self.now.sources.items = omega (arith, c.args.self.now.sources.ok.0) in
-    let e : (c.args.index / c.len-orders.result < c.len.result) ↔ (c.args.index < length (candidates_of c.args.self.now)) = rw (orders, sources) (has_index c.args.self.now c.args.index (omega (arith, orders))) in
-    (λ t. e.0 (search (rules, tests)), λ lt. let k : c.args.index / c.len-orders.result < c.len.result = e.1 lt in search (rules, tests))
+    let e : (c.args.index / c.len-orders.result < c.len.result) ↔ (c.args.index < length (candidates_of c.args.self.now)) = rw (orders, sources) (has_index c.args.self.now c.args.index (omega (arith, orders))) in (
+      λ t. e.0 (search (rules, tests)),
+      λ lt.
+          let k : c.args.index / c.len-orders.result < c.len.result = e.1 lt in
+          search (rules, tests),
+    )

@@ -20,14 +20,29 @@ returns c =
     let first : c.in_ok-initial.initial.items ≡ initial_stores 0 c.deref.result.now = c.in_ok-initial.ensures in
     let keys : (location : ℕ) (value : Value) (a b : ℕ) → HasStore location value c.deref-3.result.now → bit_of c.deref-2.result.now location value ≡ Some (a, b) → HasKey c.initial_keys-initial_writes.result a b = c.initial_keys-initial_writes.ensures in
     let stores : (location : ℕ) (value : Value) (a b : ℕ) → HasStore location value c.in_ok-initial.initial.items → bit_of c.args.domain.now.values.items location value ≡ Some (a, b) → HasKey c.initial_keys-initial_writes.result a b =
-    subst (λ (es : List Event). (location : ℕ) (value : Value) (a b : ℕ) → HasStore location value es → bit_of c.args.domain.now.values.items location value ≡ Some (a, b) → HasKey c.initial_keys-initial_writes.result a b) e3 (subst (λ (vs : List Value). (location : ℕ) (value : Value) (a b : ℕ) → HasStore location value c.deref-3.result.now → bit_of vs location value ≡ Some (a, b) → HasKey c.initial_keys-initial_writes.result a b) e2 keys) in (
+    subst
+    (λ (es : List Event). (location : ℕ) (value : Value) (a b : ℕ) → HasStore location value es
+    → bit_of c.args.domain.now.values.items location value ≡ Some (a, b)
+    → HasKey c.initial_keys-initial_writes.result a b) e3
+    (subst
+    (λ (vs : List Value). (location : ℕ) (value : Value) (a b : ℕ)
+    → HasStore location value c.deref-3.result.now
+    → bit_of vs location value ≡ Some (a, b)
+    → HasKey c.initial_keys-initial_writes.result a b) e2 keys) in (
       runs,
       c.in_ok-threads.ensures.1,
       record {
         locations = refl;
-        initial = subst (λ (vs : List Value). c.in_ok-initial.initial.items ≡ initial_stores 0 vs) e1 first;
-        threads = all_threads c.args.domain.now.values.items 0 runs are.left c.in_ok-threads.threads.items facts are.made;
-        left_out = left_out_there c.args.domain.now.values.items c.in_ok-initial.initial.items c.initial_keys-initial_writes.result runs are.all are.left c.in_ok-threads.threads.items stores are.sketched are.sifted are.made;
+        initial =
+            subst (λ (vs : List Value). c.in_ok-initial.initial.items ≡ initial_stores 0 vs) e1
+            first;
+        threads =
+            all_threads c.args.domain.now.values.items 0 runs are.left c.in_ok-threads.threads.items
+            facts are.made;
+        left_out =
+            left_out_there c.args.domain.now.values.items c.in_ok-initial.initial.items
+            c.initial_keys-initial_writes.result runs are.all are.left c.in_ok-threads.threads.items
+            stores are.sketched are.sifted are.made;
       },
       record { initial = stores; threads = all_keyed c.args.domain.now.values.items 0 runs are.left c.in_ok-threads.threads.items facts are.made },
     )

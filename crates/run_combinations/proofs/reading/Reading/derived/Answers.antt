@@ -17,16 +17,23 @@ loop-derived-smaller c =
 
 pub loop-derived-preserved : goal.loop-derived-preserved
 loop-derived-preserved c = record {
-  count = round_count c.args.self.now c.args.way.now c.args.without c.loop-derived.derived c.loop-derived.next c.loop-derived.invariant.round ∙ c.loop-derived.invariant.count;
+  count =
+      round_count c.args.self.now c.args.way.now c.args.without c.loop-derived.derived
+      c.loop-derived.next c.loop-derived.invariant.round ∙ c.loop-derived.invariant.count;
   round = c.round-next-in-loop-derived.ensures;
-  arise = round_arises c.args.self.now c.args.way.now c.args.without c.loop-derived.derived c.loop-derived.next c.loop-derived.invariant.round c.loop-derived.invariant.arise;
+  arise =
+      round_arises c.args.self.now c.args.way.now c.args.without c.loop-derived.derived
+      c.loop-derived.next c.loop-derived.invariant.round c.loop-derived.invariant.arise;
 }
 
 pub returns : goal.returns
 returns c es pairs shows x =
     let e : c.loop-derived.next ≡ c.loop-derived.derived = c.loop-derived-test.ensures.0 (search rules) in (
       c.loop-derived.invariant.arise es pairs shows x,
-      nothing_more es pairs c.args.self.now c.args.way.now c.args.without c.loop-derived.derived shows
+      nothing_more es pairs c.args.self.now c.args.way.now c.args.without c.loop-derived.derived
+          shows
           (let h = c.loop-derived.invariant.count in let f = shows.few in omega (arith, h, f))
-          (subst (λ (n : Events). IsRound c.args.self.now c.args.way.now c.args.without c.loop-derived.derived n) e c.loop-derived.invariant.round) x,
+          (subst
+          (λ (n : Events). IsRound c.args.self.now c.args.way.now c.args.without
+          c.loop-derived.derived n) e c.loop-derived.invariant.round) x,
     )

@@ -5,4 +5,6 @@ use Rattle.run_combinations.proofs.Extending.{GainsSome}
 use Rattle.run_combinations.proofs.reading.Reading.extend.Given as goal
 
 abbrev pub invariant-loop-store : goal.invariant-loop-store
-invariant-loop-store l = GainsSome l.self l.load l.index l.way.items l.store (lists_of l.initial.longer.items) (lists_of l.longer.items ++ nexts (option_to_list l.last) l.way.items)
+invariant-loop-store l =
+    GainsSome l.self l.load l.index l.way.items l.store (lists_of l.initial.longer.items)
+    (lists_of l.longer.items ++ nexts (option_to_list l.last) l.way.items)

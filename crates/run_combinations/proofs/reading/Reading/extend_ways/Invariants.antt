@@ -3,4 +3,6 @@ use Rattle.run_combinations.specs.Rounds.{ArePossible}
 use Rattle.run_combinations.proofs.reading.Reading.extend_ways.Given as goal
 
 abbrev pub invariant-loop-index : goal.invariant-loop-index
-invariant-loop-index l = ArePossible l.self 0 (lists_of l.initial.ways.items) → ArePossible l.self l.index (lists_of l.ways.items)
+invariant-loop-index l =
+    ArePossible l.self 0 (lists_of l.initial.ways.items)
+    → ArePossible l.self l.index (lists_of l.ways.items)

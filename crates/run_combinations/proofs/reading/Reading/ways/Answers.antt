@@ -7,16 +7,32 @@ use Rattle.run_combinations.proofs.Finding.{over_all}
 use Rattle.run_combinations.proofs.reading.Reading.ways.Goals as goal
 
 pub returns-then-not-branch : goal.returns-then-not-branch
-returns-then-not-branch c = tells_false c.in_ok-extend_ways.field-0 (HasWays c.args.self.now (lists_of c.extend_ways.new.ways.items)) (HasOver c.args.self.now c.args.limit) c.if-not-branch.true (c.in_ok-extend_ways.ensures c.in_ok-ways.ensures)
+returns-then-not-branch c =
+    tells_false c.in_ok-extend_ways.field-0
+    (HasWays c.args.self.now (lists_of c.extend_ways.new.ways.items))
+    (HasOver c.args.self.now c.args.limit) c.if-not-branch.true
+    (c.in_ok-extend_ways.ensures c.in_ok-ways.ensures)
 
 pub returns-then-len-limit : goal.returns-then-len-limit
 returns-then-len-limit c =
     over_all c.args.self.now c.args.limit (lists_of c.extend_ways.new.ways.items)
-    (tells_true c.in_ok-extend_ways.field-0 (HasWays c.args.self.now (lists_of c.extend_ways.new.ways.items)) (HasOver c.args.self.now c.args.limit) c.if-not-branch.false (c.in_ok-extend_ways.ensures c.in_ok-ways.ensures))
-    (omega (arith, c.if-len-limit.true, c.len.ensures, c.extend_ways.new.ways.ok.0, length-map c.extend_ways.new.ways.items (λ v. v.items)))
+    (tells_true c.in_ok-extend_ways.field-0
+    (HasWays c.args.self.now (lists_of c.extend_ways.new.ways.items))
+    (HasOver c.args.self.now c.args.limit) c.if-not-branch.false
+    (c.in_ok-extend_ways.ensures c.in_ok-ways.ensures))
+    (omega (
+      arith,
+      c.if-len-limit.true,
+      c.len.ensures,
+      c.extend_ways.new.ways.ok.0,
+      length-map c.extend_ways.new.ways.items (λ v. v.items),
+    ))
 
 pub returns : goal.returns
 returns c = (
-  tells_true c.in_ok-extend_ways.field-0 (HasWays c.args.self.now (lists_of c.extend_ways.new.ways.items)) (HasOver c.args.self.now c.args.limit) c.if-not-branch.false (c.in_ok-extend_ways.ensures c.in_ok-ways.ensures),
+  tells_true c.in_ok-extend_ways.field-0
+      (HasWays c.args.self.now (lists_of c.extend_ways.new.ways.items))
+      (HasOver c.args.self.now c.args.limit) c.if-not-branch.false
+      (c.in_ok-extend_ways.ensures c.in_ok-ways.ensures),
   omega (arith, c.if-len-limit.false, c.len.ensures, c.extend_ways.new.ways.ok.0),
 )

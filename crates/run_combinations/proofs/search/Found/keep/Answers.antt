@@ -11,8 +11,12 @@ is_some zero b test is = absurd cc
 is_some (suc n) b test is = omega arith
 
 -- a combination with ways to read is counted, and kept unless there is a fault
-counted : (b : PrefixLists) (ways : List (List ℕ)) (orders n : ℕ) (t new : Tally) → n ≡ length ways → 0 < n → new.count ≡ min (t.count + min (n * orders) (2 ^ 64 - 1)) (2 ^ 64 - 1)
-    → new.faulted ≡ (t.faulted || b.faulted) → new.kept ≡ (if new.faulted then t.kept else t.kept ++ record b.combination { sources = ways } ∷ []) → new ≡ capped_tally_with b ways orders t
+counted : (b : PrefixLists) (ways : List (List ℕ)) (orders n : ℕ) (t new : Tally) → n ≡ length ways
+    → 0 < n → new.count ≡ min (t.count + min (n * orders) (2 ^ 64 - 1)) (2 ^ 64 - 1)
+    → new.faulted ≡ (t.faulted || b.faulted)
+    → new.kept ≡ (if new.faulted then t.kept
+    else t.kept ++ record b.combination { sources = ways } ∷ [])
+    → new ≡ capped_tally_with b ways orders t
 counted b [] orders n t new long some count faulted kept = absurd (omega (arith, long, some))
 counted b (way ∷ ways) orders n t new long some count faulted kept =
     let all : List CombinationLists = t.kept ++ record b.combination { sources = way ∷ ways } ∷ [] in
@@ -26,7 +30,10 @@ returns-then-self c =
     let some = is_some ways.len c.is_empty.result c.is_empty.ensures c.if-is_empty.false in
     let long = length-map ways.items (λ (v : Vec ℕ Global). v.items) in
     let kept = ap (map combination_lists) (ap (λ (v : Vec _ Global). v.items) c.count_ways.ensures.combinations) in
-    counted (prefix_lists c.args.prefix.now) (lists_of ways.items) c.args.orders c.len.result (tally c.args.self.now) (tally c.count_ways.new.self) (omega (arith, long, ways.ok.0, c.len.ensures)) (omega (arith, some, c.len.ensures)) c.count_ways.ensures.count c.count_ways.ensures.faulted (rw c.if-self.true kept)
+    counted (prefix_lists c.args.prefix.now) (lists_of ways.items) c.args.orders c.len.result
+    (tally c.args.self.now) (tally c.count_ways.new.self)
+    (omega (arith, long, ways.ok.0, c.len.ensures)) (omega (arith, some, c.len.ensures))
+    c.count_ways.ensures.count c.count_ways.ensures.faulted (rw c.if-self.true kept)
 
 pub returns : goal.returns
 returns c =
@@ -37,4 +44,6 @@ returns c =
     let one = c.combination.ensures ∙ ap (λ (r : CombinationLists). record r { sources = all }) c.in_ok-runs.ensures in
     let kept : map combination_lists c.push.new.self.items ≡ map combination_lists c.args.self.now.combinations.items ++ record (runs_lists c.args.prefix.now.runs) { sources = all } ∷ [] = ap (map combination_lists) c.in_ok-push.ensures.items ∙ map_push combination_lists c.count_ways.new.self.combinations.items c.combination.result ∙ (λ i. map combination_lists (c.count_ways.ensures.combinations i).items ++ one i ∷ []) in
     let new : Tally = record { kept = map combination_lists c.push.new.self.items; count = c.count_ways.new.self.count; faulted = c.count_ways.new.self.is_faulted } in
-    counted (prefix_lists c.args.prefix.now) all c.args.orders c.len.result (tally c.args.self.now) new (omega (arith, long, ways.ok.0, c.len.ensures)) (omega (arith, some, c.len.ensures)) c.count_ways.ensures.count c.count_ways.ensures.faulted (rw c.if-self.false kept)
+    counted (prefix_lists c.args.prefix.now) all c.args.orders c.len.result (tally c.args.self.now)
+    new (omega (arith, long, ways.ok.0, c.len.ensures)) (omega (arith, some, c.len.ensures))
+    c.count_ways.ensures.count c.count_ways.ensures.faulted (rw c.if-self.false kept)

@@ -3,5 +3,6 @@ use Rattle.running_bench.proofs.texts.RunningTextsBoardTexts.cell_count.Goals as
 
 pub returns-in-Some : goal.returns-in-Some
 returns-in-Some c =
-    count_is_all c.args.board.now c.test_count.result c.model_count.result c.checked_mul.result c.in-Some.count
+    count_is_all c.args.board.now c.test_count.result c.model_count.result c.checked_mul.result
+    c.in-Some.count
     c.test_count.ensures c.model_count.ensures c.in-Some.is c.checked_mul.ensures

@@ -16,4 +16,7 @@ returns-clause-holds c =
     let range = rw (c.cell_count-count.ensures, c.model_count-models.ensures, after.2) at c.row_range.ensures in
     let row_is = c.test_row-row.ensures ∙ ap (λ (u : StampedTexts). position_or_len (λ (r : TestRow). r.id == c.args.node.test) u.parts.table.tests.items) c.self.view_is in
     let holds = holds_above t after.0 c.args.node c.test_row-row.result c.row_range.result.first c.row_range.result.end c.requires.valid after.1 row_is range in
-    subst (λ (b : BoardContent). HoldsAbove (net_of t) (verdict_of t) c.args.node (board_cells b) c.row_range.result.first c.row_range.result.end) (sym after.2) holds
+    subst
+    (λ (b : BoardContent). HoldsAbove (net_of t) (verdict_of t) c.args.node (board_cells b)
+    c.row_range.result.first c.row_range.result.end)
+    (sym after.2) holds

@@ -8,9 +8,11 @@ abbrev pub invariant-lines : goal.invariant-lines
 invariant-lines g l = record {
   ahead : ReadsFewAhead l.initial.self l.self;
   work : work_of l.self ≤ work_of l.initial.self;
-  paid : IsPaid (turns_of l.initial.self) (turns_of l.self) (g.S.ByteSource.remaining l.initial.source) (g.S.ByteSource.remaining l.source);
+  paid : IsPaid (turns_of l.initial.self) (turns_of l.self)
+      (g.S.ByteSource.remaining l.initial.source) (g.S.ByteSource.remaining l.source);
   same : g.S.ByteSource.failed_calls l.source ≡ g.S.ByteSource.failed_calls l.initial.source;
-  commands : AreSame (left_to l.initial.self (g.S.ByteSource.remaining l.initial.source)) (left_to l.self (g.S.ByteSource.remaining l.source));
+  commands : AreSame (left_to l.initial.self (g.S.ByteSource.remaining l.initial.source))
+      (left_to l.self (g.S.ByteSource.remaining l.source));
 }
 
 abbrev pub decreases-lines : goal.decreases-lines

@@ -10,9 +10,11 @@ invariant-parts g l = record {
   ahead : ReadsFewAhead l.initial.self l.self;
   same : g.S.ByteSource.failed_calls l.source ≡ g.S.ByteSource.failed_calls l.initial.source;
   unbroken : IsUnbroken l.line.items;
-  read : Consumes (left_to l.initial.self (g.S.ByteSource.remaining l.initial.source)) (left_to l.self (g.S.ByteSource.remaining l.source)) l.line.items;
+  read : Consumes (left_to l.initial.self (g.S.ByteSource.remaining l.initial.source))
+      (left_to l.self (g.S.ByteSource.remaining l.source)) l.line.items;
   work : work_of l.self + length l.line.items ≤ work_of l.initial.self;
-  paid : IsPaid (turns_of l.initial.self) (turns_of l.self) (g.S.ByteSource.remaining l.initial.source) (g.S.ByteSource.remaining l.source);
+  paid : IsPaid (turns_of l.initial.self) (turns_of l.self)
+      (g.S.ByteSource.remaining l.initial.source) (g.S.ByteSource.remaining l.source);
 }
 
 abbrev pub decreases-parts : goal.decreases-parts

@@ -12,7 +12,9 @@ lines-init g c = record {
   paid = paid_none (turns_of c.args.self.now) (g.S.ByteSource.remaining c.args.source.now);
   same = refl;
   short = rw c.new-text.ensures.items (omega arith);
-  kept = λ r. text_begins (left_to c.args.self.now (g.S.ByteSource.remaining c.args.source.now)) r c.new-text.result.items c.new-text.ensures.items;
+  kept =
+      λ r. text_begins (left_to c.args.self.now (g.S.ByteSource.remaining c.args.source.now)) r
+      c.new-text.result.items c.new-text.ensures.items;
 }
 
 pub returns-in-None-clause-text : goal.returns-in-None-clause-text
@@ -20,7 +22,8 @@ returns-in-None-clause-text g c = λ r.
     let first = left_to c.args.self.now (g.S.ByteSource.remaining c.args.source.now) in
     let now = left_to c.lines.self (g.S.ByteSource.remaining c.lines.source) in
     let next = left_to c.read_line.new.self (g.S.ByteSource.remaining c.read_line.new.source) in
-    text_is_cut_off first now next r c.lines.text.items (c.lines.invariant.kept r) (read_nothing now next c.in_ok-read.read c.in-None.is c.in_ok-read.ensures.line)
+    text_is_cut_off first now next r c.lines.text.items (c.lines.invariant.kept r)
+    (read_nothing now next c.in_ok-read.read c.in-None.is c.in_ok-read.ensures.line)
 
 pub returns-then-dot-clause-text : goal.returns-then-dot-clause-text
 returns-then-dot-clause-text g c = λ r.
@@ -28,7 +31,10 @@ returns-then-dot-clause-text g c = λ r.
     let now = left_to c.lines.self (g.S.ByteSource.remaining c.lines.source) in
     let next = left_to c.read_line.new.self (g.S.ByteSource.remaining c.read_line.new.source) in
     let ends : is_dot c.in-Some.line.items ≡ true = ap (λ (l : List ℕ). is_dot l) (sym c.deref.ensures.value) ∙ sym c.if-dot.ensures in
-    text_given first now next r c.lines.text.items c.in-Some.line.items c.new.result (c.lines.invariant.kept r) (read_one now next c.in_ok-read.read c.in-Some.line c.in-Some.is c.in_ok-read.ensures.line) ends c.new.ensures
+    text_given first now next r c.lines.text.items c.in-Some.line.items c.new.result
+    (c.lines.invariant.kept r)
+    (read_one now next c.in_ok-read.read c.in-Some.line c.in-Some.is c.in_ok-read.ensures.line)
+    ends c.new.ensures
 
 pub lines-preserved : goal.lines-preserved
 lines-preserved g c =
@@ -40,8 +46,18 @@ lines-preserved g c =
     record {
       ahead = λ few. c.in_ok-read.ensures.ahead (c.lines.invariant.ahead few);
       work = omega (arith, c.in_ok-read.ensures.work);
-      paid = paid_on (turns_of c.args.self.now) (turns_of c.lines.self) (turns_of c.read_line.new.self) (g.S.ByteSource.remaining c.args.source.now) (g.S.ByteSource.remaining c.lines.source) (g.S.ByteSource.remaining c.read_line.new.source) c.lines.invariant.paid c.in_ok-read.ensures.paid;
+      paid =
+          paid_on (turns_of c.args.self.now) (turns_of c.lines.self) (turns_of c.read_line.new.self)
+          (g.S.ByteSource.remaining c.args.source.now) (g.S.ByteSource.remaining c.lines.source)
+          (g.S.ByteSource.remaining c.read_line.new.source) c.lines.invariant.paid
+          c.in_ok-read.ensures.paid;
       same = search rules;
-      short = front_is_short c.put_line.new.text.items 65537 (c.lines.text.items ++ c.in-Some.line.items ++ 10 ∷ []) put;
-      kept = λ r. text_goes_on first now next r c.lines.text.items c.put_line.new.text.items c.in-Some.line.items (c.lines.invariant.kept r) (read_one now next c.in_ok-read.read c.in-Some.line c.in-Some.is c.in_ok-read.ensures.line) ends put;
+      short =
+          front_is_short c.put_line.new.text.items 65537
+          (c.lines.text.items ++ c.in-Some.line.items ++ 10 ∷ []) put;
+      kept =
+          λ r. text_goes_on first now next r c.lines.text.items c.put_line.new.text.items
+          c.in-Some.line.items (c.lines.invariant.kept r)
+          (read_one now next c.in_ok-read.read c.in-Some.line c.in-Some.is
+          c.in_ok-read.ensures.line) ends put;
     }

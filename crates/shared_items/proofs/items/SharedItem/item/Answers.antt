@@ -11,11 +11,16 @@ returns-clause-role c =
     let all : List ResolvedItem = (arc_value c.args.self.now.resolved).items.items in
     let same : c.deref.result.now.items.items ≡ all = ap (λ (r : Resolved). r.items.items) c.deref.ensures in
     let within : c.args.self.now.index < length all = omega (arith, c.args.self.now.within, (arc_value c.args.self.now.resolved).items.ok.0) in
-    shared_item c.deref.result.now.items.items all c.args.self.now.index c.index.result.now same c.index.ensures within
+    shared_item c.deref.result.now.items.items all c.args.self.now.index c.index.result.now same
+    c.index.ensures within
 
 pub returns-clause-item : goal.returns-clause-item
 returns-clause-item c =
     let all : List ResolvedItem = (arc_value c.args.self.now.resolved).items.items in
     let same : c.deref.result.now.items.items ≡ all = ap (λ (r : Resolved). r.items.items) c.deref.ensures in
     let within : c.args.self.now.index < length all = omega (arith, c.args.self.now.within, (arc_value c.args.self.now.resolved).items.ok.0) in
-    slice_get_read all (length all) c.args.self.now.index c.index.result.now refl within (c.index.ensures ∙ ap (λ (l : List ResolvedItem). slice_index_or l c.args.self.now.index c.index.result.now) same)
+    slice_get_read all (length all) c.args.self.now.index c.index.result.now refl within
+    (c.index.ensures
+    ∙ ap
+    (λ (l : List ResolvedItem).
+    slice_index_or l c.args.self.now.index c.index.result.now) same)

@@ -21,4 +21,6 @@ returns-clause-history c =
     let all : List ResolvedItem = (arc_value c.args.resolved).items.items in
     let same : c.deref.result.now.items.items ≡ all = ap (λ (r : Resolved). r.items.items) c.deref.ensures in
     let within : c.args.index < length all = omega (arith, c.requires, (arc_value c.args.resolved).items.ok.0) in
-    c.in_ok-history.ensures ∙ ap (with_role_names _) (shared_item c.deref.result.now.items.items all c.args.index c.index.result.now same c.index.ensures within)
+    c.in_ok-history.ensures
+    ∙ ap (with_role_names _) (shared_item c.deref.result.now.items.items all c.args.index
+    c.index.result.now same c.index.ensures within)

@@ -16,6 +16,19 @@ returns c = λ texts facts was before.
     let b : c.push-2.new.self.items ≡ lists.roles.items ++ role ∷ [] = c.in_ok-push-2.ensures.items in
     let d : c.push-3.new.self.items ≡ lists.kinds.items ++ c.kind.result ∷ [] = c.in_ok-push-3.ensures.items in
     let read = read_role (resolved_items m) c.args.index in
-    rw (a, b, d) (items_more c.args.fresh p.table.items.items p.roles.items texts facts lists.rows.items lists.roles.items lists.kinds.items (fact_at m.numbers.now m.items.now (resolved_items m) c.args.index) row role c.kind.result before
-    (record { number_is = is; role_is = c.in_ok-role.ensures ∙ ap (held_after read) (held.role ∙ ap (item_content p.table.items.items p.roles.items) is); stamp = stamp_along c.args.fresh _ _ _ _ _ _ stamp (sym was) (held.stamp ∙ ap (item_stamp p.table.items.items) is) c.text-now.ensures c.stamp_of-stamp.ensures })
+    rw (a, b, d) (items_more c.args.fresh p.table.items.items p.roles.items texts facts
+    lists.rows.items lists.roles.items lists.kinds.items
+    (fact_at m.numbers.now m.items.now (resolved_items m) c.args.index) row role c.kind.result
+    before
+    (record {
+      number_is = is;
+      role_is =
+          c.in_ok-role.ensures
+          ∙ ap (held_after read) (held.role
+          ∙ ap (item_content p.table.items.items p.roles.items) is);
+      stamp =
+          stamp_along c.args.fresh _ _ _ _ _ _ stamp (sym was)
+          (held.stamp ∙ ap (item_stamp p.table.items.items) is) c.text-now.ensures
+          c.stamp_of-stamp.ensures;
+    })
     c.kind.ensures)

@@ -7,4 +7,5 @@ use Rattle.stamped_parts.proofs.parts.Parts.give.Goals as goal
 pub returns-clause-gives : goal.returns-clause-gives
 returns-clause-gives c =
     let s = state_of c.args.self.now c.args.tests.now in
-    gives c.given_from.result (given_of s c.args.node.test c.in-Some.found) (given s c.args.node) c.in-Some.ensures c.given_from.ensures
+    gives c.given_from.result (given_of s c.args.node.test c.in-Some.found) (given s c.args.node)
+    c.in-Some.ensures c.given_from.ensures

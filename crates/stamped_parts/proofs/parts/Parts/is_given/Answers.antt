@@ -11,4 +11,5 @@ pub returns-in-Some : goal.returns-in-Some
 returns-in-Some c =
     let given = c.args.given.now in
     let present = given_of (state_of c.args.self.now c.args.tests.now) c.args.node.test c.in-Some.found in
-    same_from_decides c.is_given_from.result (same_given present given) c.is_given_from.ensures (given_exact present given) ∙ ap (λ o. is_given o given) c.in-Some.ensures
+    same_from_decides c.is_given_from.result (same_given present given) c.is_given_from.ensures
+    (given_exact present given) ∙ ap (λ o. is_given o given) c.in-Some.ensures

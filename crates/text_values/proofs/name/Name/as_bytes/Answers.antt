@@ -6,4 +6,6 @@ pub returns-in-Short : goal.returns-in-Short
 returns-in-Short c = sym (ap bytes_of c.in-Short.is) ∙ c.self.view_is
 
 pub returns-in-Long : goal.returns-in-Long
-returns-in-Long c = c.as_slice.ensures.value ∙ ap (λ (v : Vec ℕ Global). v.items) c.deref.ensures ∙ sym (ap bytes_of c.in-Long.is) ∙ c.self.view_is
+returns-in-Long c =
+    c.as_slice.ensures.value ∙ ap (λ (v : Vec ℕ Global). v.items) c.deref.ensures
+    ∙ sym (ap bytes_of c.in-Long.is) ∙ c.self.view_is

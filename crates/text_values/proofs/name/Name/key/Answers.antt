@@ -10,4 +10,16 @@ returns-in-Short c =
     let same = subst IsSound c.in-Short.is sound in
     let fits : c.in-Short.length ≤ length c.in-Short.short = omega (arith, same.0, c.short_key.ensures.room) in
     let at = at_index c.in-Short.length c.in-Short.short same.1 fits in
-    rw (sym c.self.view_is, ap bytes_of c.in-Short.is, counted c.in-Short.length c.in-Short.short same.0 fits, at 0, at 1, at 2, at 3, at 4, at 5, at 6) (c.short_key.ensures.key (omega (arith, same.0)))
+    rw (
+      sym c.self.view_is,
+      ap bytes_of c.in-Short.is,
+      counted c.in-Short.length c.in-Short.short same.0 fits,
+      at 0,
+      at 1,
+      at 2,
+      at 3,
+      at 4,
+      at 5,
+      at 6,
+    )
+    (c.short_key.ensures.key (omega (arith, same.0)))

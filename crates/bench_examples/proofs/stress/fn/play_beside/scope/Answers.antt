@@ -5,4 +5,5 @@ use Rattle.bench_examples.proofs.stress.watch.Shared.TheSendSync as shared
 use Rattle.bench_examples.proofs.stress.fn.play_beside.scope.Goals as goal
 
 pub spawn-started-requires-send-F : goal.spawn-started-requires-send-F
-spawn-started-requires-send-F g c κs within = search (shared.the_sync, crosses, sendable) depth 100 fits 20000
+spawn-started-requires-send-F g c κs within =
+    search (shared.the_sync, crosses, sendable) depth 100 fits 20000

@@ -15,7 +15,9 @@ returns-in-Remove-clause-used c =
     omega (arith, e, length-cells_of c.remove.new.rows.items, c.requires.ready.1)
 
 pub returns-then-value-self-clause-used : goal.returns-then-value-self-clause-used
-returns-then-value-self-clause-used c = omega (arith, length-cells_of c.args.self.now.rows.items, c.requires.ready.1)
+returns-then-value-self-clause-used c =
+    omega (arith, length-cells_of c.args.self.now.rows.items, c.requires.ready.1)
 
 pub returns-else-value-self-clause-used : goal.returns-else-value-self-clause-used
-returns-else-value-self-clause-used c = omega (arith, length-cells_of c.args.self.now.rows.items, c.requires.ready.1)
+returns-else-value-self-clause-used c =
+    omega (arith, length-cells_of c.args.self.now.rows.items, c.requires.ready.1)

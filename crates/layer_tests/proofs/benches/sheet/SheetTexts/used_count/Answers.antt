@@ -3,4 +3,10 @@ use Rattle.layer_tests.proofs.RowLists.{length-cells_of}
 use Rattle.layer_tests.proofs.benches.sheet.SheetTexts.used_count.Goals as goal
 
 pub returns : goal.returns
-returns c = omega (arith, length-cells_of c.args.self.now.rows.items, c.args.self.now.rows.ok.0, c.len.ensures)
+returns c =
+    omega (
+      arith,
+      length-cells_of c.args.self.now.rows.items,
+      c.args.self.now.rows.ok.0,
+      c.len.ensures,
+    )

@@ -6,16 +6,26 @@ use Rattle.layer_tests.proofs.RowLists.{length-cells_of, cell_at, cells_from}
 use Rattle.layer_tests.proofs.benches.sheet.SheetTexts.user_at.Goals as goal
 
 pub index-requires : goal.index-requires
-index-requires c = omega (arith, length-cells_of c.args.self.now.rows.items, c.args.self.now.rows.ok.0, rw c.in-Space.is at c.requires)
+index-requires c =
+    omega (
+      arith,
+      length-cells_of c.args.self.now.rows.items,
+      c.args.self.now.rows.ok.0,
+      rw c.in-Space.is at c.requires,
+    )
 
 pub returns-clause-at : goal.returns-clause-at
 returns-clause-at c = rw c.in-Space.is (
-    cell_at c.args.self.now.rows.items c.args.i c.index.result.now (omega (arith, length-cells_of c.args.self.now.rows.items, rw c.in-Space.is at c.requires))
+    cell_at c.args.self.now.rows.items c.args.i c.index.result.now (omega
+    (arith, length-cells_of c.args.self.now.rows.items, rw c.in-Space.is at c.requires))
     ∙ ap (λ (r : Row). let o : Option Node = Some (cell_of r.name) in o) (sym c.index.ensures)
     ∙ ap (λ (n : Node). let o : Option Node = Some n in o) (sym c.cell.ensures))
 
 pub returns-clause-rest : goal.returns-clause-rest
 returns-clause-rest c = rw c.in-Space.is (
-    cells_from c.args.self.now.rows.items c.args.i c.index.result.now (omega (arith, length-cells_of c.args.self.now.rows.items, rw c.in-Space.is at c.requires))
-    ∙ ap (λ (r : Row). cell_of r.name ∷ drop (c.args.i + 1) (cells_of c.args.self.now.rows.items)) (sym c.index.ensures)
-    ∙ ap (λ (n : Node). n ∷ drop (c.args.i + 1) (cells_of c.args.self.now.rows.items)) (sym c.cell.ensures))
+    cells_from c.args.self.now.rows.items c.args.i c.index.result.now (omega
+    (arith, length-cells_of c.args.self.now.rows.items, rw c.in-Space.is at c.requires))
+    ∙ ap (λ (r : Row). cell_of r.name ∷ drop (c.args.i + 1) (cells_of c.args.self.now.rows.items))
+    (sym c.index.ensures)
+    ∙ ap (λ (n : Node). n ∷ drop (c.args.i + 1) (cells_of c.args.self.now.rows.items))
+    (sym c.cell.ensures))
