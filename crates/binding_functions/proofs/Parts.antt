@@ -1,5 +1,5 @@
 -- What is found of an expression in the body of a function from what is found of its parts.
-use Rattle.std.proofs.Common.{ℕ, zero, suc, ◌≡◌, ◌<◌, ◌≤◌, ◌+◌, List, [], ◌∷◌, ◌++◌, length, map, reverse, get_or, Bool, true, false, ◌||◌, ◌&&◌, Option, Some, None, refl, sym, ap, ◌∙◌, arith}
+use Rattle.std.proofs.Common.{ℕ, suc, ◌≡◌, ◌<◌, ◌≤◌, ◌+◌, List, [], ◌∷◌, ◌++◌, length, reverse, get_or, Bool, true, false, ◌||◌, ◌&&◌, Option, Some, None, refl, sym, ap, ◌∙◌, arith}
 use Rattle.std.specs.Prelude.{is_some, nat_eq}
 use Rattle.std.proofs.Math.Bool.{or_assoc}
 use Rattle.text_values.specs.declared.model.Expression.{Expression}
@@ -20,7 +20,7 @@ use Rattle.binding_kinds.specs.Functions.{sense_seen, is_at, under_at, is_under_
 use Rattle.binding_kinds.specs.First.{of_inside, of_applied, first_of_bodies, first_of_body}
 use Rattle.binding_kinds.specs.Columns.{IsFilled, plain, none_gathered, of_infix, of_applied as applied_to, with_one, signature_in, gathered_in}
 use Rattle.binding_kinds.proofs.Applications.{count_arguments}
-use Rattle.binding_kinds.proofs.Tables.{filled_as, parameter_below, parameter_kind, other_kind, gathered_more, gathered_small, applied_signature, refused_signature}
+use Rattle.binding_kinds.proofs.Tables.{filled_as, parameter_below, parameter_kind, other_kind, gathered_more, applied_signature, refused_signature}
 use Rattle.binding_functions.specs.declared.part.BodyPart.{BodyPart}
 use Rattle.binding_functions.specs.declared.part.BodyArguments.{BodyArguments}
 use Rattle.binding_functions.specs.Parts.{IsBodyPart, AreBodyParts}

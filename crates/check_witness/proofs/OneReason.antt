@@ -1,6 +1,5 @@
 -- What a check asks for is broken in one way.
-use Rattle.std.proofs.Common.{ℕ, ◌≡◌, ◌<◌, List, [], inl, inr, Bool, true, false, Option, Some, None, arith, subst, sym}
-use Rattle.std.specs.Prelude.{slice_get}
+use Rattle.std.proofs.Common.{ℕ, ◌≡◌, ◌<◌, [], inl, inr, Bool, true, false, Option, Some, None, arith, subst, sym}
 use Rattle.std.proofs.lemmas.Bool.{cases_lt}
 use denote.Ref.{Bor}
 use Rattle.relation_cycles.specs.Cycles.{IsFirstReflexive, IsLeastPair}
@@ -11,8 +10,6 @@ use Rattle.binding_kinds.specs.declared.kinds.Kind.{Kind}
 use Rattle.binding_kinds.specs.declared.kinds.Kind.TheVariants as kinds
 use Rattle.binding_graph.specs.declared.resolved.CheckCode.{CheckCode}
 use Rattle.binding_graph.specs.declared.resolved.Source.{Source}
-use Rattle.candidates.specs.declared.candidate.Space.{Space}
-use Rattle.candidates.specs.Space.{candidates_in, Candidate}
 use Rattle.cat_eval.specs.declared.column.Column.{Column}
 use Rattle.cat_eval.specs.Checks.{Holds, IsEmptySet}
 use Rattle.cat_eval.specs.Executions.{events_of, EventsAt, PairsAt}

@@ -1,6 +1,6 @@
 -- The events of a run come from the instructions that it executes, and its loads read the values
 -- that it was given.
-use Rattle.std.proofs.Common.{ℕ, zero, suc, ◌≡◌, ◌<◌, ◌+◌, Bool, true, false, not, List, [], ◌∷◌, ◌++◌, map, length, Option, Some, None, refl, ap, sym, subst, ◌∙◌, arith, append-nil, if◌then◌else◌, nat_eq}
+use Rattle.std.proofs.Common.{ℕ, zero, suc, ◌≡◌, ◌<◌, ◌+◌, Bool, true, false, not, List, [], ◌∷◌, ◌++◌, map, Option, Some, None, refl, ap, sym, subst, ◌∙◌, arith, append-nil, nat_eq}
 use Rattle.std.specs.Prelude.{slice_get}
 use Rattle.std.specs.List.{AllZip, filter_map, flat_map}
 use Rattle.std.proofs.lemmas.Bool.{eq-eqb, eqb-true}
@@ -20,7 +20,7 @@ use Rattle.thread_runs.specs.declared.instruction.RunStep.{RunStep}
 use Rattle.thread_runs.specs.declared.state.State.{State}
 use Rattle.thread_runs.specs.Machine.{register, sum_of, is_load, is_fault, is_address, goes, event_of}
 use Rattle.thread_runs.specs.Runs.{Walk, Outcome, Run, started, advanced, passed, ends, supplied, obeyed, one, run_from, run_of}
-use Rattle.run_combinations.specs.Events.{action_in, with_action, thread_events, initial_stores, stores_to, fence_of, IsKind}
+use Rattle.run_combinations.specs.Events.{action_in, with_action, thread_events, initial_stores, stores_to, fence_of}
 use Rattle.run_combinations.specs.declared.combination.Action.{Action}
 use Rattle.run_combinations.specs.declared.combination.Action.TheVariants.{Fence as FenceAction}
 use Rattle.run_combinations.specs.declared.combination.Event.{Event}

@@ -1,23 +1,21 @@
 -- The instructions of an execution are those of its runs.
-use Rattle.std.proofs.Common.{ℕ, zero, suc, ◌≡◌, ◌<◌, ◌≤◌, ◌+◌, ◌⊎◌, inl, inr, List, [], ◌∷◌, ◌++◌, map, take, length, get_or, Option, Some, None, refl, ap, sym, subst, ◌∙◌, arith, append-nil}
-use Rattle.std.specs.Prelude.{Vec, slice_get, vec_len}
+use Rattle.std.proofs.Common.{ℕ, zero, suc, ◌≡◌, ◌<◌, ◌≤◌, ◌+◌, inl, inr, List, [], ◌∷◌, ◌++◌, map, take, length, get_or, Option, Some, None, refl, ap, sym, subst, ◌∙◌, arith, append-nil}
+use Rattle.std.specs.Prelude.{slice_get, vec_len}
 use Rattle.std.specs.List.{All, AllZip, Contains, filter_map, flat_map}
-use Rattle.std.specs.declared.alloc.Global.{Global}
 use Rattle.std.proofs.lemmas.Bool.{cases_lt}
-use Rattle.std.proofs.lemmas.List.{get_or_at, length-append, take_all, take_more}
+use Rattle.std.proofs.lemmas.List.{length-append, take_all, take_more}
 use Rattle.std.proofs.lemmas.List.Concat.{flat_map-append}
-use Rattle.std.proofs.lemmas.Option.{same_Some, slice_get-get_or, slice_get_within}
+use Rattle.std.proofs.lemmas.Option.{same_Some, slice_get-get_or}
 use Rattle.std.proofs.lemmas.Slice.Zip.{AllZip-long}
 use Rattle.text_values.specs.declared.test.Test.{Test}
 use Rattle.thread_runs.specs.declared.instruction.Instruction.{Instruction}
-use Rattle.thread_runs.specs.declared.instruction.Line.{Line}
 use Rattle.thread_runs.specs.declared.instruction.Program.{Program}
 use Rattle.thread_runs.specs.declared.instruction.RunStep.{RunStep}
 use Rattle.thread_runs.specs.declared.value.Value.{Value}
 use Rattle.thread_runs.specs.AllRuns.{thread_of}
 use Rattle.thread_runs.specs.Runs.{Thread, Outcome, Run, IsRun, run_of, started}
 use Rattle.ppc_semantics.specs.Domain.{threads_from, threads_of}
-use Rattle.ppc_semantics.specs.Lowering.{IsProgram, IsTestDomain, IsTestFault}
+use Rattle.ppc_semantics.specs.Lowering.{IsProgram, IsTestFault}
 use Rattle.ppc_semantics.specs.declared.fault.DomainFault.TheVariants as faults
 use Rattle.ppc_semantics.specs.declared.fault.DomainRefusal.{DomainRefusal}
 use Rattle.ppc_semantics.specs.declared.fault.DomainRefusal.TheVariants as no_domain
@@ -26,16 +24,16 @@ use Rattle.run_combinations.specs.Lists.{IsFiltered, none, kept, left}
 use Rattle.run_combinations.specs.declared.combination.Event.{Event}
 use Rattle.candidates.specs.declared.candidate.Space.{Space}
 use Rattle.candidates.specs.declared.fault.EvalRefusal.TheVariants.{TooManyEvents, TooManyValues, TooManyRuns, TooManyCombinations}
-use Rattle.candidates.specs.Executions.{Execution, IsExecution, events, events_from, over_runs, product}
+use Rattle.candidates.specs.Executions.{IsExecution, events, events_from, over_runs, product}
 use Rattle.candidates.specs.Listed.{ListsExecutions, Shows}
-use Rattle.candidates.specs.Space.{Shown, shown_in}
+use Rattle.candidates.specs.Space.{shown_in}
 use Rattle.candidates.proofs.Elements.{behind_first, in_first}
 use Rattle.candidates.proofs.LoadValues as loads
 use Rattle.candidates.proofs.OneOutcome.{one_outcome}
 use Rattle.candidates.proofs.OneProgram.{Alike, domains_one, programs_alike}
 use Rattle.candidates.proofs.Whole.{AreLocated, run_located}
 use Rattle.event_origins.specs.OfRuns.{AreOfRuns, ComesFrom, Goes, ShowRuns, instructions_in}
-use Rattle.event_origins.specs.Origins.{AreInstructions, AreMade, AreMadeBelow, AreMadeOn, NoThread, OneThread, made_in, not_made, values_read}
+use Rattle.event_origins.specs.Origins.{AreMade, AreMadeBelow, AreMadeOn, NoThread, OneThread, made_in, not_made, values_read}
 use Rattle.event_origins.proofs.RunEvents.{initial_comes, none_made, run_agrees, thread_values, zip_both}
 
 -- ---- lists

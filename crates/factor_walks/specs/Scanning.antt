@@ -3,7 +3,6 @@
 use Rattle.std.specs.Prelude.{List, [], ◌∷◌, Bool, true, false}
 use Rattle.binding_graph.specs.declared.resolved.Step.{Step}
 use Rattle.binding_graph.specs.declared.resolved.Step.TheVariants as steps
-use Rattle.text_values.specs.declared.model.Postfix.{Postfix}
 use Rattle.text_values.specs.declared.model.Postfix.TheVariants as postfix
 use Rattle.factor_walks.specs.declared.factor.Repeats.TheVariants as repeats
 use Rattle.factor_walks.specs.Factors.{Part}

@@ -8,7 +8,7 @@ use Rattle.litmus_tokens.specs.declared.rule.LitmusRule.{LitmusRule}
 use Rattle.cat_grammar.specs.declared.form.Form.TheVariants.{Model}
 use Rattle.cat_tokens.specs.declared.rule.CatRule.{CatRule}
 use Rattle.cat_syntax.specs.Reads as models
-use Rattle.cat_syntax.specs.Reads.{Reads, FaultAt}
+use Rattle.cat_syntax.specs.Reads.{FaultAt}
 use Rattle.command_line.specs.declared.fault.SessionFault.{SessionFault}
 use Rattle.command_line.specs.declared.fault.SessionFault.TheVariants as faults
 use Rattle.litmusbench.specs.Answer.{IsModelRefused, IsTestRefused, IsAnswer, IsEvaluated, RefusesModel, RefusesTest, AreAnsweredAlike, IsWritten, IsStreamed}

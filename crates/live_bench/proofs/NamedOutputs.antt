@@ -24,7 +24,6 @@ use Rattle.stamped_parts.proofs.BuiltSlots.{BeginsAsItem, good_slot, held_histor
 use Rattle.edited_parts.specs.Readings.{readings_of}
 use Rattle.running_bench.specs.declared.stamped_texts.StampedTexts.{StampedTexts}
 use Rattle.running_bench.specs.StampedTexts.{IsSound, state_of}
-use Rattle.running_bench.specs.Outputs.{output_name}
 use Rattle.live_bench.specs.OutputNames.{IsItemOf, item_node, names_given}
 use Rattle.live_bench.specs.ToldOutputs.{TellsOutputOf, ReturnsNameOutputs}
 use Rattle.live_bench.proofs.OutputNames.{item_held, outputs_have_their_names}

@@ -9,7 +9,6 @@ use Rattle.binding_graph.specs.declared.resolved.ResolvedItem.{ResolvedItem}
 use Rattle.shared_items.specs.Naming.{SeenName, names_of, is_same_name, number_of, IsNamed, AreNamed, item_outputs}
 use Rattle.shared_items.proofs.Naming.{one_name}
 use Rattle.bench_nodes.specs.declared.table.ModelRow.{ModelRow}
-use Rattle.model_slots.specs.Slots.{number_at}
 use Rattle.model_slots.specs.Tables.{ModelReading}
 use Rattle.bench_texts.specs.declared.model.NamedModel.{NamedModel}
 use Rattle.bench_texts.specs.declared.reading.Reading.{Reading}

@@ -16,7 +16,7 @@ use Rattle.litmus_grammar.specs.Grammar.{members, TestTree, IsTestText, IsInitTe
 use Rattle.litmus_grammar.specs.InitMachine.{missing}
 use Rattle.litmus_grammar.specs.Laws.{entry_kept, AreStarts}
 use Rattle.litmus_grammar.specs.TextMachine as text
-use Rattle.litmus_grammar.specs.TextMachine.{State, Ran, threads_in, run, start, first_stage}
+use Rattle.litmus_grammar.specs.TextMachine.{State, threads_in, first_stage}
 use Rattle.litmus_grammar.specs.Texts.{late_entries, late_of_test, late_of_init, late_of_thread, before_entries, before_rows}
 use Rattle.litmus_grammar.proofs.Bodies.{length-meaning, length-steps}
 use Rattle.litmus_grammar.proofs.Heads.{TakesTest, test_led, few_of}
