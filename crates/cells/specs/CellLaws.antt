@@ -14,6 +14,7 @@ use Rattle.cells.specs.declared.events.Event.{Event}
 use Rattle.cells.specs.declared.events.Reply.{Reply}
 use Rattle.cells.specs.Cells.{Cells, IsSettledCell, IsNeeded}
 use Rattle.cells.specs.Events.{Refusing, Answers, IsJob, accepted_among}
+use Rattle.cells.specs.Views.{IsRightBench}
 
 -- after any list of events, the outcome of a settled cell is what evaluating the present texts from
 -- nothing gives
@@ -24,6 +25,13 @@ SettledCellIsFromScratch {T} {E} {V} {G} {O} means of =
     → IsStart means.is_valid means.net start → Run means start events end
     → (test model : List ℕ) (o : O) → IsSettledCell means.net of end test model o
     → of.from_scratch end.texts test model o
+
+-- of what holds of a bench at all times this comes: the outcome of a settled cell is what evaluating
+-- the present texts from nothing gives
+abbrev pub RightIsFromScratch : {T E V G O : Type 0} → Meaning T E V G → Cells T E V O → Type 0
+RightIsFromScratch {T} {E} {V} {G} {O} means of =
+    (b : Bench T V) → IsRightBench means b → (test model : List ℕ) (o : O)
+    → IsSettledCell means.net of b test model o → of.from_scratch b.texts test model o
 
 -- after any list of events, an edit that does not reach a settled cell leaves it settled with the
 -- same outcome

@@ -52,3 +52,14 @@ pub record IsSoundBench {T E V G : Type 0} (means : Meaning T E V G) (texts : T)
   pub fresh : IsFreshFrom (as_memos memos) (open_claims claims)
       × AreNumbered taken (open_claims claims)
   pub marks : IsMarkedTo (means.net texts) memos []
+
+-- What holds of a bench at all times: its texts are valid, each memo holds what its node makes of
+-- its inputs as long as their stamps are the recorded ones, and no two claims that are out are of
+-- one node with the same inputs and stamps.
+pub record IsRightBench {T E V G : Type 0} (means : Meaning T E V G) (b : Bench T V)
+    : Type 0 where
+  pub valid : means.is_valid b.texts
+  pub right : IsRight (IsCounted means.since means.net means.makes b.texts) (means.net b.texts)
+      b.memos b.taken
+  pub fresh : IsFreshFrom b.memos b.claims
+  pub numbered : AreNumbered b.taken b.claims

@@ -5,6 +5,7 @@ ghost use Rattle.memo_core.specs.Laws.{meaning};
 ghost use Rattle.memo_core.specs.Run.{Edit as Edited, Claim as Claimed, NoClaim, Returned, Lose as Lost, Renew as Renewed, Refused, Step};
 ghost use Rattle.memo_bench.specs.Told.{IsTold, OnNone};
 ghost use Rattle.cells.specs.Cells.{cells, IsShown, ShowsFromScratch, AllAreSettled};
+ghost use Rattle.cells.specs.Views.{IsRightBench};
 
 use crate::job::{Done, Job};
 use crate::shown::Shown;
@@ -79,6 +80,16 @@ impl<K: StoreName, T: CellTexts> Bench<K, T> {
         ensures { result.now ≡ self.now.texts }
     {
         &self.graph.texts
+    }
+
+    /// How many numbers are taken, by edits and claims. What holds of a bench at all times is said
+    /// here.
+    pub fn taken(&self) -> u64
+        ensures count { result ≡ self.now.taken }
+        ensures right { IsRightBench
+            (meaning T.net T.is_valid T.since T.makes T.keeps T.edited T.last) self.now }
+    {
+        self.graph.taken
     }
 
     /// Makes an edit, and gives its number. A refusal, by a rule or for want of memory, leaves all

@@ -3,7 +3,7 @@
 ghost use Rattle.memo_core.specs.Laws.{meaning};
 ghost use Rattle.memo_core.specs.Work.{ReturnsLowerInRuns, WorkIsBounded, WorkUnsettlesNone};
 ghost use Rattle.cells.specs.Cells.{cells};
-ghost use Rattle.cells.specs.CellLaws.{SettledCellIsFromScratch, UnreachedCellStays, OnlyNeededIsGiven, NoneIsOutTwice, EditBoundsWork, QuietCellsAreSettled, ListsAreRuns, ListBoundsWork};
+ghost use Rattle.cells.specs.CellLaws.{RightIsFromScratch, SettledCellIsFromScratch, UnreachedCellStays, OnlyNeededIsGiven, NoneIsOutTwice, EditBoundsWork, QuietCellsAreSettled, ListsAreRuns, ListBoundsWork};
 
 use crate::texts::CellTexts;
 
@@ -11,6 +11,15 @@ use crate::texts::CellTexts;
 /// cell that is settled carries what evaluating the present texts from nothing gives.
 pub fn headline<T: CellTexts>()
     ensures { SettledCellIsFromScratch
+        (meaning T.net T.is_valid T.since T.makes T.keeps T.edited T.last)
+        (cells T.verdict_of T.outcome_in T.from_scratch T.reaches) }
+{}
+
+/// In a bench for which what a bench keeps at all times holds (`Bench::taken` says it), a cell that
+/// is settled carries what evaluating the present texts from nothing gives. So this is known of a
+/// bench behind a lock too, whatever came before.
+pub fn right_benches<T: CellTexts>()
+    ensures { RightIsFromScratch
         (meaning T.net T.is_valid T.since T.makes T.keeps T.edited T.last)
         (cells T.verdict_of T.outcome_in T.from_scratch T.reaches) }
 {}

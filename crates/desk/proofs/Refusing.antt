@@ -78,6 +78,14 @@ seen_some : {O : Type 0} (all me : List O) → length all < length me → me ≡
 seen_some all me less none =
     let zero_is : length me ≡ 0 = ap length none in absurd (omega (arith, less, zero_is))
 
+-- one who has seen nothing is not ahead
+pub ahead_only : {A F O : Type 0} (r : Result A (DeskFault F)) (closed : Bool) (all me : List O)
+    → (r ≡ Err faults.NoSeat) ↔ ((closed ≡ false) × (length all < length me))
+    → IfErr r (λ fault. fault ≡ faults.NoSeat → me ≡ [] → ⊥)
+ahead_only (Ok a) closed all me no_seat = tt
+ahead_only (Err fault) closed all me no_seat =
+    λ is. seen_some all me (no_seat.0 (ap (λ (f : DeskFault _). Err f) is)).1
+
 module _ {T F O : Type 0} (is_legal : List O → Type 0) (is_valid : T → Type 0)
     (are_after : T → List O → Type 0) (last_number : List O → ℕ) (refuses : T → ℕ → F → Type 0)
     (is_want : F → Type 0) where

@@ -197,6 +197,7 @@ impl<J: Naming + StoreName, X: BoardTexts, R: Wait + Drop> Desk<J, X, R> {
     ) -> Result<Settling, DeskFault<X::Fault>>
         ensures err { OnErr result (me.new ≡ me.old) }
         ensures fault { IfErr result (λ fault. IsSome (number_of fault)) }
+        ensures ahead { IfErr result (λ fault. fault ≡ DeskFault.NoSeat → me.old ≢ []) }
         ensures told { IfOk result (λ r. TellsSettled X.is_legal
             (λ ops. AreSettled (X.cells (fold X.after X.none ops))) me.old me.new r) }
     {
@@ -221,6 +222,7 @@ impl<J: Naming + StoreName, X: BoardTexts, R: Wait + Drop> Desk<J, X, R> {
         ensures err { OnErr result (me.new ≡ me.old) }
         ensures fault { IfErr result (λ fault. IsSome (number_of fault)
             ⊎ (fault ≡ DeskFault.OutOfMemory)) }
+        ensures ahead { IfErr result (λ fault. fault ≡ DeskFault.NoSeat → me.old ≢ []) }
         ensures begins { OnOk result (IsPrefix me.old me.new) }
         ensures settled { OnOk result (AreSettled (X.cells (fold X.after X.none me.new))) }
         ensures legal { OnOk result (X.is_legal me.new) }

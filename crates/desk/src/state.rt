@@ -5,6 +5,7 @@ ghost use mathlib.Core.List.{IsPrefix};
 ghost use Rattle.memo_core.specs.Laws.{meaning};
 ghost use Rattle.memo_core.specs.Run.{Claim as Claimed, NoClaim, Returned, Lose as Lost, Renew as Renewed, Refused, Step};
 ghost use Rattle.cells.specs.Cells.{cells as cells_of};
+ghost use Rattle.cells.specs.Views.{IsRightBench};
 ghost use Rattle.desk.specs.Boards.{ArePosted, ArePostedBut, AreSettled};
 ghost use Rattle.desk.specs.Held.{IsMade, IsRefusedBy, IsClaimRefusedBy, IsClosing, ShowsAllOrAsBefore};
 
@@ -130,11 +131,14 @@ impl<J: Naming + StoreName, X: BoardTexts, R: Wait + Drop> DeskState<J, X, R> {
         }
     }
 
-    /// Whether it was closed. What it keeps at all times: the published operations and then the
+    /// Whether it was closed. What it keeps at all times: its bench is right, so a settled cell
+    /// carries what evaluating its texts from nothing gives; the published operations and then the
     /// pending ones are legal, and the texts of the bench are those after them. Where nothing is
     /// owed, all is published, and each cell that is settled on the bench is settled there.
     pub fn is_closed(&self) -> bool
         ensures closed { result ≡ self.now.closed }
+        ensures right { IsRightBench
+            (meaning X.net X.is_valid X.since X.makes X.keeps X.edited X.last) self.now.bench }
         ensures legal { X.is_legal self.now.all }
         ensures begins { IsPrefix self.now.published self.now.all }
         ensures valid { X.is_valid self.now.bench.texts }
@@ -146,6 +150,7 @@ impl<J: Naming + StoreName, X: BoardTexts, R: Wait + Drop> DeskState<J, X, R> {
             (X.cells (fold X.after X.none ops))) self.now }
     {
         let _legal = self.ledger.front();
+        let _right = self.bench.taken();
         self.closed
     }
 
