@@ -10,6 +10,7 @@ pub mod JobLists
 pub mod TaskLists
 pub mod Unreached
 pub mod SameVerdicts
+pub mod OnlyReached
 pub mod Refusals
 pub mod OutputNames
 pub mod ToldOutputs

@@ -35,7 +35,7 @@ each_has P (y ∷ ys) x all (inl e) = subst P e all.0
 each_has P (y ∷ ys) x all (inr h) = each_has P ys x all.1 h
 
 -- what a settled node stands on is settled
-settled_under : {V G : Type 0} (net : Net G) (ms : List (Memo V)) (steps d : ℕ) (n m : Node)
+pub settled_under : {V G : Type 0} (net : Net G) (ms : List (Memo V)) (steps d : ℕ) (n m : Node)
     → StandsOnBy steps net n m → IsSettledBy d net ms n → IsSettled net ms m
 settled_under net ms zero d n m e s = subst (λ (k : Node). IsSettled net ms k) e (d, s)
 settled_under net ms (suc steps) zero n m h s = absurd s

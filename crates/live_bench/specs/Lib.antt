@@ -4,6 +4,7 @@ pub mod Stamps
 pub mod Jobs
 pub mod JobLists
 pub mod Unreached
+pub mod OnlyReached
 pub mod Refusals
 pub mod OutputNames
 pub mod ToldOutputs

@@ -21,6 +21,7 @@ ghost use Rattle.live_bench.specs.Refusals.{RefusedChangesNothing, RefusedEditCh
 ghost use Rattle.live_bench.specs.OutputNames.{OutputsHaveTheirNames, OthersHaveOneOutput};
 ghost use Rattle.live_bench.specs.ToldOutputs.{ReturnsTellOutputs, ReturnsNameOutputs};
 ghost use Rattle.live_bench.specs.Unreached.{UnreachedNeedsNoJob};
+ghost use Rattle.live_bench.specs.OnlyReached.{OnlyReachedIsGiven, ReachedBoundsGiven};
 ghost use Rattle.live_bench.specs.Openings.{with_edit, KeepsUnreached, OpensReached, StaysSettled};
 
 use running_bench::StampedTexts;
@@ -136,6 +137,15 @@ pub fn jobs_are_bounded()
 /// claim is given.
 pub fn unreached_edits_need_no_job()
     ensures { UnreachedNeedsNoJob }
+{}
+
+/// An edit gives work only for what it reaches. After any list of events and an edit, until the
+/// next edit or renewal, no job is given of a node under a cell that was settled before the edit
+/// and whose slice the edit leaves what it was. So no more jobs are given until then than used
+/// nodes are under no such cell, and one more for each claim that is lost.
+pub fn only_reached_is_given()
+    ensures given { OnlyReachedIsGiven }
+    ensures bounded { ReachedBoundsGiven }
 {}
 
 /// After any list of events, a call that is refused changes nothing: not the tests and the models
