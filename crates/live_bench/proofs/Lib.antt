@@ -11,6 +11,7 @@ pub mod TaskLists
 pub mod Unreached
 pub mod SameVerdicts
 pub mod OnlyReached
+pub mod UsedOnce
 pub mod Refusals
 pub mod OutputNames
 pub mod ToldOutputs

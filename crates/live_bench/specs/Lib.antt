@@ -5,6 +5,7 @@ pub mod Jobs
 pub mod JobLists
 pub mod Unreached
 pub mod OnlyReached
+pub mod UsedOnce
 pub mod Refusals
 pub mod OutputNames
 pub mod ToldOutputs

@@ -22,6 +22,7 @@ ghost use Rattle.live_bench.specs.OutputNames.{OutputsHaveTheirNames, OthersHave
 ghost use Rattle.live_bench.specs.ToldOutputs.{ReturnsTellOutputs, ReturnsNameOutputs};
 ghost use Rattle.live_bench.specs.Unreached.{UnreachedNeedsNoJob};
 ghost use Rattle.live_bench.specs.OnlyReached.{OnlyReachedIsGiven, ReachedBoundsGiven};
+ghost use Rattle.live_bench.specs.UsedOnce.{ListsEachNodeOnce, HasEachNodeOnce};
 ghost use Rattle.live_bench.specs.Openings.{with_edit, KeepsUnreached, OpensReached, StaysSettled};
 
 use running_bench::StampedTexts;
@@ -146,6 +147,13 @@ pub fn unreached_edits_need_no_job()
 pub fn only_reached_is_given()
     ensures given { OnlyReachedIsGiven }
     ensures bounded { ReachedBoundsGiven }
+{}
+
+/// The list of the nodes that cells use has each of them once. So where a bound counts the places
+/// of that list, it counts nodes.
+pub fn used_nodes_are_listed_once()
+    ensures sound { (t : StampedRecord) → IsSound t → ListsEachNodeOnce t }
+    ensures after { HoldsAfterEvents HasEachNodeOnce }
 {}
 
 /// After any list of events, a call that is refused changes nothing: not the tests and the models

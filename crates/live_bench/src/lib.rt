@@ -2,9 +2,9 @@
 //! claims, returns and cells, and the laws of any list of events on it. Read `specs/Live` first,
 //! after `Cells` and `CellLaws` of `cells/specs` and `StampedCells` of `running_bench/specs`, and
 //! then `There` (which cells there are), `Stamps`, `Jobs` (how many jobs are given), `Unreached`
-//! (edits that need no job), `OnlyReached` (which jobs other edits give), `Refusals`,
-//! `OutputNames` and `ToldOutputs` (what the numbers of a return tell) and `Openings` (which cells
-//! of a board an edit opens).
+//! (edits that need no job), `OnlyReached` (which jobs other edits give), `UsedOnce` (what is
+//! counted there), `Refusals`, `OutputNames` and `ToldOutputs` (what the numbers of a return tell)
+//! and `Openings` (which cells of a board an edit opens).
 #![tactic(auto)]
 
 pub mod laws;

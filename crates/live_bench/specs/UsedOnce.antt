@@ -1,0 +1,13 @@
+-- The list of the nodes that cells use has each once: so what counts its places counts nodes. Read
+-- it after There.
+use Rattle.orderly_texts.specs.Orderly.{AreApart}
+use Rattle.running_bench.specs.declared.stamped_texts.StampedTexts.{StampedTexts}
+use Rattle.running_bench.specs.StampedTexts.{net_of}
+use Rattle.live_bench.specs.There.{LiveState}
+
+-- no node stands twice in the list of the nodes that cells use
+abbrev pub ListsEachNodeOnce : StampedTexts → Type 0
+ListsEachNodeOnce t = AreApart (net_of t).used
+
+abbrev pub HasEachNodeOnce : LiveState → Type 0
+HasEachNodeOnce b = ListsEachNodeOnce b.texts
