@@ -51,8 +51,8 @@ pub record IsUnderUnreached (old new : LiveState) (n : Node) : Type 0 where
   pub under : IsUnderCell new test model n
 
 -- After any list of events and an edit, where each used node but those that are open is under such
--- a cell: no more claims are given after the edit and before the next than used nodes are open and
--- claims are lost.
+-- a cell: no more claims are given after the edit, and before the next or a renewal, than used nodes
+-- are open and claims are lost.
 abbrev pub ReachedBoundsGiven : Type 0
 ReachedBoundsGiven =
     (earlier events : List (Event code.Edit NodeContent GivenContent))
