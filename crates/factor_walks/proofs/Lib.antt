@@ -1,2 +1,3 @@
 pub mod Scanned
 pub mod Walking
+pub mod Meant

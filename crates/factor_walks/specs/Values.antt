@@ -1,13 +1,14 @@
 -- The values of the factors of an expression.
-use Rattle.std.specs.Prelude.{ℕ, ◌≡◌, ◌<◌, ◌↔◌, List, [], length, slice_index_or, map}
+use Rattle.std.specs.Prelude.{ℕ, ◌≡◌, ◌<◌, ◌↔◌, List, [], Some, length, slice_get, slice_index_or, map}
 use Rattle.std.specs.List.{All}
 use denote.Ref.{Bor}
-use Rattle.bit_relations.specs.Relation.{Has}
+use Rattle.bit_relations.specs.Relation.{Relation, Has, IsRegular}
 use Rattle.binding_graph.specs.declared.resolved.Code.{Code}
 use Rattle.binding_kinds.specs.declared.kinds.Kind.TheVariants as kinds
 use Rattle.binding_graph.specs.Trees.{RelTree, rel_code}
 use Rattle.candidates.specs.declared.candidate.Space.{Space}
 use Rattle.cat_eval.specs.declared.column.Column.{Column}
+use Rattle.cat_eval.specs.declared.column.Column.TheVariants as columns
 use Rattle.check_witness.specs.Pairs.{HasPair}
 use Rattle.check_witness.specs.Values.{AreValues}
 use Rattle.factor_walks.specs.declared.run.Link.{Link}
@@ -30,10 +31,17 @@ pub record AreFactorValues (code : Code) (inputs : List (Bor Column)) (space : S
       → map value_part factors ≡ map tree_part (factors_of t)
   pub values : All (IsValued inputs space) factors
 
--- the link has the factor's pairs in the candidate of number k
+-- the column has a relation on n events in the candidate of number k
+abbrev pub IsOn : ℕ → ℕ → Column → Type 0
+IsOn k n (columns.Sets values) = ⊥
+IsOn k n (columns.Relations values) = (r : Relation) × (slice_get values k ≡ Some r) × (r.count ≡ n)
+
+-- the link has the factor's pairs in the candidate of number k, and is on its events
 pub record IsLinkAt (k : ℕ) (factor : FactorValues) (link : Link) : Type 0 where
   pub repeats : link.repeats ≡ factor.repeats
   pub pairs : (a b : ℕ) → Has link.relation a b ↔ HasPair factor.values k a b
+  pub regular : IsRegular link.relation
+  pub count : (n : ℕ) → IsOn k n factor.values → link.relation.count ≡ n
 
 pub record AreLinksAt (k : ℕ) (factors : List FactorValues) (links : List Link) : Type 0 where
   pub as_many : length links ≡ length factors

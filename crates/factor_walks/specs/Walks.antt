@@ -1,8 +1,10 @@
 -- Walks through the factors of a composition: from one event to another, over steps of each factor
 -- in turn.
-use Rattle.std.specs.Prelude.{ℕ, ◌≡◌, ◌⊎◌, List, [], ◌∷◌, Vec, map}
+use Rattle.std.specs.Prelude.{ℕ, ◌≡◌, ◌<◌, ◌-◌, ◌⊎◌, List, [], ◌∷◌, Vec, drop, length, map, slice_index_or}
+use Rattle.std.specs.List.{All}
 use Rattle.std.specs.declared.alloc.Global.{Global}
-use Rattle.bit_relations.specs.Relation.{Has}
+use Rattle.bit_relations.specs.Pairs.{Composed, Identity, Opt, Plus, Star}
+use Rattle.bit_relations.specs.Relation.{Relation, Has, IsRegular, IsRelation, no_slot}
 use Rattle.relation_cycles.specs.Cycles.{IsPathFrom}
 use Rattle.factor_walks.specs.declared.factor.Repeats.{Repeats}
 use Rattle.factor_walks.specs.declared.factor.Repeats.TheVariants as repeats
@@ -32,3 +34,44 @@ IsWalk (l ∷ ls) a (run ∷ runs) b =
 
 abbrev pub runs_of : List (Vec ℕ Global) → List (List ℕ)
 runs_of runs = map (λ v. v.items) runs
+
+-- there is no walk
+abbrev pub IsNoWalk : List Link → ℕ → ℕ → Type 0
+IsNoWalk links a b = (runs : List (List ℕ)) → IsWalk links a runs b → ⊥
+
+-- the relation is one on n events
+pub record IsLinkOn (n : ℕ) (link : Link) : Type 0 where
+  pub count : link.relation.count ≡ n
+  pub regular : IsRegular link.relation
+
+abbrev pub AreLinksOn : ℕ → List Link → Type 0
+AreLinksOn n links = All (IsLinkOn n) links
+
+-- ---- what the search for a walk keeps
+
+-- the pairs that the steps of a factor lead from and to, among n events
+abbrev pub Repeated : Repeats → ℕ → (ℕ → ℕ → Type 0) → ℕ → ℕ → Type 0
+Repeated repeats.Once n R = R
+Repeated repeats.AtMostOnce n R = Opt n R
+Repeated repeats.OnceOrMore n R = Plus R
+Repeated repeats.AnyNumber n R = Star n R
+
+abbrev pub LinkPairs : Link → ℕ → ℕ → Type 0
+LinkPairs l = Repeated l.repeats l.relation.count (Has l.relation)
+
+-- the pairs that factors in turn lead from and to
+abbrev pub Leads : ℕ → List Link → ℕ → ℕ → Type 0
+Leads n [] = Identity n
+Leads n (l ∷ ls) = Composed (LinkPairs l) (Leads n ls)
+
+-- of the last factor, the one before it, and so on, the pairs that those behind it lead from and to
+abbrev pub AreRests : ℕ → List Link → List Relation → Type 0
+AreRests n links rests =
+    (j : ℕ) → j < length rests
+    → IsRelation (slice_index_or rests j no_slot) n (Leads n (drop (length links - j) links))
+
+-- a run of the link to an event from which the rest leads on
+pub record IsRunInto (link : Link) (rest : Relation) (from : ℕ) (events : List ℕ) (next to : ℕ)
+    : Type 0 where
+  pub run : IsRun link.repeats (Has link.relation) from events next
+  pub on : Has rest next to

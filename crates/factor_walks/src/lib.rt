@@ -1,8 +1,9 @@
 //! Why a composition relates an event to itself: a walk through its factors. Read specs/Factors
-//! first (which they are), then specs/Walks.
+//! first (which they are), then specs/Walks. Law: `laws`, by specs/Found.
 #![tactic(auto)]
 
 mod factor;
+pub mod laws;
 mod run;
 mod value;
 

@@ -1,8 +1,9 @@
 //! Walks through relations in turn.
 
-ghost use Rattle.std.specs.Prelude.{◌↔◌, ◌≤◌, IfOk, IfSome, IsTrue};
-ghost use Rattle.bit_relations.specs.Relation.{Has};
-ghost use Rattle.factor_walks.specs.Walks.{IsOneStep, IsRun, IsWalk, runs_of};
+ghost use Rattle.std.specs.Prelude.{◌≡◌, ◌↔◌, ◌<◌, ◌≤◌, IfOk, IfSome, IsTrue, MatchOption, None, length};
+ghost use Rattle.bit_relations.specs.Pairs.{Composed, Plus};
+ghost use Rattle.bit_relations.specs.Relation.{Has, IsRelation};
+ghost use Rattle.factor_walks.specs.Walks.{AreLinksOn, AreRests, IsNoWalk, IsOneStep, IsRun, IsRunInto, IsWalk, LinkPairs, runs_of};
 ghost use Rattle.relation_cycles.specs.Cycles.{IsPathFrom};
 
 use crate::factor::Repeats;
@@ -31,8 +32,8 @@ fn one_step(
     from: usize,
     to: usize,
 ) -> Result<Option<Vec<usize>>, AllocError>
-    ensures { IfOk result (λ found.
-        IfSome found (λ v. IsOneStep (Has relation.now) from v.items to)) }
+    ensures { IfOk result (λ found. MatchOption found (Has relation.now from to → ⊥)
+        (λ v. IsOneStep (Has relation.now) from v.items to)) }
 {
     if is_pair(relation, from, to) {
         Ok(Some(Vec::from_slice(alloc, &[from])?))
@@ -47,8 +48,8 @@ fn path(
     from: usize,
     to: usize,
 ) -> Result<Option<Vec<usize>>, AllocError>
-    ensures { IfOk result (λ found.
-        IfSome found (λ v. IsPathFrom (Has relation.now) from to v.items)) }
+    ensures { IfOk result (λ found. MatchOption found (Plus (Has relation.now) from to → ⊥)
+        (λ v. IsPathFrom (Has relation.now) from to v.items)) }
 {
     if from < relation.count() && to < relation.count() {
         shortest_path(alloc, relation, from, to)
@@ -64,8 +65,8 @@ fn run_between(
     from: usize,
     to: usize,
 ) -> Result<Option<Vec<usize>>, AllocError>
-    ensures { IfOk result (λ found.
-        IfSome found (λ v. IsRun link.now.repeats (Has link.now.relation) from v.items to)) }
+    ensures { IfOk result (λ found. MatchOption found (LinkPairs link.now from to → ⊥)
+        (λ v. IsRun link.now.repeats (Has link.now.relation) from v.items to)) }
 {
     match link.repeats {
         Repeats::Once => one_step(alloc, &link.relation, from, to),
@@ -88,7 +89,10 @@ fn run_between(
 }
 
 // The pairs that the steps of a link lead from and to.
-fn whole(link: &Link) -> Rel {
+fn whole(link: &Link) -> Rel
+    ensures { IsRelation result link.now.relation.count (LinkPairs link.now) }
+{
+    let _regular = link.relation.count();
     match link.repeats {
         Repeats::Once => link.relation,
         Repeats::AtMostOnce => link.relation.opt(),
@@ -97,7 +101,10 @@ fn whole(link: &Link) -> Rel {
     }
 }
 
-fn then(left: &Rel, right: &Rel) -> Rel {
+fn then(left: &Rel, right: &Rel) -> Rel
+    ensures { right.now.count ≡ left.now.count
+        → IsRelation result left.now.count (Composed (Has left.now) (Has right.now)) }
+{
     if left.count() == right.count() {
         left.compose(right)
     } else {
@@ -105,21 +112,29 @@ fn then(left: &Rel, right: &Rel) -> Rel {
     }
 }
 
-// For each link the pairs that it and those behind it lead from and to, the last link first.
+// For each link the pairs that those behind it lead from and to, the last link first.
 fn rests(alloc: Global, links: &[Link], count: usize) -> Result<Vec<Rel>, AllocError>
     requires { count ≤ 128 }
+    ensures length { IfOk result (λ v. length v.items ≡ length links.now) }
+    ensures rests { AreLinksOn count links.now
+        → IfOk result (λ v. AreRests count links.now v.items) }
 {
     let mut rests = Vec::new(alloc);
     let mut rest = Rel::identity(count);
-    for link in links.iter().rev() {
+    let mut left = links.len();
+    'back: while left > 0 {
+        left -= 1;
         rests.push(rest)?;
-        rest = then(&whole(link), &rest);
+        rest = then(&whole(&links[left]), &rest);
     }
     Ok(rests)
 }
 
 // The least event that a relation leads to and from which the other leads on.
-fn least_middle(left: &Rel, right: &Rel, from: usize, to: usize) -> Option<usize> {
+fn least_middle(left: &Rel, right: &Rel, from: usize, to: usize) -> Option<usize>
+    ensures { MatchOption result (Composed (Has left.now) (Has right.now) from to → ⊥)
+        (λ event. Has left.now from event × Has right.now event to) }
+{
     for event in 0..left.count() {
         if is_pair(left, from, event) && is_pair(right, event, to) {
             return Some(event);
@@ -128,9 +143,31 @@ fn least_middle(left: &Rel, right: &Rel, from: usize, to: usize) -> Option<usize
     None
 }
 
+// Steps of a link to the least event from which the rest leads on, and that event.
+fn run_into(
+    alloc: Global,
+    link: &Link,
+    rest: &Rel,
+    from: usize,
+    to: usize,
+) -> Result<Option<(Vec<usize>, usize)>, AllocError>
+    ensures { IfOk result (λ found. MatchOption found
+        (Composed (LinkPairs link.now) (Has rest.now) from to → ⊥)
+        (λ run. IsRunInto link.now rest.now from run.0.items run.1 to)) }
+{
+    let Some(next) = least_middle(&whole(link), rest, from, to) else {
+        return Ok(None);
+    };
+    match run_between(alloc, link, from, next)? {
+        Some(run) => Ok(Some((run, next))),
+        None => Ok(None),
+    }
+}
+
 /// A walk from one event to another, through steps of each link in turn: for each the events where
 /// its steps begin. The events where a link ends are the least from which the further links lead
-/// on. Errors: want of memory.
+/// on. There is one wherever there is a walk, if the links are relations on so many events, and it
+/// begins at one of these. Errors: want of memory.
 pub fn walk(
     alloc: Global,
     links: &[Link],
@@ -139,20 +176,17 @@ pub fn walk(
     to: usize,
 ) -> Result<Option<Vec<Vec<usize>>>, AllocError>
     requires { count ≤ 128 }
-    ensures { IfOk result (λ found.
+    ensures walk { IfOk result (λ found.
         IfSome found (λ v. IsWalk links.now from (runs_of v.items) to)) }
+    ensures none { AreLinksOn count links.now → from < count
+        → IfOk result (λ found. found ≡ None → IsNoWalk links.now from to) }
 {
-    let mut rests = rests(alloc, links, count)?;
+    let rests = rests(alloc, links, count)?;
     let mut runs = Vec::new(alloc);
     let mut at = from;
     for index in 0..links.len() {
-        let Some(rest) = rests.pop() else {
-            return Ok(None);
-        };
-        let Some(next) = least_middle(&whole(&links[index]), &rest, at, to) else {
-            return Ok(None);
-        };
-        let Some(run) = run_between(alloc, &links[index], at, next)? else {
+        let rest = &rests[links.len() - 1 - index];
+        let Some((run, next)) = run_into(alloc, &links[index], rest, at, to)? else {
             return Ok(None);
         };
         runs.push(run)?;

@@ -1,10 +1,10 @@
 //! The values of factors in the candidates of a space.
 
 ghost use Rattle.std.specs.Prelude.{◌≡◌, ◌↔◌, ℕ, IfOk};
-ghost use Rattle.bit_relations.specs.Relation.{Has};
+ghost use Rattle.bit_relations.specs.Relation.{Has, IsRegular};
 ghost use Rattle.check_witness.specs.Pairs.{HasPair};
 ghost use Rattle.factor_walks.specs.Factors.{part_of};
-ghost use Rattle.factor_walks.specs.Values.{AreFactorValues, AreLinksAt, IsLinkAt, IsValued, value_part};
+ghost use Rattle.factor_walks.specs.Values.{AreFactorValues, AreLinksAt, IsLinkAt, IsOn, IsValued, value_part};
 
 use crate::factor::{Factor, Repeats, factors};
 use crate::run::Link;
@@ -69,7 +69,9 @@ pub fn factor_values(
 
 // The relation of a candidate; the empty one of no events where there is none.
 fn relation_at(values: &Column, candidate: usize) -> Rel
-    ensures { (a b : ℕ) → Has result a b ↔ HasPair values.now candidate a b }
+    ensures pairs { (a b : ℕ) → Has result a b ↔ HasPair values.now candidate a b }
+    ensures regular { IsRegular result }
+    ensures count { (n : ℕ) → IsOn candidate n values.now → result.count ≡ n }
 {
     let mut relation = Rel::empty(0);
     if let Column::Relations(relations) = values {
@@ -77,6 +79,7 @@ fn relation_at(values: &Column, candidate: usize) -> Rel
             relations.read(&mut Cursor::new(), candidate, &mut relation);
         }
     }
+    let _regular = relation.count();
     relation
 }
 

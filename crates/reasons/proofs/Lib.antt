@@ -6,3 +6,4 @@ pub mod Listing
 pub mod Boxing
 pub mod Pairing
 pub mod Graphing
+pub mod Finding

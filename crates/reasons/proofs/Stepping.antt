@@ -17,7 +17,7 @@ drop_at {X} xs i x lt is =
     ∙ ap (λ (n : ℕ). x ∷ drop n xs) (sym (add-one i))
 
 -- a walk without a run of the next factor has no further steps
-through_none : (factors : List FactorValues) → starts_through factors [] ≡ []
+pub through_none : (factors : List FactorValues) → starts_through factors [] ≡ []
 through_none [] = refl
 through_none (f ∷ fs) = refl
 

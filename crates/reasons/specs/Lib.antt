@@ -9,3 +9,4 @@ pub mod Language
 pub mod Evaluated
 pub mod Drawings
 pub mod Drawable
+pub mod Laws

@@ -1,13 +1,13 @@
 -- The steps of a reason: where they begin, where they lead, and what carries each. Read Labels
 -- first.
 use Rattle.std.specs.Prelude.{ℕ, ◌≡◌, ◌<◌, ◌⊎◌, length, List, [], ◌∷◌, ◌++◌, Option, Some, None, if◌then◌else◌, nat_eq, map}
-use Rattle.std.specs.List.{AllZip, list_any}
+use Rattle.std.specs.List.{All, AllZip, list_any}
 use Rattle.binding_graph.specs.declared.resolved.Code.{Code}
 use Rattle.check_witness.specs.declared.witness.Witness.{Witness}
 use Rattle.check_witness.specs.declared.witness.Witness.TheVariants as shown
 use Rattle.factor_walks.specs.declared.run.Link.{Link}
 use Rattle.factor_walks.specs.declared.value.FactorValues.{FactorValues}
-use Rattle.factor_walks.specs.Values.{AreLinksAt}
+use Rattle.factor_walks.specs.Values.{AreLinksAt, IsOn}
 use Rattle.factor_walks.specs.Walks.{IsWalk}
 use Rattle.reason_text.specs.declared.reason.ToldStep.{ToldStep}
 use Rattle.step_labels.specs.declared.label.EventPair.{EventPair}
@@ -46,19 +46,35 @@ pub record IsWalkBack (check : CheckValues) (k event : ℕ) (starts : List StepS
   pub walk : IsWalk links event runs event
   pub through : starts ≡ starts_through check.factors.items runs
 
--- from the event back to it: such a walk, of one step or more, or one step of the whole expression
-abbrev pub LeadsBack : CheckValues → ℕ → ℕ → List StepStart → Type 0
-LeadsBack check k event starts =
-    (IsWalkBack check k event starts × (0 < length starts))
-    ⊎ (starts ≡ start_at check.check.now.code event ∷ [])
+-- the factors have relations on n events in the candidate of number k, the event is one of these,
+-- and no walk leads back to it
+abbrev pub HasNoWalkBack : CheckValues → ℕ → ℕ → ℕ → Type 0
+HasNoWalkBack check k n event =
+    All (λ f. IsOn k n f.values) check.factors.items → event < n → (starts : List StepStart)
+    → IsWalkBack check k event starts → ⊥
 
--- where the steps begin that show why the check refuses the candidate of number k
-abbrev pub AreStarts : CheckValues → ℕ → Witness → List StepStart → Type 0
-AreStarts check k (shown.Cycle events) starts = starts ≡ starts_at check.check.now.code events.items
-AreStarts check k (shown.Reflexive event) starts = LeadsBack check k event starts
-AreStarts check k (shown.Pair from to) starts = starts ≡ start_at check.check.now.code from ∷ []
-AreStarts check k (shown.Member event) starts = starts ≡ []
-AreStarts check k shown.Met starts = starts ≡ []
+-- a walk back of one step or more; and that there is one without a step, or none
+abbrev pub HasSteps : CheckValues → ℕ → ℕ → List StepStart → Type 0
+HasSteps check k event starts = IsWalkBack check k event starts × (0 < length starts)
+
+abbrev pub HasNoSteps : CheckValues → ℕ → ℕ → ℕ → Type 0
+HasNoSteps check k n event = IsWalkBack check k event [] ⊎ HasNoWalkBack check k n event
+
+-- from the event back to it, among n events: a walk of one step or more, or one step of the whole
+-- expression where a walk has no step, or there is none
+abbrev pub LeadsBack : CheckValues → ℕ → ℕ → ℕ → List StepStart → Type 0
+LeadsBack check k n event starts =
+    HasSteps check k event starts
+    ⊎ ((starts ≡ start_at check.check.now.code event ∷ []) × HasNoSteps check k n event)
+
+-- where the steps begin that show why the check refuses the candidate of number k, of n events
+abbrev pub AreStarts : CheckValues → ℕ → ℕ → Witness → List StepStart → Type 0
+AreStarts check k n (shown.Cycle events) starts =
+    starts ≡ starts_at check.check.now.code events.items
+AreStarts check k n (shown.Reflexive event) starts = LeadsBack check k n event starts
+AreStarts check k n (shown.Pair from to) starts = starts ≡ start_at check.check.now.code from ∷ []
+AreStarts check k n (shown.Member event) starts = starts ≡ []
+AreStarts check k n shown.Met starts = starts ≡ []
 
 abbrev pub ends_of_cycle : List ℕ → Option (ℕ × ℕ)
 ends_of_cycle [] = None

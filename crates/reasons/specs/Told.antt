@@ -53,7 +53,7 @@ written (Some item) = printed_item (clause_of item)
 pub record IsReason (j : Judgement) (scene : Scene) (check : CheckValues) (witness : Witness)
     (r : Reason) : Type 0 where
   pub starts : List StepStart
-  pub begins : AreStarts check scene.candidate witness starts
+  pub begins : AreStarts check scene.candidate (length scene.events) witness starts
   pub named : r.check.items ≡ written (slice_get j.text check.item)
   pub events : r.events.items ≡ told_events scene (numbers_of (ends_of witness) starts)
   pub first : r.first ≡ option_map (λ ends. ends.0) (ends_of witness)

@@ -1,5 +1,5 @@
 //! Why a model forbids what a test asks for. Read specs/Checked first: the checks, and the first
-//! that refuses a candidate.
+//! that refuses a candidate. Laws: `laws`.
 #![tactic(auto)]
 
 mod answer;
@@ -8,6 +8,7 @@ mod checks;
 mod drawing;
 mod evaluated;
 mod labels;
+pub mod laws;
 mod lines;
 mod telling;
 

@@ -1,8 +1,8 @@
 //! A refusal as it is told.
 
-ghost use Rattle.std.specs.Prelude.{◌≡◌, ◌++◌, [], IfOk, IfSome, OnOk, map, drop, option_map, slice_get, slice_index_or};
+ghost use Rattle.std.specs.Prelude.{◌≡◌, ◌++◌, [], IfOk, MatchOption, OnOk, length, map, drop, option_map, slice_get, slice_index_or};
 ghost use Rattle.factor_walks.specs.Walks.{runs_of};
-ghost use Rattle.reasons.specs.Steps.{AreStarts, AreSteps, AreStepsTo, IsStep, LeadsBack, ends_of, legs_to, next_event, numbers_of};
+ghost use Rattle.reasons.specs.Steps.{AreStarts, AreSteps, AreStepsTo, HasNoSteps, HasSteps, IsStep, LeadsBack, ends_of, legs_to, next_event, numbers_of};
 ghost use Rattle.reasons.specs.Steps.{starts_at, starts_through, with_event, with_events};
 ghost use Rattle.reasons.specs.Told.{IsReason, told_at, told_events, written};
 ghost use Rattle.reasons.specs.Views.{judgement_of, leg_of, scene_of, start_of};
@@ -225,13 +225,14 @@ fn starts_back<'a>(
     told: Told<'_>,
     event: usize,
 ) -> Result<Option<Vec<Start<'a>>>, AllocError>
-    ensures { IfOk result (λ found. IfSome found (λ v.
-        LeadsBack check.now told.entry.candidate event (map start_of v.items))) }
+    ensures { IfOk result (λ found. MatchOption found
+        (HasNoSteps check.now told.entry.candidate (length told.entry.events.now) event)
+        (λ v. HasSteps check.now told.entry.candidate event (map start_of v.items))) }
 {
+    let links = links_at(alloc, &check.factors, told.candidate)?;
     if told.events.len() > MAX_EVENTS {
         return Ok(None);
     }
-    let links = links_at(alloc, &check.factors, told.candidate)?;
     let Some(runs) = walk(alloc, &links, told.events.len(), event, event)? else {
         return Ok(None);
     };
@@ -249,8 +250,8 @@ fn round<'a>(
     told: Told<'_>,
     event: usize,
 ) -> Result<Vec<Start<'a>>, AllocError>
-    ensures { IfOk result (λ v.
-        LeadsBack check.now told.entry.candidate event (map start_of v.items)) }
+    ensures { IfOk result (λ v. LeadsBack check.now told.entry.candidate
+        (length told.entry.events.now) event (map start_of v.items)) }
 {
     match starts_back(alloc, check, told, event)? {
         Some(starts) => Ok(starts),
@@ -265,8 +266,8 @@ fn starts_of<'a>(
     told: Told<'_>,
     witness: &Witness,
 ) -> Result<Vec<Start<'a>>, AllocError>
-    ensures { IfOk result (λ v.
-        AreStarts check.now told.entry.candidate witness.now (map start_of v.items)) }
+    ensures { IfOk result (λ v. AreStarts check.now told.entry.candidate
+        (length told.entry.events.now) witness.now (map start_of v.items)) }
 {
     match witness {
         Witness::Cycle(events) => starts_at(alloc, &check.check.code, events),

@@ -1,4 +1,4 @@
-use Rattle.std.proofs.Common.{ℕ, ◌≡◌, drop, reverse, subst, arith}
+use Rattle.std.proofs.Common.{ℕ, ◌≡◌, drop, subst, arith}
 use Rattle.factor_walks.specs.Factors.{parts_in}
 use Rattle.factor_walks.specs.Scanning.{parts_from}
 use Rattle.factor_walks.proofs.Scanned.{factors_are}

@@ -1,0 +1,18 @@
+//! Laws of the reasons that are told. Read specs/Laws first.
+
+ghost use Rattle.std.specs.Prelude.{List};
+ghost use Rattle.candidates.specs.declared.candidate.Space.{Space};
+ghost use Rattle.reasons.specs.declared.checks.CheckValues.{CheckValues};
+ghost use Rattle.reasons.specs.Laws.{HasOneFirstRefusal, HasWalkBack};
+
+/// A candidate that is refused has one first check that refuses it, and one witness of that: `why`
+/// and `draw` go by the same.
+pub fn first_refusal_is_one()
+    ensures { (space : Space) (checks : List CheckValues) → HasOneFirstRefusal space checks }
+{}
+
+/// There is a walk through the factors of an `irreflexive` check back to the event for which it
+/// refuses.
+pub fn walk_back_is_found()
+    ensures { (space : Space) (check : CheckValues) → HasWalkBack space check }
+{}
