@@ -1,3 +1,4 @@
 pub mod Scanned
 pub mod Walking
 pub mod Meant
+pub mod First

@@ -1,11 +1,11 @@
 -- A walk goes on, and is found.
-use Rattle.std.proofs.Common.{ℕ, suc, ◌≡◌, ◌<◌, ◌+◌, ◌-◌, ◌++◌, ◌∙◌, inl, inr, List, [], ◌∷◌, drop, get_or, length, refl, sym, ap, subst, arith}
+use Rattle.std.proofs.Common.{ℕ, suc, ◌≡◌, ◌<◌, ◌≤◌, ◌+◌, ◌-◌, ◌++◌, ◌∙◌, inl, inr, List, [], ◌∷◌, append_assoc, drop, get_or, length, refl, sym, ap, subst, arith}
 use Rattle.std.specs.List.{All}
 use Rattle.std.proofs.Math.Numerals.{add-one}
 use Rattle.std.proofs.Math.Seq.{drop-cons, get_or-append_seam}
 use Rattle.std.proofs.lemmas.Bool.{cases_lt}
-use Rattle.std.proofs.lemmas.List.{drop_all, get_or_append_left, get_or_read, length-append}
-use Rattle.std.proofs.lemmas.List.Elements.{All-tail}
+use Rattle.std.proofs.lemmas.List.{append-nil, drop_all, get_or_append_left, get_or_read, length-append}
+use Rattle.std.proofs.lemmas.List.Elements.{All-drop, All-tail}
 use Rattle.bit_relations.specs.Pairs.{Composed, Identity, Path, Plus}
 use Rattle.bit_relations.specs.Relation.{Relation, Has, IsRegular, IsRelation, no_slot}
 use Rattle.bit_relations.proofs.Closing.{Plus-within}
@@ -15,7 +15,7 @@ use Rattle.factor_walks.specs.declared.factor.Repeats.TheVariants as repeats
 use Rattle.factor_walks.specs.declared.run.Link.{Link}
 use Rattle.factor_walks.specs.declared.value.FactorValues.{FactorValues}
 use Rattle.factor_walks.specs.Values.{AreLinksAt, IsLinkAt, IsOn}
-use Rattle.factor_walks.specs.Walks.{AreLinksOn, AreRests, IsLinkOn, IsRun, IsNoWalk, IsWalk, Leads, LinkPairs, Repeated}
+use Rattle.factor_walks.specs.Walks.{AreLinksOn, AreRests, IsFirstRun, IsFirstWalk, IsLeastNext, IsLinkOn, IsRun, IsRunInto, IsNoWalk, IsWalk, Leads, LinkPairs, Repeated}
 
 pub walk_on : (ls : List Link) (l : Link) (a : ℕ) (runs : List (List ℕ)) (b : ℕ) (run : List ℕ)
     (c : ℕ) → IsWalk ls a runs b → IsRun l.repeats (Has l.relation) b run c
@@ -26,6 +26,16 @@ walk_on [] l a (x ∷ xs) b run c w r = absurd w
 walk_on (k ∷ ks) l a [] b run c w r = absurd w
 walk_on (k ∷ ks) l a (x ∷ xs) b run c w r = (w.0, w.1, walk_on ks l w.0 xs b run c w.2 r)
 
+-- the first run is a run
+pub run_of_first : (how : Repeats) (R : ℕ → ℕ → Type 0) (a : ℕ) (events : List ℕ) (b : ℕ)
+    → IsFirstRun how R a events b → IsRun how R a events b
+run_of_first repeats.Once R a events b run = run
+run_of_first repeats.AtMostOnce R a events b (inl stay) = inl stay
+run_of_first repeats.AtMostOnce R a events b (inr step) = inr step.1
+run_of_first repeats.OnceOrMore R a events b run = run.path
+run_of_first repeats.AnyNumber R a events b (inl stay) = inl stay
+run_of_first repeats.AnyNumber R a events b (inr path) = inr path.1.path
+
 -- ---- no path
 
 pub path_plus : (R : ℕ → ℕ → Type 0) (a b : ℕ) (events : List ℕ) → IsPathFrom R a b events
@@ -33,7 +43,7 @@ pub path_plus : (R : ℕ → ℕ → Type 0) (a b : ℕ) (events : List ℕ) →
 path_plus R a b [] p = absurd p
 path_plus R a b (x ∷ xs) p = (xs, subst (λ (y : ℕ). Path R y xs b) p.0 p.1)
 
-path_same : (R S : ℕ → ℕ → Type 0) → ((a b : ℕ) → R a b → S a b) → (a b : ℕ) (events : List ℕ)
+pub path_same : (R S : ℕ → ℕ → Type 0) → ((a b : ℕ) → R a b → S a b) → (a b : ℕ) (events : List ℕ)
     → IsPathFrom R a b events → IsPathFrom S a b events
 path_same R S to a b [] p = absurd p
 path_same R S to a b (x ∷ xs) p = (p.0, go x xs p.1)
@@ -199,9 +209,60 @@ module _ (n : ℕ) (links : List Link) (rests : List Relation) (index : ℕ) (l 
       let on : Leads n (l ∷ drop (index + 1) links) at to = subst (λ (ls : List Link). Leads n ls at to) (drop_link n links [] rest index l lt is) (leads all begins runs w) in
       none (on.0, on.1, ((rest_is (are all)).pairs on.0 to).1 on.2)
 
+-- ---- the first walk
+
+-- the runs so far are those of the first walk, however the first walk goes on from the present
+-- event
+abbrev pub StillFirst : ℕ → List Link → ℕ → ℕ → ℕ → ℕ → List (List ℕ) → Type 0
+StillFirst n links from to index at runs =
+    AreLinksOn n links → from < n
+    → (at < n) × ((more : List (List ℕ)) → IsFirstWalk (drop index links) at more to
+    → IsFirstWalk links from (runs ++ more) to)
+
+pub first_begins : (n : ℕ) (links : List Link) (from to : ℕ) → StillFirst n links from to 0 from []
+first_begins n links from to all lt = (lt, λ more w. w)
+
+pub first_ends : (n : ℕ) (links : List Link) (from to index : ℕ) (runs : List (List ℕ))
+    → length links ≤ index → StillFirst n links from to index to runs → AreLinksOn n links
+    → from < n → IsFirstWalk links from runs to
+first_ends n links from to index runs le old all lt =
+    let none : drop index links ≡ [] = drop_all index links le in
+    let last : IsFirstWalk (drop index links) to [] to = subst (λ (ls : List Link). IsFirstWalk ls to [] to) (sym none) refl in
+    subst (λ (rs : List (List ℕ)). IsFirstWalk links from rs to) (append-nil runs)
+    ((old all lt).1 [] last)
+
+module _ (n : ℕ) (links : List Link) (rests : List Relation) (index : ℕ) (l : Link)
+    (rest : Relation) (lt : index < length links) (is : l ≡ get_or links index l)
+    (many : length rests ≡ length links)
+    (there : rest ≡ get_or rests (length links - 1 - index) rest) where
+  pub first_more : (from to at next : ℕ) (runs : List (List ℕ)) (run : List ℕ)
+      → (AreLinksOn n links → AreRests n links rests)
+      → StillFirst n links from to index at runs → IsRunInto l rest at run next to
+      → StillFirst n links from to (index + 1) next (runs ++ run ∷ [])
+  first_more from to at next runs run are old into all begins =
+      let behind : List Link = drop (index + 1) links in
+      let on : IsLinkOn n l = link_on n links [] rest index l lt is all in
+      let whole : AreLinksOn n behind = All-drop (IsLinkOn n) (index + 1) links all in
+      let rest_on : IsRelation rest n (Leads n behind) = rest_is n links rests index l rest lt is many there (are all) in
+      let inside : at < l.relation.count = subst (λ (k : ℕ). at < k) (sym on.count) (old all begins).0 in
+      let step = run_leads l.repeats l.relation on.regular at next run inside (run_of_first l.repeats (Has l.relation) at run next into.run) in
+      let least : IsLeastNext l behind at next to = λ d less r w others v.
+      let leads = run_leads l.repeats l.relation on.regular at d r inside w in
+      into.least d less leads.0 ((rest_on.pairs d to).1
+      (walk_leads n behind whole d to others
+      (subst (λ (k : ℕ). d < k) on.count leads.1) v)) in (
+        subst (λ (k : ℕ). next < k) on.count step.1,
+        λ more w. subst (λ (rs : List (List ℕ)). IsFirstWalk links from rs to)
+            (sym (append_assoc runs (run ∷ []) more))
+            ((old all begins).1 (run ∷ more)
+            (subst (λ (ls : List Link). IsFirstWalk ls at (run ∷ more) to)
+            (sym (drop_link n links [] rest index l lt is))
+            (next, into.run, least, w))),
+      )
+
 -- ---- walks through the same factors
 
-links_tail : (k : ℕ) (f : FactorValues) (fs : List FactorValues) (l : Link) (ls : List Link)
+pub links_tail : (k : ℕ) (f : FactorValues) (fs : List FactorValues) (l : Link) (ls : List Link)
     → AreLinksAt k (f ∷ fs) (l ∷ ls) → AreLinksAt k fs ls
 links_tail k f fs l ls h =
     record {
@@ -209,7 +270,7 @@ links_tail k f fs l ls h =
       each = λ j lt g m. h.each (suc j) (omega (arith, lt)) g m;
     }
 
-links_head : (k : ℕ) (f : FactorValues) (fs : List FactorValues) (l : Link) (ls : List Link)
+pub links_head : (k : ℕ) (f : FactorValues) (fs : List FactorValues) (l : Link) (ls : List Link)
     → AreLinksAt k (f ∷ fs) (l ∷ ls) → IsLinkAt k f l
 links_head k f fs l ls h = h.each 0 (omega arith) f l
 
@@ -226,7 +287,7 @@ links_on k n fs ls h all j l lt =
     on [] inside at is = absurd (omega (arith, inside))
     on (f ∷ fs) inside at is = record { count = (at f).count n (is f); regular = (at f).regular }
 
-run_same : (how : Repeats) (R S : ℕ → ℕ → Type 0) → ((a b : ℕ) → R a b → S a b)
+pub run_same : (how : Repeats) (R S : ℕ → ℕ → Type 0) → ((a b : ℕ) → R a b → S a b)
     → (a b : ℕ) (events : List ℕ) → IsRun how R a events b → IsRun how S a events b
 run_same repeats.Once R S to a b events run = (run.0, to a b run.1)
 run_same repeats.AtMostOnce R S to a b events (inl stay) = inl stay

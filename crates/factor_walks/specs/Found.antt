@@ -1,4 +1,5 @@
--- The law of walks: `laws` states `HasWalks`. Read Values and Walks first, and `Means` of cat_eval.
+-- The laws of walks: `laws` states `HasWalks` and `HasOneFirstWalk`. Read Values and Walks first,
+-- and `Means` of cat_eval.
 use Rattle.std.specs.Prelude.{ℕ, ◌≡◌, List, [], slice_get, Some}
 use denote.Ref.{Bor}
 use Rattle.binding_graph.specs.declared.resolved.Code.{Code}
@@ -12,7 +13,7 @@ use Rattle.cat_eval.specs.Named.{WithOwn, Of}
 use Rattle.factor_walks.specs.declared.run.Link.{Link}
 use Rattle.factor_walks.specs.declared.value.FactorValues.{FactorValues}
 use Rattle.factor_walks.specs.Values.{AreFactorValues, AreLinksAt}
-use Rattle.factor_walks.specs.Walks.{IsWalk}
+use Rattle.factor_walks.specs.Walks.{IsFirstWalk, IsWalk}
 
 -- the pairs of an expression in the candidate of number k
 abbrev pub PairsIn : List (Bor Column) → ℕ → Candidate → RelTree → ℕ → ℕ → Type 0
@@ -33,3 +34,9 @@ HasWalks code space factors =
     → code.steps.items ≡ rel_code t []
     → (k : ℕ) (one : Candidate) → slice_get (candidates_in space.combinations.items) k ≡ Some one
     → (a b : ℕ) → PairsIn inputs k one t a b → IsWalked k factors a b
+
+-- of the walks through the links from an event to another at most one is the first
+abbrev pub HasOneFirstWalk : List Link → Type 0
+HasOneFirstWalk links =
+    (a b : ℕ) (runs others : List (List ℕ)) → IsFirstWalk links a runs b
+    → IsFirstWalk links a others b → runs ≡ others

@@ -1,5 +1,5 @@
 //! Why a composition relates an event to itself: a walk through its factors. Read specs/Factors
-//! first (which they are), then specs/Walks. Law: `laws`, by specs/Found.
+//! first (which they are), then specs/Walks. Laws: `laws`, by specs/Found.
 #![tactic(auto)]
 
 mod factor;

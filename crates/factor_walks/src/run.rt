@@ -3,8 +3,8 @@
 ghost use Rattle.std.specs.Prelude.{◌≡◌, ◌↔◌, ◌<◌, ◌≤◌, IfOk, IfSome, IsTrue, MatchOption, None, length};
 ghost use Rattle.bit_relations.specs.Pairs.{Composed, Plus};
 ghost use Rattle.bit_relations.specs.Relation.{Has, IsRelation};
-ghost use Rattle.factor_walks.specs.Walks.{AreLinksOn, AreRests, IsNoWalk, IsOneStep, IsRun, IsRunInto, IsWalk, LinkPairs, runs_of};
-ghost use Rattle.relation_cycles.specs.Cycles.{IsPathFrom};
+ghost use Rattle.factor_walks.specs.Walks.{AreLinksOn, AreRests, IsFirstRun, IsFirstWalk, IsLeastMiddle, IsNoWalk, IsOneStep, IsRunInto, IsWalk, LinkPairs, runs_of};
+ghost use Rattle.relation_cycles.specs.Cycles.{IsShortestPath};
 
 use crate::factor::Repeats;
 use bit_relations::Rel;
@@ -49,7 +49,7 @@ fn path(
     to: usize,
 ) -> Result<Option<Vec<usize>>, AllocError>
     ensures { IfOk result (λ found. MatchOption found (Plus (Has relation.now) from to → ⊥)
-        (λ v. IsPathFrom (Has relation.now) from to v.items)) }
+        (λ v. IsShortestPath (Has relation.now) from to v.items)) }
 {
     if from < relation.count() && to < relation.count() {
         shortest_path(alloc, relation, from, to)
@@ -66,7 +66,7 @@ fn run_between(
     to: usize,
 ) -> Result<Option<Vec<usize>>, AllocError>
     ensures { IfOk result (λ found. MatchOption found (LinkPairs link.now from to → ⊥)
-        (λ v. IsRun link.now.repeats (Has link.now.relation) from v.items to)) }
+        (λ v. IsFirstRun link.now.repeats (Has link.now.relation) from v.items to)) }
 {
     match link.repeats {
         Repeats::Once => one_step(alloc, &link.relation, from, to),
@@ -133,7 +133,7 @@ fn rests(alloc: Global, links: &[Link], count: usize) -> Result<Vec<Rel>, AllocE
 // The least event that a relation leads to and from which the other leads on.
 fn least_middle(left: &Rel, right: &Rel, from: usize, to: usize) -> Option<usize>
     ensures { MatchOption result (Composed (Has left.now) (Has right.now) from to → ⊥)
-        (λ event. Has left.now from event × Has right.now event to) }
+        (IsLeastMiddle (Has left.now) (Has right.now) from to) }
 {
     for event in 0..left.count() {
         if is_pair(left, from, event) && is_pair(right, event, to) {
@@ -165,9 +165,10 @@ fn run_into(
 }
 
 /// A walk from one event to another, through steps of each link in turn: for each the events where
-/// its steps begin. The events where a link ends are the least from which the further links lead
-/// on. There is one wherever there is a walk, if the links are relations on so many events, and it
-/// begins at one of these. Errors: want of memory.
+/// its steps begin. If the links are relations on so many events, and it begins at one of these,
+/// there is one wherever there is a walk, and it is the first: each link in turn ends at the least
+/// event from which the further links lead on, after as few steps as can be. Errors: want of
+/// memory.
 pub fn walk(
     alloc: Global,
     links: &[Link],
@@ -178,6 +179,8 @@ pub fn walk(
     requires { count ≤ 128 }
     ensures walk { IfOk result (λ found.
         IfSome found (λ v. IsWalk links.now from (runs_of v.items) to)) }
+    ensures first { AreLinksOn count links.now → from < count → IfOk result (λ found.
+        IfSome found (λ v. IsFirstWalk links.now from (runs_of v.items) to)) }
     ensures none { AreLinksOn count links.now → from < count
         → IfOk result (λ found. found ≡ None → IsNoWalk links.now from to) }
 {

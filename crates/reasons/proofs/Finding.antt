@@ -1,6 +1,6 @@
 -- One first check refuses a candidate, for one reason; and an event that an expression relates to
 -- itself has a walk back.
-use Rattle.std.proofs.Common.{ℕ, ◌≡◌, ◌<◌, inl, inr, List, [], ◌∷◌, length, get_or, Bool, true, false, Option, Some, None, refl, sym, subst, arith}
+use Rattle.std.proofs.Common.{ℕ, ◌≡◌, ◌<◌, ◌∙◌, ◌⊎◌, inl, inr, List, [], ◌∷◌, length, get_or, Bool, true, false, Option, Some, None, refl, sym, ap, subst, arith}
 use Rattle.std.specs.Prelude.{Vec}
 use Rattle.std.specs.declared.alloc.Global.{Global}
 use Rattle.std.proofs.lemmas.Bool.{cases_lt}
@@ -27,16 +27,18 @@ use Rattle.check_witness.specs.Refusals.{IsRefusal}
 use Rattle.check_witness.specs.Witnesses.{AreSame, Breaks, BreaksSet, IsExplained, IsExplanation, IsExpression, IsSame}
 use Rattle.check_witness.proofs.OneReason.{one_refusal}
 use Rattle.factor_walks.specs.Values.{AreLinksAt}
-use Rattle.factor_walks.specs.Walks.{AreLinksOn, IsLinkOn, IsNoWalk}
+use Rattle.factor_walks.specs.Found.{IsWalked}
+use Rattle.factor_walks.specs.Walks.{AreLinksOn, IsFirstWalk, IsWalk, IsLinkOn, IsNoWalk}
 use Rattle.factor_walks.specs.declared.run.Link.{Link}
+use Rattle.factor_walks.proofs.First.{first_walk_same, one_walk}
 use Rattle.factor_walks.proofs.Meant.{factors_on, has_walks}
 use Rattle.factor_walks.proofs.Walking.{links_on, walk_same}
 use Rattle.reasons.specs.declared.checks.CheckValues.{CheckValues}
 use Rattle.reasons.specs.declared.checks.FirstRefusal.{FirstRefusal}
 use Rattle.reasons.specs.Checked.{IsChecked, IsFirstRefusal}
-use Rattle.reasons.specs.Laws.{AreOver, HasOneFirstRefusal, HasWalkBack}
+use Rattle.reasons.specs.Laws.{AreOver, HasOneFirstRefusal, HasSameStarts, HasWalkBack}
 use Rattle.reasons.proofs.Stepping.{through_none}
-use Rattle.reasons.specs.Steps.{HasNoSteps, HasNoWalkBack, StepStart, starts_through}
+use Rattle.reasons.specs.Steps.{AreFactorsOn, AreStarts, HasNoSteps, HasNoWalkBack, HasSteps, IsWalkBack, LeadsBack, StepStart, start_at, starts_at, starts_through}
 
 -- ---- no walk where none is found
 
@@ -45,9 +47,23 @@ module _ (check : CheckValues) (k n event : ℕ) (links : List Link)
   -- the search through these links has found none
   pub no_walk : (AreLinksOn n links → event < n → IsNoWalk links event event)
       → HasNoWalkBack check k n event
-  no_walk none all lt starts back =
-      none (links_on k n check.factors.items links are all) lt back.runs (walk_same k
-      check.factors.items back.links links back.linked are event event back.runs back.walk)
+  no_walk none all lt others same runs walk =
+      none (links_on k n check.factors.items links are all) lt runs
+      (walk_same k check.factors.items others links same are event event runs walk)
+
+  -- the search has found one
+  pub walk_by : (runs : List (List ℕ)) → IsWalk links event runs event
+      → (AreLinksOn n links → event < n → IsFirstWalk links event runs event)
+      → (starts : List StepStart) → starts ≡ starts_through check.factors.items runs
+      → IsWalkBack check k n event starts
+  walk_by runs walk first starts through = record {
+    links = links;
+    runs = runs;
+    linked = are;
+    walk = walk;
+    first = λ all lt. first (links_on k n check.factors.items links are all) lt;
+    through = through;
+  }
 
   -- a relation has at most 128 events
   pub too_many : 128 < n → HasNoSteps check k n event
@@ -63,10 +79,11 @@ module _ (check : CheckValues) (k n event : ℕ) (links : List Link)
             runs = [];
             linked = h;
             walk = refl;
+            first = λ all lt. refl;
             through = sym (through_none check.factors.items);
           })
       go (l ∷ ls) h =
-          inr (λ all lt starts back.
+          inr (λ all lt others same runs walk.
           absurd (few l (links_on k n check.factors.items (l ∷ ls) h all 0 l (omega arith))))
 
 -- ---- one first check
@@ -160,29 +177,129 @@ module _ (check : CheckCode) (n : ℕ) (sets : Source → ℕ → Type 0) (outer
   is_related kinds.OfRelation (t, is) meant h = of_tree t is (meant t is) (h t is)
   is_related kinds.OfAny (t, is) meant h = of_tree t is (meant t is) (h t is)
 
-pub walk_back : (space : Space) (check : CheckValues) → HasWalkBack space check
-walk_back space check columns items k one over event starts refuses back = elim back [
-  | inl steps ↦ inl steps
-  | inr whole ↦ elim whole.1 [
-    | inl stays ↦ inr (whole.0, stays)
-    | inr none ↦
-        let checked : IsChecked space columns items check = over.checked 0 check (omega arith) in
-        let code = check.check.now.code in
-        let n : ℕ = events_of one in
-        let (s, r, has, meant) = checked.values.values k one over.at in
-        let is = is_related check.check.now n (EventsAt n one checked.inputs k) (PairsAt n one checked.inputs k) event s r code.kind (over.expressions 0 check (omega arith)) meant
-        (refuses space checked.inputs one checked.values over.at) in
-        let values = checked.factors is.word in
-        let (links, runs, linked, walk) = has_walks code space check.factors.items checked.inputs values is.tree is.is k one over.at event event is.related in
-        let on = factors_on code checked.inputs space check.factors.items values is.tree is.is k one over.at in
-        let begin : List StepStart = starts_through check.factors.items runs in
-        absurd (none on is.few begin
-        (record {
-          links = links;
-          runs = runs;
-          linked = linked;
-          walk = walk;
-          through = refl {a = begin};
-        }))
+-- a walk through the factors leads from the event back to it
+record IsShown (check : CheckValues) (k n event : ℕ) : Type 0 where
+  on : AreFactorsOn check k n
+  few : event < n
+  walked : IsWalked k check.factors.items event event
+
+module _ (space : Space) (check : CheckValues) (columns : List (Vec Column Global))
+    (items : List ResolvedItem) (k : ℕ) (one : Candidate)
+    (over : AreOver space columns items (check ∷ []) k one) where
+  is_shown : (event : ℕ)
+      → IsRefusal check.check.now check.values k (Some (shown.Reflexive event))
+      → IsShown check k (events_of one) event
+  is_shown event refuses =
+      let checked : IsChecked space columns items check = over.checked 0 check (omega arith) in
+      let code = check.check.now.code in
+      let n : ℕ = events_of one in
+      let (s, r, has, meant) = checked.values.values k one over.at in
+      let is = is_related check.check.now n (EventsAt n one checked.inputs k) (PairsAt n one checked.inputs k) event s r code.kind (over.expressions 0 check (omega arith)) meant
+      (refuses space checked.inputs one checked.values over.at) in
+      let values = checked.factors is.word in
+      record {
+        on =
+            factors_on code checked.inputs space check.factors.items values is.tree is.is k one
+            over.at;
+        few = is.few;
+        walked =
+            has_walks code space check.factors.items checked.inputs values is.tree is.is k one
+            over.at event event is.related;
+      }
+
+  walk_is_back : (event : ℕ) (starts : List StepStart)
+      → IsRefusal check.check.now check.values k (Some (shown.Reflexive event))
+      → LeadsBack check k (events_of one) event starts
+      → HasSteps check k (events_of one) event starts
+      ⊎ ((starts ≡ start_at check.check.now.code event ∷ [])
+      × IsWalkBack check k (events_of one) event [])
+  walk_is_back event starts refuses back = elim back [
+    | inl steps ↦ inl steps
+    | inr whole ↦ elim whole.1 [
+      | inl stays ↦ inr (whole.0, stays)
+      | inr none ↦
+          let is : IsShown check k (events_of one) event = is_shown event refuses in
+          let (links, runs, linked, walk) = is.walked in
+          absurd (none is.on is.few links linked runs walk)
+    ]
   ]
-]
+
+pub walk_back : (space : Space) (check : CheckValues) → HasWalkBack space check
+walk_back space check columns items k one over event starts refuses back =
+    walk_is_back space check columns items k one over event starts refuses back
+
+-- ---- the same steps
+
+one_back : (check : CheckValues) (k n event : ℕ) (starts others : List StepStart)
+    → IsShown check k n event → IsWalkBack check k n event starts
+    → IsWalkBack check k n event others → starts ≡ others
+one_back check k n event starts others is p q =
+    let same = first_walk_same k check.factors.items q.links p.links q.linked p.linked event event q.runs (q.first is.on is.few) in
+    let runs : p.runs ≡ q.runs = one_walk p.links event event p.runs q.runs (p.first is.on is.few) same in
+    p.through ∙ ap (starts_through check.factors.items) runs ∙ sym q.through
+
+no_step : (starts : List StepStart) → 0 < length starts → starts ≡ [] → ⊥
+no_step starts lt e = omega (arith, lt, ap (λ (l : List StepStart). length l) e)
+
+module _ (space : Space) (check : CheckValues) (columns : List (Vec Column Global))
+    (items : List ResolvedItem) (k : ℕ) (one : Candidate)
+    (over : AreOver space columns items (check ∷ []) k one) where
+  same_back : (event : ℕ) (starts others : List StepStart)
+      → IsRefusal check.check.now check.values k (Some (shown.Reflexive event))
+      → LeadsBack check k (events_of one) event starts
+      → LeadsBack check k (events_of one) event others → starts ≡ others
+  same_back event starts others refuses p q =
+      let n : ℕ = events_of one in
+      let is : IsShown check k n event = is_shown space check columns items k one over event refuses in
+      elim (walk_is_back space check columns items k one over event starts refuses p) [
+        | inl p1 ↦ elim (walk_is_back space check columns items k one over event others refuses q) [
+          | inl q1 ↦ one_back check k n event starts others is p1.0 q1.0
+          | inr q1 ↦ absurd (no_step starts p1.1
+              (one_back check k n event starts [] is p1.0 q1.1))
+        ]
+        | inr p1 ↦ elim (walk_is_back space check columns items k one over event others refuses q) [
+          | inl q1 ↦ absurd (no_step others q1.1
+              (one_back check k n event others [] is q1.0 p1.1))
+          | inr q1 ↦ p1.0 ∙ sym q1.0
+        ]
+      ]
+
+  same_starts : (v w : Witness) → IsSame v w
+      → IsRefusal check.check.now check.values k (Some v) → (starts others : List StepStart)
+      → AreStarts check k (events_of one) v starts → AreStarts check k (events_of one) w others
+      → starts ≡ others
+  same_starts (shown.Cycle xs) (shown.Cycle ys) same refuses starts others p q =
+      p ∙ ap (starts_at check.check.now.code) same ∙ sym q
+  same_starts (shown.Cycle xs) (shown.Reflexive b) same refuses starts others p q = absurd same
+  same_starts (shown.Cycle xs) (shown.Pair b c) same refuses starts others p q = absurd same
+  same_starts (shown.Cycle xs) (shown.Member b) same refuses starts others p q = absurd same
+  same_starts (shown.Cycle xs) shown.Met same refuses starts others p q = absurd same
+  same_starts (shown.Reflexive a) (shown.Cycle ys) same refuses starts others p q = absurd same
+  same_starts (shown.Reflexive a) (shown.Reflexive b) same refuses starts others p q =
+      same_back a starts others refuses p
+      (subst (λ (e : ℕ). LeadsBack check k (events_of one) e others) (sym same) q)
+  same_starts (shown.Reflexive a) (shown.Pair b c) same refuses starts others p q = absurd same
+  same_starts (shown.Reflexive a) (shown.Member b) same refuses starts others p q = absurd same
+  same_starts (shown.Reflexive a) shown.Met same refuses starts others p q = absurd same
+  same_starts (shown.Pair a x) (shown.Cycle ys) same refuses starts others p q = absurd same
+  same_starts (shown.Pair a x) (shown.Reflexive b) same refuses starts others p q = absurd same
+  same_starts (shown.Pair a x) (shown.Pair b c) same refuses starts others p q =
+      p ∙ ap (λ (e : ℕ). start_at check.check.now.code e ∷ []) same.0 ∙ sym q
+  same_starts (shown.Pair a x) (shown.Member b) same refuses starts others p q = absurd same
+  same_starts (shown.Pair a x) shown.Met same refuses starts others p q = absurd same
+  same_starts (shown.Member a) (shown.Cycle ys) same refuses starts others p q = absurd same
+  same_starts (shown.Member a) (shown.Reflexive b) same refuses starts others p q = absurd same
+  same_starts (shown.Member a) (shown.Pair b c) same refuses starts others p q = absurd same
+  same_starts (shown.Member a) (shown.Member b) same refuses starts others p q = p ∙ sym q
+  same_starts (shown.Member a) shown.Met same refuses starts others p q = absurd same
+  same_starts shown.Met (shown.Cycle ys) same refuses starts others p q = absurd same
+  same_starts shown.Met (shown.Reflexive b) same refuses starts others p q = absurd same
+  same_starts shown.Met (shown.Pair b c) same refuses starts others p q = absurd same
+  same_starts shown.Met (shown.Member b) same refuses starts others p q = absurd same
+  same_starts shown.Met shown.Met same refuses starts others p q = p ∙ sym q
+
+pub has_same_starts : (space : Space) (check : CheckValues) → HasSameStarts space check
+has_same_starts space check columns items k one over v w p q starts others =
+    let checked : IsChecked space columns items check = over.checked 0 check (omega arith) in
+    let same : IsSame v w = one_refusal check.check.now check.values k space checked.inputs one (over.expressions 0 check (omega arith)) checked.values over.at (Some v) (Some w) p q in
+    same_starts space check columns items k one over v w same p starts others

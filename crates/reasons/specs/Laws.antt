@@ -7,13 +7,14 @@ use Rattle.candidates.specs.declared.candidate.Space.{Space}
 use Rattle.candidates.specs.Space.{candidates_in, Candidate}
 use Rattle.cat_eval.specs.declared.column.Column.{Column}
 use Rattle.cat_eval.specs.Executions.{events_of}
+use Rattle.check_witness.specs.declared.witness.Witness.{Witness}
 use Rattle.check_witness.specs.declared.witness.Witness.TheVariants as shown
 use Rattle.check_witness.specs.Refusals.{IsRefusal}
 use Rattle.check_witness.specs.Witnesses.{IsExpression, IsSame}
 use Rattle.reasons.specs.declared.checks.CheckValues.{CheckValues}
 use Rattle.reasons.specs.declared.checks.FirstRefusal.{FirstRefusal}
 use Rattle.reasons.specs.Checked.{IsChecked, IsFirstRefusal}
-use Rattle.reasons.specs.Steps.{HasSteps, IsWalkBack, LeadsBack, StepStart, start_at}
+use Rattle.reasons.specs.Steps.{AreStarts, HasSteps, IsWalkBack, LeadsBack, StepStart, start_at}
 
 abbrev pub IsOfExpression : CheckValues → Type 0
 IsOfExpression c = IsExpression c.check.now.code.kind c.check.now.code.steps.items
@@ -37,7 +38,7 @@ HasOneFirstRefusal space checks =
     → (a.index ≡ b.index) × IsSame a.witness b.witness
 
 -- where `irreflexive` refuses a candidate for an event, what is told is a walk through the factors
--- back to it, or, where a walk has no step, one step of the whole expression: there always is a
+-- back to it, or, where the walk has no step, one step of the whole expression: there always is a
 -- walk
 abbrev pub HasWalkBack : Space → CheckValues → Type 0
 HasWalkBack space check =
@@ -46,5 +47,16 @@ HasWalkBack space check =
     → (event : ℕ) (starts : List StepStart)
     → IsRefusal check.check.now check.values k (Some (shown.Reflexive event))
     → LeadsBack check k (events_of one) event starts
-    → HasSteps check k event starts
-    ⊎ ((starts ≡ start_at check.check.now.code event ∷ []) × IsWalkBack check k event [])
+    → HasSteps check k (events_of one) event starts
+    ⊎ ((starts ≡ start_at check.check.now.code event ∷ [])
+    × IsWalkBack check k (events_of one) event [])
+
+-- the steps that are told of a refusal begin at the same events, and are of the same expressions
+abbrev pub HasSameStarts : Space → CheckValues → Type 0
+HasSameStarts space check =
+    (columns : List (Vec Column Global)) (items : List ResolvedItem) (k : ℕ) (one : Candidate)
+    → AreOver space columns items (check ∷ []) k one
+    → (v w : Witness) → IsRefusal check.check.now check.values k (Some v)
+    → IsRefusal check.check.now check.values k (Some w)
+    → (starts others : List StepStart) → AreStarts check k (events_of one) v starts
+    → AreStarts check k (events_of one) w others → starts ≡ others

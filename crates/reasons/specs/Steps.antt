@@ -8,7 +8,7 @@ use Rattle.check_witness.specs.declared.witness.Witness.TheVariants as shown
 use Rattle.factor_walks.specs.declared.run.Link.{Link}
 use Rattle.factor_walks.specs.declared.value.FactorValues.{FactorValues}
 use Rattle.factor_walks.specs.Values.{AreLinksAt, IsOn}
-use Rattle.factor_walks.specs.Walks.{IsWalk}
+use Rattle.factor_walks.specs.Walks.{IsFirstWalk, IsNoWalk, IsWalk}
 use Rattle.reason_text.specs.declared.reason.ToldStep.{ToldStep}
 use Rattle.step_labels.specs.declared.label.EventPair.{EventPair}
 use Rattle.reasons.specs.declared.checks.CheckValues.{CheckValues}
@@ -37,34 +37,38 @@ starts_through [] runs = []
 starts_through (f ∷ fs) [] = []
 starts_through (f ∷ fs) (run ∷ runs) = starts_at f.code run ++ starts_through fs runs
 
--- the steps of a walk through the factors of the check's expression from the event back to it, in
--- the candidate of number k
-pub record IsWalkBack (check : CheckValues) (k event : ℕ) (starts : List StepStart) : Type 0 where
+-- the factors of the check's expression have relations on n events in the candidate of number k
+abbrev pub AreFactorsOn : CheckValues → ℕ → ℕ → Type 0
+AreFactorsOn check k n = All (λ f. IsOn k n f.values) check.factors.items
+
+-- the steps of a walk through the factors of the check's expression from the event, one of n, back
+-- to it, in the candidate of number k: of the first walk, where the factors are on n events
+pub record IsWalkBack (check : CheckValues) (k n event : ℕ) (starts : List StepStart) : Type 0 where
   pub links : List Link
   pub runs : List (List ℕ)
   pub linked : AreLinksAt k check.factors.items links
   pub walk : IsWalk links event runs event
+  pub first : AreFactorsOn check k n → event < n → IsFirstWalk links event runs event
   pub through : starts ≡ starts_through check.factors.items runs
 
--- the factors have relations on n events in the candidate of number k, the event is one of these,
--- and no walk leads back to it
+-- no walk through the factors leads back to the event, if it is one of n and they are on n events
 abbrev pub HasNoWalkBack : CheckValues → ℕ → ℕ → ℕ → Type 0
 HasNoWalkBack check k n event =
-    All (λ f. IsOn k n f.values) check.factors.items → event < n → (starts : List StepStart)
-    → IsWalkBack check k event starts → ⊥
+    AreFactorsOn check k n → event < n → (links : List Link)
+    → AreLinksAt k check.factors.items links → IsNoWalk links event event
 
--- a walk back of one step or more; and that there is one without a step, or none
-abbrev pub HasSteps : CheckValues → ℕ → ℕ → List StepStart → Type 0
-HasSteps check k event starts = IsWalkBack check k event starts × (0 < length starts)
+-- a walk back of one step or more; and that the walk back has no step, or there is none
+abbrev pub HasSteps : CheckValues → ℕ → ℕ → ℕ → List StepStart → Type 0
+HasSteps check k n event starts = IsWalkBack check k n event starts × (0 < length starts)
 
 abbrev pub HasNoSteps : CheckValues → ℕ → ℕ → ℕ → Type 0
-HasNoSteps check k n event = IsWalkBack check k event [] ⊎ HasNoWalkBack check k n event
+HasNoSteps check k n event = IsWalkBack check k n event [] ⊎ HasNoWalkBack check k n event
 
 -- from the event back to it, among n events: a walk of one step or more, or one step of the whole
--- expression where a walk has no step, or there is none
+-- expression where the walk has no step, or there is none
 abbrev pub LeadsBack : CheckValues → ℕ → ℕ → ℕ → List StepStart → Type 0
 LeadsBack check k n event starts =
-    HasSteps check k event starts
+    HasSteps check k n event starts
     ⊎ ((starts ≡ start_at check.check.now.code event ∷ []) × HasNoSteps check k n event)
 
 -- where the steps begin that show why the check refuses the candidate of number k, of n events

@@ -3,7 +3,7 @@
 ghost use Rattle.std.specs.Prelude.{List};
 ghost use Rattle.candidates.specs.declared.candidate.Space.{Space};
 ghost use Rattle.reasons.specs.declared.checks.CheckValues.{CheckValues};
-ghost use Rattle.reasons.specs.Laws.{HasOneFirstRefusal, HasWalkBack};
+ghost use Rattle.reasons.specs.Laws.{HasOneFirstRefusal, HasSameStarts, HasWalkBack};
 
 /// A candidate that is refused has one first check that refuses it, and one witness of that: `why`
 /// and `draw` go by the same.
@@ -15,4 +15,9 @@ pub fn first_refusal_is_one()
 /// refuses.
 pub fn walk_back_is_found()
     ensures { (space : Space) (check : CheckValues) → HasWalkBack space check }
+{}
+
+/// The steps that are told of a refusal are always the same: `why` and `draw` show the same walk.
+pub fn steps_are_same()
+    ensures { (space : Space) (check : CheckValues) → HasSameStarts space check }
 {}

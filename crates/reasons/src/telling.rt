@@ -217,8 +217,8 @@ fn starts_through<'a>(
     Ok(starts)
 }
 
-// The starts of a walk through the factors of the check's expression from an event back to it; none
-// where there is no such walk, or it has no step.
+// The starts of the walk through the factors of the check's expression from an event back to it;
+// none where there is no such walk, or it has no step.
 fn starts_back<'a>(
     alloc: Global,
     check: &'a CheckValues<'_>,
@@ -227,7 +227,8 @@ fn starts_back<'a>(
 ) -> Result<Option<Vec<Start<'a>>>, AllocError>
     ensures { IfOk result (λ found. MatchOption found
         (HasNoSteps check.now told.entry.candidate (length told.entry.events.now) event)
-        (λ v. HasSteps check.now told.entry.candidate event (map start_of v.items))) }
+        (λ v. HasSteps check.now told.entry.candidate (length told.entry.events.now) event
+        (map start_of v.items))) }
 {
     let links = links_at(alloc, &check.factors, told.candidate)?;
     if told.events.len() > MAX_EVENTS {
