@@ -1,5 +1,11 @@
+pub mod Lists
 pub mod Models
 pub mod Replies
 pub mod Edits
 pub mod Refusals
 pub mod Outputs
+pub mod TextAnswers
+pub mod Streams
+pub mod ReadFiles
+pub mod FileReports
+pub mod Tellings

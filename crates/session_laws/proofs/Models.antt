@@ -3,7 +3,7 @@ use Rattle.std.proofs.Common.{◌≡◌, ℕ, List, [], ◌∷◌, map, Some, No
 use Rattle.std.proofs.lemmas.Simd.{map-map}
 use Rattle.std.specs.List.{AllZip}
 use Rattle.text_values.specs.declared.test.Test.{Test}
-use Rattle.text_values.specs.TestValue.{Content}
+use Rattle.text_values.specs.TestValue.{Content, content_of}
 use Rattle.text_values.specs.declared.model.Item as code_item
 use Rattle.text_values.specs.declared.model.Item.TheVariants as items
 use Rattle.text_values.specs.declared.model.ModelText.{ModelText}
@@ -48,6 +48,13 @@ one_clause (items.Include n) = refl
 all_clauses : (is : List code_item.Item) → map clause_by (values.clauses_of is) ≡ map clause_of is
 all_clauses [] = refl
 all_clauses (i ∷ is) = let a = one_clause i in let b = all_clauses is in λ k. a k ∷ b k
+
+-- items that say the same bind and check the same
+pub equal_clauses : (items others : List code_item.Item)
+    → values.clauses_of items ≡ values.clauses_of others
+    → map clause_of items ≡ map clause_of others
+equal_clauses items others same =
+    sym (all_clauses items) ∙ (ap (map clause_by) same ∙ all_clauses others)
 
 -- ---- labels
 
@@ -97,9 +104,7 @@ all_labelled (i ∷ is) (r ∷ rs) h = (labelled_of i r h.0, all_labelled is rs 
 module _ (model other : ModelText)
     (same : values.clauses_of model.items.items ≡ values.clauses_of other.items.items) where
   clauses : map clause_of model.items.items ≡ map clause_of other.items.items
-  clauses =
-      sym (all_clauses model.items.items) ∙
-      (ap (map clause_by) same ∙ all_clauses other.items.items)
+  clauses = equal_clauses model.items.items other.items.items same
 
   labels : (rs : List ResolvedItem) → AreLabelled model.items.items rs
       → AreLabelled other.items.items rs
@@ -131,8 +136,17 @@ module _ (model other : ModelText)
   equal_models test o h =
       record { kind = h.kind; condition = h.condition; result = moved test o.result h.result }
 
+-- a test and a model have the outcomes of a test and a model that say the same
+pub one_outcome_alike : (test other : Test) (model under : ModelText)
+    → content_of test ≡ content_of other
+    → values.clauses_of model.items.items ≡ values.clauses_of under.items.items
+    → (o p : Outcome) → IsFromScratch test model o → IsFromScratch other under p → o ≡ p
+one_outcome_alike test other model under same alike o p h g =
+    let there = equal_tests test other model same o h in
+    let here = equal_models model under alike other o there in
+    one_outcome other under o p here g
+
 pub one_outcome_said : (test : Content) (model : PlainModel) → HasOneOutcome test model
 one_outcome_said test model o p h g =
-    let there = equal_tests h.test g.test h.model (h.test_is ∙ sym g.test_is) o h.said in
-    let here = equal_models h.model g.model (h.model_is ∙ sym g.model_is) g.test o there in
-    one_outcome g.test g.model o p here g.said
+    one_outcome_alike h.test g.test h.model g.model (h.test_is ∙ sym g.test_is)
+    (h.model_is ∙ sym g.model_is) o p h.said g.said

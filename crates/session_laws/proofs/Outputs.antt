@@ -13,6 +13,7 @@ use Rattle.session_edits.specs.Requests.{Asked, Editing, Asking, asked_in}
 use Rattle.session_answers.specs.Sessions.{IsAsked, IsAnswered, IsOutput, Nothing, OneMore, no_texts}
 use Rattle.session_laws.specs.Laws.{HasOneOutput, BeginsAlike}
 use Rattle.session_laws.proofs.Edits.{AreFew, few_made, one_made}
+use Rattle.session_laws.proofs.Lists.{not_empty, last_one}
 use Rattle.session_laws.proofs.Refusals.{one_refusal, not_both}
 use Rattle.session_laws.proofs.Replies.{one_reply}
 
@@ -71,29 +72,6 @@ few_output cs text r t Nothing = tt
 few_output cs text r t (OneMore front before refused texts c said after h answer) =
     few_answered texts c said after (few_output front before refused texts h) answer
 
--- ---- commands
-
-record AreSplit (front other : List Command) (c d : Command) : Type 0 where
-  fronts : front ≡ other
-  ends : c ≡ d
-
-no_command : (cs : List Command) (c : Command) → [] ≡ (cs ++ c ∷ []) → ⊥
-no_command [] c e = absurd cc
-no_command (d ∷ cs) c e = absurd cc
-
-last_one : (front other : List Command) (c d : Command) → (front ++ c ∷ []) ≡ (other ++ d ∷ [])
-    → AreSplit front other c d
-last_one [] [] c d e = record { fronts = refl; ends = cc }
-last_one [] (x ∷ other) c d e =
-    absurd (no_command other d (let h : [] ≡ (other ++ d ∷ []) = cc in h))
-last_one (x ∷ front) [] c d e =
-    absurd (no_command front c (let h : [] ≡ (front ++ c ∷ []) = cc in h))
-last_one (x ∷ front) (y ∷ other) c d e =
-    let heads : x ≡ y = cc in
-    let rest : (front ++ c ∷ []) ≡ (other ++ d ∷ []) = cc in
-    let r = last_one front other c d rest in
-    record { fronts = (λ i. heads i ∷ r.fronts i); ends = r.ends }
-
 -- ---- outputs
 
 record IsOne (a b : List ℕ) (p q : Bool) (t u : BenchTexts) : Type 0 where
@@ -122,9 +100,9 @@ one_output : (cs : List Command) (a : List ℕ) (p : Bool) (t : BenchTexts) → 
 one_output cs a p t Nothing ds b q u Nothing e =
     record { text = refl; refused = refl; texts = refl }
 one_output cs a p t Nothing ds b q u (OneMore other text2 refused2 texts2 d said2 later h2 answer2)
-    e = absurd (no_command other d e)
+    e = absurd (not_empty other d e)
 one_output cs a p t (OneMore front text1 refused1 texts1 c said1 after h1 answer1) ds b q u Nothing
-    e = absurd (no_command front c (sym e))
+    e = absurd (not_empty front c (sym e))
 one_output cs a p t (OneMore front text1 refused1 texts1 c said1 after h1 answer1) ds b q u
     (OneMore other text2 refused2 texts2 d said2 later h2 answer2) e =
     let l = last_one front other c d e in

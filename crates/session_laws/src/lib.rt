@@ -1,13 +1,22 @@
-//! Laws of what a session says: over the same texts a question has one answer, and commands have
-//! one output, also where some are refused. Read specs/Laws first, after `Sessions` of
-//! `session_answers/specs`.
+//! Laws of what is said: over the same texts a question of a session has one answer, and commands
+//! have one output, also where some are refused (specs/Laws, after `Sessions` of
+//! `session_answers/specs`). A model's text and a test's text have one answer, and files one table
+//! and one difference (specs/Answers, after `Answer` and `Reports` of `litmusbench/specs`).
 #![tactic(auto)]
 
-ghost use Rattle.std.specs.Prelude.{List};
+ghost use Rattle.std.specs.Prelude.{ℕ, List, [], Some};
 ghost use Rattle.text_values.specs.TestValue.{Content};
 ghost use Rattle.bench_texts.specs.BenchTexts.{PlainModel, BenchTexts};
+ghost use Rattle.command_line.specs.declared.form.Drawn.{Drawn};
+ghost use Rattle.litmusbench.specs.Answer.{IsWritten, IsStreamed};
+ghost use Rattle.litmusbench.specs.Pictures.{IsPictureAnswer};
+ghost use Rattle.litmusbench.specs.Reports.{IsTable, IsDifference, IsModelTold, IsTestTold, IsToldOf};
+ghost use Rattle.litmusbench.specs.Told.{IsFaultTold};
+ghost use Rattle.litmusbench.specs.Whys.{IsWhyAnswer};
+ghost use Rattle.reasons.specs.declared.answer.Asked.{Asked};
 ghost use Rattle.session_edits.specs.declared.request.Question.{Question};
 ghost use Rattle.session_script.specs.declared.command.Command.{Command};
+ghost use Rattle.session_laws.specs.Answers.{HasOneAnswer, HasOneEvaluation, HasOneRefusal, LeaveOne, LeaveFronts, HasOneReport, HasOneTelling, HasOneTellingOfBoth};
 ghost use Rattle.session_laws.specs.Laws.{HasOneOutcome, HasOneReply, HasOneOutput, BeginsAlike};
 
 /// A test has one outcome under a model, wherever the two lie in memory.
@@ -28,4 +37,46 @@ pub fn outputs_are_one()
 /// What is written of the first commands is a front of what is written of all.
 pub fn outputs_begin_alike()
     ensures { (first others : List Command) → BeginsAlike first others }
+{}
+
+/// A model's text and a test's text have one answer: the log, or the line of the first text that is
+/// refused. So `eval` gives one log or one fault of them, but for want of memory.
+pub fn answers_are_one()
+    ensures answer { (model test : List ℕ) → HasOneAnswer model test }
+    ensures evaluation { (model test : List ℕ) → HasOneEvaluation model test }
+{}
+
+/// `why` and `draw` refuse two texts or accept them, whichever answer they give, and refuse them in
+/// one way. What they say of texts that they accept is left to their own definitions.
+pub fn refusals_are_one()
+    ensures why { (asked : Asked) (model test : List ℕ)
+        → HasOneRefusal (IsWhyAnswer asked model test) }
+    ensures draw { (drawn : Drawn) (most : ℕ) (model test : List ℕ)
+        → HasOneRefusal (IsPictureAnswer drawn most model test) }
+{}
+
+/// What `write_answer` writes of two texts, and `eval_stream` of an input, behind the bytes that
+/// stand there, is one where all of it is written. Where a write fails it is a front of that.
+pub fn writings_are_one()
+    ensures texts { (model test old : List ℕ) → LeaveOne (IsWritten model test (Some old)) }
+    ensures stream { (input old : List ℕ) → LeaveOne (IsStreamed (Some input) (Some old)) }
+    ensures texts_front { (model test old : List ℕ)
+        → LeaveFronts (IsWritten model test (Some old)) }
+    ensures stream_front { (input old : List ℕ) → LeaveFronts (IsStreamed (Some input) (Some old)) }
+{}
+
+/// The tables and the differences of the same files are one, and so are the lines of the files that
+/// are refused.
+pub fn reports_are_one()
+    ensures table { HasOneReport IsTable }
+    ensures difference { HasOneReport IsDifference }
+{}
+
+/// What is told of a file that is refused, of the first of two, and of the fault of a model that
+/// reads is one.
+pub fn tellings_are_one()
+    ensures model { HasOneTelling IsModelTold }
+    ensures test { HasOneTelling (λ file. IsTestTold file []) }
+    ensures both { HasOneTellingOfBoth IsToldOf }
+    ensures fault { HasOneTelling IsFaultTold }
 {}
