@@ -5,3 +5,4 @@ pub mod Gaining
 pub mod Steps
 pub mod Paths
 pub mod Fronts
+pub mod Failing

@@ -1,5 +1,5 @@
 -- What watching answers, and what a run writes. Read after Lines.
-use Rattle.std.specs.Prelude.{◌≡◌, ◌≤◌, ◌==◌, if◌then◌else◌, ℕ, Bool, true, false, List, [], ◌∷◌, ◌++◌, codes, length, Option, Some, None, Vec}
+use Rattle.std.specs.Prelude.{◌≡◌, ◌≤◌, ◌==◌, if◌then◌else◌, ℕ, Bool, true, false, List, [], ◌∷◌, ◌++◌, codes, length, map, Option, Some, None, Vec}
 use Rattle.std.specs.declared.alloc.Global.{Global}
 use Rattle.std.specs.Io.KnownBytes.{Appends}
 use Rattle.bench_texts.specs.declared.fault.EditFault.{EditFault}
@@ -127,6 +127,19 @@ pub record IsBegun (model : List ℕ) (tests lasts : List (List ℕ)) (new : Sta
   pub middle : Standing
   pub begun : AreBegun (all_files model tests) (at_first (length tests) lasts) middle read told
   pub settled : IsSettled middle new told said
+
+-- The first versions of these files were asked for, one after another, up to that of one file,
+-- which could not be read.
+pub record EndsUnread (files : List FilePath) (read_before read_after : Option (List Reading))
+    : Type 0 where
+  pub begun : List FilePath
+  pub file : FilePath
+  pub later : List FilePath
+  pub all : files ≡ begun ++ file ∷ later
+  pub read : List Reading
+  pub paths : map (λ r. r.path) read ≡ map (λ f. f.path) begun
+  pub reads : AreRead read_before read_after
+      (read ++ record { path = file.path; version = Unread } ∷ [])
 
 -- A whole run over the files of these paths is written: its beginning, and an answer to each line
 -- of the source that is not empty, where it is known which bytes it had. Before it these lines were

@@ -1,15 +1,19 @@
 //! The loop: lines that name files, and what is answered to them.
 
 ghost use Rattle.std.specs.Prelude.{◌≡◌, ◌≢◌, ◌+◌, ◌-◌, ◌<◌, ◌^◌, ◌++◌, [], ◌∷◌, length, map, option_map, codes, true, false};
-ghost use Rattle.std.specs.Prelude.{Some, IfOk, IfSome, OnOk, OnErr, Ok, Err};
+ghost use Rattle.std.specs.Prelude.{Some, IfOk, IfSome, OnOk, OnErr, IsTrue, Ok, Err};
 ghost use Rattle.std.specs.Io.KnownBytes.{Appends};
+ghost use Rattle.session_script.specs.Reading.{IsPaid};
 ghost use Rattle.session_script.specs.Written.{WritesFront};
+ghost use Rattle.litmusbench.specs.Answer.{IsReadFault};
 ghost use Rattle.bench_texts.specs.Held.{texts_of};
-ghost use Rattle.live_watch.specs.Readings.{HasReadAtMost};
+ghost use Rattle.live_watch.specs.Readings.{AreRead, HasReadAtMost};
+ghost use Rattle.live_watch.specs.declared.versions.Version.TheVariants.{Unread};
 ghost use Rattle.live_watch.specs.Holding.{file_at, all_files};
 ghost use Rattle.live_watch.specs.Edits.{file_of, model_path, test_paths, held_of, IsVersionTaken};
 ghost use Rattle.live_watch.specs.Boards.{lists_of, standing_of, KnowsTexts};
-ghost use Rattle.live_watch.specs.Runs.{refusal_of, at_first, IsSettled, IsNoted, IsTextAnswer, IsAnswer, IsAnswered, HasAnswers, IsLine, AreIn, AreOfTurn, AreAll, BeginsFile, HasBegun, HasBegunRun, IsRun, IsCut, HasFront, IsFrontLine, AreFrontIn, AreFrontOf};
+ghost use Rattle.live_watch.specs.Ends.{HasFailedRead};
+ghost use Rattle.live_watch.specs.Runs.{refusal_of, at_first, IsSettled, IsNoted, IsTextAnswer, IsAnswer, IsAnswered, HasAnswers, IsLine, AreIn, AreOfTurn, AreAll, BeginsFile, HasBegun, HasBegunRun, EndsUnread, IsRun, IsCut, HasFront, IsFrontLine, AreFrontIn, AreFrontOf};
 
 use crate::lines::put_answer;
 use crate::settling::Hands;
@@ -221,6 +225,9 @@ impl<'a, 'd, J: Naming + StoreName, R: Wait + Drop> Run<'a, 'd, J, R> {
             (V.readings versions.new) text.old.items text.new.items) }
         ensures readings { OnErr result (HasReadAtMost 1 (V.readings versions.old)
             (V.readings versions.new)) }
+        ensures read { result ≡ Err SessionFault.Read
+            → AreRead (V.readings versions.old) (V.readings versions.new)
+            (record { path = path.now; version = Unread } ∷ []) }
     {
         match versions.version(alloc, path) {
             Version::Text(version) => {
@@ -258,6 +265,9 @@ impl<'a, 'd, J: Naming + StoreName, R: Wait + Drop> Run<'a, 'd, J, R> {
         ensures readings { OnErr result (HasReadAtMost
             (length (all_files (model_path paths.entry) (test_paths paths.entry)))
             (V.readings versions.old) (V.readings versions.new)) }
+        ensures read { result ≡ Err SessionFault.Read
+            → EndsUnread (all_files (model_path paths.entry) (test_paths paths.entry))
+            (V.readings versions.old) (V.readings versions.new) }
     {
         let mut text = Vec::new(alloc);
         self.begin_file(
@@ -302,6 +312,9 @@ impl<'a, 'd, J: Naming + StoreName, R: Wait + Drop> Run<'a, 'd, J, R> {
         ensures readings { OnErr result (HasReadAtMost
             (length (all_files (model_path self.old.paths) (test_paths self.old.paths)))
             (V.readings versions.old) (V.readings versions.new)) }
+        ensures read { result ≡ Err SessionFault.Read
+            → EndsUnread (all_files (model_path self.old.paths) (test_paths self.old.paths))
+            (V.readings versions.old) (V.readings versions.new) }
     {
         let paths = self.paths;
         let mut text = self.begin_files(rt, alloc, versions, paths)?;
@@ -608,6 +621,10 @@ impl<'a, 'd, J: Naming + StoreName, R: Wait + Drop> Run<'a, 'd, J, R> {
         ensures unread { result ≢ Err SessionFault.Read
             → S.failed_calls source.new ≡ S.failed_calls source.old }
         ensures unshared { result ≢ Err SessionFault.Shared }
+        ensures read { result ≡ Err SessionFault.Read
+            → S.failed_calls source.new ≡ S.failed_calls source.old + 1 }
+        ensures paid { IfOk result (λ goes_on. IsTrue goes_on
+            → IsPaid 1 0 (S.remaining source.old) (S.remaining source.new)) }
     {
         let mut buffer = [0u8; 4096];
         match source.read_some(&mut buffer) {
@@ -666,6 +683,9 @@ impl<'a, 'd, J: Naming + StoreName, R: Wait + Drop> Run<'a, 'd, J, R> {
         ensures unread { result ≢ Err SessionFault.Read
             → S.failed_calls source.new ≡ S.failed_calls source.old }
         ensures unshared { result ≢ Err SessionFault.Shared }
+        ensures read { result ≡ Err SessionFault.Read
+            → IsReadFault (S.failed_calls source.old) (S.failed_calls source.new)
+            (S.remaining source.old) }
     {
         let mut line = Vec::new(alloc);
         for _turn in 0..MAX_TURNS {
@@ -710,6 +730,10 @@ impl<'a, 'd, J: Naming + StoreName, R: Wait + Drop> Run<'a, 'd, J, R> {
         ensures unread { result ≢ Err SessionFault.Read
             → S.failed_calls source.new ≡ S.failed_calls source.old }
         ensures unshared { result ≢ Err SessionFault.Shared }
+        ensures read { result ≡ Err SessionFault.Read
+            → HasFailedRead (all_files (model_path self.old.paths) (test_paths self.old.paths))
+            (S.failed_calls source.old) (S.failed_calls source.new) (S.remaining source.old)
+            (V.readings versions.old) (V.readings versions.new) }
     {
         let text = self.begin(rt, alloc, versions)?;
         write_text(sink, &text)?;

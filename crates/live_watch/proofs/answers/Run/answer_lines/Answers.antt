@@ -1,5 +1,7 @@
-use Rattle.std.proofs.Common.{refl, ◌∙◌}
+use Rattle.std.proofs.Common.{ℕ, ◌+◌, inl, inr, refl, ap, ◌∙◌, arith}
+use Rattle.std.proofs.lemmas.Result.{err_from_is_err_and}
 use Rattle.live_watch.proofs.Gaining.{gains_none, gains_joined, start_turn, turns_on_if, turns_end_if}
+use Rattle.live_watch.proofs.Failing.{none_paid, more_paid, all_paid}
 use Rattle.live_watch.proofs.Fronts.{on_err, front_behind, front_after, front_of_all, front_turns}
 use Rattle.live_watch.proofs.answers.Run.answer_lines.Goals as goal
 
@@ -9,6 +11,7 @@ loop-turn-init g c = record {
   paths = refl;
   reads = refl;
   writes = refl;
+  paid = none_paid (g.S.ByteSource.remaining c.args.source.now);
   answers = gains_none _ _ _ _ _ _ (start_turn c.new-line.result.items _ c.new-line.ensures.items);
 }
 
@@ -18,6 +21,11 @@ loop-turn-preserved g c = record {
   paths = c.in_ok-goes_on.ensures.paths ∙ c.loop-turn.invariant.paths;
   reads = c.in_ok-goes_on.ensures.reads ∙ c.loop-turn.invariant.reads;
   writes = c.in_ok-goes_on.ensures.writes ∙ c.loop-turn.invariant.writes;
+  paid =
+      more_paid c.loop-turn._turn (g.S.ByteSource.remaining c.args.source.now)
+      (g.S.ByteSource.remaining c.loop-turn.source)
+      (g.S.ByteSource.remaining c.take_turn.new.source) c.loop-turn.invariant.paid
+      (c.in_ok-goes_on.ensures.paid c.if-not-goes_on.false);
   answers =
       gains_joined _ _ _ _ _ _ _ _ _ _ _ _ _ _ (λ x y first then.
       turns_on_if c.in_ok-goes_on.goes_on c.if-not-goes_on.false _ _ _ _ _ _ x y first then)
@@ -42,3 +50,28 @@ pub returns-clause-cut : goal.returns-clause-cut
 returns-clause-cut g c =
     front_of_all _ _ _ _ _ _ _ _ _ _ (λ x first. front_turns _ c.loop-turn.line.items _ _ x first)
     c.loop-turn.invariant.answers
+
+pub returns-in_err-goes_on-clause-read : goal.returns-in_err-goes_on-clause-read
+returns-in_err-goes_on-clause-read g c = λ e.
+    let p = err_from_is_err_and c.from_residual.result c.from_residual.ensures.1 in
+    inl (c.in_err-goes_on.ensures.read (cc (p.1, p.2))
+    ∙ ap (λ (n : ℕ). n + 1) c.loop-turn.invariant.reads)
+
+pub returns-clause-read : goal.returns-clause-read
+returns-clause-read g c = λ e.
+    inr (
+      c.loop-turn.invariant.reads,
+      all_paid c.loop-turn._turn 16777216 (g.S.ByteSource.remaining c.args.source.now)
+          (g.S.ByteSource.remaining c.loop-turn.source) (omega arith)
+          c.loop-turn.invariant.paid,
+    )
+
+pub returns-in_err-goes_on-clause-unfailed : goal.returns-in_err-goes_on-clause-unfailed
+returns-in_err-goes_on-clause-unfailed g c = λ ne.
+    let p = err_from_is_err_and c.from_residual.result c.from_residual.ensures.1 in
+    c.in_err-goes_on.ensures.unfailed (λ e. ne (cc (p.1, p.2))) ∙ c.loop-turn.invariant.writes
+
+pub returns-in_err-goes_on-clause-unread : goal.returns-in_err-goes_on-clause-unread
+returns-in_err-goes_on-clause-unread g c = λ ne.
+    let p = err_from_is_err_and c.from_residual.result c.from_residual.ensures.1 in
+    c.in_err-goes_on.ensures.unread (λ e. ne (cc (p.1, p.2))) ∙ c.loop-turn.invariant.reads

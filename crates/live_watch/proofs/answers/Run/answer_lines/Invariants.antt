@@ -1,11 +1,13 @@
 use Rattle.std.proofs.Common.{◌≡◌, [], true}
 use Rattle.bench_texts.specs.Held.{texts_of}
+use Rattle.session_script.specs.Reading.{IsPaid}
 use Rattle.live_watch.specs.Edits.{model_path, test_paths}
 use Rattle.live_watch.specs.Boards.{KnowsTexts, standing_of}
 use Rattle.live_watch.specs.Runs.{HasAnswers, AreOfTurn}
 use Rattle.live_watch.proofs.answers.Run.answer_lines.Given as goal
 
--- no read and no write failed so far, and the lines so far were answered
+-- no read and no write failed so far, each turn gave a byte at least, and the lines so far were
+-- answered
 abbrev pub invariant-loop-turn : goal.invariant-loop-turn
 invariant-loop-turn g l =
     let reads = g.S.ByteSource.failed_calls in
@@ -18,6 +20,7 @@ invariant-loop-turn g l =
       paths : l.self.paths ≡ l.initial.self.paths;
       reads : reads l.source ≡ reads l.initial.source;
       writes : calls l.sink ≡ calls l.initial.sink;
+      paid : IsPaid l._turn 0 (remaining l.initial.source) (remaining l.source);
       answers : HasAnswers (model_path l.initial.self.paths) (test_paths l.initial.self.paths)
           (AreOfTurn true [] l.line.items (remaining l.initial.source) (remaining l.source))
           (standing_of l.initial.self.watched.texts l.initial.self.watched.names

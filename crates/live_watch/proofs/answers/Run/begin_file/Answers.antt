@@ -19,3 +19,6 @@ returns-in-Unread-clause-readings g c = one_read _ _ _ c.in-Unread.ensures
 
 pub returns-in-OutOfMemory-clause-readings : goal.returns-in-OutOfMemory-clause-readings
 returns-in-OutOfMemory-clause-readings g c = one_read _ _ _ c.in-OutOfMemory.ensures
+
+pub returns-in-Unread-clause-read : goal.returns-in-Unread-clause-read
+returns-in-Unread-clause-read g c = λ e. c.in-Unread.ensures

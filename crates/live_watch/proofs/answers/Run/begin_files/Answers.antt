@@ -1,5 +1,7 @@
 use Rattle.std.proofs.Common.{◌∙◌, arith}
+use Rattle.std.proofs.lemmas.Result.{err_from_is_err_and}
 use Rattle.live_watch.proofs.Gaining.{few_read, begun_first, begun_next, begun_all, begun_and_one}
+use Rattle.live_watch.proofs.Failing.{unread_first, unread_next}
 use Rattle.live_watch.proofs.Fronts.{on_err}
 use Rattle.live_watch.proofs.answers.Run.begin_files.Goals as goal
 
@@ -32,3 +34,16 @@ pub returns-in_err-begin_file-2-clause-readings : goal.returns-in_err-begin_file
 returns-in_err-begin_file-2-clause-readings g c =
     on_err _ _ (begun_and_one _ c.args.paths.tests.now c.loop-index.index _ _ _ _ _ _ (omega arith)
     c.loop-index.invariant.begun c.in_err-begin_file-2.ensures.readings)
+
+pub returns-in_err-begin_file-clause-read : goal.returns-in_err-begin_file-clause-read
+returns-in_err-begin_file-clause-read g c = λ e.
+    let p = err_from_is_err_and c.from_residual.result c.from_residual.ensures.1 in
+    unread_first c.args.paths.model.now c.args.paths.tests.now _ _
+    (c.in_err-begin_file.ensures.read (cc (p.1, p.2)))
+
+pub returns-in_err-begin_file-2-clause-read : goal.returns-in_err-begin_file-2-clause-read
+returns-in_err-begin_file-2-clause-read g c = λ e.
+    let p = err_from_is_err_and c.from_residual-in_err-begin_file-2.result c.from_residual-in_err-begin_file-2.ensures.1 in
+    unread_next c.args.paths.model.now c.args.paths.tests.now c.loop-index.index _ _ _ _ _ _ _
+    (omega arith) c.loop-index.invariant.begun
+    (c.in_err-begin_file-2.ensures.read (cc (p.1, p.2)))
