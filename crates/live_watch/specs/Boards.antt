@@ -4,6 +4,7 @@ use Rattle.std.specs.declared.alloc.Global.{Global}
 use Rattle.std.specs.List.{AllByRecursion as Each}
 use Rattle.compare_report.specs.Cells.{Open}
 use Rattle.bench_texts.specs.BenchTexts.{BenchTexts}
+use Rattle.bench_texts.specs.Held.{texts_of}
 use Rattle.bench_texts.specs.declared.texts.Texts.{Texts}
 use Rattle.board.specs.declared.operation.BoardOp.{BoardOp}
 use Rattle.board.specs.Contents.{shown}
@@ -12,10 +13,12 @@ use Rattle.board.specs.Legal.{IsLegal}
 use Rattle.board.specs.Results.{ShowsRightCells}
 use Rattle.board.specs.Edits.{edit_count}
 use Rattle.session_views.specs.Knowing.{KnowsOwn}
-use Rattle.live_watch.specs.Holding.{model_name}
+use Rattle.live_watch.specs.Holding.{Holding, model_name}
 use Rattle.live_watch.specs.Lines.{test_table, behind_line}
 use Rattle.live_watch.specs.Edits.{held_of}
 use Rattle.live_watch.specs.Runs.{Standing}
+use Rattle.live_watch.specs.declared.watched.Watched.{Watched}
+use Rattle.live_watch.specs.declared.answers.Run.{Run}
 
 -- the viewer has seen these operations, of which it made so many edits: it knows by them that its
 -- own texts are these
@@ -68,3 +71,17 @@ abbrev pub standing_of : Texts → Vec (Option (List ℕ)) Global → Vec (Vec �
     → Standing
 standing_of texts names lines refused =
     record { held = held_of texts names; lines = lists_of lines.items; refused = refused }
+
+-- ---- a desk with its files, and a run
+
+-- the viewer of a desk knows by what it saw that these are its texts
+abbrev pub KnowsItsTexts : {J R : Type 0} → Watched J R → Type 0
+KnowsItsTexts watched = KnowsTexts watched.viewer watched.made (texts_of watched.texts)
+
+-- what is held of its files
+abbrev pub holding : {J R : Type 0} → Watched J R → Holding
+holding watched = held_of watched.texts watched.names
+
+-- how things stand for a run
+abbrev pub standing : {J R : Type 0} → Run J R → Standing
+standing run = standing_of run.watched.texts run.watched.names run.lines run.is_refused

@@ -6,12 +6,11 @@ ghost use Rattle.std.specs.Io.KnownBytes.{Appends};
 ghost use Rattle.session_script.specs.Reading.{IsPaid};
 ghost use Rattle.session_script.specs.Written.{WritesFront};
 ghost use Rattle.litmusbench.specs.Answer.{IsReadFault};
-ghost use Rattle.bench_texts.specs.Held.{texts_of};
 ghost use Rattle.live_watch.specs.Readings.{AreRead, HasReadAtMost};
 ghost use Rattle.live_watch.specs.declared.versions.Version.TheVariants.{Unread};
 ghost use Rattle.live_watch.specs.Holding.{file_at, all_files};
-ghost use Rattle.live_watch.specs.Edits.{file_of, model_path, test_paths, held_of, IsVersionTaken};
-ghost use Rattle.live_watch.specs.Boards.{lists_of, standing_of, KnowsTexts};
+ghost use Rattle.live_watch.specs.Edits.{file_of, model_path, test_paths, IsVersionTaken};
+ghost use Rattle.live_watch.specs.Boards.{lists_of, KnowsItsTexts, holding, standing};
 ghost use Rattle.live_watch.specs.Ends.{HasFailedRead};
 ghost use Rattle.live_watch.specs.Runs.{refusal_of, at_first, IsSettled, IsNoted, IsTextAnswer, IsAnswer, IsAnswered, HasAnswers, IsLine, AreIn, AreOfTurn, AreAll, BeginsFile, HasBegun, HasBegunRun, EndsUnread, IsRun, IsCut, HasFront, IsFrontLine, AreFrontIn, AreFrontOf};
 
@@ -126,14 +125,11 @@ impl<'a, 'd, J: Naming + StoreName, R: Wait + Drop> Run<'a, 'd, J, R> {
         file: WatchedFile,
         version: Vec<u8>,
     ) -> Result<Option<EditFault>, AllocError>
-        requires ready { KnowsTexts self.old.watched.viewer self.old.watched.made
-            (texts_of self.old.watched.texts) }
-        ensures ready { OnOk result (KnowsTexts self.new.watched.viewer self.new.watched.made
-            (texts_of self.new.watched.texts)) }
+        requires ready { KnowsItsTexts self.old.watched }
+        ensures ready { OnOk result (KnowsItsTexts self.new.watched) }
         ensures paths { self.new.paths ≡ self.old.paths }
         ensures taken { IfOk result (λ o. IsVersionTaken (file_of file) version.items
-            (held_of self.old.watched.texts self.old.watched.names) o
-            (held_of self.new.watched.texts self.new.watched.names)) }
+            (holding self.old.watched) o (holding self.new.watched)) }
         ensures lines { self.new.lines ≡ self.old.lines }
         ensures refused { self.new.is_refused ≡ self.old.is_refused }
     {
@@ -153,16 +149,11 @@ impl<'a, 'd, J: Naming + StoreName, R: Wait + Drop> Run<'a, 'd, J, R> {
         version: Vec<u8>,
         text: &mut Vec<u8>,
     ) -> Result<bool, AllocError>
-        requires ready { KnowsTexts self.old.watched.viewer self.old.watched.made
-            (texts_of self.old.watched.texts) }
-        ensures ready { OnOk result (KnowsTexts self.new.watched.viewer self.new.watched.made
-            (texts_of self.new.watched.texts)) }
+        requires ready { KnowsItsTexts self.old.watched }
+        ensures ready { OnOk result (KnowsItsTexts self.new.watched) }
         ensures paths { self.new.paths ≡ self.old.paths }
         ensures noted { IfOk result (IsNoted (file_of file) path.now version.items
-            (standing_of self.old.watched.texts self.old.watched.names self.old.lines
-            self.old.is_refused)
-            (standing_of self.new.watched.texts self.new.watched.names self.new.lines
-            self.new.is_refused) text.old.items text.new.items) }
+            (standing self.old) (standing self.new) text.old.items text.new.items) }
     {
         match self.take(rt, alloc, file, version)? {
             Some(fault) => {
@@ -181,17 +172,12 @@ impl<'a, 'd, J: Naming + StoreName, R: Wait + Drop> Run<'a, 'd, J, R> {
         alloc: Global,
         text: &mut Vec<u8>,
     ) -> Result<(), SessionFault>
-        requires ready { KnowsTexts self.old.watched.viewer self.old.watched.made
-            (texts_of self.old.watched.texts) }
-        ensures ready { OnOk result (KnowsTexts self.new.watched.viewer self.new.watched.made
-            (texts_of self.new.watched.texts)) }
+        requires ready { KnowsItsTexts self.old.watched }
+        ensures ready { OnOk result (KnowsItsTexts self.new.watched) }
         ensures paths { self.new.paths ≡ self.old.paths }
         ensures fault { OnErr result (result ≡ Err SessionFault.Memory) }
-        ensures settled { OnOk result (IsSettled
-            (standing_of self.old.watched.texts self.old.watched.names self.old.lines
-            self.old.is_refused)
-            (standing_of self.new.watched.texts self.new.watched.names self.new.lines
-            self.new.is_refused) text.old.items text.new.items) }
+        ensures settled { OnOk result (IsSettled (standing self.old) (standing self.new)
+            text.old.items text.new.items) }
     {
         let (jobs, lines) = self.watched.settled_lines(rt, alloc, &self.hands)?;
         memory(put_answer(text, &self.lines, &lines, jobs))?;
@@ -209,19 +195,13 @@ impl<'a, 'd, J: Naming + StoreName, R: Wait + Drop> Run<'a, 'd, J, R> {
         path: &str,
         text: &mut Vec<u8>,
     ) -> Result<(), SessionFault>
-        requires ready { KnowsTexts self.old.watched.viewer self.old.watched.made
-            (texts_of self.old.watched.texts) }
-        ensures ready { OnOk result (KnowsTexts self.new.watched.viewer self.new.watched.made
-            (texts_of self.new.watched.texts)) }
+        requires ready { KnowsItsTexts self.old.watched }
+        ensures ready { OnOk result (KnowsItsTexts self.new.watched) }
         ensures paths { self.new.paths ≡ self.old.paths }
         ensures fault { result ≢ Err SessionFault.Write }
         ensures unshared { result ≢ Err SessionFault.Shared }
         ensures begun { OnOk result (BeginsFile (record { file = file_of file; path = path.now })
-            (standing_of self.old.watched.texts self.old.watched.names self.old.lines
-            self.old.is_refused)
-            (standing_of self.new.watched.texts self.new.watched.names self.new.lines
-            self.new.is_refused)
-            (V.readings versions.old)
+            (standing self.old) (standing self.new) (V.readings versions.old)
             (V.readings versions.new) text.old.items text.new.items) }
         ensures readings { OnErr result (HasReadAtMost 1 (V.readings versions.old)
             (V.readings versions.new)) }
@@ -247,21 +227,14 @@ impl<'a, 'd, J: Naming + StoreName, R: Wait + Drop> Run<'a, 'd, J, R> {
         versions: &mut V,
         paths: Paths<'a>,
     ) -> Result<Vec<u8>, SessionFault>
-        requires ready { KnowsTexts self.old.watched.viewer self.old.watched.made
-            (texts_of self.old.watched.texts) }
-        ensures ready { OnOk result (KnowsTexts self.new.watched.viewer self.new.watched.made
-            (texts_of self.new.watched.texts)) }
+        requires ready { KnowsItsTexts self.old.watched }
+        ensures ready { OnOk result (KnowsItsTexts self.new.watched) }
         ensures paths { self.new.paths ≡ self.old.paths }
         ensures fault { result ≢ Err SessionFault.Write }
         ensures unshared { result ≢ Err SessionFault.Shared }
         ensures begun { IfOk result (λ t. HasBegun
-            (all_files (model_path paths.entry) (test_paths paths.entry))
-            (standing_of self.old.watched.texts self.old.watched.names self.old.lines
-            self.old.is_refused)
-            (standing_of self.new.watched.texts self.new.watched.names self.new.lines
-            self.new.is_refused)
-            (V.readings versions.old)
-            (V.readings versions.new) t.items) }
+            (all_files (model_path paths.entry) (test_paths paths.entry)) (standing self.old)
+            (standing self.new) (V.readings versions.old) (V.readings versions.new) t.items) }
         ensures readings { OnErr result (HasReadAtMost
             (length (all_files (model_path paths.entry) (test_paths paths.entry)))
             (V.readings versions.old) (V.readings versions.new)) }
@@ -293,22 +266,16 @@ impl<'a, 'd, J: Naming + StoreName, R: Wait + Drop> Run<'a, 'd, J, R> {
         alloc: Global,
         versions: &mut V,
     ) -> Result<Vec<u8>, SessionFault>
-        requires ready { KnowsTexts self.old.watched.viewer self.old.watched.made
-            (texts_of self.old.watched.texts) }
-        requires first { (standing_of self.old.watched.texts self.old.watched.names self.old.lines
-            self.old.is_refused)
+        requires ready { KnowsItsTexts self.old.watched }
+        requires first { standing self.old
             ≡ at_first (length (test_paths self.old.paths)) (lists_of self.old.lines.items) }
-        ensures ready { OnOk result (KnowsTexts self.new.watched.viewer self.new.watched.made
-            (texts_of self.new.watched.texts)) }
+        ensures ready { OnOk result (KnowsItsTexts self.new.watched) }
         ensures paths { self.new.paths ≡ self.old.paths }
         ensures fault { result ≢ Err SessionFault.Write }
         ensures unshared { result ≢ Err SessionFault.Shared }
         ensures begun { IfOk result (λ t. HasBegunRun (model_path self.old.paths)
-            (test_paths self.old.paths) (lists_of self.old.lines.items)
-            (standing_of self.new.watched.texts self.new.watched.names self.new.lines
-            self.new.is_refused)
-            (V.readings versions.old)
-            (V.readings versions.new) t.items) }
+            (test_paths self.old.paths) (lists_of self.old.lines.items) (standing self.new)
+            (V.readings versions.old) (V.readings versions.new) t.items) }
         ensures readings { OnErr result (HasReadAtMost
             (length (all_files (model_path self.old.paths) (test_paths self.old.paths)))
             (V.readings versions.old) (V.readings versions.new)) }
@@ -331,17 +298,12 @@ impl<'a, 'd, J: Naming + StoreName, R: Wait + Drop> Run<'a, 'd, J, R> {
         path: &[u8],
         version: Vec<u8>,
     ) -> Result<Vec<u8>, SessionFault>
-        requires ready { KnowsTexts self.old.watched.viewer self.old.watched.made
-            (texts_of self.old.watched.texts) }
-        ensures ready { OnOk result (KnowsTexts self.new.watched.viewer self.new.watched.made
-            (texts_of self.new.watched.texts)) }
+        requires ready { KnowsItsTexts self.old.watched }
+        ensures ready { OnOk result (KnowsItsTexts self.new.watched) }
         ensures paths { self.new.paths ≡ self.old.paths }
         ensures fault { OnErr result (result ≡ Err SessionFault.Memory) }
         ensures answer { IfOk result (λ t. IsTextAnswer (file_of file) path.now version.items
-            (standing_of self.old.watched.texts self.old.watched.names self.old.lines
-            self.old.is_refused)
-            (standing_of self.new.watched.texts self.new.watched.names self.new.lines
-            self.new.is_refused) t.items) }
+            (standing self.old) (standing self.new) t.items) }
     {
         let mut text = Vec::new(alloc);
         let is_accepted = memory(self.accept(rt, alloc, file, path, version, &mut text))?;
@@ -361,19 +323,13 @@ impl<'a, 'd, J: Naming + StoreName, R: Wait + Drop> Run<'a, 'd, J, R> {
         path: &[u8],
         version: Version,
     ) -> Result<Vec<u8>, SessionFault>
-        requires ready { KnowsTexts self.old.watched.viewer self.old.watched.made
-            (texts_of self.old.watched.texts) }
-        ensures ready { OnOk result (KnowsTexts self.new.watched.viewer self.new.watched.made
-            (texts_of self.new.watched.texts)) }
+        requires ready { KnowsItsTexts self.old.watched }
+        ensures ready { OnOk result (KnowsItsTexts self.new.watched) }
         ensures paths { self.new.paths ≡ self.old.paths }
         ensures fault { OnErr result (result ≡ Err SessionFault.Memory) }
-        ensures answer { IfOk result (λ t. IsAnswer path.now
-            (standing_of self.old.watched.texts self.old.watched.names self.old.lines
-            self.old.is_refused)
-            (standing_of self.new.watched.texts self.new.watched.names self.new.lines
-            self.new.is_refused)
-            (Some (file_of file))
-            (record { path = path.now; version = version } ∷ []) t.items) }
+        ensures answer { IfOk result (λ t. IsAnswer path.now (standing self.old) (standing self.new)
+            (Some (file_of file)) (record { path = path.now; version = version } ∷ [])
+            t.items) }
     {
         match version {
             Version::Text(version) => self.answer_text(rt, alloc, file, path, version),
@@ -394,19 +350,13 @@ impl<'a, 'd, J: Naming + StoreName, R: Wait + Drop> Run<'a, 'd, J, R> {
         versions: &mut V,
         line: &[u8],
     ) -> Result<Vec<u8>, SessionFault>
-        requires ready { KnowsTexts self.old.watched.viewer self.old.watched.made
-            (texts_of self.old.watched.texts) }
-        ensures ready { OnOk result (KnowsTexts self.new.watched.viewer self.new.watched.made
-            (texts_of self.new.watched.texts)) }
+        requires ready { KnowsItsTexts self.old.watched }
+        ensures ready { OnOk result (KnowsItsTexts self.new.watched) }
         ensures paths { self.new.paths ≡ self.old.paths }
         ensures fault { OnErr result (result ≡ Err SessionFault.Memory) }
         ensures answer { IfOk result (λ t. IsAnswered line.now
             (file_at (model_path self.old.paths) (test_paths self.old.paths) line.now)
-            (standing_of self.old.watched.texts self.old.watched.names self.old.lines
-            self.old.is_refused)
-            (standing_of self.new.watched.texts self.new.watched.names self.new.lines
-            self.new.is_refused)
-            (V.readings versions.old)
+            (standing self.old) (standing self.new) (V.readings versions.old)
             (V.readings versions.new) t.items) }
         ensures readings { OnErr result (HasReadAtMost 1 (V.readings versions.old)
             (V.readings versions.new)) }
@@ -434,38 +384,25 @@ impl<'a, 'd, J: Naming + StoreName, R: Wait + Drop> Run<'a, 'd, J, R> {
         line: &[u8],
         sink: &mut K,
     ) -> Result<(), SessionFault>
-        requires ready { KnowsTexts self.old.watched.viewer self.old.watched.made
-            (texts_of self.old.watched.texts) }
+        requires ready { KnowsItsTexts self.old.watched }
         requires sink { K.failed_calls sink.old < 2 ^ 64 - 1 }
-        ensures ready { OnOk result (KnowsTexts self.new.watched.viewer self.new.watched.made
-            (texts_of self.new.watched.texts)) }
+        ensures ready { OnOk result (KnowsItsTexts self.new.watched) }
         ensures paths { self.new.paths ≡ self.old.paths }
         ensures writes { OnOk result (K.failed_calls sink.new ≡ K.failed_calls sink.old) }
         ensures wrote { result ≡ Err SessionFault.Write
             → K.failed_calls sink.new ≡ K.failed_calls sink.old + 1 }
         ensures cut { OnErr result (HasFront (model_path self.old.paths) (test_paths self.old.paths)
-            (IsFrontLine line.now)
-            (standing_of self.old.watched.texts self.old.watched.names self.old.lines
-            self.old.is_refused)
-            (V.readings versions.old)
-            (V.readings versions.new)
-            (K.contents sink.old)
-            (K.contents sink.new)) }
+            (IsFrontLine line.now) (standing self.old) (V.readings versions.old)
+            (V.readings versions.new) (K.contents sink.old) (K.contents sink.new)) }
         ensures unfailed { result ≢ Err SessionFault.Write
             → K.failed_calls sink.new ≡ K.failed_calls sink.old }
         ensures unread { result ≢ Err SessionFault.Read }
         ensures unshared { result ≢ Err SessionFault.Shared }
         // nothing for an empty line, and else one write, of what is answered to it
         ensures answers { OnOk result (HasAnswers (model_path self.old.paths)
-            (test_paths self.old.paths) (IsLine line.now)
-            (standing_of self.old.watched.texts self.old.watched.names self.old.lines
-            self.old.is_refused)
-            (standing_of self.new.watched.texts self.new.watched.names self.new.lines
-            self.new.is_refused)
-            (V.readings versions.old)
-            (V.readings versions.new)
-            (K.contents sink.old)
-            (K.contents sink.new)) }
+            (test_paths self.old.paths) (IsLine line.now) (standing self.old)
+            (standing self.new) (V.readings versions.old) (V.readings versions.new)
+            (K.contents sink.old) (K.contents sink.new)) }
     {
         if line.is_empty() {
             return Ok(());
@@ -485,32 +422,20 @@ impl<'a, 'd, J: Naming + StoreName, R: Wait + Drop> Run<'a, 'd, J, R> {
         byte: u8,
         sink: &mut K,
     ) -> Result<(), SessionFault>
-        requires ready { KnowsTexts self.old.watched.viewer self.old.watched.made
-            (texts_of self.old.watched.texts) }
+        requires ready { KnowsItsTexts self.old.watched }
         requires sink { K.failed_calls sink.old < 2 ^ 64 - 1 }
-        ensures ready { OnOk result (KnowsTexts self.new.watched.viewer self.new.watched.made
-            (texts_of self.new.watched.texts)) }
+        ensures ready { OnOk result (KnowsItsTexts self.new.watched) }
         ensures paths { self.new.paths ≡ self.old.paths }
         ensures writes { OnOk result (K.failed_calls sink.new ≡ K.failed_calls sink.old) }
         ensures wrote { result ≡ Err SessionFault.Write
             → K.failed_calls sink.new ≡ K.failed_calls sink.old + 1 }
         ensures answers { OnOk result (HasAnswers (model_path self.old.paths)
             (test_paths self.old.paths) (AreIn line.old.items (byte ∷ []) line.new.items)
-            (standing_of self.old.watched.texts self.old.watched.names self.old.lines
-            self.old.is_refused)
-            (standing_of self.new.watched.texts self.new.watched.names self.new.lines
-            self.new.is_refused)
-            (V.readings versions.old)
-            (V.readings versions.new)
-            (K.contents sink.old)
-            (K.contents sink.new)) }
+            (standing self.old) (standing self.new) (V.readings versions.old)
+            (V.readings versions.new) (K.contents sink.old) (K.contents sink.new)) }
         ensures cut { OnErr result (HasFront (model_path self.old.paths) (test_paths self.old.paths)
-            (AreFrontIn line.old.items (byte ∷ []))
-            (standing_of self.old.watched.texts self.old.watched.names self.old.lines
-            self.old.is_refused)
-            (V.readings versions.old)
-            (V.readings versions.new)
-            (K.contents sink.old)
+            (AreFrontIn line.old.items (byte ∷ [])) (standing self.old)
+            (V.readings versions.old) (V.readings versions.new) (K.contents sink.old)
             (K.contents sink.new)) }
         ensures unfailed { result ≢ Err SessionFault.Write
             → K.failed_calls sink.new ≡ K.failed_calls sink.old }
@@ -536,33 +461,20 @@ impl<'a, 'd, J: Naming + StoreName, R: Wait + Drop> Run<'a, 'd, J, R> {
         bytes: &[u8],
         sink: &mut K,
     ) -> Result<(), SessionFault>
-        requires ready { KnowsTexts self.old.watched.viewer self.old.watched.made
-            (texts_of self.old.watched.texts) }
+        requires ready { KnowsItsTexts self.old.watched }
         requires sink { K.failed_calls sink.old < 2 ^ 64 - 1 }
-        ensures ready { OnOk result (KnowsTexts self.new.watched.viewer self.new.watched.made
-            (texts_of self.new.watched.texts)) }
+        ensures ready { OnOk result (KnowsItsTexts self.new.watched) }
         ensures paths { self.new.paths ≡ self.old.paths }
         ensures writes { OnOk result (K.failed_calls sink.new ≡ K.failed_calls sink.old) }
         ensures wrote { result ≡ Err SessionFault.Write
             → K.failed_calls sink.new ≡ K.failed_calls sink.old + 1 }
         ensures answers { OnOk result (HasAnswers (model_path self.old.paths)
             (test_paths self.old.paths) (AreIn line.old.items bytes.now line.new.items)
-            (standing_of self.old.watched.texts self.old.watched.names self.old.lines
-            self.old.is_refused)
-            (standing_of self.new.watched.texts self.new.watched.names self.new.lines
-            self.new.is_refused)
-            (V.readings versions.old)
-            (V.readings versions.new)
-            (K.contents sink.old)
-            (K.contents sink.new)) }
+            (standing self.old) (standing self.new) (V.readings versions.old)
+            (V.readings versions.new) (K.contents sink.old) (K.contents sink.new)) }
         ensures cut { OnErr result (HasFront (model_path self.old.paths) (test_paths self.old.paths)
-            (AreFrontIn line.old.items bytes.now)
-            (standing_of self.old.watched.texts self.old.watched.names self.old.lines
-            self.old.is_refused)
-            (V.readings versions.old)
-            (V.readings versions.new)
-            (K.contents sink.old)
-            (K.contents sink.new)) }
+            (AreFrontIn line.old.items bytes.now) (standing self.old) (V.readings versions.old)
+            (V.readings versions.new) (K.contents sink.old) (K.contents sink.new)) }
         ensures unfailed { result ≢ Err SessionFault.Write
             → K.failed_calls sink.new ≡ K.failed_calls sink.old }
         ensures unread { result ≢ Err SessionFault.Read }
@@ -585,12 +497,10 @@ impl<'a, 'd, J: Naming + StoreName, R: Wait + Drop> Run<'a, 'd, J, R> {
         source: &mut S,
         sink: &mut K,
     ) -> Result<bool, SessionFault>
-        requires ready { KnowsTexts self.old.watched.viewer self.old.watched.made
-            (texts_of self.old.watched.texts) }
+        requires ready { KnowsItsTexts self.old.watched }
         requires source { S.failed_calls source.old < 2 ^ 64 - 1 }
         requires sink { K.failed_calls sink.old < 2 ^ 64 - 1 }
-        ensures ready { OnOk result (KnowsTexts self.new.watched.viewer self.new.watched.made
-            (texts_of self.new.watched.texts)) }
+        ensures ready { OnOk result (KnowsItsTexts self.new.watched) }
         ensures paths { self.new.paths ≡ self.old.paths }
         ensures reads { OnOk result (S.failed_calls source.new ≡ S.failed_calls source.old) }
         ensures writes { OnOk result (K.failed_calls sink.new ≡ K.failed_calls sink.old) }
@@ -600,21 +510,15 @@ impl<'a, 'd, J: Naming + StoreName, R: Wait + Drop> Run<'a, 'd, J, R> {
             (test_paths self.old.paths)
             (AreOfTurn goes_on line.old.items line.new.items (S.remaining source.old)
             (S.remaining source.new))
-            (standing_of self.old.watched.texts self.old.watched.names self.old.lines
-            self.old.is_refused)
-            (standing_of self.new.watched.texts self.new.watched.names self.new.lines
-            self.new.is_refused)
+            (standing self.old)
+            (standing self.new)
             (V.readings versions.old)
             (V.readings versions.new)
             (K.contents sink.old)
             (K.contents sink.new)) }
         ensures cut { OnErr result (HasFront (model_path self.old.paths) (test_paths self.old.paths)
-            (AreFrontOf line.old.items (S.remaining source.old))
-            (standing_of self.old.watched.texts self.old.watched.names self.old.lines
-            self.old.is_refused)
-            (V.readings versions.old)
-            (V.readings versions.new)
-            (K.contents sink.old)
+            (AreFrontOf line.old.items (S.remaining source.old)) (standing self.old)
+            (V.readings versions.old) (V.readings versions.new) (K.contents sink.old)
             (K.contents sink.new)) }
         ensures unfailed { result ≢ Err SessionFault.Write
             → K.failed_calls sink.new ≡ K.failed_calls sink.old }
@@ -649,34 +553,22 @@ impl<'a, 'd, J: Naming + StoreName, R: Wait + Drop> Run<'a, 'd, J, R> {
         source: &mut S,
         sink: &mut K,
     ) -> Result<(), SessionFault>
-        requires ready { KnowsTexts self.old.watched.viewer self.old.watched.made
-            (texts_of self.old.watched.texts) }
+        requires ready { KnowsItsTexts self.old.watched }
         requires source { S.failed_calls source.old < 2 ^ 64 - 1 }
         requires sink { K.failed_calls sink.old < 2 ^ 64 - 1 }
-        ensures ready { OnOk result (KnowsTexts self.new.watched.viewer self.new.watched.made
-            (texts_of self.new.watched.texts)) }
+        ensures ready { OnOk result (KnowsItsTexts self.new.watched) }
         ensures paths { self.new.paths ≡ self.old.paths }
         ensures reads { OnOk result (S.failed_calls source.new ≡ S.failed_calls source.old) }
         ensures writes { OnOk result (K.failed_calls sink.new ≡ K.failed_calls sink.old) }
         ensures wrote { result ≡ Err SessionFault.Write
             → K.failed_calls sink.new ≡ K.failed_calls sink.old + 1 }
         ensures answers { OnOk result (HasAnswers (model_path self.old.paths)
-            (test_paths self.old.paths) (AreAll (S.remaining source.old))
-            (standing_of self.old.watched.texts self.old.watched.names self.old.lines
-            self.old.is_refused)
-            (standing_of self.new.watched.texts self.new.watched.names self.new.lines
-            self.new.is_refused)
-            (V.readings versions.old)
-            (V.readings versions.new)
-            (K.contents sink.old)
-            (K.contents sink.new)) }
+            (test_paths self.old.paths) (AreAll (S.remaining source.old)) (standing self.old)
+            (standing self.new) (V.readings versions.old) (V.readings versions.new)
+            (K.contents sink.old) (K.contents sink.new)) }
         ensures cut { OnErr result (HasFront (model_path self.old.paths) (test_paths self.old.paths)
-            (AreFrontOf [] (S.remaining source.old))
-            (standing_of self.old.watched.texts self.old.watched.names self.old.lines
-            self.old.is_refused)
-            (V.readings versions.old)
-            (V.readings versions.new)
-            (K.contents sink.old)
+            (AreFrontOf [] (S.remaining source.old)) (standing self.old)
+            (V.readings versions.old) (V.readings versions.new) (K.contents sink.old)
             (K.contents sink.new)) }
         ensures unfailed { result ≢ Err SessionFault.Write
             → K.failed_calls sink.new ≡ K.failed_calls sink.old }
@@ -707,10 +599,8 @@ impl<'a, 'd, J: Naming + StoreName, R: Wait + Drop> Run<'a, 'd, J, R> {
         source: &mut S,
         sink: &mut K,
     ) -> Result<bool, SessionFault>
-        requires ready { KnowsTexts self.old.watched.viewer self.old.watched.made
-            (texts_of self.old.watched.texts) }
-        requires first { (standing_of self.old.watched.texts self.old.watched.names self.old.lines
-            self.old.is_refused)
+        requires ready { KnowsItsTexts self.old.watched }
+        requires first { standing self.old
             ≡ at_first (length (test_paths self.old.paths)) (lists_of self.old.lines.items) }
         requires source { S.failed_calls source.old < 2 ^ 64 - 1 }
         requires sink { K.failed_calls sink.old < 2 ^ 64 - 1 }

@@ -12,8 +12,8 @@ ghost use Rattle.session_answers.specs.Cells.{test_named, model_named};
 ghost use Rattle.session_edits.specs.Faults.{IsAnswer};
 ghost use Rattle.session_views.specs.Knowing.{HasOwnEdit};
 ghost use Rattle.live_watch.specs.Holding.{model_name, is_name, without_unheld, name_at, HoldsItems, IsTestTaken, ModelFile, TestFile};
-ghost use Rattle.live_watch.specs.Edits.{held_of, IsMade, IsVersionTaken, IsOfModel, AreChanges, AreParts, AreSameBut};
-ghost use Rattle.live_watch.specs.Boards.{KnowsTexts};
+ghost use Rattle.live_watch.specs.Edits.{IsMade, IsVersionTaken, IsOfModel, AreChanges, AreParts, AreSameBut};
+ghost use Rattle.live_watch.specs.Boards.{KnowsItsTexts, holding};
 
 use crate::lines::model_name;
 use crate::watched::Watched;
@@ -231,9 +231,8 @@ impl<'d, J: Naming + StoreName, R: Wait + Drop> Watched<'d, J, R> {
         alloc: Global,
         edit: Edit,
     ) -> Result<Option<EditFault>, AllocError>
-        requires ready { KnowsTexts self.old.viewer self.old.made (texts_of self.old.texts) }
-        ensures ready { OnOk result (KnowsTexts self.new.viewer self.new.made
-            (texts_of self.new.texts)) }
+        requires ready { KnowsItsTexts self.old }
+        ensures ready { OnOk result (KnowsItsTexts self.new) }
         ensures made { IfOk result (λ o.
             IsMade (texts_of self.old.texts) (edit_of edit) o (texts_of self.new.texts)) }
         ensures names { self.new.names ≡ self.old.names }
@@ -254,8 +253,8 @@ impl<'d, J: Naming + StoreName, R: Wait + Drop> Watched<'d, J, R> {
 
     // Why an edit would be refused, if it would. Nothing is changed.
     fn refusal(&mut self, alloc: Global, edit: &Edit) -> Result<Option<EditFault>, AllocError>
-        requires ready { KnowsTexts self.old.viewer self.old.made (texts_of self.old.texts) }
-        ensures ready { KnowsTexts self.new.viewer self.new.made (texts_of self.new.texts) }
+        requires ready { KnowsItsTexts self.old }
+        ensures ready { KnowsItsTexts self.new }
         ensures fault { IfOk result (λ o. IfSome o (λ fault. IsAnswer fault
             × Refuses (texts_of self.old.texts) false (edit_of edit.now) fault)) }
         ensures texts { texts_of self.new.texts ≡ texts_of self.old.texts }
@@ -276,9 +275,8 @@ impl<'d, J: Naming + StoreName, R: Wait + Drop> Watched<'d, J, R> {
         new: &ModelText,
         change: ItemChange,
     ) -> Result<bool, AllocError>
-        requires ready { KnowsTexts self.old.viewer self.old.made (texts_of self.old.texts) }
-        ensures ready { OnOk result (KnowsTexts self.new.viewer self.new.made
-            (texts_of self.new.texts)) }
+        requires ready { KnowsItsTexts self.old }
+        ensures ready { OnOk result (KnowsItsTexts self.new) }
         ensures tests { OnOk result ((texts_of self.new.texts).tests
             ≡ (texts_of self.old.texts).tests) }
         ensures names { self.new.names ≡ self.old.names }
@@ -299,9 +297,8 @@ impl<'d, J: Naming + StoreName, R: Wait + Drop> Watched<'d, J, R> {
         alloc: Global,
         new: &ModelText,
     ) -> Result<(), AllocError>
-        requires ready { KnowsTexts self.old.viewer self.old.made (texts_of self.old.texts) }
-        ensures ready { OnOk result (KnowsTexts self.new.viewer self.new.made
-            (texts_of self.new.texts)) }
+        requires ready { KnowsItsTexts self.old }
+        ensures ready { OnOk result (KnowsItsTexts self.new) }
         ensures tests { OnOk result ((texts_of self.new.texts).tests
             ≡ (texts_of self.old.texts).tests) }
         ensures names { self.new.names ≡ self.old.names }
@@ -328,10 +325,9 @@ impl<'d, J: Naming + StoreName, R: Wait + Drop> Watched<'d, J, R> {
         new: &ModelText,
         whole: Edit,
     ) -> Result<(), AllocError>
-        requires ready { KnowsTexts self.old.viewer self.old.made (texts_of self.old.texts) }
+        requires ready { KnowsItsTexts self.old }
         requires whole { IsOfModel (edit_of whole) }
-        ensures ready { OnOk result (KnowsTexts self.new.viewer self.new.made
-            (texts_of self.new.texts)) }
+        ensures ready { OnOk result (KnowsItsTexts self.new) }
         ensures items { OnOk result (HoldsItems (clauses_of new.now.items.items)
             (texts_of self.new.texts)) }
         ensures tests { OnOk result ((texts_of self.new.texts).tests
@@ -357,11 +353,10 @@ impl<'d, J: Naming + StoreName, R: Wait + Drop> Watched<'d, J, R> {
         alloc: Global,
         text: Vec<u8>,
     ) -> Result<Option<EditFault>, AllocError>
-        requires ready { KnowsTexts self.old.viewer self.old.made (texts_of self.old.texts) }
-        ensures ready { OnOk result (KnowsTexts self.new.viewer self.new.made
-            (texts_of self.new.texts)) }
-        ensures taken { IfOk result (λ o. IsVersionTaken ModelFile text.items
-            (held_of self.old.texts self.old.names) o (held_of self.new.texts self.new.names)) }
+        requires ready { KnowsItsTexts self.old }
+        ensures ready { OnOk result (KnowsItsTexts self.new) }
+        ensures taken { IfOk result (λ o.
+            IsVersionTaken ModelFile text.items (holding self.old) o (holding self.new)) }
     {
         let whole = Edit::PutModel {
             model: Vec::from_slice(alloc, model_name())?,
@@ -387,9 +382,8 @@ impl<'d, J: Naming + StoreName, R: Wait + Drop> Watched<'d, J, R> {
         new: &Test,
         part: TestPart,
     ) -> Result<bool, AllocError>
-        requires ready { KnowsTexts self.old.viewer self.old.made (texts_of self.old.texts) }
-        ensures ready { OnOk result (KnowsTexts self.new.viewer self.new.made
-            (texts_of self.new.texts)) }
+        requires ready { KnowsItsTexts self.old }
+        ensures ready { OnOk result (KnowsItsTexts self.new) }
         ensures tests { OnOk result (AreSameBut new.now.name (texts_of self.old.texts).tests
             (texts_of self.new.texts).tests) }
         ensures models { OnOk result ((texts_of self.new.texts).models
@@ -403,9 +397,8 @@ impl<'d, J: Naming + StoreName, R: Wait + Drop> Watched<'d, J, R> {
 
     // Makes the test of this name this one, part by part, as far as the parts are accepted.
     fn change_parts<W: Wait>(&mut self, rt: &W, alloc: Global, new: &Test) -> Result<(), AllocError>
-        requires ready { KnowsTexts self.old.viewer self.old.made (texts_of self.old.texts) }
-        ensures ready { OnOk result (KnowsTexts self.new.viewer self.new.made
-            (texts_of self.new.texts)) }
+        requires ready { KnowsItsTexts self.old }
+        ensures ready { OnOk result (KnowsItsTexts self.new) }
         ensures tests { OnOk result (AreSameBut new.now.name (texts_of self.old.texts).tests
             (texts_of self.new.texts).tests) }
         ensures models { OnOk result ((texts_of self.new.texts).models
@@ -434,10 +427,9 @@ impl<'d, J: Naming + StoreName, R: Wait + Drop> Watched<'d, J, R> {
         new: &Test,
         text: Vec<u8>,
     ) -> Result<(), AllocError>
-        requires ready { KnowsTexts self.old.viewer self.old.made (texts_of self.old.texts) }
+        requires ready { KnowsItsTexts self.old }
         requires only { (c : Content) → ReadsTest text.items c → content_of new.now ≡ c }
-        ensures ready { OnOk result (KnowsTexts self.new.viewer self.new.made
-            (texts_of self.new.texts)) }
+        ensures ready { OnOk result (KnowsItsTexts self.new) }
         ensures tests { OnOk result ((texts_of self.new.texts).tests
             ≡ put_at (test_index new.now.name (texts_of self.old.texts).tests)
             (content_of new.now) (texts_of self.old.texts).tests) }
@@ -462,9 +454,8 @@ impl<'d, J: Naming + StoreName, R: Wait + Drop> Watched<'d, J, R> {
         alloc: Global,
         name: Option<Name>,
     ) -> Result<(), AllocError>
-        requires ready { KnowsTexts self.old.viewer self.old.made (texts_of self.old.texts) }
-        ensures ready { OnOk result (KnowsTexts self.new.viewer self.new.made
-            (texts_of self.new.texts)) }
+        requires ready { KnowsItsTexts self.old }
+        ensures ready { OnOk result (KnowsItsTexts self.new) }
         ensures tests { OnOk result ((texts_of self.new.texts).tests
             ≡ without_unheld name self.old.names.items (texts_of self.old.texts).tests) }
         ensures models { OnOk result ((texts_of self.new.texts).models
@@ -496,13 +487,12 @@ impl<'d, J: Naming + StoreName, R: Wait + Drop> Watched<'d, J, R> {
         new: &Test,
         text: Vec<u8>,
     ) -> Result<(), AllocError>
-        requires ready { KnowsTexts self.old.viewer self.old.made (texts_of self.old.texts) }
+        requires ready { KnowsItsTexts self.old }
         requires reads { ReadsTest text.items (content_of new.now) }
         requires only { (c : Content) → ReadsTest text.items c → content_of new.now ≡ c }
-        ensures ready { OnOk result (KnowsTexts self.new.viewer self.new.made
-            (texts_of self.new.texts)) }
-        ensures taken { OnOk result (IsTestTaken index text.items
-            (held_of self.old.texts self.old.names) (held_of self.new.texts self.new.names)) }
+        ensures ready { OnOk result (KnowsItsTexts self.new) }
+        ensures taken { OnOk result (IsTestTaken index text.items (holding self.old)
+            (holding self.new)) }
     {
         let name = new.name.copied(alloc)?;
         let old = put_name(&mut self.names, index, name);
@@ -520,11 +510,10 @@ impl<'d, J: Naming + StoreName, R: Wait + Drop> Watched<'d, J, R> {
         index: usize,
         text: Vec<u8>,
     ) -> Result<Option<EditFault>, AllocError>
-        requires ready { KnowsTexts self.old.viewer self.old.made (texts_of self.old.texts) }
-        ensures ready { OnOk result (KnowsTexts self.new.viewer self.new.made
-            (texts_of self.new.texts)) }
+        requires ready { KnowsItsTexts self.old }
+        ensures ready { OnOk result (KnowsItsTexts self.new) }
         ensures taken { IfOk result (λ o. IsVersionTaken (TestFile index) text.items
-            (held_of self.old.texts self.old.names) o (held_of self.new.texts self.new.names)) }
+            (holding self.old) o (holding self.new)) }
     {
         let whole = Edit::PutTest {
             text: Vec::from_slice(alloc, &text)?,

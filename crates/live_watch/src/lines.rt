@@ -8,7 +8,7 @@ ghost use Rattle.bench_texts.specs.Held.{texts_of};
 ghost use Rattle.board.specs.Legal.{IsLegal};
 ghost use Rattle.live_watch.specs.Holding.{model_name};
 ghost use Rattle.live_watch.specs.Lines.{test_table, behind_line, AreLinesOf, changed_line, changed_lines, jobs_line, AreWritten};
-ghost use Rattle.live_watch.specs.Boards.{lists_of, shown_line, IsClosed, shown_by, IsClosedBy, shown_lines, AreOwn, KnowsTexts};
+ghost use Rattle.live_watch.specs.Boards.{lists_of, shown_line, IsClosed, shown_by, IsClosedBy, shown_lines, AreOwn, KnowsItsTexts};
 
 use crate::watched::Watched;
 use compare_report::{Shown as Cell, TestRow, table_text};
@@ -210,8 +210,8 @@ impl<'d, J: Naming + StoreName, R: Wait + Drop> Watched<'d, J, R> {
     /// The lines of all files, from the board that was published last, or none where a cell is
     /// open. Errors: out of memory.
     pub fn lines_now(&mut self, alloc: Global) -> Result<Option<Vec<Vec<u8>>>, AllocError>
-        requires ready { KnowsTexts self.old.viewer self.old.made (texts_of self.old.texts) }
-        ensures ready { KnowsTexts self.new.viewer self.new.made (texts_of self.new.texts) }
+        requires ready { KnowsItsTexts self.old }
+        ensures ready { KnowsItsTexts self.new }
         ensures texts { self.new.texts ≡ self.old.texts }
         ensures names { self.new.names ≡ self.old.names }
         ensures lines { IfOk result (λ o. IfSome o (λ v.

@@ -4,7 +4,7 @@ ghost use Rattle.std.specs.Prelude.{OnOk, OnErr, IfOk, ◌≡◌, Err};
 ghost use mathlib.Core.List.{IsPrefix};
 ghost use Rattle.bench_texts.specs.Held.{texts_of};
 ghost use Rattle.live_watch.specs.Lines.{AreLinesOf};
-ghost use Rattle.live_watch.specs.Boards.{lists_of, KnowsTexts};
+ghost use Rattle.live_watch.specs.Boards.{lists_of, KnowsItsTexts};
 
 use crate::turnstile::RunningTurnstile;
 use crate::watched::Watched;
@@ -76,9 +76,8 @@ impl<'d, J: Naming + StoreName, R: Wait + Drop> Watched<'d, J, R> {
     // Waits until each cell is settled and published. Errors: `Memory`, also where a worker gave
     // up.
     fn wait_settled<W: Wait>(&mut self, rt: &W) -> Result<(), SessionFault>
-        requires ready { KnowsTexts self.old.viewer self.old.made (texts_of self.old.texts) }
-        ensures ready { OnOk result (KnowsTexts self.new.viewer self.new.made
-            (texts_of self.new.texts)) }
+        requires ready { KnowsItsTexts self.old }
+        ensures ready { OnOk result (KnowsItsTexts self.new) }
         ensures texts { self.new.texts ≡ self.old.texts }
         ensures names { self.new.names ≡ self.old.names }
         ensures fault { OnErr result (result ≡ Err SessionFault.Memory) }
@@ -97,9 +96,8 @@ impl<'d, J: Naming + StoreName, R: Wait + Drop> Watched<'d, J, R> {
         alloc: Global,
         hands: &Hands<'d, J, R>,
     ) -> Result<u64, SessionFault>
-        requires ready { KnowsTexts self.old.viewer self.old.made (texts_of self.old.texts) }
-        ensures ready { OnOk result (KnowsTexts self.new.viewer self.new.made
-            (texts_of self.new.texts)) }
+        requires ready { KnowsItsTexts self.old }
+        ensures ready { OnOk result (KnowsItsTexts self.new) }
         ensures texts { self.new.texts ≡ self.old.texts }
         ensures names { self.new.names ≡ self.old.names }
         ensures fault { OnErr result (result ≡ Err SessionFault.Memory) }
@@ -126,9 +124,8 @@ impl<'d, J: Naming + StoreName, R: Wait + Drop> Watched<'d, J, R> {
         alloc: Global,
         hands: &Hands<'d, J, R>,
     ) -> Result<(u64, Vec<Vec<u8>>), SessionFault>
-        requires ready { KnowsTexts self.old.viewer self.old.made (texts_of self.old.texts) }
-        ensures ready { OnOk result (KnowsTexts self.new.viewer self.new.made
-            (texts_of self.new.texts)) }
+        requires ready { KnowsItsTexts self.old }
+        ensures ready { OnOk result (KnowsItsTexts self.new) }
         ensures texts { self.new.texts ≡ self.old.texts }
         ensures names { self.new.names ≡ self.old.names }
         ensures lines { IfOk result (λ r.

@@ -1,9 +1,8 @@
 //! The desk of a run, with its workers.
 
 ghost use Rattle.std.specs.Prelude.{◌≡◌, [], ◌-◌, ◌<◌, ◌^◌, length, map, IfOk};
-ghost use Rattle.bench_texts.specs.Held.{texts_of};
 ghost use Rattle.live_watch.specs.Edits.{model_path, test_paths};
-ghost use Rattle.live_watch.specs.Boards.{lists_of, standing_of, KnowsTexts};
+ghost use Rattle.live_watch.specs.Boards.{lists_of, KnowsItsTexts, standing};
 ghost use Rattle.live_watch.specs.Runs.{at_first};
 ghost use Rattle.live_watch.specs.Ends.{IsEnded};
 
@@ -45,11 +44,9 @@ fn run_at<'a, 'd, J: Naming + StoreName, R: AllocGlobal + Wait + Drop>(
 ) -> Result<Run<'a, 'd, J, R>, AllocError>
     ensures lines { IfOk result (λ run. run.lines.items ≡ []) }
     ensures paths { IfOk result (λ run. run.paths ≡ paths.entry) }
-    ensures first { IfOk result (λ run. standing_of run.watched.texts run.watched.names run.lines
-        run.is_refused
+    ensures first { IfOk result (λ run. standing run
         ≡ at_first (length (test_paths run.paths)) (lists_of run.lines.items)) }
-    ensures ready { IfOk result (λ run.
-        KnowsTexts run.watched.viewer run.watched.made (texts_of run.watched.texts)) }
+    ensures ready { IfOk result (λ run. KnowsItsTexts run.watched) }
 {
     let alloc = rt.alloc();
     let viewer = match desk.viewer(rt) {

@@ -1,8 +1,7 @@
 use Rattle.std.proofs.Common.{◌≡◌, [], true}
-use Rattle.bench_texts.specs.Held.{texts_of}
 use Rattle.session_script.specs.Reading.{IsPaid}
 use Rattle.live_watch.specs.Edits.{model_path, test_paths}
-use Rattle.live_watch.specs.Boards.{KnowsTexts, standing_of}
+use Rattle.live_watch.specs.Boards.{KnowsItsTexts, standing}
 use Rattle.live_watch.specs.Runs.{HasAnswers, AreOfTurn}
 use Rattle.live_watch.proofs.answers.Run.answer_lines.Given as goal
 
@@ -16,16 +15,14 @@ invariant-loop-turn g l =
     let contents = g.K.ByteSink.contents in
     let readings = g.V.Versions.readings in
     record {
-      ready : KnowsTexts l.self.watched.viewer l.self.watched.made (texts_of l.self.watched.texts);
+      ready : KnowsItsTexts l.self.watched;
       paths : l.self.paths ≡ l.initial.self.paths;
       reads : reads l.source ≡ reads l.initial.source;
       writes : calls l.sink ≡ calls l.initial.sink;
       paid : IsPaid l._turn 0 (remaining l.initial.source) (remaining l.source);
       answers : HasAnswers (model_path l.initial.self.paths) (test_paths l.initial.self.paths)
           (AreOfTurn true [] l.line.items (remaining l.initial.source) (remaining l.source))
-          (standing_of l.initial.self.watched.texts l.initial.self.watched.names
-          l.initial.self.lines l.initial.self.is_refused)
-          (standing_of l.self.watched.texts l.self.watched.names l.self.lines l.self.is_refused)
+          (standing l.initial.self) (standing l.self)
           (readings l.initial.versions) (readings l.versions) (contents l.initial.sink)
           (contents l.sink);
     }

@@ -1,7 +1,6 @@
 use Rattle.std.proofs.Common.{◌≡◌, take}
-use Rattle.bench_texts.specs.Held.{texts_of}
 use Rattle.live_watch.specs.Edits.{model_path, test_paths}
-use Rattle.live_watch.specs.Boards.{KnowsTexts, standing_of}
+use Rattle.live_watch.specs.Boards.{KnowsItsTexts, standing}
 use Rattle.live_watch.specs.Runs.{HasAnswers, AreIn}
 use Rattle.live_watch.proofs.answers.Run.take_bytes.Given as goal
 
@@ -12,14 +11,12 @@ invariant-loop-byte g l =
     let contents = g.K.ByteSink.contents in
     let readings = g.V.Versions.readings in
     record {
-      ready : KnowsTexts l.self.watched.viewer l.self.watched.made (texts_of l.self.watched.texts);
+      ready : KnowsItsTexts l.self.watched;
       paths : l.self.paths ≡ l.initial.self.paths;
       writes : calls l.sink ≡ calls l.initial.sink;
       answers : HasAnswers (model_path l.initial.self.paths) (test_paths l.initial.self.paths)
           (AreIn l.initial.line.items (take l.byte-index l.bytes) l.line.items)
-          (standing_of l.initial.self.watched.texts l.initial.self.watched.names
-          l.initial.self.lines l.initial.self.is_refused)
-          (standing_of l.self.watched.texts l.self.watched.names l.self.lines l.self.is_refused)
+          (standing l.initial.self) (standing l.self)
           (readings l.initial.versions) (readings l.versions) (contents l.initial.sink)
           (contents l.sink);
     }

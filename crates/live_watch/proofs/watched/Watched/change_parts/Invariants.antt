@@ -1,13 +1,13 @@
 use Rattle.std.proofs.Common.{◌≡◌}
 use Rattle.bench_texts.specs.Held.{texts_of}
 use Rattle.live_watch.specs.Edits.{AreSameBut}
-use Rattle.live_watch.specs.Boards.{KnowsTexts}
+use Rattle.live_watch.specs.Boards.{KnowsItsTexts}
 use Rattle.live_watch.proofs.watched.Watched.change_parts.Given as goal
 
 -- the viewer knows the texts, of which all are the same but the test of this name
 abbrev pub invariant-loop-part : goal.invariant-loop-part
 invariant-loop-part g l = record {
-  ready : KnowsTexts l.self.viewer l.self.made (texts_of l.self.texts);
+  ready : KnowsItsTexts l.self;
   tests : AreSameBut l.new.name (texts_of l.initial.self.texts).tests (texts_of l.self.texts).tests;
   models : (texts_of l.self.texts).models ≡ (texts_of l.initial.self.texts).models;
   names : l.self.names ≡ l.initial.self.names;
