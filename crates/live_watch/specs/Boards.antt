@@ -72,16 +72,17 @@ abbrev pub standing_of : Texts → Vec (Option (List ℕ)) Global → Vec (Vec �
 standing_of texts names lines refused =
     record { held = held_of texts names; lines = lists_of lines.items; refused = refused }
 
--- ---- a desk with its files, and a run
+-- ---- an author with its texts, and a run
 
--- the viewer of a desk knows by what it saw that these are its texts
-abbrev pub KnowsItsTexts : {J R : Type 0} → Watched J R → Type 0
-KnowsItsTexts watched = KnowsTexts watched.viewer watched.made (texts_of watched.texts)
+-- the author knows by what it saw that these are its texts
+abbrev pub KnowsItsTexts : {A : Type 0} → (seen : A → List BoardOp) → Watched A → Type 0
+KnowsItsTexts seen watched =
+    KnowsTexts (seen watched.author) watched.made (texts_of watched.texts)
 
 -- what is held of its files
-abbrev pub holding : {J R : Type 0} → Watched J R → Holding
+abbrev pub holding : {A : Type 0} → Watched A → Holding
 holding watched = held_of watched.texts watched.names
 
 -- how things stand for a run
-abbrev pub standing : {J R : Type 0} → Run J R → Standing
+abbrev pub standing : {A : Type 0} → Run A → Standing
 standing run = standing_of run.watched.texts run.watched.names run.lines run.is_refused

@@ -14,19 +14,17 @@ ghost use Rattle.live_watch.specs.Boards.{lists_of, KnowsItsTexts, holding, stan
 ghost use Rattle.live_watch.specs.Ends.{HasFailedRead};
 ghost use Rattle.live_watch.specs.Runs.{refusal_of, at_first, IsSettled, IsNoted, IsTextAnswer, IsAnswer, IsAnswered, HasAnswers, IsLine, AreIn, AreOfTurn, AreAll, BeginsFile, HasBegun, HasBegunRun, EndsUnread, IsRun, IsCut, HasFront, IsFrontLine, AreFrontIn, AreFrontOf};
 
+use crate::author::Author;
 use crate::lines::put_answer;
-use crate::settling::Hands;
 use crate::versions::{Version, Versions};
 use crate::watched::{Paths, Watched, WatchedFile};
 use bench_texts::EditFault;
-use desk_rule::Naming;
 use litmusbench::{ByteSink, ByteSource, SessionFault, write_whole};
 use session_edits::refused_edit;
 use session_script::MAX_TURNS;
 use std::alloc::{AllocError, Global};
 use std::sync::Wait;
 use text_values::put_bytes;
-use value_store::StoreName;
 
 // Want of memory is the fault `Memory`.
 fn memory<T>(made: Result<T, AllocError>) -> Result<T, SessionFault>
@@ -104,20 +102,18 @@ fn watched_path<'a>(paths: Paths<'a>, line: &[u8]) -> Option<(WatchedFile, &'a s
 
 /// A run of the program.
 #[derive(Drop)]
-pub struct Run<'a, 'd, J: Naming + StoreName, R: Wait + Drop> {
-    /// The desk with its files.
-    pub watched: Watched<'d, J, R>,
+pub struct Run<'a, A> {
+    /// The texts of the files, with their author.
+    pub watched: Watched<A>,
     /// The paths of the files.
     pub paths: Paths<'a>,
-    /// Who runs the jobs.
-    pub hands: Hands<'d, J, R>,
     /// The lines that were last written of the files of tests, in their order.
     pub lines: Vec<Vec<u8>>,
     /// Whether a text was refused.
     pub is_refused: bool,
 }
 
-impl<'a, 'd, J: Naming + StoreName, R: Wait + Drop> Run<'a, 'd, J, R> {
+impl<'a, A: Author> Run<'a, A> {
     fn take<W: Wait>(
         &mut self,
         rt: &W,
@@ -125,8 +121,8 @@ impl<'a, 'd, J: Naming + StoreName, R: Wait + Drop> Run<'a, 'd, J, R> {
         file: WatchedFile,
         version: Vec<u8>,
     ) -> Result<Option<EditFault>, AllocError>
-        requires ready { KnowsItsTexts self.old.watched }
-        ensures ready { OnOk result (KnowsItsTexts self.new.watched) }
+        requires ready { KnowsItsTexts A.seen self.old.watched }
+        ensures ready { OnOk result (KnowsItsTexts A.seen self.new.watched) }
         ensures paths { self.new.paths ≡ self.old.paths }
         ensures taken { IfOk result (λ o. IsVersionTaken (file_of file) version.items
             (holding self.old.watched) o (holding self.new.watched)) }
@@ -149,8 +145,8 @@ impl<'a, 'd, J: Naming + StoreName, R: Wait + Drop> Run<'a, 'd, J, R> {
         version: Vec<u8>,
         text: &mut Vec<u8>,
     ) -> Result<bool, AllocError>
-        requires ready { KnowsItsTexts self.old.watched }
-        ensures ready { OnOk result (KnowsItsTexts self.new.watched) }
+        requires ready { KnowsItsTexts A.seen self.old.watched }
+        ensures ready { OnOk result (KnowsItsTexts A.seen self.new.watched) }
         ensures paths { self.new.paths ≡ self.old.paths }
         ensures noted { IfOk result (IsNoted (file_of file) path.now version.items
             (standing self.old) (standing self.new) text.old.items text.new.items) }
@@ -172,14 +168,14 @@ impl<'a, 'd, J: Naming + StoreName, R: Wait + Drop> Run<'a, 'd, J, R> {
         alloc: Global,
         text: &mut Vec<u8>,
     ) -> Result<(), SessionFault>
-        requires ready { KnowsItsTexts self.old.watched }
-        ensures ready { OnOk result (KnowsItsTexts self.new.watched) }
+        requires ready { KnowsItsTexts A.seen self.old.watched }
+        ensures ready { OnOk result (KnowsItsTexts A.seen self.new.watched) }
         ensures paths { self.new.paths ≡ self.old.paths }
         ensures fault { OnErr result (result ≡ Err SessionFault.Memory) }
         ensures settled { OnOk result (IsSettled (standing self.old) (standing self.new)
             text.old.items text.new.items) }
     {
-        let (jobs, lines) = self.watched.settled_lines(rt, alloc, &self.hands)?;
+        let (jobs, lines) = self.watched.settled_lines(rt, alloc)?;
         memory(put_answer(text, &self.lines, &lines, jobs))?;
         self.lines = lines;
         Ok(())
@@ -195,8 +191,8 @@ impl<'a, 'd, J: Naming + StoreName, R: Wait + Drop> Run<'a, 'd, J, R> {
         path: &str,
         text: &mut Vec<u8>,
     ) -> Result<(), SessionFault>
-        requires ready { KnowsItsTexts self.old.watched }
-        ensures ready { OnOk result (KnowsItsTexts self.new.watched) }
+        requires ready { KnowsItsTexts A.seen self.old.watched }
+        ensures ready { OnOk result (KnowsItsTexts A.seen self.new.watched) }
         ensures paths { self.new.paths ≡ self.old.paths }
         ensures fault { result ≢ Err SessionFault.Write }
         ensures unshared { result ≢ Err SessionFault.Shared }
@@ -227,8 +223,8 @@ impl<'a, 'd, J: Naming + StoreName, R: Wait + Drop> Run<'a, 'd, J, R> {
         versions: &mut V,
         paths: Paths<'a>,
     ) -> Result<Vec<u8>, SessionFault>
-        requires ready { KnowsItsTexts self.old.watched }
-        ensures ready { OnOk result (KnowsItsTexts self.new.watched) }
+        requires ready { KnowsItsTexts A.seen self.old.watched }
+        ensures ready { OnOk result (KnowsItsTexts A.seen self.new.watched) }
         ensures paths { self.new.paths ≡ self.old.paths }
         ensures fault { result ≢ Err SessionFault.Write }
         ensures unshared { result ≢ Err SessionFault.Shared }
@@ -266,10 +262,10 @@ impl<'a, 'd, J: Naming + StoreName, R: Wait + Drop> Run<'a, 'd, J, R> {
         alloc: Global,
         versions: &mut V,
     ) -> Result<Vec<u8>, SessionFault>
-        requires ready { KnowsItsTexts self.old.watched }
+        requires ready { KnowsItsTexts A.seen self.old.watched }
         requires first { standing self.old
             ≡ at_first (length (test_paths self.old.paths)) (lists_of self.old.lines.items) }
-        ensures ready { OnOk result (KnowsItsTexts self.new.watched) }
+        ensures ready { OnOk result (KnowsItsTexts A.seen self.new.watched) }
         ensures paths { self.new.paths ≡ self.old.paths }
         ensures fault { result ≢ Err SessionFault.Write }
         ensures unshared { result ≢ Err SessionFault.Shared }
@@ -298,8 +294,8 @@ impl<'a, 'd, J: Naming + StoreName, R: Wait + Drop> Run<'a, 'd, J, R> {
         path: &[u8],
         version: Vec<u8>,
     ) -> Result<Vec<u8>, SessionFault>
-        requires ready { KnowsItsTexts self.old.watched }
-        ensures ready { OnOk result (KnowsItsTexts self.new.watched) }
+        requires ready { KnowsItsTexts A.seen self.old.watched }
+        ensures ready { OnOk result (KnowsItsTexts A.seen self.new.watched) }
         ensures paths { self.new.paths ≡ self.old.paths }
         ensures fault { OnErr result (result ≡ Err SessionFault.Memory) }
         ensures answer { IfOk result (λ t. IsTextAnswer (file_of file) path.now version.items
@@ -323,8 +319,8 @@ impl<'a, 'd, J: Naming + StoreName, R: Wait + Drop> Run<'a, 'd, J, R> {
         path: &[u8],
         version: Version,
     ) -> Result<Vec<u8>, SessionFault>
-        requires ready { KnowsItsTexts self.old.watched }
-        ensures ready { OnOk result (KnowsItsTexts self.new.watched) }
+        requires ready { KnowsItsTexts A.seen self.old.watched }
+        ensures ready { OnOk result (KnowsItsTexts A.seen self.new.watched) }
         ensures paths { self.new.paths ≡ self.old.paths }
         ensures fault { OnErr result (result ≡ Err SessionFault.Memory) }
         ensures answer { IfOk result (λ t. IsAnswer path.now (standing self.old) (standing self.new)
@@ -350,8 +346,8 @@ impl<'a, 'd, J: Naming + StoreName, R: Wait + Drop> Run<'a, 'd, J, R> {
         versions: &mut V,
         line: &[u8],
     ) -> Result<Vec<u8>, SessionFault>
-        requires ready { KnowsItsTexts self.old.watched }
-        ensures ready { OnOk result (KnowsItsTexts self.new.watched) }
+        requires ready { KnowsItsTexts A.seen self.old.watched }
+        ensures ready { OnOk result (KnowsItsTexts A.seen self.new.watched) }
         ensures paths { self.new.paths ≡ self.old.paths }
         ensures fault { OnErr result (result ≡ Err SessionFault.Memory) }
         ensures answer { IfOk result (λ t. IsAnswered line.now
@@ -384,9 +380,9 @@ impl<'a, 'd, J: Naming + StoreName, R: Wait + Drop> Run<'a, 'd, J, R> {
         line: &[u8],
         sink: &mut K,
     ) -> Result<(), SessionFault>
-        requires ready { KnowsItsTexts self.old.watched }
+        requires ready { KnowsItsTexts A.seen self.old.watched }
         requires sink { K.failed_calls sink.old < 2 ^ 64 - 1 }
-        ensures ready { OnOk result (KnowsItsTexts self.new.watched) }
+        ensures ready { OnOk result (KnowsItsTexts A.seen self.new.watched) }
         ensures paths { self.new.paths ≡ self.old.paths }
         ensures writes { OnOk result (K.failed_calls sink.new ≡ K.failed_calls sink.old) }
         ensures wrote { result ≡ Err SessionFault.Write
@@ -422,9 +418,9 @@ impl<'a, 'd, J: Naming + StoreName, R: Wait + Drop> Run<'a, 'd, J, R> {
         byte: u8,
         sink: &mut K,
     ) -> Result<(), SessionFault>
-        requires ready { KnowsItsTexts self.old.watched }
+        requires ready { KnowsItsTexts A.seen self.old.watched }
         requires sink { K.failed_calls sink.old < 2 ^ 64 - 1 }
-        ensures ready { OnOk result (KnowsItsTexts self.new.watched) }
+        ensures ready { OnOk result (KnowsItsTexts A.seen self.new.watched) }
         ensures paths { self.new.paths ≡ self.old.paths }
         ensures writes { OnOk result (K.failed_calls sink.new ≡ K.failed_calls sink.old) }
         ensures wrote { result ≡ Err SessionFault.Write
@@ -461,9 +457,9 @@ impl<'a, 'd, J: Naming + StoreName, R: Wait + Drop> Run<'a, 'd, J, R> {
         bytes: &[u8],
         sink: &mut K,
     ) -> Result<(), SessionFault>
-        requires ready { KnowsItsTexts self.old.watched }
+        requires ready { KnowsItsTexts A.seen self.old.watched }
         requires sink { K.failed_calls sink.old < 2 ^ 64 - 1 }
-        ensures ready { OnOk result (KnowsItsTexts self.new.watched) }
+        ensures ready { OnOk result (KnowsItsTexts A.seen self.new.watched) }
         ensures paths { self.new.paths ≡ self.old.paths }
         ensures writes { OnOk result (K.failed_calls sink.new ≡ K.failed_calls sink.old) }
         ensures wrote { result ≡ Err SessionFault.Write
@@ -497,10 +493,10 @@ impl<'a, 'd, J: Naming + StoreName, R: Wait + Drop> Run<'a, 'd, J, R> {
         source: &mut S,
         sink: &mut K,
     ) -> Result<bool, SessionFault>
-        requires ready { KnowsItsTexts self.old.watched }
+        requires ready { KnowsItsTexts A.seen self.old.watched }
         requires source { S.failed_calls source.old < 2 ^ 64 - 1 }
         requires sink { K.failed_calls sink.old < 2 ^ 64 - 1 }
-        ensures ready { OnOk result (KnowsItsTexts self.new.watched) }
+        ensures ready { OnOk result (KnowsItsTexts A.seen self.new.watched) }
         ensures paths { self.new.paths ≡ self.old.paths }
         ensures reads { OnOk result (S.failed_calls source.new ≡ S.failed_calls source.old) }
         ensures writes { OnOk result (K.failed_calls sink.new ≡ K.failed_calls sink.old) }
@@ -553,10 +549,10 @@ impl<'a, 'd, J: Naming + StoreName, R: Wait + Drop> Run<'a, 'd, J, R> {
         source: &mut S,
         sink: &mut K,
     ) -> Result<(), SessionFault>
-        requires ready { KnowsItsTexts self.old.watched }
+        requires ready { KnowsItsTexts A.seen self.old.watched }
         requires source { S.failed_calls source.old < 2 ^ 64 - 1 }
         requires sink { K.failed_calls sink.old < 2 ^ 64 - 1 }
-        ensures ready { OnOk result (KnowsItsTexts self.new.watched) }
+        ensures ready { OnOk result (KnowsItsTexts A.seen self.new.watched) }
         ensures paths { self.new.paths ≡ self.old.paths }
         ensures reads { OnOk result (S.failed_calls source.new ≡ S.failed_calls source.old) }
         ensures writes { OnOk result (K.failed_calls sink.new ≡ K.failed_calls sink.old) }
@@ -599,7 +595,7 @@ impl<'a, 'd, J: Naming + StoreName, R: Wait + Drop> Run<'a, 'd, J, R> {
         source: &mut S,
         sink: &mut K,
     ) -> Result<bool, SessionFault>
-        requires ready { KnowsItsTexts self.old.watched }
+        requires ready { KnowsItsTexts A.seen self.old.watched }
         requires first { standing self.old
             ≡ at_first (length (test_paths self.old.paths)) (lists_of self.old.lines.items) }
         requires source { S.failed_calls source.old < 2 ^ 64 - 1 }

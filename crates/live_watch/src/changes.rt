@@ -10,24 +10,20 @@ ghost use Rattle.bench_texts.specs.Edits.{edit_of, Refuses};
 ghost use Rattle.bench_texts.specs.Held.{model_of, texts_of};
 ghost use Rattle.session_answers.specs.Cells.{test_named, model_named};
 ghost use Rattle.session_edits.specs.Faults.{IsAnswer};
-ghost use Rattle.session_views.specs.Knowing.{HasOwnEdit};
 ghost use Rattle.live_watch.specs.Holding.{model_name, is_name, without_unheld, name_at, HoldsItems, IsTestTaken, ModelFile, TestFile};
 ghost use Rattle.live_watch.specs.Edits.{IsMade, IsVersionTaken, IsOfModel, AreChanges, AreParts, AreSameBut};
 ghost use Rattle.live_watch.specs.Boards.{KnowsItsTexts, holding};
 
+use crate::author::Author;
 use crate::lines::model_name;
 use crate::watched::Watched;
 use bench_texts::{Edit, EditFault, NamedModel, Texts};
 use cat_syntax::{CatFault, ModelText, read_model};
-use desk::Accepted;
-use desk_rule::{Naming, Viewer};
 use litmus_ppc::{LitmusFault, Name, Test, read_test};
-use running_bench::{RunningDesk, RunningTexts};
 use session_views::laws::own_edits_are_known;
 use std::alloc::{AllocError, Global};
 use std::mem::replace;
 use std::sync::Wait;
-use value_store::StoreName;
 use version_edits::{ItemChange, TestPart, changed_parts, item_changes, item_edit, part_edit};
 
 // The numbers of edits that a board counts, below the greatest.
@@ -62,22 +58,6 @@ fn is_full(fault: &EditFault) -> bool {
     match fault {
         EditFault::Full => true,
         _ => false,
-    }
-}
-
-// Gives an edit to the desk, which tells the viewer, and says its number. Errors: out of memory,
-// also where a worker gave up.
-fn give_edit<J: Naming + StoreName, R: Wait + Drop, W: Wait>(
-    rt: &W,
-    desk: &RunningDesk<J, R>,
-    viewer: &mut Viewer<J, RunningTexts>,
-    edit: Edit,
-) -> Result<u64, AllocError>
-    ensures { IfOk result (λ number. HasOwnEdit edit number viewer.old viewer.new) }
-{
-    match desk.edit(rt, viewer, edit) {
-        Ok(Accepted::Now(number)) => Ok(number),
-        _ => Err(AllocError),
     }
 }
 
@@ -222,17 +202,17 @@ fn put_name(names: &mut Vec<Option<Name>>, index: usize, name: Name) -> Option<N
     }
 }
 
-impl<'d, J: Naming + StoreName, R: Wait + Drop> Watched<'d, J, R> {
-    // Makes an edit of the texts, and at the desk. Why it is refused, if it is. Errors: out of
-    // memory, also where a worker gave up.
+impl<A: Author> Watched<A> {
+    // Makes an edit of the texts, and has the author make it. Why it is refused, if it is. Errors:
+    // out of memory, also where a worker gave up.
     fn make<W: Wait>(
         &mut self,
         rt: &W,
         alloc: Global,
         edit: Edit,
     ) -> Result<Option<EditFault>, AllocError>
-        requires ready { KnowsItsTexts self.old }
-        ensures ready { OnOk result (KnowsItsTexts self.new) }
+        requires ready { KnowsItsTexts A.seen self.old }
+        ensures ready { OnOk result (KnowsItsTexts A.seen self.new) }
         ensures made { IfOk result (λ o.
             IsMade (texts_of self.old.texts) (edit_of edit) o (texts_of self.new.texts)) }
         ensures names { self.new.names ≡ self.old.names }
@@ -245,7 +225,7 @@ impl<'d, J: Naming + StoreName, R: Wait + Drop> Watched<'d, J, R> {
         if self.made >= MOST_EDITS {
             return Err(AllocError);
         }
-        self.last = give_edit(rt, self.desk, &mut self.viewer, edit)?;
+        self.last = self.author.give(rt, edit)?;
         self.texts.commit(prepared);
         self.made += 1;
         Ok(None)
@@ -253,8 +233,8 @@ impl<'d, J: Naming + StoreName, R: Wait + Drop> Watched<'d, J, R> {
 
     // Why an edit would be refused, if it would. Nothing is changed.
     fn refusal(&mut self, alloc: Global, edit: &Edit) -> Result<Option<EditFault>, AllocError>
-        requires ready { KnowsItsTexts self.old }
-        ensures ready { KnowsItsTexts self.new }
+        requires ready { KnowsItsTexts A.seen self.old }
+        ensures ready { KnowsItsTexts A.seen self.new }
         ensures fault { IfOk result (λ o. IfSome o (λ fault. IsAnswer fault
             × Refuses (texts_of self.old.texts) false (edit_of edit.now) fault)) }
         ensures texts { texts_of self.new.texts ≡ texts_of self.old.texts }
@@ -275,8 +255,8 @@ impl<'d, J: Naming + StoreName, R: Wait + Drop> Watched<'d, J, R> {
         new: &ModelText,
         change: ItemChange,
     ) -> Result<bool, AllocError>
-        requires ready { KnowsItsTexts self.old }
-        ensures ready { OnOk result (KnowsItsTexts self.new) }
+        requires ready { KnowsItsTexts A.seen self.old }
+        ensures ready { OnOk result (KnowsItsTexts A.seen self.new) }
         ensures tests { OnOk result ((texts_of self.new.texts).tests
             ≡ (texts_of self.old.texts).tests) }
         ensures names { self.new.names ≡ self.old.names }
@@ -297,8 +277,8 @@ impl<'d, J: Naming + StoreName, R: Wait + Drop> Watched<'d, J, R> {
         alloc: Global,
         new: &ModelText,
     ) -> Result<(), AllocError>
-        requires ready { KnowsItsTexts self.old }
-        ensures ready { OnOk result (KnowsItsTexts self.new) }
+        requires ready { KnowsItsTexts A.seen self.old }
+        ensures ready { OnOk result (KnowsItsTexts A.seen self.new) }
         ensures tests { OnOk result ((texts_of self.new.texts).tests
             ≡ (texts_of self.old.texts).tests) }
         ensures names { self.new.names ≡ self.old.names }
@@ -325,9 +305,9 @@ impl<'d, J: Naming + StoreName, R: Wait + Drop> Watched<'d, J, R> {
         new: &ModelText,
         whole: Edit,
     ) -> Result<(), AllocError>
-        requires ready { KnowsItsTexts self.old }
+        requires ready { KnowsItsTexts A.seen self.old }
         requires whole { IsOfModel (edit_of whole) }
-        ensures ready { OnOk result (KnowsItsTexts self.new) }
+        ensures ready { OnOk result (KnowsItsTexts A.seen self.new) }
         ensures items { OnOk result (HoldsItems (clauses_of new.now.items.items)
             (texts_of self.new.texts)) }
         ensures tests { OnOk result ((texts_of self.new.texts).tests
@@ -353,8 +333,8 @@ impl<'d, J: Naming + StoreName, R: Wait + Drop> Watched<'d, J, R> {
         alloc: Global,
         text: Vec<u8>,
     ) -> Result<Option<EditFault>, AllocError>
-        requires ready { KnowsItsTexts self.old }
-        ensures ready { OnOk result (KnowsItsTexts self.new) }
+        requires ready { KnowsItsTexts A.seen self.old }
+        ensures ready { OnOk result (KnowsItsTexts A.seen self.new) }
         ensures taken { IfOk result (λ o.
             IsVersionTaken ModelFile text.items (holding self.old) o (holding self.new)) }
     {
@@ -382,8 +362,8 @@ impl<'d, J: Naming + StoreName, R: Wait + Drop> Watched<'d, J, R> {
         new: &Test,
         part: TestPart,
     ) -> Result<bool, AllocError>
-        requires ready { KnowsItsTexts self.old }
-        ensures ready { OnOk result (KnowsItsTexts self.new) }
+        requires ready { KnowsItsTexts A.seen self.old }
+        ensures ready { OnOk result (KnowsItsTexts A.seen self.new) }
         ensures tests { OnOk result (AreSameBut new.now.name (texts_of self.old.texts).tests
             (texts_of self.new.texts).tests) }
         ensures models { OnOk result ((texts_of self.new.texts).models
@@ -397,8 +377,8 @@ impl<'d, J: Naming + StoreName, R: Wait + Drop> Watched<'d, J, R> {
 
     // Makes the test of this name this one, part by part, as far as the parts are accepted.
     fn change_parts<W: Wait>(&mut self, rt: &W, alloc: Global, new: &Test) -> Result<(), AllocError>
-        requires ready { KnowsItsTexts self.old }
-        ensures ready { OnOk result (KnowsItsTexts self.new) }
+        requires ready { KnowsItsTexts A.seen self.old }
+        ensures ready { OnOk result (KnowsItsTexts A.seen self.new) }
         ensures tests { OnOk result (AreSameBut new.now.name (texts_of self.old.texts).tests
             (texts_of self.new.texts).tests) }
         ensures models { OnOk result ((texts_of self.new.texts).models
@@ -427,9 +407,9 @@ impl<'d, J: Naming + StoreName, R: Wait + Drop> Watched<'d, J, R> {
         new: &Test,
         text: Vec<u8>,
     ) -> Result<(), AllocError>
-        requires ready { KnowsItsTexts self.old }
+        requires ready { KnowsItsTexts A.seen self.old }
         requires only { (c : Content) → ReadsTest text.items c → content_of new.now ≡ c }
-        ensures ready { OnOk result (KnowsItsTexts self.new) }
+        ensures ready { OnOk result (KnowsItsTexts A.seen self.new) }
         ensures tests { OnOk result ((texts_of self.new.texts).tests
             ≡ put_at (test_index new.now.name (texts_of self.old.texts).tests)
             (content_of new.now) (texts_of self.old.texts).tests) }
@@ -454,8 +434,8 @@ impl<'d, J: Naming + StoreName, R: Wait + Drop> Watched<'d, J, R> {
         alloc: Global,
         name: Option<Name>,
     ) -> Result<(), AllocError>
-        requires ready { KnowsItsTexts self.old }
-        ensures ready { OnOk result (KnowsItsTexts self.new) }
+        requires ready { KnowsItsTexts A.seen self.old }
+        ensures ready { OnOk result (KnowsItsTexts A.seen self.new) }
         ensures tests { OnOk result ((texts_of self.new.texts).tests
             ≡ without_unheld name self.old.names.items (texts_of self.old.texts).tests) }
         ensures models { OnOk result ((texts_of self.new.texts).models
@@ -487,10 +467,10 @@ impl<'d, J: Naming + StoreName, R: Wait + Drop> Watched<'d, J, R> {
         new: &Test,
         text: Vec<u8>,
     ) -> Result<(), AllocError>
-        requires ready { KnowsItsTexts self.old }
+        requires ready { KnowsItsTexts A.seen self.old }
         requires reads { ReadsTest text.items (content_of new.now) }
         requires only { (c : Content) → ReadsTest text.items c → content_of new.now ≡ c }
-        ensures ready { OnOk result (KnowsItsTexts self.new) }
+        ensures ready { OnOk result (KnowsItsTexts A.seen self.new) }
         ensures taken { OnOk result (IsTestTaken index text.items (holding self.old)
             (holding self.new)) }
     {
@@ -510,8 +490,8 @@ impl<'d, J: Naming + StoreName, R: Wait + Drop> Watched<'d, J, R> {
         index: usize,
         text: Vec<u8>,
     ) -> Result<Option<EditFault>, AllocError>
-        requires ready { KnowsItsTexts self.old }
-        ensures ready { OnOk result (KnowsItsTexts self.new) }
+        requires ready { KnowsItsTexts A.seen self.old }
+        ensures ready { OnOk result (KnowsItsTexts A.seen self.new) }
         ensures taken { IfOk result (λ o. IsVersionTaken (TestFile index) text.items
             (holding self.old) o (holding self.new)) }
     {

@@ -5,7 +5,9 @@
 #![tactic(auto)]
 
 mod answers;
+mod author;
 mod changes;
+mod desk_author;
 mod files;
 mod lines;
 mod settling;

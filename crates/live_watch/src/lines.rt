@@ -10,16 +10,14 @@ ghost use Rattle.live_watch.specs.Holding.{model_name};
 ghost use Rattle.live_watch.specs.Lines.{test_table, behind_line, AreLinesOf, changed_line, changed_lines, jobs_line, AreWritten};
 ghost use Rattle.live_watch.specs.Boards.{lists_of, shown_line, IsClosed, shown_by, IsClosedBy, shown_lines, AreOwn, KnowsItsTexts};
 
+use crate::author::Author;
 use crate::watched::Watched;
 use compare_report::{Shown as Cell, TestRow, table_text};
-use core::mem::replace_with;
 use desk_rule::{Naming, View, Viewer};
 use litmus_ppc::Name;
 use running_bench::{RunningTexts, edit_count_in, newest_view, result_in};
 use std::alloc::{AllocError, Global};
-use std::sync::Wait;
 use text_values::{line_length, put_bytes, put_decimal};
-use value_store::StoreName;
 
 /// The name of the model on the bench.
 pub fn model_name() -> &'static [u8]
@@ -112,19 +110,22 @@ fn lines_now<J: Naming>(
     Ok(Some(lines))
 }
 
-// What is to be read of the board: the lines of the tests of these names, where it counts so many
-// edits.
+/// What is to be read of the board: the lines of the tests of these names, where it counts so many
+/// edits.
 #[derive(Clone, Copy)]
-struct Asked<'p> {
-    alloc: Global,
-    names: &'p [Option<Name>],
-    made: u64,
+pub struct Asked<'p> {
+    /// Where the lines are made.
+    pub alloc: Global,
+    /// Of the file of each test the name of the test that it holds.
+    pub names: &'p [Option<Name>],
+    /// How many edits were made.
+    pub made: u64,
 }
 
-// Reads the board that was published last: the lines, or none where a cell is open. The viewer
-// comes back, and has seen the operations of that board. Errors: out of memory, also where there
-// are edits of someone else.
-fn read_board<'p, J: Naming>(
+/// Reads the board that was published last: the lines, or none where a cell is open. The viewer
+/// comes back, and has seen the operations of that board. Errors: out of memory, also where there
+/// are edits of someone else.
+pub fn read_board<'p, J: Naming>(
     viewer: Viewer<J, RunningTexts>,
     asked: Asked<'p>,
 ) -> (
@@ -206,22 +207,17 @@ pub fn put_answer(
     put_jobs(text, jobs)
 }
 
-impl<'d, J: Naming + StoreName, R: Wait + Drop> Watched<'d, J, R> {
+impl<A: Author> Watched<A> {
     /// The lines of all files, from the board that was published last, or none where a cell is
     /// open. Errors: out of memory.
     pub fn lines_now(&mut self, alloc: Global) -> Result<Option<Vec<Vec<u8>>>, AllocError>
-        requires ready { KnowsItsTexts self.old }
-        ensures ready { KnowsItsTexts self.new }
+        requires ready { KnowsItsTexts A.seen self.old }
+        ensures ready { KnowsItsTexts A.seen self.new }
         ensures texts { self.new.texts ≡ self.old.texts }
         ensures names { self.new.names ≡ self.old.names }
         ensures lines { IfOk result (λ o. IfSome o (λ v.
             AreLinesOf (texts_of self.new.texts) self.new.names.items (lists_of v.items))) }
     {
-        let asked = Asked {
-            alloc,
-            names: self.names.as_slice(),
-            made: self.made,
-        };
-        replace_with(&mut self.viewer, asked, read_board)
+        self.author.lines(alloc, self.names.as_slice(), self.made)
     }
 }

@@ -7,7 +7,7 @@ ghost use Rattle.live_watch.specs.Runs.{at_first};
 ghost use Rattle.live_watch.specs.Ends.{IsEnded};
 
 use crate::answers::Run;
-use crate::settling::Hands;
+use crate::desk_author::{DeskAuthor, Hands};
 use crate::turnstile::{RunningTurnstile, Turnstile, beside_workers};
 use crate::versions::Versions;
 use crate::watched::{Paths, Watched, no_names};
@@ -41,12 +41,12 @@ fn run_at<'a, 'd, J: Naming + StoreName, R: AllocGlobal + Wait + Drop>(
     desk: &'d RunningDesk<J, R>,
     hands: Hands<'d, J, R>,
     paths: Paths<'a>,
-) -> Result<Run<'a, 'd, J, R>, AllocError>
+) -> Result<Run<'a, DeskAuthor<'d, J, R>>, AllocError>
     ensures lines { IfOk result (λ run. run.lines.items ≡ []) }
     ensures paths { IfOk result (λ run. run.paths ≡ paths.entry) }
     ensures first { IfOk result (λ run. standing run
         ≡ at_first (length (test_paths run.paths)) (lists_of run.lines.items)) }
-    ensures ready { IfOk result (λ run. KnowsItsTexts run.watched) }
+    ensures ready { IfOk result (λ run. KnowsItsTexts (λ a. a.viewer) run.watched) }
 {
     let alloc = rt.alloc();
     let viewer = match desk.viewer(rt) {
@@ -55,8 +55,11 @@ fn run_at<'a, 'd, J: Naming + StoreName, R: AllocGlobal + Wait + Drop>(
     };
     let names = no_names(alloc, paths.tests.len())?;
     let watched = Watched {
-        desk,
-        viewer,
+        author: DeskAuthor {
+            desk,
+            viewer,
+            hands,
+        },
         texts: Texts::new(alloc),
         made: 0,
         last: 0,
@@ -65,7 +68,6 @@ fn run_at<'a, 'd, J: Naming + StoreName, R: AllocGlobal + Wait + Drop>(
     Ok(Run {
         watched,
         paths,
-        hands,
         lines: Vec::new(alloc),
         is_refused: false,
     })

@@ -1,15 +1,11 @@
-//! The desk with the files that it watches.
+//! The texts of the files that are watched, with who makes the edits.
 
 ghost use Rattle.std.specs.Prelude.{◌≡◌, IfOk};
 ghost use Rattle.live_watch.specs.Holding.{no_names};
 
 use bench_texts::Texts;
-use desk_rule::{Naming, Viewer};
 use litmus_ppc::Name;
-use running_bench::{RunningDesk, RunningTexts};
 use std::alloc::{AllocError, Global};
-use std::sync::Wait;
-use value_store::StoreName;
 
 /// The files that are watched, by their paths.
 #[derive(Clone, Copy)]
@@ -29,14 +25,11 @@ pub enum WatchedFile {
     Test(usize),
 }
 
-/// A desk and a viewer of its board, the texts that it was given, and the tests that the files
-/// hold.
+/// An author, the texts that its desk was given, and the tests that the files hold.
 #[derive(Drop)]
-pub struct Watched<'d, J: Naming + StoreName, R: Wait + Drop> {
-    /// Where the edits are made.
-    pub desk: &'d RunningDesk<J, R>,
-    /// Who sees the board.
-    pub viewer: Viewer<J, RunningTexts>,
+pub struct Watched<A> {
+    /// Who makes the edits.
+    pub author: A,
     /// The texts that the desk was given.
     pub texts: Texts,
     /// How many edits the desk was given.

@@ -15,7 +15,7 @@ invariant-loop-turn g l =
     let contents = g.K.ByteSink.contents in
     let readings = g.V.Versions.readings in
     record {
-      ready : KnowsItsTexts l.self.watched;
+      ready : KnowsItsTexts g.A.Author.seen l.self.watched;
       paths : l.self.paths ≡ l.initial.self.paths;
       reads : reads l.source ≡ reads l.initial.source;
       writes : calls l.sink ≡ calls l.initial.sink;

@@ -11,7 +11,7 @@ invariant-loop-index g l =
     let readings = g.V.Versions.readings in
     let files = record { file = ModelFile; path = model_path l.fn.paths } ∷ take l.index (test_files 0 (test_paths l.fn.paths)) in
     record {
-      ready : KnowsItsTexts l.self.watched;
+      ready : KnowsItsTexts g.A.Author.seen l.self.watched;
       paths : l.self.paths ≡ l.fn.self.paths;
       begun : HasBegun files (standing l.fn.self) (standing l.self) (readings l.fn.versions)
           (readings l.versions) l.text.items;

@@ -11,7 +11,7 @@ invariant-loop-byte g l =
     let contents = g.K.ByteSink.contents in
     let readings = g.V.Versions.readings in
     record {
-      ready : KnowsItsTexts l.self.watched;
+      ready : KnowsItsTexts g.A.Author.seen l.self.watched;
       paths : l.self.paths ≡ l.initial.self.paths;
       writes : calls l.sink ≡ calls l.initial.sink;
       answers : HasAnswers (model_path l.initial.self.paths) (test_paths l.initial.self.paths)

@@ -7,7 +7,7 @@ use Rattle.live_watch.proofs.watched.Watched.change_parts.Given as goal
 -- the viewer knows the texts, of which all are the same but the test of this name
 abbrev pub invariant-loop-part : goal.invariant-loop-part
 invariant-loop-part g l = record {
-  ready : KnowsItsTexts l.self;
+  ready : KnowsItsTexts g.A.Author.seen l.self;
   tests : AreSameBut l.new.name (texts_of l.initial.self.texts).tests (texts_of l.self.texts).tests;
   models : (texts_of l.self.texts).models ≡ (texts_of l.initial.self.texts).models;
   names : l.self.names ≡ l.initial.self.names;

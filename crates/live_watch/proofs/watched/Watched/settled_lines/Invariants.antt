@@ -6,7 +6,7 @@ use Rattle.live_watch.proofs.watched.Watched.settled_lines.Given as goal
 abbrev pub invariant-loop : goal.invariant-loop
 invariant-loop g l =
     record {
-      ready : KnowsItsTexts l.self;
+      ready : KnowsItsTexts g.A.Author.seen l.self;
       texts : l.self.texts ≡ l.initial.self.texts;
       names : l.self.names ≡ l.initial.self.names;
     }
