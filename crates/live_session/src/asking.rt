@@ -10,9 +10,9 @@ ghost use Rattle.live_session.specs.Ready.{IsReady};
 
 use crate::fault::fault_of;
 use crate::jobs::run_some;
-use crate::reply::Replied;
 use crate::state::Session;
 use bench_texts::Texts;
+use core::mem::replace_with;
 use desk::{Refusals, Settling};
 use desk_rule::{Naming, View, Viewer};
 use litmusbench::{ProgressListener, SessionFault};
@@ -24,63 +24,24 @@ use std::alloc::Global;
 use std::sync::Wait;
 use value_store::StoreName;
 
-/// A session, and what a turn of settling came to.
-#[derive(Drop)]
-struct Turned<J: Naming> {
-    session: Session<J>,
-    settling: Settling,
-}
-
-/// A session, and the answer to a question if its cells are settled.
-#[derive(Drop)]
-struct Looked<J: Naming> {
-    session: Session<J>,
-    answer: Option<Answer>,
-}
-
-#[tactic(auto, using(crate::proofs::Viewers::told_begins))]
-fn settle_viewer<J: Naming + StoreName, R: Wait + Drop, W: Wait>(
-    rt: &W,
-    desk: &RunningDesk<J, R>,
-    viewer: &mut Viewer<J, RunningTexts>,
-) -> Result<Settling, SessionFault>
-    ensures begins { OnOk result (IsPrefix viewer.old viewer.new) }
-    ensures fault { IfErr result IsOwnFault }
-{
-    match desk.settle_turn(rt, viewer) {
-        Ok(settling) => Ok(settling),
-        Err(fault) => Err(fault_of(&fault)),
-    }
-}
-
 // Has the desk show what is settled.
+#[tactic(auto, using(crate::proofs::Viewers::told_begins))]
 fn settle_turn<J: Naming + StoreName, R: Wait + Drop, W: Wait>(
     rt: &W,
     desk: &RunningDesk<J, R>,
-    session: Session<J>,
-) -> Result<Turned<J>, SessionFault>
-    requires ready { IsReady session.viewer session.made (texts_of session.texts) }
-    ensures texts { IfOk result (λ t. t.session.texts ≡ session.texts) }
-    ensures ready { IfOk result (λ t.
-        IsReady t.session.viewer t.session.made (texts_of t.session.texts)) }
+    session: &mut Session<J>,
+) -> Result<Settling, SessionFault>
+    requires ready { IsReady session.old.viewer session.old.made (texts_of session.old.texts) }
+    ensures texts { session.new.texts ≡ session.old.texts }
+    ensures ready { OnOk result (IsReady session.new.viewer session.new.made
+        (texts_of session.new.texts)) }
     ensures fault { IfErr result IsOwnFault }
 {
-    let Session {
-        mut viewer,
-        texts,
-        made,
-    } = session;
     later_is_known();
-    let settling = match settle_viewer(rt, desk, &mut viewer) {
-        Ok(settling) => settling,
-        Err(fault) => return Err(fault),
-    };
-    let session = Session {
-        viewer,
-        texts,
-        made,
-    };
-    Ok(Turned { session, settling })
+    match desk.settle_turn(rt, &mut session.viewer) {
+        Ok(settling) => Ok(settling),
+        Err(fault) => Err(fault_of(&fault)),
+    }
 }
 
 // The answer to a question from a view, if its cells are settled. It shows the session's texts
@@ -124,42 +85,72 @@ fn tell_progress<J: Naming, L: ProgressListener>(
     }
 }
 
-// Looks at the board that was published last.
+// What is to be read of the board: the answer to a question about these texts, after so many edits.
+// The listener hears how far a table is.
+struct Looking<'q, L> {
+    alloc: Global,
+    texts: &'q Texts,
+    made: u64,
+    question: &'q Question,
+    listener: &'q mut L,
+}
+
+// Looks at the board that was published last. The viewer comes back, and has seen the operations of
+// that board.
+fn look_at<'q, J: Naming, L: ProgressListener>(
+    viewer: Viewer<J, RunningTexts>,
+    looking: Looking<'q, L>,
+) -> (
+    Viewer<J, RunningTexts>,
+    Result<Option<Answer>, SessionFault>,
+)
+    requires { IsReady viewer looking.made (texts_of looking.texts.now) }
+    ensures begins { IsPrefix viewer result.0 }
+    ensures reply { IfOk result.1 (λ r.
+        IfSome r (IsReply (texts_of looking.entry.texts.now) looking.entry.question.now)) }
+    ensures fault { IfErr result.1 IsOwnFault }
+{
+    let Looking {
+        alloc,
+        texts,
+        made,
+        question,
+        listener,
+    } = looking;
+    later_is_known();
+    match newest_view(viewer) {
+        Ok(view) => {
+            let answer = answer_in(alloc, &view, texts, made, question);
+            tell_progress(&answer, &view, texts, question, listener);
+            (view.leave(), answer)
+        }
+        Err(viewer) => (viewer, Err(SessionFault::Memory)),
+    }
+}
+
+// The answer to a question from the board that was published last, if its cells are settled there.
 fn look<J: Naming, L: ProgressListener>(
     alloc: Global,
-    session: Session<J>,
+    session: &mut Session<J>,
     question: &Question,
     listener: &mut L,
-) -> Result<Looked<J>, SessionFault>
-    requires ready { IsReady session.viewer session.made (texts_of session.texts) }
-    ensures texts { IfOk result (λ l. l.session.texts ≡ session.texts) }
-    ensures ready { IfOk result (λ l.
-        IsReady l.session.viewer l.session.made (texts_of l.session.texts)) }
-    ensures reply { IfOk result (λ l.
-        IfSome l.answer (IsReply (texts_of session.texts) question.now)) }
+) -> Result<Option<Answer>, SessionFault>
+    requires ready { IsReady session.old.viewer session.old.made (texts_of session.old.texts) }
+    ensures texts { session.new.texts ≡ session.old.texts }
+    ensures ready { IsReady session.new.viewer session.new.made (texts_of session.new.texts) }
+    ensures reply { IfOk result (λ r.
+        IfSome r (IsReply (texts_of session.old.texts) question.now)) }
     ensures fault { IfErr result IsOwnFault }
 {
-    let Session {
-        viewer,
-        texts,
-        made,
-    } = session;
     later_is_known();
-    let view = match newest_view(viewer) {
-        Ok(view) => view,
-        Err(_) => return Err(SessionFault::Memory),
+    let looking = Looking {
+        alloc,
+        texts: &session.texts,
+        made: session.made,
+        question,
+        listener,
     };
-    let answer = answer_in(alloc, &view, &texts, made, question);
-    tell_progress(&answer, &view, &texts, question, listener);
-    let session = Session {
-        viewer: view.leave(),
-        texts,
-        made,
-    };
-    match answer {
-        Ok(answer) => Ok(Looked { session, answer }),
-        Err(fault) => Err(fault),
-    }
+    replace_with(&mut session.viewer, looking, look_at)
 }
 
 // Goes on where a cell was open: runs jobs, or waits for a change where workers run them. A board
@@ -197,46 +188,25 @@ pub(crate) fn ask<J: Naming + StoreName, R: Wait + Drop, W: Wait, L: ProgressLis
     rt: &W,
     alloc: Global,
     desk: &RunningDesk<J, R>,
-    session: Session<J>,
+    session: &mut Session<J>,
     has_workers: bool,
     question: &Question,
     listener: &mut L,
-) -> Result<Replied<J>, SessionFault>
-    requires ready { IsReady session.viewer session.made (texts_of session.texts) }
-    ensures texts { IfOk result (λ r. r.session.texts ≡ session.texts) }
-    ensures ready { IfOk result (λ r.
-        IsReady r.session.viewer r.session.made (texts_of r.session.texts)) }
-    ensures reply { IfOk result (λ r. IsReply (texts_of session.texts) question.now r.answer) }
+) -> Result<Answer, SessionFault>
+    requires ready { IsReady session.old.viewer session.old.made (texts_of session.old.texts) }
+    ensures texts { session.new.texts ≡ session.old.texts }
+    ensures ready { OnOk result (IsReady session.new.viewer session.new.made
+        (texts_of session.new.texts)) }
+    ensures reply { IfOk result (IsReply (texts_of session.old.texts) question.now) }
     ensures fault { IfErr result IsOwnFault }
 {
-    let mut session = session;
     let mut refusals = Refusals::new();
     for _ in rt.forever() {
-        let Turned {
-            session: turned,
-            settling,
-        } = match settle_turn(rt, desk, session) {
-            Ok(turned) => turned,
-            Err(fault) => return Err(fault),
-        };
-        let Looked {
-            session: looked,
-            answer,
-        } = match look(alloc, turned, question, listener) {
-            Ok(looked) => looked,
-            Err(fault) => return Err(fault),
-        };
-        if let Some(answer) = answer {
-            return Ok(Replied {
-                session: looked,
-                answer,
-            });
+        let settling = settle_turn(rt, desk, session)?;
+        if let Some(answer) = look(alloc, session, question, listener)? {
+            return Ok(answer);
         }
-        session = looked;
-        match go_on(rt, alloc, desk, has_workers, settling, &mut refusals) {
-            Ok(()) => {}
-            Err(fault) => return Err(fault),
-        }
+        go_on(rt, alloc, desk, has_workers, settling, &mut refusals)?;
     }
     unreachable!()
 }

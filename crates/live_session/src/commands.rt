@@ -10,7 +10,7 @@ ghost use Rattle.session_script.specs.Written.{WritesFront};
 ghost use Rattle.live_session.specs.Ready.{IsReady};
 ghost use Rattle.live_session.specs.Sessions.{IsSession, IsReplied, IsReplyStopped, IsTurnFault};
 
-use crate::reply::{Replied, reply};
+use crate::reply::reply;
 use crate::state::Session;
 use bench_texts::Texts;
 use desk_rule::Naming;
@@ -121,21 +121,20 @@ fn write_reply<J: Naming + StoreName, R: Wait + Drop, W: Wait, K: ByteSink, L: A
     rt: &W,
     alloc: Global,
     desk: &RunningDesk<J, R>,
-    session: Session<J>,
+    session: &mut Session<J>,
     has_workers: bool,
     command: Command,
     sink: &mut K,
     listener: &mut L,
-) -> Result<Replied<J>, SessionFault>
-    requires ready { IsReady session.viewer session.made (texts_of session.texts) }
+) -> Result<Answer, SessionFault>
+    requires ready { IsReady session.old.viewer session.old.made (texts_of session.old.texts) }
     requires sink { K.failed_calls sink.old < 2 ^ 64 - 1 }
-    ensures written { IfOk result (λ r. IsReplied (texts_of session.texts)
-        (texts_of r.session.texts) command (K.contents sink.old) (K.contents sink.new)
-        r.answer) }
-    ensures ready { IfOk result (λ r.
-        IsReady r.session.viewer r.session.made (texts_of r.session.texts)) }
-    ensures stopped { IfErr result (λ fault. IsReplyStopped (texts_of session.texts) command
-        (K.contents sink.old) (K.contents sink.new) fault) }
+    ensures written { IfOk result (IsReplied (texts_of session.old.texts)
+        (texts_of session.new.texts) command (K.contents sink.old) (K.contents sink.new)) }
+    ensures ready { OnOk result (IsReady session.new.viewer session.new.made
+        (texts_of session.new.texts)) }
+    ensures stopped { IfErr result (IsReplyStopped (texts_of session.old.texts) command
+        (K.contents sink.old) (K.contents sink.new)) }
     ensures failed { result ≡ Err SessionFault.Write
         → K.failed_calls sink.new ≡ K.failed_calls sink.old + 1 }
     ensures same { result ≢ Err SessionFault.Write
@@ -146,19 +145,14 @@ fn write_reply<J: Naming + StoreName, R: Wait + Drop, W: Wait, K: ByteSink, L: A
         Ok(heard) => heard,
         Err(_) => return Err(SessionFault::Memory),
     };
-    let replied = match reply(rt, alloc, desk, session, has_workers, command, listener) {
-        Ok(replied) => replied,
+    let answer = match reply(rt, alloc, desk, session, has_workers, command, listener) {
+        Ok(answer) => answer,
         Err(fault) => return Err(fault),
     };
-    match write_answer(&heard.text, &replied.answer, sink, listener) {
+    match write_answer(&heard.text, &answer, sink, listener) {
         Ok(()) => {
-            tell_model(
-                &replied.session.texts,
-                &heard.model,
-                &replied.answer,
-                listener,
-            );
-            Ok(replied)
+            tell_model(&session.texts, &heard.model, &answer, listener);
+            Ok(answer)
         }
         Err(fault) => Err(fault),
     }
@@ -207,18 +201,17 @@ pub(crate) fn answer_commands<
         match read {
             None => return Ok(is_refused),
             Some(command) => {
-                let replied = write_reply(
+                let answer = write_reply(
                     rt,
                     alloc,
                     desk,
-                    session,
+                    &mut session,
                     has_workers,
                     command,
                     sink,
                     listener,
                 )?;
-                is_refused |= replied.answer.is_refused();
-                session = replied.session;
+                is_refused |= answer.is_refused();
             }
         }
     }

@@ -1,6 +1,6 @@
 //! What a command is answered.
 
-ghost use Rattle.std.specs.Prelude.{IfOk, IfErr};
+ghost use Rattle.std.specs.Prelude.{IfOk, IfErr, OnOk};
 ghost use Rattle.bench_texts.specs.Held.{texts_of};
 ghost use Rattle.session_edits.specs.Requests.{asked_by};
 ghost use Rattle.session_answers.specs.Sessions.{IsAsked, IsAnswered};
@@ -19,35 +19,28 @@ use std::alloc::Global;
 use std::sync::Wait;
 use value_store::StoreName;
 
-/// What a command is answered, and the session behind it.
-#[derive(Drop)]
-pub(crate) struct Replied<J: Naming> {
-    pub(crate) session: Session<J>,
-    pub(crate) answer: Answer,
-}
-
 fn reply_asked<J: Naming + StoreName, R: Wait + Drop, W: Wait, L: AnswerListener>(
     rt: &W,
     alloc: Global,
     desk: &RunningDesk<J, R>,
-    session: Session<J>,
+    session: &mut Session<J>,
     has_workers: bool,
     asked: Asked,
     listener: &mut L,
-) -> Result<Replied<J>, SessionFault>
-    requires ready { IsReady session.viewer session.made (texts_of session.texts) }
-    ensures answer { IfOk result (λ r.
-        IsAsked (texts_of session.texts) (asked_by asked) r.answer (texts_of r.session.texts)) }
-    ensures ready { IfOk result (λ r.
-        IsReady r.session.viewer r.session.made (texts_of r.session.texts)) }
+) -> Result<Answer, SessionFault>
+    requires ready { IsReady session.old.viewer session.old.made (texts_of session.old.texts) }
+    ensures answer { IfOk result (λ said. IsAsked (texts_of session.old.texts) (asked_by asked)
+        said (texts_of session.new.texts)) }
+    ensures ready { OnOk result (IsReady session.new.viewer session.new.made
+        (texts_of session.new.texts)) }
     ensures fault { IfErr result IsOwnFault }
 {
     match asked {
         Asked::Edit(edit) => make_edit(rt, alloc, desk, session, edit),
         Asked::Question(question) => {
-            let replied = ask(rt, alloc, desk, session, has_workers, &question, listener);
+            let answer = ask(rt, alloc, desk, session, has_workers, &question, listener);
             listener.hear_end();
-            replied
+            answer
         }
     }
 }
@@ -57,21 +50,21 @@ pub(crate) fn reply<J: Naming + StoreName, R: Wait + Drop, W: Wait, L: AnswerLis
     rt: &W,
     alloc: Global,
     desk: &RunningDesk<J, R>,
-    session: Session<J>,
+    session: &mut Session<J>,
     has_workers: bool,
     command: Command,
     listener: &mut L,
-) -> Result<Replied<J>, SessionFault>
-    requires ready { IsReady session.viewer session.made (texts_of session.texts) }
-    ensures answer { IfOk result (λ r.
-        IsAnswered (texts_of session.texts) command r.answer (texts_of r.session.texts)) }
-    ensures ready { IfOk result (λ r.
-        IsReady r.session.viewer r.session.made (texts_of r.session.texts)) }
+) -> Result<Answer, SessionFault>
+    requires ready { IsReady session.old.viewer session.old.made (texts_of session.old.texts) }
+    ensures answer { IfOk result (λ said. IsAnswered (texts_of session.old.texts) command said
+        (texts_of session.new.texts)) }
+    ensures ready { OnOk result (IsReady session.new.viewer session.new.made
+        (texts_of session.new.texts)) }
     ensures fault { IfErr result IsOwnFault }
 {
     match command {
         Command::Refused(rule) => match refused_by(alloc, b'Q', rule.number()) {
-            Ok(answer) => Ok(Replied { session, answer }),
+            Ok(answer) => Ok(answer),
             Err(_) => Err(SessionFault::Memory),
         },
         Command::Asked { request, text } => {

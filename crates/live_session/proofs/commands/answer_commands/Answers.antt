@@ -78,39 +78,39 @@ returns-in-None-clause-no_write g c = λ ne. c.commands.invariant.writes
 pub write_reply-requires : goal.write_reply-requires
 write_reply-requires g c = search rules
 
-pub returns-in_err-replied-in-Some-clause-written : goal.returns-in_err-replied-in-Some-clause-written
-returns-in_err-replied-in-Some-clause-written g c =
-    let p = err_from_is_err_and c.from_residual-in_err-replied-in-Some.result c.from_residual-in_err-replied-in-Some.ensures.1 in
+pub returns-in_err-answer-in-Some-clause-written : goal.returns-in_err-answer-in-Some-clause-written
+returns-in_err-answer-in-Some-clause-written g c =
+    let p = err_from_is_err_and c.from_residual-in_err-answer-in-Some.result c.from_residual-in_err-answer-in-Some.ensures.1 in
     let now = left_to c.commands.script (g.S.ByteSource.remaining c.commands.source) in
     let next = left_to c.read_command.new.script (g.S.ByteSource.remaining c.read_command.new.source) in
     rw (p.1, p.2)
     (reply_fails (g.S.ByteSource.remaining c.args.source.now) now next
     (g.K.ByteSink.contents c.args.sink.now) (g.K.ByteSink.contents c.commands.sink)
     (g.K.ByteSink.contents c.write_reply.new.sink) (texts_of c.commands.session.texts)
-    c.commands.is_refused c.in-Some.command c.in_err-replied-in-Some.field-0.0
+    c.commands.is_refused c.in-Some.command c.in_err-answer-in-Some.field-0.0
     c.commands.invariant.under_way
     (subst (λ (o : Option Command). IsNext now next o) c.in-Some.is c.in_ok-read.ensures.next)
-    c.in_err-replied-in-Some.ensures.stopped)
+    c.in_err-answer-in-Some.ensures.stopped)
 
-pub returns-in_err-replied-in-Some-clause-read : goal.returns-in_err-replied-in-Some-clause-read
-returns-in_err-replied-in-Some-clause-read g c = λ e.
-    let p = err_from_is_err_and c.from_residual-in_err-replied-in-Some.result c.from_residual-in_err-replied-in-Some.ensures.1 in
-    absurd (c.in_err-replied-in-Some.ensures.fault (cc (p.1, p.2)))
+pub returns-in_err-answer-in-Some-clause-read : goal.returns-in_err-answer-in-Some-clause-read
+returns-in_err-answer-in-Some-clause-read g c = λ e.
+    let p = err_from_is_err_and c.from_residual-in_err-answer-in-Some.result c.from_residual-in_err-answer-in-Some.ensures.1 in
+    absurd (c.in_err-answer-in-Some.ensures.fault (cc (p.1, p.2)))
 
-pub returns-in_err-replied-in-Some-clause-no_read : goal.returns-in_err-replied-in-Some-clause-no_read
-returns-in_err-replied-in-Some-clause-no_read g c =
+pub returns-in_err-answer-in-Some-clause-no_read : goal.returns-in_err-answer-in-Some-clause-no_read
+returns-in_err-answer-in-Some-clause-no_read g c =
     λ ne. c.in_ok-read.ensures.same (λ e. cc) ∙ c.commands.invariant.reads
 
-pub returns-in_err-replied-in-Some-clause-write : goal.returns-in_err-replied-in-Some-clause-write
-returns-in_err-replied-in-Some-clause-write g c = λ e.
-    let p = err_from_is_err_and c.from_residual-in_err-replied-in-Some.result c.from_residual-in_err-replied-in-Some.ensures.1 in
-    c.in_err-replied-in-Some.ensures.failed (cc (p.1, p.2))
+pub returns-in_err-answer-in-Some-clause-write : goal.returns-in_err-answer-in-Some-clause-write
+returns-in_err-answer-in-Some-clause-write g c = λ e.
+    let p = err_from_is_err_and c.from_residual-in_err-answer-in-Some.result c.from_residual-in_err-answer-in-Some.ensures.1 in
+    c.in_err-answer-in-Some.ensures.failed (cc (p.1, p.2))
     ∙ ap (λ (n : ℕ). n + 1) c.commands.invariant.writes
 
-pub returns-in_err-replied-in-Some-clause-no_write : goal.returns-in_err-replied-in-Some-clause-no_write
-returns-in_err-replied-in-Some-clause-no_write g c = λ ne.
-    let p = err_from_is_err_and c.from_residual-in_err-replied-in-Some.result c.from_residual-in_err-replied-in-Some.ensures.1 in
-    c.in_err-replied-in-Some.ensures.same (λ e. ne (cc (p.1, p.2))) ∙ c.commands.invariant.writes
+pub returns-in_err-answer-in-Some-clause-no_write : goal.returns-in_err-answer-in-Some-clause-no_write
+returns-in_err-answer-in-Some-clause-no_write g c = λ ne.
+    let p = err_from_is_err_and c.from_residual-in_err-answer-in-Some.result c.from_residual-in_err-answer-in-Some.ensures.1 in
+    c.in_err-answer-in-Some.ensures.same (λ e. ne (cc (p.1, p.2))) ∙ c.commands.invariant.writes
 
 pub commands-smaller : goal.commands-smaller
 commands-smaller g c =
@@ -128,18 +128,18 @@ commands-preserved g c =
           goes_on (g.S.ByteSource.remaining c.args.source.now) now next
           (g.K.ByteSink.contents c.args.sink.now) (g.K.ByteSink.contents c.commands.sink)
           (g.K.ByteSink.contents c.write_reply.new.sink) (texts_of c.commands.session.texts)
-          (texts_of c.in_ok-replied-in-Some.replied.session.texts) c.commands.is_refused _
-          c.in-Some.command c.in_ok-replied-in-Some.replied.answer
+          (texts_of c.write_reply.new.session.texts) c.commands.is_refused _
+          c.in-Some.command c.in_ok-answer-in-Some.answer
           c.commands.invariant.under_way
           (subst (λ (o : Option Command). IsNext now next o) c.in-Some.is c.in_ok-read.ensures.next)
-          c.in_ok-replied-in-Some.ensures.written (ap (λ (b : Bool). c.commands.is_refused || b)
+          c.in_ok-answer-in-Some.ensures.written (ap (λ (b : Bool). c.commands.is_refused || b)
           c.is_refused-is_refused.ensures);
       paid =
           paid_on 16777216 (turns_of c.commands.script) (turns_of c.read_command.new.script)
           (g.S.ByteSource.remaining c.args.source.now) (g.S.ByteSource.remaining c.commands.source)
           (g.S.ByteSource.remaining c.read_command.new.source) c.commands.invariant.paid
           c.in_ok-read.ensures.paid;
-      ready = c.in_ok-replied-in-Some.ensures.ready;
+      ready = c.in_ok-answer-in-Some.ensures.ready;
       reads = c.in_ok-read.ensures.same (λ e. cc) ∙ c.commands.invariant.reads;
-      writes = c.in_ok-replied-in-Some.ensures.same (λ e. cc) ∙ c.commands.invariant.writes;
+      writes = c.in_ok-answer-in-Some.ensures.same (λ e. cc) ∙ c.commands.invariant.writes;
     }

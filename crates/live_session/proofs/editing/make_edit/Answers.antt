@@ -5,7 +5,8 @@ use Rattle.live_session.proofs.editing.make_edit.Goals as goal
 
 pub returns-clause-ready : goal.returns-clause-ready
 returns-clause-ready g c =
-    accepted_ready c.args.edit c.args.session.viewer c.tell_desk.new.viewer c.args.session.made
-    (texts_of c.args.session.texts) (texts_of c.answer_edit.new.texts) c.in-Ok.answer
+    accepted_ready c.args.edit c.args.session.now.viewer c.tell_desk.new.viewer
+    c.args.session.now.made (texts_of c.args.session.now.texts)
+    (texts_of c.answer_edit.new.texts) c.in-Ok.answer
     c.own_edits_are_known.ensures c.requires.ready
     c.in_ok-tell_desk.ensures.told c.in-Ok.ensures.edited (search rules) (search rules)
