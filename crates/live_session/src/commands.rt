@@ -145,17 +145,10 @@ fn write_reply<J: Naming + StoreName, R: Wait + Drop, W: Wait, K: ByteSink, L: A
         Ok(heard) => heard,
         Err(_) => return Err(SessionFault::Memory),
     };
-    let answer = match reply(rt, alloc, desk, session, has_workers, command, listener) {
-        Ok(answer) => answer,
-        Err(fault) => return Err(fault),
-    };
-    match write_answer(&heard.text, &answer, sink, listener) {
-        Ok(()) => {
-            tell_model(&session.texts, &heard.model, &answer, listener);
-            Ok(answer)
-        }
-        Err(fault) => Err(fault),
-    }
+    let answer = reply(rt, alloc, desk, session, has_workers, command, listener)?;
+    write_answer(&heard.text, &answer, sink, listener)?;
+    tell_model(&session.texts, &heard.model, &answer, listener);
+    Ok(answer)
 }
 
 /// Answers the commands of a script one after another, each by one write as soon as its last line

@@ -20,58 +20,7 @@ fn count_of(workers: u64) -> u32 {
     workers.min(MOST_WORKERS as u64) as u32
 }
 
-fn session_at<J, R, S, K, L, G>(
-    rt: &R,
-    desk: &Arc<RunningDesk<J, R>>,
-    source: &mut S,
-    sink: &mut K,
-    listener: &mut L,
-    workers: u64,
-    gate: G,
-) -> Result<bool, SessionFault>
-where
-    J: Naming + StoreName + Send + Sync + 'static,
-    R: AllocGlobal + Wait + Threads + Copy + Drop + Send + Sync + 'static,
-    S: ByteSource,
-    K: ByteSink,
-    L: AnswerListener,
-    G: Gate + Drop + Send + Sync + 'static,
-    requires source { S.failed_calls source.old < 2 ^ 64 - 1 }
-    requires sink { K.failed_calls sink.old < 2 ^ 64 - 1 }
-    ensures written { IsSession (S.remaining source.old) (K.contents sink.old) (K.contents sink.new)
-        result }
-    ensures read { result ≡ Err SessionFault.Read
-        → IsReadFault (S.failed_calls source.old) (S.failed_calls source.new)
-        (S.remaining source.old) }
-    ensures no_read { result ≢ Err SessionFault.Read
-        → S.failed_calls source.new ≡ S.failed_calls source.old }
-    ensures write { result ≡ Err SessionFault.Write
-        → K.failed_calls sink.new ≡ K.failed_calls sink.old + 1 }
-    ensures no_write { result ≢ Err SessionFault.Write
-        → K.failed_calls sink.new ≡ K.failed_calls sink.old }
-{
-    let alloc = rt.alloc();
-    let Ok(viewer) = desk.viewer(rt) else {
-        return Err(SessionFault::Memory);
-    };
-    let session = Session::new(alloc, viewer);
-    let Ok(crew) = hire_crew(rt, alloc, desk, gate, count_of(workers)) else {
-        return Err(SessionFault::Memory);
-    };
-    let answered = answer_commands(
-        rt,
-        alloc,
-        &**desk,
-        session,
-        workers > 0,
-        source,
-        sink,
-        listener,
-    );
-    let _tally = crew.dismiss(rt);
-    answered
-}
-
+// A session over a desk of its own, which is opened by this seed.
 fn session_from<J, R, S, K, L, G>(
     rt: &R,
     seed: DeskSeed,
@@ -111,7 +60,25 @@ where
     let Ok(desk) = Arc::new(alloc, desk) else {
         return Err(SessionFault::Memory);
     };
-    session_at(rt, &desk, source, sink, listener, workers, gate)
+    let Ok(viewer) = desk.viewer(rt) else {
+        return Err(SessionFault::Memory);
+    };
+    let session = Session::new(alloc, viewer);
+    let Ok(crew) = hire_crew(rt, alloc, &desk, gate, count_of(workers)) else {
+        return Err(SessionFault::Memory);
+    };
+    let answered = answer_commands(
+        rt,
+        alloc,
+        &*desk,
+        session,
+        workers > 0,
+        source,
+        sink,
+        listener,
+    );
+    let _tally = crew.dismiss(rt);
+    answered
 }
 
 /// Answers the commands of a script one after another, each by one write as soon as its last line
