@@ -14,7 +14,7 @@ use live_watch::watch_files;
 use std::alloc::AllocError;
 use std::fmt::Display;
 use std::fs::File;
-use std::io::{IsTerminal, Printer, Write};
+use std::io::{IsTerminal, Printer, Read, Write};
 use std::process::ExitCode;
 use std::rt::{Clock, Env, Files};
 use std::sync::Wait;
@@ -107,15 +107,17 @@ fn stream<R: AllocGlobal + Input + Print, E: Print>(
     eval_stream(rt, &mut source, &mut sink, &mut teller)
 }
 
-fn session_input<R, E: Print + IsTerminal>(
+// Answers the script of a source.
+fn session_over<R, E: Print + IsTerminal, S: Read + Drop>(
     rt: &R,
     errors: &E,
+    script: S,
     workers: u64,
 ) -> Result<bool, SessionFault>
 where
-    R: AllocGlobal + Clock + Input + Print + Threads + Wait + Copy + Drop + Send + Sync + 'static,
+    R: AllocGlobal + Clock + Print + Threads + Wait + Copy + Drop + Send + Sync + 'static,
 {
-    let mut source = OfRead::new(rt.reader());
+    let mut source = OfRead::new(script);
     let mut sink = OfWrite::new(io::writer(rt));
     let progress = progress_to(rt, errors);
     let mut teller = RefusalTeller::new(rt.alloc(), io::writer(errors), progress);
@@ -148,10 +150,11 @@ fn told<R: Eprint, T>(
     read
 }
 
-fn session_file<R, E: Print + IsTerminal>(
+// Answers the script of a file, or of standard input.
+fn session_of<R, E: Print + IsTerminal>(
     rt: &R,
     errors: &E,
-    path: &str,
+    script: Option<&str>,
     workers: u64,
 ) -> Result<bool, SessionFault>
 where
@@ -159,6 +162,7 @@ where
         + Clock
         + Eprint
         + Files
+        + Input
         + Print
         + Threads
         + Wait
@@ -168,12 +172,13 @@ where
         + Sync
         + 'static,
 {
-    let mut source = OfRead::new(open_file(rt, path)?);
-    let mut sink = OfWrite::new(io::writer(rt));
-    let progress = progress_to(rt, errors);
-    let mut teller = RefusalTeller::new(rt.alloc(), io::writer(errors), progress);
-    let ended = session(rt, &mut source, &mut sink, &mut teller, workers, NoGate);
-    told(rt, path, ended)
+    match script {
+        Some(path) => {
+            let file = open_file(rt, path)?;
+            told(rt, path, session_over(rt, errors, file, workers))
+        }
+        None => session_over(rt, errors, rt.reader(), workers),
+    }
 }
 
 fn text_of_file<R: AllocGlobal + Eprint + Files>(
@@ -192,47 +197,40 @@ fn read_file<'a, R: AllocGlobal + Eprint + Files>(
     Ok(TextFile { path, text })
 }
 
-fn eval_files<R: AllocGlobal + Eprint + Files + Print, E: Print>(
-    rt: &R,
-    errors: &E,
-    model: &str,
-    test: &str,
-) -> Result<bool, SessionFault> {
-    let model = read_file(rt, model)?;
-    let test = read_file(rt, test)?;
-    let mut sink = OfWrite::new(io::writer(rt));
-    let is_refused = write_answer(rt.alloc(), &model.text, &test.text, &mut sink)?;
-    tell_answer(rt, errors, is_refused, &model, &test);
-    Ok(is_refused)
+// What is asked of the model and the test of two files.
+#[derive(Clone, Copy)]
+enum PairQuestion {
+    Log,
+    Reasons(Asked),
+    Pictures { drawn: Drawn, most: u64 },
 }
 
-fn why_files<R: AllocGlobal + Eprint + Files + Print, E: Print>(
+fn write_pair<R: AllocGlobal + Print>(
     rt: &R,
-    errors: &E,
-    asked: Asked,
-    model: &str,
-    test: &str,
+    question: PairQuestion,
+    model: &[u8],
+    test: &[u8],
 ) -> Result<bool, SessionFault> {
-    let model = read_file(rt, model)?;
-    let test = read_file(rt, test)?;
     let mut sink = OfWrite::new(io::writer(rt));
-    let is_refused = write_why(rt.alloc(), asked, &model.text, &test.text, &mut sink)?;
-    tell_answer(rt, errors, is_refused, &model, &test);
-    Ok(is_refused)
+    match question {
+        PairQuestion::Log => write_answer(rt.alloc(), model, test, &mut sink),
+        PairQuestion::Reasons(asked) => write_why(rt.alloc(), asked, model, test, &mut sink),
+        PairQuestion::Pictures { drawn, most } => {
+            write_drawings(rt.alloc(), model, test, drawn, most, &mut sink)
+        }
+    }
 }
 
-fn draw_files<R: AllocGlobal + Eprint + Files + Print, E: Print>(
+fn answer_pair<R: AllocGlobal + Eprint + Files + Print, E: Print>(
     rt: &R,
     errors: &E,
+    question: PairQuestion,
     model: &str,
     test: &str,
-    drawn: Drawn,
-    most: u64,
 ) -> Result<bool, SessionFault> {
     let model = read_file(rt, model)?;
     let test = read_file(rt, test)?;
-    let mut sink = OfWrite::new(io::writer(rt));
-    let is_refused = write_drawings(rt.alloc(), &model.text, &test.text, drawn, most, &mut sink)?;
+    let is_refused = write_pair(rt, question, &model.text, &test.text)?;
     tell_answer(rt, errors, is_refused, &model, &test);
     Ok(is_refused)
 }
@@ -266,34 +264,90 @@ fn write_both<R: Print, E: Print>(
     }
 }
 
-fn table_files<R: AllocGlobal + Clock + Eprint + Files + Print, E: Print + IsTerminal>(
+// What is asked of the tests of some files under the models of others.
+#[derive(Clone, Copy)]
+enum GridQuestion {
+    Table,
+    Differences,
+}
+
+fn answer_grid<R: AllocGlobal + Clock + Eprint + Files + Print, E: Print + IsTerminal>(
     rt: &R,
     errors: &E,
+    question: GridQuestion,
     models: &[&str],
     tests: &[&str],
 ) -> Result<bool, SessionFault> {
     let models = files_of(rt, models)?;
     let tests = files_of(rt, tests)?;
     let mut progress = progress_to(rt, errors);
-    let report = table_report(rt.alloc(), &models, &tests, &mut progress);
+    let report = match question {
+        GridQuestion::Table => table_report(rt.alloc(), &models, &tests, &mut progress),
+        GridQuestion::Differences => difference_report(rt.alloc(), &models, &tests, &mut progress),
+    };
     let is_refused = write_both(rt, errors, report)?;
     tell_models(rt, errors, &models);
     Ok(is_refused)
 }
 
-fn diff_files<R: AllocGlobal + Clock + Eprint + Files + Print, E: Print + IsTerminal>(
+// Does what the words ask for. Whether a text was refused.
+fn answer_form<R, E: Print + IsTerminal>(
     rt: &R,
     errors: &E,
-    models: &[&str],
-    tests: &[&str],
-) -> Result<bool, SessionFault> {
-    let models = files_of(rt, models)?;
-    let tests = files_of(rt, tests)?;
-    let mut progress = progress_to(rt, errors);
-    let report = difference_report(rt.alloc(), &models, &tests, &mut progress);
-    let is_refused = write_both(rt, errors, report)?;
-    tell_models(rt, errors, &models);
-    Ok(is_refused)
+    form: Form<'_>,
+) -> Result<bool, SessionFault>
+where
+    R: AllocGlobal
+        + Clock
+        + Eprint
+        + Files
+        + Input
+        + Print
+        + Threads
+        + Wait
+        + Copy
+        + Drop
+        + Send
+        + Sync
+        + 'static,
+{
+    match form {
+        Form::Stream => stream(rt, errors),
+        Form::Session { script, workers } => session_of(rt, errors, script, workers),
+        Form::Watch {
+            model,
+            tests,
+            workers,
+        } => watch_files(rt, errors, model, tests, workers),
+        Form::Eval { model, test } => answer_pair(rt, errors, PairQuestion::Log, model, test),
+        Form::Why {
+            model,
+            test,
+            is_forbidden,
+            is_deep,
+        } => {
+            let asked = Asked {
+                is_forbidden,
+                is_deep,
+            };
+            answer_pair(rt, errors, PairQuestion::Reasons(asked), model, test)
+        }
+        Form::Draw {
+            model,
+            test,
+            drawn,
+            most,
+        } => {
+            let question = PairQuestion::Pictures { drawn, most };
+            answer_pair(rt, errors, question, model, test)
+        }
+        Form::Table { models, tests } => {
+            answer_grid(rt, errors, GridQuestion::Table, models, tests)
+        }
+        Form::Diff { models, tests } => {
+            answer_grid(rt, errors, GridQuestion::Differences, models, tests)
+        }
+    }
 }
 
 fn answer<R, E: Print + IsTerminal>(rt: &R, errors: &E, words: &[&str]) -> RunEnd
@@ -313,53 +367,7 @@ where
         + 'static,
 {
     match form_of(rt.alloc(), words) {
-        Ok(Form::Stream) => tell_done(rt, stream(rt, errors)),
-        Ok(Form::Eval { model, test }) => tell_done(rt, eval_files(rt, errors, model, test)),
-        Ok(Form::Table { models, tests }) => {
-            tell_done(rt, table_files(rt, errors, models, tests))
-        }
-        Ok(Form::Diff { models, tests }) => tell_done(rt, diff_files(rt, errors, models, tests)),
-        Ok(
-            Form::Session {
-                script: None,
-                workers,
-            },
-        ) => tell_done(rt, session_input(rt, errors, workers)),
-        Ok(
-            Form::Session {
-                script: Some(path),
-                workers,
-            },
-        ) => tell_done(rt, session_file(rt, errors, path, workers)),
-        Ok(
-            Form::Why {
-                model,
-                test,
-                is_forbidden,
-                is_deep,
-            },
-        ) => {
-            let asked = Asked {
-                is_forbidden,
-                is_deep,
-            };
-            tell_done(rt, why_files(rt, errors, asked, model, test))
-        }
-        Ok(
-            Form::Watch {
-                model,
-                tests,
-                workers,
-            },
-        ) => tell_done(rt, watch_files(rt, errors, model, tests, workers)),
-        Ok(
-            Form::Draw {
-                model,
-                test,
-                drawn,
-                most,
-            },
-        ) => tell_done(rt, draw_files(rt, errors, model, test, drawn, most)),
+        Ok(form) => tell_done(rt, answer_form(rt, errors, form)),
         Err(error) => tell_usage(rt, &error),
     }
 }
