@@ -2,7 +2,8 @@
 
 ghost use Rattle.std.specs.Prelude.{◌≡◌};
 
-use crate::played::PlayedBench;
+use crate::claimed::ClaimedBench;
+use crate::numbered::NumberedBench;
 use crate::{rows, walk};
 use cells::bench::Bench;
 use node_values::NodeValue;
@@ -26,7 +27,7 @@ pub enum Example<'a> {
 fn play_at<R, B>(rt: &R, alloc: Global, bench: B, example: Example<'_>) -> io::Result<()>
 where
     R: Print + Wait,
-    B: PlayedBench,
+    B: NumberedBench,
 {
     match example {
         Example::Lines(lines) => rows::play_at_bench(rt, alloc, bench, lines),
@@ -44,7 +45,7 @@ fn play_over<R: Print + Wait, K: StoreName>(
     requires { opened.values ≡ K.shelves }
 {
     let bench = Bench::<K, StampedTexts>::new(alloc, opened.named::<K>())?;
-    play_at(rt, alloc, bench, example)
+    play_at(rt, alloc, ClaimedBench::new(alloc, bench), example)
 }
 
 /// Plays at a new bench, whose store has so many values at most, if a limit is given.

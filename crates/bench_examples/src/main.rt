@@ -6,14 +6,17 @@
 
 mod benches;
 mod claimed;
+mod claimed_desk;
 mod desks;
 mod edits;
 mod jobs;
 mod meeting;
+mod numbered;
 mod played;
 mod rows;
 mod sessions;
 mod stress;
+mod threads;
 mod walk;
 mod watching;
 

@@ -3,14 +3,12 @@
 
 pub mod gate;
 
-use crate::desks::{self, Example};
-use crate::played::PlayedDesk;
+use crate::desks::{self, Example, Played};
+use crate::played::ViewedDesk;
 use crate::rows::replies::{put_tally, told};
-use bench_texts::{Edit, EditFault};
-use bench_workers::{Tally, with_workers};
-use board::Board;
-use desk::{Accepted, BoardTexts, Desk};
-use desk_rule::Naming;
+use bench_texts::Edit;
+use bench_workers::Tally;
+use desk::Accepted;
 use gate::{Held, Meeting};
 use std::alloc::{AllocError, Global};
 use std::io;
@@ -18,7 +16,6 @@ use std::rt::Clock;
 use std::sync::Wait;
 use std::thread::Threads;
 use text_values::{put_bytes, put_decimal};
-use value_store::StoreName;
 
 const MP: &[u8] =
     b"PPC MP\n{ 0:r2=x; 0:r4=y; 1:r2=y; 1:r4=x; }\nP0 | P1 ;\nli r1,1 | lwz r1,0(r2) ;\nstw r1,0(r2) | lwz r3,0(r4) ;\nli r3,1 | ;\nstw r3,0(r4) | ;\nexists (1:r1=1 /\\ 1:r3=0)\n";
@@ -39,7 +36,7 @@ fn put_small(alloc: Global, number: u64) -> Result<Edit, AllocError> {
 
 /// What is put on the desk: MP if it is wanted, so many small tests, and a model.
 #[derive(Clone, Copy)]
-struct Puts {
+pub struct Puts {
     with_mp: bool,
     small: u64,
 }
@@ -47,9 +44,9 @@ struct Puts {
 /// What is put on a desk, how many workers it has, and which claims are held.
 #[derive(Clone, Copy)]
 pub struct Setting {
-    puts: Puts,
-    workers: u32,
-    held: Held,
+    pub puts: Puts,
+    pub workers: u32,
+    pub held: Held,
 }
 
 const SETTINGS: [Setting; 2] = [
@@ -95,7 +92,7 @@ fn edit_at(alloc: Global, puts: Puts, number: u64) -> Result<Edit, AllocError> {
 }
 
 /// Makes the edit of a number. False if it is not published at once, or the desk refuses.
-fn put<D: PlayedDesk, W: Wait>(
+fn put<D: ViewedDesk, W: Wait>(
     rt: &W,
     alloc: Global,
     desk: &D,
@@ -109,7 +106,7 @@ fn put<D: PlayedDesk, W: Wait>(
 
 /// Makes the edits and waits until each cell is settled. False if one of them is not published at
 /// once, or the desk refuses.
-fn settle<D: PlayedDesk, W: Wait>(
+pub fn settle<D: ViewedDesk, W: Wait>(
     rt: &W,
     alloc: Global,
     desk: &D,
@@ -122,7 +119,7 @@ fn settle<D: PlayedDesk, W: Wait>(
     for number in first..=puts.small.saturating_add(1) {
         is_well &= put(rt, alloc, desk, &mut viewer, puts, number)?;
     }
-    Ok(desk.settle(rt, &mut viewer).is_ok() && is_well)
+    Ok(desk.settle(rt, &mut viewer, true).is_ok() && is_well)
 }
 
 fn print_tally<R>(rt: &R, workers: u32, tally: &Tally, is_well: bool) -> io::Result<()>
@@ -136,43 +133,19 @@ where
     rt.print(told(rt.alloc(), text, false)?)
 }
 
-/// Settles a desk by workers under a gate.
-pub fn meet<R, J, X>(rt: &R, desk: &Desk<J, X, R>, setting: Setting) -> io::Result<()>
+/// Tells what became of the jobs of workers under a gate, beside whom a desk was settled.
+pub fn tell<R>(rt: &R, gate: &Meeting, workers: u32, played: Played) -> io::Result<()>
 where
-    R: Print + AllocGlobal + Wait + Threads + Send + Sync + Drop,
-    J: Naming + StoreName + Send + Sync,
-    X: BoardTexts<Edit = Edit, Fault = EditFault, Board = Board> + Send + Sync,
-    X::Value: Send + Sync,
-    X::Given: Send + Sync,
-    X::Edit: Send + Sync,
-    X::Prepared: Send + Sync,
-    X::Fault: Send + Sync,
-    X::Outcome: Send + Sync,
-    X::Op: Send + Sync,
-    X::Board: Send + Sync,
+    R: Print + AllocGlobal + Wait,
 {
-    let Ok(viewer) = desk.viewer(rt) else {
-        return println!(rt; "no viewer");
-    };
-    let alloc = rt.alloc();
-    let gate = Meeting::new(setting.held);
-    let workers = setting.workers;
-    let worked = with_workers(
-        rt,
-        alloc,
-        desk,
-        &gate,
-        workers,
-        || settle(rt, alloc, desk, viewer, setting.puts),
-    );
-    match worked {
+    match played {
         Ok(worked) => print_tally(
             rt,
             workers,
             &worked.tally,
-            worked.answer? && !gate.counts(rt).is_missed,
+            worked.answer? == 0 && !gate.counts(rt).is_missed,
         ),
-        Err(_) => println!(rt; "no workers"),
+        Err(word) => println!(rt; "{word}"),
     }
 }
 

@@ -5,12 +5,11 @@ mod bench_play;
 mod desk_play;
 mod question;
 pub mod replies;
-mod threads;
 
-use crate::played::{PlayedBench, PlayedDesk};
+use crate::numbered::NumberedBench;
 use crate::{benches, desks};
 use bench_play::BenchPlay;
-use desk_play::DeskPlay;
+pub use desk_play::play_lines as play_at_desk;
 use std::alloc::Global;
 use std::rt::{Clock, Files};
 use std::sync::Wait;
@@ -41,13 +40,13 @@ fn fresh_of(line: &str) -> Option<Fresh> {
 }
 
 /// Plays the lines of one bench.
-pub fn play_at_bench<R: Print + Wait, B: PlayedBench>(
+pub fn play_at_bench<R: Print + Wait, B: NumberedBench>(
     rt: &R,
     alloc: Global,
     bench: B,
     lines: &[&str],
 ) -> io::Result<()> {
-    let mut play = BenchPlay::new(alloc, bench);
+    let mut play = BenchPlay::new(bench);
     for line in lines {
         println!(rt; "{line}")?;
         let answer = play.answer_line(rt, alloc, line)?;
@@ -56,23 +55,8 @@ pub fn play_at_bench<R: Print + Wait, B: PlayedBench>(
     Ok(())
 }
 
-/// Plays the lines of one desk.
-pub fn play_at_desk<R, D>(rt: &R, alloc: Global, desk: &D, lines: &[&str]) -> io::Result<()>
-where
-    R: Print + Wait + Threads + Sync,
-    D: PlayedDesk,
-{
-    let mut play = DeskPlay::<D>::new(alloc);
-    for line in lines {
-        println!(rt; "{line}")?;
-        let answer = play.answer_line(rt, alloc, desk, line)?;
-        rt.print(answer)?;
-    }
-    Ok(())
-}
-
 /// Plays the lines of one list. Lines before the first list are left out.
-fn play_lines<R>(rt: &R, fresh: Option<Fresh>, lines: &[&str]) -> io::Result<()>
+fn play_list<R>(rt: &R, fresh: Option<Fresh>, lines: &[&str]) -> io::Result<()>
 where
     R: Print + AllocGlobal + Clock + Wait + Threads + Copy + Send + Sync + Drop,
 {
@@ -97,10 +81,10 @@ where
             lines.push(line)?;
             continue;
         }
-        play_lines(rt, fresh, &lines)?;
+        play_list(rt, fresh, &lines)?;
         lines.clear();
         fresh = next;
         println!(rt; "{line}")?;
     }
-    play_lines(rt, fresh, &lines)
+    play_list(rt, fresh, &lines)
 }

@@ -8,7 +8,7 @@ mod drawn;
 mod gate;
 mod hearing;
 mod kept;
-mod run;
+pub mod run;
 mod scripts;
 
 use bench_workers::NoGate;

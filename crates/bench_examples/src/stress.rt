@@ -11,23 +11,18 @@ mod plan;
 mod sight;
 pub mod watch;
 
-use crate::desks::{self, Example};
-use crate::played::{PlayedDesk, SharedDesk};
-use bench_texts::{Edit, EditFault};
-use bench_workers::{NoGate, with_workers};
-use board::Board;
-use desk::{BoardTexts, Desk};
-use desk_rule::Naming;
+use crate::desks::{self, Example, Played};
+use crate::played::{PlayedDesk, WatchedDesk};
 use plan::EDITS;
 pub use plan::Plan;
 use std::rt::Clock;
 use std::sync::Wait;
 use std::thread::Threads;
 use std::{io, thread};
-use value_store::StoreName;
 use watch::Shared;
 
-const WORKERS: u32 = 4;
+/// How many workers there are.
+pub const WORKERS: u32 = 4;
 
 const VIEWERS: u64 = 8;
 
@@ -36,7 +31,7 @@ const VIEWERS: u64 = 8;
 fn play_beside<R, S, D>(rt: &R, seen: &S, desk: &D, viewer: D::Viewer, shared: &Shared)
 where
     R: AllocGlobal + Clock + Wait + Threads + Sync,
-    S: SharedDesk,
+    S: WatchedDesk,
     D: PlayedDesk,
 {
     let alloc = rt.alloc();
@@ -60,7 +55,7 @@ where
 }
 
 /// Plays the author beside the viewers, and tells how many faults were found.
-fn play<R, D>(rt: &R, desk: &D, viewer: D::Viewer, plan: Plan) -> u64
+pub fn play<R, D>(rt: &R, desk: &D, viewer: D::Viewer, plan: Plan) -> u64
 where
     R: AllocGlobal + Clock + Wait + Threads + Sync,
     D: PlayedDesk,
@@ -70,38 +65,14 @@ where
     shared.faults()
 }
 
-/// Plays the plan beside the workers of a desk, and prints how many faults were found.
-pub fn play_plan<R, J, X>(rt: &R, desk: &Desk<J, X, R>, plan: Plan) -> io::Result<()>
-where
-    R: Print + AllocGlobal + Clock + Wait + Threads + Send + Sync + Drop,
-    J: Naming + StoreName + Send + Sync,
-    X: BoardTexts<Edit = Edit, Fault = EditFault, Board = Board> + Send + Sync,
-    X::Value: Send + Sync,
-    X::Given: Send + Sync,
-    X::Edit: Send + Sync,
-    X::Prepared: Send + Sync,
-    X::Fault: Send + Sync,
-    X::Outcome: Send + Sync,
-    X::Op: Send + Sync,
-    X::Board: Send + Sync,
-{
-    let Ok(viewer) = desk.viewer(rt) else {
-        return println!(rt; "no viewer");
-    };
-    let worked = with_workers(
-        rt,
-        rt.alloc(),
-        desk,
-        &NoGate,
-        WORKERS,
-        || play(rt, desk, viewer, plan),
-    );
-    match worked {
+/// Prints how many faults were found.
+pub fn tell<R: Print>(rt: &R, played: Played) -> io::Result<()> {
+    match played {
         Ok(worked) => {
-            let faults = worked.answer;
+            let faults = worked.answer?;
             println!(rt; "{EDITS} edits, {WORKERS} workers, {VIEWERS} viewers: {faults} faults")
         }
-        Err(_) => println!(rt; "no workers"),
+        Err(word) => println!(rt; "{word}"),
     }
 }
 

@@ -7,7 +7,8 @@ pub mod mirror;
 mod steps;
 
 use crate::benches::{self, Example};
-use crate::played::PlayedBench;
+use crate::numbered::NumberedBench;
+use mirror::Mirror;
 use std::alloc::Global;
 use std::io;
 use std::sync::Wait;
@@ -16,14 +17,16 @@ use steps::Walk;
 const EVENTS: u32 = 10_000;
 
 /// Walks over a bench, and prints how many cells differed.
-pub fn walk_over<R: Print + Wait, B: PlayedBench>(
+pub fn walk_over<R: Print + Wait, B: NumberedBench>(
     rt: &R,
     alloc: Global,
     bench: B,
 ) -> io::Result<()> {
-    let mut walk = Walk::new(alloc, bench)?;
+    let mut bench = bench;
+    let mut mirror = Mirror::new(alloc)?;
+    let mut walk = Walk::new();
     for _ in 0..EVENTS {
-        walk.step(rt, alloc)?;
+        walk.step(rt, alloc, &mut bench, &mut mirror)?;
     }
     let differing = walk.differing();
     println!(rt; "{EVENTS} events, {differing} cells that differ")

@@ -6,6 +6,7 @@
 
 ghost use Rattle.std.specs.Prelude.{None};
 
+use crate::sessions::run::Ending;
 use litmusbench::{MemorySink, MemorySource};
 use live_watch::{Version, VersionTeller, Versions, watch};
 use std::alloc::{AllocError, Global};
@@ -20,6 +21,15 @@ const MODEL: &str = "power.cat";
 const WORKERS: [u32; 4] = [1, 2, 4, 32];
 
 const TESTS: [&str; 3] = ["MP+lwsync+addr.litmus", "MP.litmus", "LB+datas.litmus"];
+
+/// Which read and which write fails.
+const FAILURES: [(Option<u64>, Option<u64>); 5] = [
+    (Some(0), None),
+    (Some(1), None),
+    (None, Some(0)),
+    (None, Some(1)),
+    (None, None),
+];
 
 /// A version of a file. The text is None where it cannot be read.
 #[derive(Drop)]
@@ -103,18 +113,35 @@ fn tell_versions<R: AllocGlobal + Files + Print>(rt: &R) -> io::Result<()> {
     Ok(())
 }
 
+// Watches with so many workers, where that read and that write fail.
+fn run<R>(
+    rt: &R,
+    lines: &[u8],
+    workers: u32,
+    reads: Option<u64>,
+    writes: Option<u64>,
+) -> io::Result<Ending>
+where
+    R: AllocGlobal + Files + Threads + Wait + Copy + Drop + Send + Sync,
+{
+    let versions = read_table(rt)?;
+    let source = MemorySource::failing_at(lines, reads);
+    let sink = MemorySink::failing_at(Vec::new(rt.alloc()), writes);
+    let ended = watch(rt, MODEL, &TESTS, workers, versions, source, sink)?;
+    Ok(Ending {
+        output: Vec::from_slice(rt.alloc(), ended.sink.as_bytes())?,
+        end: ended.answer,
+    })
+}
+
 // What watching writes with so many workers, and how it ends.
 fn watched<R>(rt: &R, lines: &[u8], workers: u32) -> io::Result<Vec<u8>>
 where
     R: AllocGlobal + Files + Threads + Wait + Copy + Drop + Send + Sync,
 {
-    let alloc = rt.alloc();
-    let versions = read_table(rt)?;
-    let source = MemorySource::failing_at(lines, None);
-    let sink = MemorySink::failing_at(Vec::new(alloc), None);
-    let ended = watch(rt, MODEL, &TESTS, workers, versions, source, sink)?;
-    let mut said = Vec::from_slice(alloc, ended.sink.as_bytes())?;
-    match ended.answer {
+    let Ending { output, end } = run(rt, lines, workers, None, None)?;
+    let mut said = output;
+    match end {
         Ok(is_refused) => write!(said, "some text was refused: {is_refused}\n")?,
         Err(fault) => write!(said, "fault: {fault}\n")?,
     }
@@ -126,12 +153,9 @@ fn tell_failing<R>(rt: &R, reads: Option<u64>, writes: Option<u64>) -> io::Resul
 where
     R: AllocGlobal + Files + Print + Threads + Wait + Copy + Drop + Send + Sync,
 {
-    let versions = read_table(rt)?;
-    let source = MemorySource::failing_at(b"power.cat\n", reads);
-    let sink = MemorySink::failing_at(Vec::new(rt.alloc()), writes);
-    let ended = watch(rt, MODEL, &TESTS, 2, versions, source, sink)?;
-    let length = ended.sink.as_bytes().len();
-    match ended.answer {
+    let ending = run(rt, b"power.cat\n", 2, reads, writes)?;
+    let length = ending.output.len();
+    match ending.end {
         Ok(_refused) => println!(rt; "no fault, {length} bytes"),
         Err(fault) => println!(rt; "fault: {fault}, {length} bytes"),
     }
@@ -150,10 +174,8 @@ where
         let is_same = beside.as_slice() == alone.as_slice();
         println!(rt; "the same with {workers} workers: {is_same}")?;
     }
-    tell_failing(rt, Some(0), None)?;
-    tell_failing(rt, Some(1), None)?;
-    tell_failing(rt, None, Some(0))?;
-    tell_failing(rt, None, Some(1))?;
-    tell_failing(rt, None, None)?;
+    for (reads, writes) in FAILURES {
+        tell_failing(rt, reads, writes)?;
+    }
     tell_versions(rt)
 }

@@ -1,8 +1,7 @@
-//! A bench with the jobs that were claimed, and what is answered to a line.
+//! What is answered to a line that is asked of a bench.
 
-use crate::claimed::{ClaimedBench, Offered};
 use crate::edits;
-use crate::played::PlayedBench;
+use crate::numbered::{NumberedBench, Offered};
 use crate::rows::question::{Question, edit_of, events_of, question_of};
 use crate::rows::replies::{
     put_cell, put_claimed, put_count, put_edited, put_finish, put_lost, put_node, put_reply,
@@ -86,7 +85,7 @@ fn put_replies(answer: &mut Vec<u8>, replies: &[Reply<EditFault>]) -> Result<(),
 type Returned = Option<Result<Offered, StoreFault>>;
 
 /// Appends the names of the outputs of a node that are new or changed.
-fn put_stored<B: PlayedBench>(
+fn put_stored<B: NumberedBench>(
     answer: &mut Vec<u8>,
     bench: &B,
     node: Node,
@@ -103,7 +102,7 @@ fn put_stored<B: PlayedBench>(
 }
 
 /// Appends the node that a return was for, and what became of it.
-fn put_offered<B: PlayedBench>(
+fn put_offered<B: NumberedBench>(
     answer: &mut Vec<u8>,
     bench: &B,
     offered: &Offered,
@@ -116,7 +115,7 @@ fn put_offered<B: PlayedBench>(
 }
 
 /// Appends what became of a return.
-fn put_return<B: PlayedBench>(
+fn put_return<B: NumberedBench>(
     answer: &mut Vec<u8>,
     bench: &B,
     returned: Returned,
@@ -129,7 +128,7 @@ fn put_return<B: PlayedBench>(
 }
 
 /// Counts what became of a return, and appends it, if each is told.
-fn note_return<B: PlayedBench>(
+fn note_return<B: NumberedBench>(
     answer: &mut Vec<u8>,
     bench: &B,
     tally: &mut Tally,
@@ -180,21 +179,17 @@ fn cell_of(shown: Shown<'_, Outcome>) -> Cell<'_> {
     }
 }
 
-/// A bench with the jobs that were claimed, and the list of questions that is being written, if one
-/// is.
+/// A bench, and the list of questions that is being written, if one is.
 #[derive(Drop)]
-pub struct BenchPlay<'a, B: PlayedBench> {
-    claimed: ClaimedBench<B>,
+pub struct BenchPlay<'a, B: NumberedBench> {
+    bench: B,
     list: Option<Vec<Question<'a>>>,
 }
 
-impl<'a, B: PlayedBench> BenchPlay<'a, B> {
-    /// No job was claimed.
-    pub fn new(alloc: Global, bench: B) -> Self {
-        BenchPlay {
-            claimed: ClaimedBench::new(alloc, bench),
-            list: None,
-        }
+impl<'a, B: NumberedBench> BenchPlay<'a, B> {
+    /// No list is being written.
+    pub fn new(bench: B) -> Self {
+        BenchPlay { bench, list: None }
     }
 
     /// Claims, runs and returns until there is no work, with each answer.
@@ -207,19 +202,18 @@ impl<'a, B: PlayedBench> BenchPlay<'a, B> {
     ) -> Result<(), AllocError> {
         let mut tally = Tally::new();
         for _ in 0..100_000_u32 {
-            let Ok(Some(claim)) = self.claimed.claim(alloc)? else {
+            let Ok(Some(claim)) = self.bench.claim(alloc)? else {
                 break;
             };
-            let returned = self.claimed.offer(rt, alloc, claim)?;
-            note_return(answer, &self.claimed.bench, &mut tally, returned, each)?;
+            let returned = self.bench.offer(rt, alloc, claim)?;
+            note_return(answer, &self.bench, &mut tally, returned, each)?;
         }
         put_count(answer, &tally)
     }
 
     fn cell(&self, question: &Question<'_>) -> Cell<'_> {
         cell_of(
-            self.claimed
-                .bench
+            self.bench
                 .shown(question.name.as_bytes(), question.last.as_bytes()),
         )
     }
@@ -234,7 +228,7 @@ impl<'a, B: PlayedBench> BenchPlay<'a, B> {
         list: &[Question<'_>],
     ) -> Result<bool, AllocError> {
         let events = events_of(alloc, list)?;
-        match self.claimed.bench.run_events(rt, alloc, &events) {
+        match self.bench.run_events(rt, alloc, &events) {
             Ok(replies) => {
                 put_replies(answer, &replies)?;
                 Ok(true)
@@ -268,12 +262,12 @@ impl<'a, B: PlayedBench> BenchPlay<'a, B> {
         question: &Question<'_>,
     ) -> Result<(), AllocError> {
         let edit = edit_of(alloc, question)?;
-        put_edited(answer, &self.claimed.bench.edit(alloc, edit))
+        put_edited(answer, &self.bench.edit(alloc, edit))
     }
 
     /// Claims a job.
     fn claim(&mut self, alloc: Global, answer: &mut Vec<u8>) -> Result<(), AllocError> {
-        put_claimed(answer, &self.claimed.claim(alloc)?)
+        put_claimed(answer, &self.bench.claim(alloc)?)
     }
 
     /// Returns what the job of a claim made.
@@ -284,8 +278,8 @@ impl<'a, B: PlayedBench> BenchPlay<'a, B> {
         answer: &mut Vec<u8>,
         claim: u64,
     ) -> Result<(), AllocError> {
-        let returned = self.claimed.offer(rt, alloc, claim)?;
-        put_return(answer, &self.claimed.bench, returned)
+        let returned = self.bench.offer(rt, alloc, claim)?;
+        put_return(answer, &self.bench, returned)
     }
 
     /// Makes one of many small edits.
@@ -297,7 +291,7 @@ impl<'a, B: PlayedBench> BenchPlay<'a, B> {
         text: &[u8],
     ) -> Result<Result<u64, EditFault>, AllocError> {
         let edit = small_edit(alloc, question, number, text)?;
-        Ok(self.claimed.bench.edit(alloc, edit))
+        Ok(self.bench.edit(alloc, edit))
     }
 
     /// Makes so many small edits, and answers as the last is answered.
@@ -336,9 +330,9 @@ impl<'a, B: PlayedBench> BenchPlay<'a, B> {
             Asked::States => put_states(answer, self.cell(question)),
             Asked::Claim => self.claim(alloc, answer),
             Asked::Return => self.offer(rt, alloc, answer, question.number),
-            Asked::Lose => put_lost(answer, self.claimed.bench.lose(question.number)),
+            Asked::Lose => put_lost(answer, self.bench.lose(question.number)),
             Asked::Renew => {
-                self.claimed.bench.renew();
+                self.bench.renew();
                 put_bytes(answer, b"renewed")
             }
             Asked::Many => self.put_many(alloc, answer, question),

@@ -1,17 +1,18 @@
-//! The viewers of a desk and the jobs that were claimed of it, and what is answered to a line.
+//! What is answered to a line that is asked of a desk.
 
-use crate::jobs::{Stage, made};
-use crate::played::{PlayedDesk, PlayedJob, Refusal, ViewedDesk};
+use crate::claimed_desk::{ClaimedDesk, Returned};
+use crate::played::{Call, Looker, PlayedDesk, Refusal};
 use crate::rows::question::{Question, edit_of, question_of};
 use crate::rows::replies::{
     put_accepted, put_board, put_claimed, put_count, put_desk_fault, put_finish, put_lost,
     put_run_fault, put_taken, put_tally, told,
 };
-use crate::rows::threads::{finish, finish_twice, lose};
 use bench_workers::Tally;
+use board::Board;
 use desk::Taken;
 use memo_core::claims::Finish;
 use std::alloc::{AllocError, Global};
+use std::io;
 use std::sync::Wait;
 use std::thread::Threads;
 use text_values::{put_bytes, put_decimal};
@@ -53,45 +54,33 @@ fn asked_of(verb: &str) -> Asked {
     }
 }
 
-/// What becomes of a return.
-type Returned = Result<Taken, Refusal>;
-
 /// Whether a return is answered as that of a claim that was not out.
-fn is_unknown(returned: &Returned) -> bool {
-    match returned {
+fn is_unknown(taken: &Result<Taken, Refusal>) -> bool {
+    match taken {
         Ok(taken) => matches!(&taken.finish, Finish::Unknown),
         Err(_) => false,
     }
 }
 
 /// Appends what became of two returns at once. The return that is taken is told first.
-fn put_both(answer: &mut Vec<u8>, first: &Returned, second: &Returned) -> Result<(), AllocError> {
+fn put_both(
+    answer: &mut Vec<u8>,
+    first: &Result<Taken, Refusal>,
+    second: &Result<Taken, Refusal>,
+) -> Result<(), AllocError> {
     let is_turned = is_unknown(first);
     put_taken(answer, if is_turned { second } else { first })?;
     put_bytes(answer, b" and ")?;
     put_taken(answer, if is_turned { first } else { second })
 }
 
-/// The viewers of a desk, in the order in which they were given, and the jobs that were claimed.
-#[derive(Drop)]
-pub struct DeskPlay<D: PlayedDesk> {
-    viewers: Vec<Option<D::Viewer>>,
-    jobs: Vec<Stage<D::Job>>,
-}
-
-/// What a viewer sees of a cell, and the viewer again.
-fn look<D: ViewedDesk>(
-    alloc: Global,
-    viewer: D::Viewer,
-    answer: &mut Vec<u8>,
-    question: &Question<'_>,
-) -> (D::Viewer, Result<(), AllocError>) {
-    match D::read(viewer) {
-        Ok(view) => {
-            let put = put_board(alloc, answer, D::board(&view), question.name, question.last);
-            (D::leave(view), put)
-        }
-        Err(viewer) => (viewer, put_bytes(answer, b"no view")),
+/// Appends what became of a return.
+fn put_returned(answer: &mut Vec<u8>, returned: &Returned) -> Result<(), AllocError> {
+    match returned {
+        Returned::Once(taken) => put_taken(answer, taken),
+        Returned::Twice(first, second) => put_both(answer, first, second),
+        Returned::NotRun(fault) => put_run_fault(answer, fault),
+        Returned::NotKept => put_finish(answer, &Finish::Unknown),
     }
 }
 
@@ -99,10 +88,10 @@ fn look<D: ViewedDesk>(
 fn put_made(
     answer: &mut Vec<u8>,
     word: &[u8],
-    called: Result<(), Refusal>,
+    called: Result<bool, Refusal>,
 ) -> Result<(), AllocError> {
     match called {
-        Ok(()) => put_bytes(answer, word),
+        Ok(_) => put_bytes(answer, word),
         Err(fault) => put_desk_fault(answer, &fault),
     }
 }
@@ -115,188 +104,175 @@ fn put_closed(answer: &mut Vec<u8>, lost: Result<bool, Refusal>) -> Result<(), A
     }
 }
 
-/// Runs a job and returns what it made. None where one of them is refused.
-fn play_job<D: PlayedDesk, W: Wait>(
+/// Tells what a board shows of a cell.
+#[derive(Drop)]
+struct CellTeller<'a> {
+    test: &'a str,
+    model: &'a str,
+    answer: Vec<u8>,
+    told: Result<(), AllocError>,
+}
+
+impl<'a> Looker for CellTeller<'a> {
+    fn look(&mut self, alloc: Global, board: &Board) {
+        self.told = put_board(alloc, &mut self.answer, board, self.test, self.model);
+    }
+}
+
+/// Takes so many viewers, and tells the number of the last.
+fn take_viewers<D: PlayedDesk, W: Wait>(
+    rt: &W,
+    desk: &mut ClaimedDesk<'_, D>,
+    answer: &mut Vec<u8>,
+    count: u64,
+) -> Result<(), AllocError> {
+    for _ in 0..count {
+        if let Err(fault) = desk.take_viewer(rt)? {
+            return put_desk_fault(answer, &fault);
+        }
+    }
+    put_bytes(answer, b"viewers ")?;
+    put_decimal(answer, desk.viewer_count() as u64)
+}
+
+/// Makes the edit of a question.
+fn edit<D: PlayedDesk, W: Wait>(
     rt: &W,
     alloc: Global,
-    desk: &D,
-    job: D::Job,
-) -> Option<Finish> {
-    let done = job.run(rt, alloc).ok()?;
-    let taken = desk.finish(rt, done).ok()?;
-    Some(taken.finish)
+    desk: &mut ClaimedDesk<'_, D>,
+    answer: &mut Vec<u8>,
+    question: &Question<'_>,
+) -> Result<(), AllocError> {
+    match desk.edit(rt, question.viewer, edit_of(alloc, question)?) {
+        Some(Ok(accepted)) => put_accepted(answer, accepted),
+        Some(Err(fault)) => put_desk_fault(answer, &fault),
+        None => put_bytes(answer, b"no viewer"),
+    }
+}
+
+/// Waits until each cell is settled.
+fn settle<D: PlayedDesk, W: Wait>(
+    rt: &W,
+    desk: &mut ClaimedDesk<'_, D>,
+    answer: &mut Vec<u8>,
+    viewer: usize,
+) -> Result<(), AllocError> {
+    match desk.settle(rt, viewer) {
+        Some(Ok(())) => put_bytes(answer, b"settled"),
+        Some(Err(fault)) => put_desk_fault(answer, &fault),
+        None => put_bytes(answer, b"no viewer"),
+    }
+}
+
+/// Tells what a viewer sees of a cell.
+fn show<D: PlayedDesk>(
+    alloc: Global,
+    desk: &mut ClaimedDesk<'_, D>,
+    answer: &mut Vec<u8>,
+    question: &Question<'_>,
+) -> Result<(), AllocError> {
+    let mut teller = CellTeller {
+        test: question.name,
+        model: question.last,
+        answer: Vec::new(alloc),
+        told: Ok(()),
+    };
+    match desk.look(alloc, question.viewer, &mut teller) {
+        Some(true) => {
+            teller.told?;
+            put_bytes(answer, &teller.answer)
+        }
+        Some(false) => put_bytes(answer, b"no view"),
+        None => put_bytes(answer, b"no viewer"),
+    }
+}
+
+/// Claims a job.
+fn claim<D: PlayedDesk, W: Wait>(
+    rt: &W,
+    desk: &mut ClaimedDesk<'_, D>,
+    answer: &mut Vec<u8>,
+) -> Result<(), AllocError> {
+    match desk.claim(rt)? {
+        Ok(claim) => put_claimed(answer, &Ok(claim)),
+        Err(fault) => put_desk_fault(answer, &fault),
+    }
+}
+
+/// Counts what became of a return.
+fn note_return(tally: &mut Tally, returned: &Returned) {
+    match returned {
+        Returned::Once(Ok(taken)) => tally.note(&taken.finish),
+        _ => tally.note_refusal(),
+    }
 }
 
 /// Claims, runs and returns until there is no work.
-fn play_jobs<D: PlayedDesk, W: Wait>(rt: &W, alloc: Global, desk: &D) -> Tally {
+fn play_jobs<D: PlayedDesk, W: Wait>(
+    rt: &W,
+    alloc: Global,
+    desk: &mut ClaimedDesk<'_, D>,
+) -> Result<Tally, AllocError> {
     let mut tally = Tally::new();
     for _ in 0..100_000_u32 {
-        let Ok(Some(job)) = desk.claim(rt) else {
+        let Ok(Some(claim)) = desk.claim(rt)? else {
             break;
         };
-        match play_job(rt, alloc, desk, job) {
-            Some(finish) => tally.note(&finish),
-            None => tally.note_refusal(),
-        }
+        note_return(&mut tally, &desk.offer(rt, alloc, claim)?);
     }
-    tally
+    Ok(tally)
 }
 
-impl<D: PlayedDesk> DeskPlay<D> {
-    /// No viewers and no jobs.
-    pub fn new(alloc: Global) -> Self {
-        DeskPlay {
-            viewers: Vec::new(alloc),
-            jobs: Vec::new(alloc),
-        }
+/// What is answered to a question.
+fn put_answer<D: PlayedDesk, W: Wait + Threads + Sync>(
+    rt: &W,
+    alloc: Global,
+    desk: &mut ClaimedDesk<'_, D>,
+    answer: &mut Vec<u8>,
+    question: &Question<'_>,
+) -> Result<(), AllocError> {
+    let claimed = question.number;
+    match asked_of(question.verb) {
+        Asked::Viewer => take_viewers(rt, desk, answer, 1),
+        Asked::Viewers => take_viewers(rt, desk, answer, question.number),
+        Asked::Settle => settle(rt, desk, answer, question.viewer),
+        Asked::Show => show(alloc, desk, answer, question),
+        Asked::Claim => claim(rt, desk, answer),
+        Asked::Jobs => put_count(answer, &play_jobs(rt, alloc, desk)?),
+        Asked::Work => put_tally(answer, &desk.work(rt, alloc)),
+        Asked::Renew => put_made(answer, b"renewed", desk.call(rt, Call::Renew)),
+        Asked::Close => put_made(answer, b"closed", desk.call(rt, Call::Close)),
+        Asked::Return => put_returned(answer, &desk.offer_aside(rt, alloc, claimed, false)?),
+        Asked::Twice => put_returned(answer, &desk.offer_aside(rt, alloc, claimed, true)?),
+        Asked::Lose => put_closed(answer, desk.call_aside(rt, Call::Lose(claimed))),
+        Asked::Edit => edit(rt, alloc, desk, answer, question),
     }
+}
 
-    /// Takes so many viewers, and tells the number of the last.
-    fn take_viewers<W: Wait>(
-        &mut self,
-        rt: &W,
-        desk: &D,
-        answer: &mut Vec<u8>,
-        count: u64,
-    ) -> Result<(), AllocError> {
-        for _ in 0..count {
-            match desk.give_viewer(rt) {
-                Ok(viewer) => self.viewers.push(Some(viewer))?,
-                Err(fault) => return put_desk_fault(answer, &fault),
-            }
-        }
-        put_bytes(answer, b"viewers ")?;
-        put_decimal(answer, self.viewers.len() as u64)
-    }
+/// What is answered to a line, with a line feed behind it.
+fn answer_line<D: PlayedDesk, W: Wait + Threads + Sync>(
+    rt: &W,
+    alloc: Global,
+    desk: &mut ClaimedDesk<'_, D>,
+    line: &str,
+) -> Result<String, AllocError> {
+    let question = question_of(line);
+    let mut answer = Vec::new(alloc);
+    put_answer(rt, alloc, desk, &mut answer, &question)?;
+    told(alloc, answer, question.is_quiet)
+}
 
-    fn edit<W: Wait>(
-        &mut self,
-        rt: &W,
-        alloc: Global,
-        desk: &D,
-        answer: &mut Vec<u8>,
-        question: &Question<'_>,
-    ) -> Result<(), AllocError> {
-        let Some(Some(viewer)) = self.viewers.get_mut(question.viewer) else {
-            return put_bytes(answer, b"no viewer");
-        };
-        match desk.edit(rt, viewer, edit_of(alloc, question)?) {
-            Ok(accepted) => put_accepted(answer, accepted),
-            Err(fault) => put_desk_fault(answer, &fault),
-        }
+/// Plays the lines of one desk.
+pub fn play_lines<R, D>(rt: &R, alloc: Global, desk: &D, lines: &[&str]) -> io::Result<()>
+where
+    R: Print + Wait + Threads + Sync,
+    D: PlayedDesk,
+{
+    let mut claimed = ClaimedDesk::new(alloc, desk);
+    for line in lines {
+        println!(rt; "{line}")?;
+        let answer = answer_line(rt, alloc, &mut claimed, line)?;
+        rt.print(answer)?;
     }
-
-    fn settle<W: Wait>(
-        &mut self,
-        rt: &W,
-        desk: &D,
-        answer: &mut Vec<u8>,
-        viewer: usize,
-    ) -> Result<(), AllocError> {
-        let Some(Some(viewer)) = self.viewers.get_mut(viewer) else {
-            return put_bytes(answer, b"no viewer");
-        };
-        put_made(answer, b"settled", desk.settle(rt, viewer))
-    }
-
-    fn show(
-        &mut self,
-        alloc: Global,
-        answer: &mut Vec<u8>,
-        question: &Question<'_>,
-    ) -> Result<(), AllocError> {
-        let Some(slot) = self.viewers.get_mut(question.viewer) else {
-            return put_bytes(answer, b"no viewer");
-        };
-        let Some(viewer) = slot.take() else {
-            return put_bytes(answer, b"no viewer");
-        };
-        let (viewer, put) = look::<D>(alloc, viewer, answer, question);
-        *slot = Some(viewer);
-        put
-    }
-
-    fn claim<W: Wait>(&mut self, rt: &W, desk: &D, answer: &mut Vec<u8>) -> Result<(), AllocError> {
-        match desk.claim(rt) {
-            Ok(Some(job)) => {
-                put_claimed(answer, &Ok(Some(job.claim_number())))?;
-                self.jobs.push(Stage::Waiting(job))?;
-                Ok(())
-            }
-            Ok(None) => put_claimed(answer, &Ok(None)),
-            Err(fault) => put_desk_fault(answer, &fault),
-        }
-    }
-
-    /// Returns what the job of a claim made, by a thread of its own.
-    fn offer<W: Wait + Threads + Sync>(
-        &mut self,
-        rt: &W,
-        alloc: Global,
-        desk: &D,
-        answer: &mut Vec<u8>,
-        claim: u64,
-    ) -> Result<(), AllocError> {
-        match made(rt, alloc, &mut self.jobs, claim)? {
-            Some(Ok(done)) => put_taken(answer, &finish(rt, alloc, desk, &done)),
-            Some(Err(fault)) => put_run_fault(answer, &fault),
-            None => put_finish(answer, &Finish::Unknown),
-        }
-    }
-
-    /// Returns what the job of a claim made twice at once, by two threads.
-    fn offer_twice<W: Wait + Threads + Sync>(
-        &mut self,
-        rt: &W,
-        alloc: Global,
-        desk: &D,
-        answer: &mut Vec<u8>,
-        claim: u64,
-    ) -> Result<(), AllocError> {
-        let Some(Ok(done)) = made(rt, alloc, &mut self.jobs, claim)? else {
-            return put_bytes(answer, b"no returns");
-        };
-        let (first, second) = finish_twice(rt, alloc, desk, &done);
-        put_both(answer, &first, &second)
-    }
-
-    /// What is answered to a question.
-    fn answer<W: Wait + Threads + Sync>(
-        &mut self,
-        rt: &W,
-        alloc: Global,
-        desk: &D,
-        answer: &mut Vec<u8>,
-        question: &Question<'_>,
-    ) -> Result<(), AllocError> {
-        match asked_of(question.verb) {
-            Asked::Viewer => self.take_viewers(rt, desk, answer, 1),
-            Asked::Viewers => self.take_viewers(rt, desk, answer, question.number),
-            Asked::Settle => self.settle(rt, desk, answer, question.viewer),
-            Asked::Show => self.show(alloc, answer, question),
-            Asked::Claim => self.claim(rt, desk, answer),
-            Asked::Jobs => put_count(answer, &play_jobs(rt, alloc, desk)),
-            Asked::Work => put_tally(answer, &desk.work(rt, alloc)),
-            Asked::Return => self.offer(rt, alloc, desk, answer, question.number),
-            Asked::Twice => self.offer_twice(rt, alloc, desk, answer, question.number),
-            Asked::Lose => put_closed(answer, lose(rt, desk, question.number)),
-            Asked::Renew => put_made(answer, b"renewed", desk.renew(rt)),
-            Asked::Close => put_made(answer, b"closed", desk.close(rt)),
-            Asked::Edit => self.edit(rt, alloc, desk, answer, question),
-        }
-    }
-
-    /// What is answered to a line, with a line feed behind it.
-    pub fn answer_line<W: Wait + Threads + Sync>(
-        &mut self,
-        rt: &W,
-        alloc: Global,
-        desk: &D,
-        line: &str,
-    ) -> Result<String, AllocError> {
-        let question = question_of(line);
-        let mut answer = Vec::new(alloc);
-        self.answer(rt, alloc, desk, &mut answer, &question)?;
-        told(alloc, answer, question.is_quiet)
-    }
+    Ok(())
 }

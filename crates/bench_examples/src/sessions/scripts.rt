@@ -110,21 +110,21 @@ fn word_of(end: Result<bool, SessionFault>) -> &'static str {
     }
 }
 
-fn show_cut<R: Print>(rt: &R, case: &Case, run: &Ending, call: &str) -> io::Result<()> {
+fn show_cut<R: Print>(rt: &R, case: &Case, run: &Ending, kind: &str, call: u64) -> io::Result<()> {
     let word = word_of(run.end);
     if case.wanted.starts_with(&run.output) {
         println!(rt;
-            "{}, {call}: {word}, the first {} bytes",
+            "{}, {kind} {call} fails: {word}, the first {} bytes",
             case.name,
             run.output.len()
         )
     } else {
-        println!(rt; "{}, {call}: {word}, OTHER BYTES", case.name)
+        println!(rt; "{}, {kind} {call} fails: {word}, OTHER BYTES", case.name)
     }
 }
 
 // Runs a script where a call fails, with no worker and with four.
-fn show_failure<R>(rt: &R, case: &Case, setting: Setting, call: &str) -> io::Result<()>
+fn show_failure<R>(rt: &R, case: &Case, setting: Setting, kind: &str, call: u64) -> io::Result<()>
 where
     R: AllocGlobal + Print + Wait + Threads + Copy + Drop + Send + Sync + 'static,
 {
@@ -138,9 +138,12 @@ where
         },
     )?;
     if !is_same(&alone, &helped) {
-        return println!(rt; "{}, {call}: DIFFERENT with workers", case.name);
+        return println!(rt;
+            "{}, {kind} {call} fails: DIFFERENT with workers",
+            case.name
+        );
     }
-    show_cut(rt, case, &alone, call)
+    show_cut(rt, case, &alone, kind, call)
 }
 
 fn show_failures<R>(rt: &R, case: &Case) -> io::Result<()>
@@ -148,20 +151,18 @@ where
     R: AllocGlobal + Print + Wait + Threads + Copy + Drop + Send + Sync + 'static,
 {
     for call in 0..5u64 {
-        let head = format!(in rt.alloc(); "read {call} fails")?;
         let setting = Setting {
             read: Some(call),
             ..with_workers(0)
         };
-        show_failure(rt, case, setting, head.as_str())?;
+        show_failure(rt, case, setting, "read", call)?;
     }
     for call in 0..8u64 {
-        let head = format!(in rt.alloc(); "write {call} fails")?;
         let setting = Setting {
             write: Some(call),
             ..with_workers(0)
         };
-        show_failure(rt, case, setting, head.as_str())?;
+        show_failure(rt, case, setting, "write", call)?;
     }
     Ok(())
 }

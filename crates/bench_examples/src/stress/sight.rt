@@ -1,5 +1,6 @@
 //! What a viewer has seen, and what it sees next.
 
+use crate::played::Looker;
 use crate::stress::plan::Plan;
 use crate::walk::draw;
 use crate::walk::mirror::is_wanted;
@@ -7,19 +8,21 @@ use board::Board;
 use compare_report::Shown;
 use std::alloc::{AllocError, Global};
 
-/// How many edits were seen, and which cells were settled after them.
+/// What the boards are to show, how many edits were seen, and which cells were settled after them.
 #[derive(Drop)]
-pub struct Sight {
+pub struct Sight<'a> {
+    plan: &'a Plan,
     edits: u64,
     settled: Vec<bool>,
     open: u64,
     faults: u64,
 }
 
-impl Sight {
+impl<'a> Sight<'a> {
     /// Nothing was seen.
-    pub fn new(alloc: Global) -> Sight {
+    pub fn new(alloc: Global, plan: &'a Plan) -> Sight<'a> {
         Sight {
+            plan,
             edits: 0,
             settled: Vec::new(alloc),
             open: 0,
@@ -56,7 +59,8 @@ impl Sight {
 
     /// Looks at a board: it has no fewer edits than the last, each cell that was settled after as
     /// many is settled, and each cell that is settled carries what evaluating from nothing gives.
-    pub fn look(&mut self, alloc: Global, plan: &Plan, board: &Board) -> Result<(), AllocError> {
+    fn compare(&mut self, alloc: Global, board: &Board) -> Result<(), AllocError> {
+        let plan = self.plan;
         let (tests, models) = draw::names();
         let mut settled = Vec::new(alloc);
         self.note(board.edit_count() < self.edits);
@@ -104,5 +108,13 @@ impl Sight {
                 Ok(true)
             }
         }
+    }
+}
+
+impl<'a> Looker for Sight<'a> {
+    /// Compares the cells of a board. Want of memory is a fault.
+    fn look(&mut self, alloc: Global, board: &Board) {
+        let is_refused = self.compare(alloc, board).is_err();
+        self.note(is_refused);
     }
 }

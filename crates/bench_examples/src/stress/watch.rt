@@ -52,25 +52,11 @@ impl Shared {
     }
 }
 
-/// Looks at the board that was published last, and gives the viewer back. No board or no memory is
-/// a fault.
-pub fn look<D: ViewedDesk>(
-    alloc: Global,
-    viewer: D::Viewer,
-    plan: &Plan,
-    sight: &mut Sight,
-) -> D::Viewer {
-    match D::read(viewer) {
-        Ok(view) => {
-            let is_refused = sight.look(alloc, plan, D::board(&view)).is_err();
-            sight.note(is_refused);
-            D::leave(view)
-        }
-        Err(viewer) => {
-            sight.note(true);
-            viewer
-        }
-    }
+/// Looks at the board that was published last, and gives the viewer back. No board is a fault.
+fn look<D: ViewedDesk>(alloc: Global, viewer: D::Viewer, sight: &mut Sight<'_>) -> D::Viewer {
+    let (viewer, is_read) = D::look(alloc, viewer, sight);
+    sight.note(!is_read);
+    viewer
 }
 
 /// Looks at boards until the author has ended, and then once more: that board has all edits, and no
@@ -86,13 +72,13 @@ pub fn watch<D: ViewedDesk, W: Wait + Clock>(
     let Ok(mut viewer) = desk.give_viewer(rt) else {
         return shared.add(1);
     };
-    let mut sight = Sight::new(alloc);
+    let mut sight = Sight::new(alloc, &shared.plan);
     for turn in 0..u64::MAX {
         let is_last = shared.is_ended();
         if asks && turn % 16 == 0 {
-            sight.note(desk.settle_turn(rt, &mut viewer).is_err());
+            sight.note(desk.settle(rt, &mut viewer, false).is_err());
         }
-        viewer = look::<D>(alloc, viewer, &shared.plan, &mut sight);
+        viewer = look::<D>(alloc, viewer, &mut sight);
         if is_last {
             break;
         }

@@ -1,9 +1,8 @@
 //! One event after another, each compared with the evaluation from nothing.
 
-use crate::claimed::ClaimedBench;
-use crate::played::PlayedBench;
+use crate::numbered::NumberedBench;
 use crate::walk::draw::{self, Draw};
-use crate::walk::mirror::{Mirror, is_wanted};
+use crate::walk::mirror::{Logs, Mirror, is_wanted};
 use cells::shown::Shown;
 use std::alloc::{AllocError, Global};
 use std::sync::Wait;
@@ -25,24 +24,20 @@ fn is_other(
     }
 }
 
-/// A bench with the jobs that were claimed, its mirror, and how many cells differed.
-#[derive(Drop)]
-pub struct Walk<B: PlayedBench> {
-    claimed: ClaimedBench<B>,
-    mirror: Mirror,
+/// What is drawn, and how many cells differed.
+#[derive(Clone, Copy)]
+pub struct Walk {
     draw: Draw,
     differing: u64,
 }
 
-impl<B: PlayedBench> Walk<B> {
-    /// A walk over this bench. Errors: want of memory.
-    pub fn new(alloc: Global, bench: B) -> Result<Self, AllocError> {
-        Ok(Walk {
-            mirror: Mirror::new(alloc)?,
-            claimed: ClaimedBench::new(alloc, bench),
+impl Walk {
+    /// No event was drawn.
+    pub fn new() -> Walk {
+        Walk {
             draw: Draw::new(2026),
             differing: 0,
-        })
+        }
     }
 
     /// How many times a cell differed.
@@ -56,65 +51,80 @@ impl<B: PlayedBench> Walk<B> {
         }
     }
 
-    fn edit(&mut self, alloc: Global) -> Result<(), AllocError> {
-        let drawn = draw::draw_edit(&mut self.draw, &self.mirror);
-        let wanted = self.mirror.edit(alloc, &drawn)?;
-        let accepted = self.claimed.bench.edit(alloc, drawn.edit(alloc)?).is_ok();
+    fn edit<B: NumberedBench>(
+        &mut self,
+        alloc: Global,
+        bench: &mut B,
+        mirror: &mut Mirror,
+    ) -> Result<(), AllocError> {
+        let drawn = draw::draw_edit(&mut self.draw, mirror);
+        let wanted = mirror.edit(alloc, &drawn)?;
+        let accepted = bench.edit(alloc, drawn.edit(alloc)?).is_ok();
         self.count(wanted != accepted);
         Ok(())
     }
 
-    fn claim(&mut self, alloc: Global) -> Result<(), AllocError> {
-        let _claimed = self.claimed.claim(alloc)?;
-        if self.claimed.job_count() > KEPT_JOBS {
-            self.claimed.forget_first();
-        }
-        Ok(())
-    }
-
     /// The claim of a job that is drawn.
-    fn claim_number(&mut self) -> u64 {
-        let index = self.draw.below(self.claimed.job_count() as u64) as usize;
-        self.claimed.claim_at(index)
+    fn claim_number<B: NumberedBench>(&mut self, bench: &B) -> u64 {
+        let index = self.draw.below(bench.job_count() as u64) as usize;
+        bench.claim_at(index)
     }
 
-    fn lose(&mut self) {
-        let claim = self.claim_number();
-        let _was_out = self.claimed.bench.lose(claim);
+    fn lose<B: NumberedBench>(&mut self, bench: &mut B) {
+        let claim = self.claim_number(bench);
+        let _was_out = bench.lose(claim);
     }
 
-    fn offer<W: Wait>(&mut self, rt: &W, alloc: Global) -> Result<(), AllocError> {
-        let claim = self.claim_number();
-        let _answer = self.claimed.offer(rt, alloc, claim)?;
+    fn offer<B: NumberedBench, W: Wait>(
+        &mut self,
+        rt: &W,
+        alloc: Global,
+        bench: &mut B,
+    ) -> Result<(), AllocError> {
+        let claim = self.claim_number(bench);
+        let _answer = bench.offer(rt, alloc, claim)?;
         Ok(())
     }
 
     /// One event, and what every cell shows after it.
-    pub fn step<W: Wait>(&mut self, rt: &W, alloc: Global) -> Result<(), AllocError> {
+    pub fn step<B: NumberedBench, W: Wait>(
+        &mut self,
+        rt: &W,
+        alloc: Global,
+        bench: &mut B,
+        mirror: &mut Mirror,
+    ) -> Result<(), AllocError> {
         match self.draw.below(40) {
-            0 => self.claimed.bench.renew(),
-            1 => self.lose(),
-            2..=7 => self.edit(alloc)?,
-            8..=23 => self.claim(alloc)?,
-            _ => self.offer(rt, alloc)?,
+            0 => bench.renew(),
+            1 => self.lose(bench),
+            2..=7 => self.edit(alloc, bench, mirror)?,
+            8..=23 => claim(alloc, bench)?,
+            _ => self.offer(rt, alloc, bench)?,
         }
-        self.compare(alloc)
+        self.compare(alloc, bench, &**mirror.logs())
     }
 
-    fn compare(&mut self, alloc: Global) -> Result<(), AllocError> {
+    fn compare<B: NumberedBench>(
+        &mut self,
+        alloc: Global,
+        bench: &B,
+        logs: &Logs,
+    ) -> Result<(), AllocError> {
         let (tests, models) = draw::names();
         for test in tests {
             for model in models {
-                let differs = self.differs(alloc, test, model)?;
-                self.count(differs);
+                let wanted = logs.of_cell(test, model);
+                self.count(is_other(alloc, test, bench.shown(test, model), wanted)?);
             }
         }
         Ok(())
     }
+}
 
-    /// Whether a cell shows what it should not.
-    fn differs(&self, alloc: Global, test: &[u8], model: &[u8]) -> Result<bool, AllocError> {
-        let wanted = self.mirror.logs().of_cell(test, model);
-        is_other(alloc, test, self.claimed.bench.shown(test, model), wanted)
+fn claim<B: NumberedBench>(alloc: Global, bench: &mut B) -> Result<(), AllocError> {
+    let _claimed = bench.claim(alloc)?;
+    if bench.job_count() > KEPT_JOBS {
+        bench.forget_first();
     }
+    Ok(())
 }
