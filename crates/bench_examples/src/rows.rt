@@ -67,24 +67,59 @@ where
     }
 }
 
+/// The lines of a list so far, and what they are played at, if a list was begun.
+#[derive(Drop)]
+struct List<'a> {
+    fresh: Option<Fresh>,
+    lines: Vec<&'a str>,
+}
+
+impl<'a> List<'a> {
+    /// Plays the lines so far.
+    fn play<R>(&self, rt: &R) -> io::Result<()>
+    where
+        R: Print + AllocGlobal + Clock + Wait + Threads + Copy + Send + Sync + Drop,
+    {
+        play_list(rt, self.fresh, &self.lines)
+    }
+
+    /// Takes the next line of a file. Where it begins a list, the list before it is played.
+    fn take<R>(&mut self, rt: &R, line: &'a str) -> io::Result<()>
+    where
+        R: Print + AllocGlobal + Clock + Wait + Threads + Copy + Send + Sync + Drop,
+    {
+        let next = fresh_of(line);
+        if next.is_none() {
+            self.lines.push(line)?;
+            return Ok(());
+        }
+        self.play(rt)?;
+        self.lines.clear();
+        self.fresh = next;
+        println!(rt; "{line}")
+    }
+}
+
+/// Plays the lists of a text.
+fn play_text<R>(rt: &R, text: &str) -> io::Result<()>
+where
+    R: Print + AllocGlobal + Clock + Wait + Threads + Copy + Send + Sync + Drop,
+{
+    let mut list = List {
+        fresh: None,
+        lines: Vec::new(rt.alloc()),
+    };
+    for line in text.lines() {
+        list.take(rt, line)?;
+    }
+    list.play(rt)
+}
+
 /// Plays the lists of a file.
 pub fn play_file<R>(rt: &R, path: &str) -> io::Result<()>
 where
     R: Files + Print + AllocGlobal + Clock + Wait + Threads + Copy + Send + Sync + Drop,
 {
-    let list = fs::read_to_string(rt, path)?;
-    let mut lines = Vec::new(rt.alloc());
-    let mut fresh = None;
-    for line in list.lines() {
-        let next = fresh_of(line);
-        if next.is_none() {
-            lines.push(line)?;
-            continue;
-        }
-        play_list(rt, fresh, &lines)?;
-        lines.clear();
-        fresh = next;
-        println!(rt; "{line}")?;
-    }
-    play_list(rt, fresh, &lines)
+    let text = fs::read_to_string(rt, path)?;
+    play_text(rt, text.as_str())
 }

@@ -161,6 +161,30 @@ where
     }
 }
 
+// How watching ends for each of the failures.
+fn tell_failures<R>(rt: &R) -> io::Result<()>
+where
+    R: AllocGlobal + Files + Print + Threads + Wait + Copy + Drop + Send + Sync,
+{
+    for (reads, writes) in FAILURES {
+        tell_failing(rt, reads, writes)?;
+    }
+    Ok(())
+}
+
+// Says of each number of workers whether they write the same as none.
+fn compare<R>(rt: &R, lines: &[u8], alone: &[u8]) -> io::Result<()>
+where
+    R: AllocGlobal + Files + Print + Threads + Wait + Copy + Drop + Send + Sync,
+{
+    for workers in WORKERS {
+        let beside = watched(rt, lines, workers)?;
+        let is_same = beside.as_slice() == alone;
+        println!(rt; "the same with {workers} workers: {is_same}")?;
+    }
+    Ok(())
+}
+
 /// Watches without workers, and compares that with what several workers write.
 pub fn show_all<R>(rt: &R) -> io::Result<()>
 where
@@ -169,13 +193,7 @@ where
     let lines = fs::read(rt, "watched/later.txt")?;
     let alone = watched(rt, &lines, 0)?;
     io::writer(rt).write_all(&alone)?;
-    for workers in WORKERS {
-        let beside = watched(rt, &lines, workers)?;
-        let is_same = beside.as_slice() == alone.as_slice();
-        println!(rt; "the same with {workers} workers: {is_same}")?;
-    }
-    for (reads, writes) in FAILURES {
-        tell_failing(rt, reads, writes)?;
-    }
+    compare(rt, &lines, &alone)?;
+    tell_failures(rt)?;
     tell_versions(rt)
 }

@@ -357,6 +357,18 @@ impl<'a, B: NumberedBench> BenchPlay<'a, B> {
         self.answer(rt, alloc, answer, question)
     }
 
+    /// What is answered to a question, with a line feed behind it.
+    fn answer_of<W: Wait>(
+        &mut self,
+        rt: &W,
+        alloc: Global,
+        question: &Question<'_>,
+    ) -> Result<String, AllocError> {
+        let mut answer = Vec::new(alloc);
+        self.answer_again(rt, alloc, &mut answer, question)?;
+        told(alloc, answer, question.is_quiet)
+    }
+
     /// Adds a question to the list that is being written. False if none is, or the question ends
     /// it.
     fn is_written(&mut self, question: &Question<'a>) -> Result<bool, AllocError> {
@@ -382,8 +394,6 @@ impl<'a, B: NumberedBench> BenchPlay<'a, B> {
         if self.is_written(&question)? {
             return String::from_str(alloc, "");
         }
-        let mut answer = Vec::new(alloc);
-        self.answer_again(rt, alloc, &mut answer, &question)?;
-        told(alloc, answer, question.is_quiet)
+        self.answer_of(rt, alloc, &question)
     }
 }

@@ -249,17 +249,26 @@ fn put_answer<D: PlayedDesk, W: Wait + Threads + Sync>(
     }
 }
 
-/// What is answered to a line, with a line feed behind it.
+/// What is answered to a question, with a line feed behind it.
+fn answer_of<D: PlayedDesk, W: Wait + Threads + Sync>(
+    rt: &W,
+    alloc: Global,
+    desk: &mut ClaimedDesk<'_, D>,
+    question: &Question<'_>,
+) -> Result<String, AllocError> {
+    let mut answer = Vec::new(alloc);
+    put_answer(rt, alloc, desk, &mut answer, question)?;
+    told(alloc, answer, question.is_quiet)
+}
+
+/// What is answered to a line.
 fn answer_line<D: PlayedDesk, W: Wait + Threads + Sync>(
     rt: &W,
     alloc: Global,
     desk: &mut ClaimedDesk<'_, D>,
     line: &str,
 ) -> Result<String, AllocError> {
-    let question = question_of(line);
-    let mut answer = Vec::new(alloc);
-    put_answer(rt, alloc, desk, &mut answer, &question)?;
-    told(alloc, answer, question.is_quiet)
+    answer_of(rt, alloc, desk, &question_of(line))
 }
 
 /// Plays the lines of one desk.

@@ -167,6 +167,36 @@ where
     Ok(())
 }
 
+fn show_cases<R>(rt: &R, names: &str) -> io::Result<()>
+where
+    R: AllocGlobal + Files + Print + Wait + Threads + Copy + Drop + Send + Sync + 'static,
+{
+    for name in names.lines() {
+        show(rt, &case_of(rt, name)?)?;
+    }
+    Ok(())
+}
+
+fn show_failing<R>(rt: &R, names: &str) -> io::Result<()>
+where
+    R: AllocGlobal + Files + Print + Wait + Threads + Copy + Drop + Send + Sync + 'static,
+{
+    for name in names.lines().take(3) {
+        show_failures(rt, &case_of(rt, name)?)?;
+    }
+    Ok(())
+}
+
+fn show_first<R>(rt: &R, names: &str) -> io::Result<()>
+where
+    R: AllocGlobal + Files + Print + Wait + Threads + Copy + Drop + Send + Sync + 'static,
+{
+    match names.lines().next() {
+        Some(name) => show_fronts(rt, &case_of(rt, name)?),
+        None => Ok(()),
+    }
+}
+
 /// Answers each script, the first three from sources and to sinks that fail, and the first cut at
 /// each byte.
 pub fn show_all<R>(rt: &R) -> io::Result<()>
@@ -174,17 +204,7 @@ where
     R: AllocGlobal + Files + Print + Wait + Threads + Copy + Drop + Send + Sync + 'static,
 {
     let names = fs::read_to_string(rt, "scripts/scripts.txt")?;
-    for name in names.lines() {
-        let case = case_of(rt, name)?;
-        show(rt, &case)?;
-    }
-    for name in names.lines().take(3) {
-        let case = case_of(rt, name)?;
-        show_failures(rt, &case)?;
-    }
-    for name in names.lines().take(1) {
-        let case = case_of(rt, name)?;
-        show_fronts(rt, &case)?;
-    }
-    Ok(())
+    show_cases(rt, names.as_str())?;
+    show_failing(rt, names.as_str())?;
+    show_first(rt, names.as_str())
 }
