@@ -54,8 +54,8 @@ pub record IsSoundBench {T E V G : Type 0} (means : Meaning T E V G) (texts : T)
   pub marks : IsMarkedTo (means.net texts) memos []
 
 -- What holds of a bench at all times: its texts are valid, each memo holds what its node makes of
--- its inputs as long as their stamps are the recorded ones, and no two claims that are out are of
--- one node with the same inputs and stamps.
+-- its inputs as long as their stamps are the recorded ones, no two claims that are out are of one
+-- node with the same inputs and stamps, none repeats a memo, and the number of each was given.
 pub record IsRightBench {T E V G : Type 0} (means : Meaning T E V G) (b : Bench T V)
     : Type 0 where
   pub valid : means.is_valid b.texts

@@ -82,8 +82,8 @@ impl<K: StoreName, T: CellTexts> Bench<K, T> {
         &self.graph.texts
     }
 
-    /// How many numbers are taken, by edits and claims. What holds of a bench at all times is said
-    /// here.
+    /// How many numbers are taken, by edits, claims and accepted returns. What holds of a bench at
+    /// all times is said here.
     pub fn taken(&self) -> u64
         ensures count { result ≡ self.now.taken }
         ensures right { IsRightBench

@@ -167,8 +167,8 @@ fn run_into(
 /// A walk from one event to another, through steps of each link in turn: for each the events where
 /// its steps begin. If the links are relations on so many events, and it begins at one of these,
 /// there is one wherever there is a walk, and it is the first: each link in turn ends at the least
-/// event from which the further links lead on, after as few steps as can be. Errors: want of
-/// memory.
+/// event from which the further links lead on, by the first of its shortest runs of steps. Errors:
+/// want of memory.
 pub fn walk(
     alloc: Global,
     links: &[Link],

@@ -99,7 +99,8 @@ IsLeftSettled means old new n =
     (means.net new.texts) n)
 
 -- After any list of events and an edit that leaves each node settled but those that are open: no
--- more claims are given after it and before the next than used nodes are open and claims are lost.
+-- more claims are given after it, and before the next or a renewal, than used nodes are open and
+-- claims are lost.
 abbrev pub EditBoundsGiven : {T E V G : Type 0} → Meaning T E V G → Type 0
 EditBoundsGiven {T} {E} {V} {G} means =
     (earlier events : List (Event E V G)) (first old start end : Bench T V) (e : E)

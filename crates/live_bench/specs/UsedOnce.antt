@@ -1,4 +1,4 @@
--- The list of the nodes that cells use has each once: so what counts its places counts nodes. Read
+-- The list of the nodes that cells use has each once: so what counts its members counts nodes. Read
 -- it after There.
 use Rattle.orderly_texts.specs.Orderly.{AreApart}
 use Rattle.running_bench.specs.declared.stamped_texts.StampedTexts.{StampedTexts}

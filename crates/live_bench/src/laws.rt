@@ -149,7 +149,7 @@ pub fn only_reached_is_given()
     ensures bounded { ReachedBoundsGiven }
 {}
 
-/// The list of the nodes that cells use has each of them once. So where a bound counts the places
+/// The list of the nodes that cells use has each of them once. So where a bound counts the members
 /// of that list, it counts nodes.
 pub fn used_nodes_are_listed_once()
     ensures sound { (t : StampedRecord) → IsSound t → ListsEachNodeOnce t }

@@ -24,7 +24,7 @@ use value_store::StoreName;
 pub enum Hands<'d, J: Naming + StoreName, R: Wait + Drop> {
     /// The author, between two edits.
     Own,
-    /// Workers, as this lets them.
+    /// Workers, between two edits, where the turnstile is open.
     Workers(&'d RunningTurnstile<'d, J, R>),
 }
 

@@ -17,7 +17,8 @@ pub fn walk_back_is_found()
     ensures { (space : Space) (check : CheckValues) → HasWalkBack space check }
 {}
 
-/// The steps that are told of a refusal are always the same: `why` and `draw` show the same walk.
+/// The steps that are told of a refusal begin at the same events and are of the same expressions:
+/// `why` and `draw` show the same walk.
 pub fn steps_are_same()
     ensures { (space : Space) (check : CheckValues) → HasSameStarts space check }
 {}

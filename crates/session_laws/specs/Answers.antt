@@ -1,7 +1,7 @@
 -- Laws of what is said of a model's text and a test's text, and of files of models and of tests,
--- each the contract of a call of this crate. Read `Answer`, `Cut`, `Reports` and `Told` of
--- litmusbench first. Want of memory and a failed read are no answers: of them these laws say
--- nothing.
+-- each the contract of a call of this crate. Read `Answer`, `Cut`, `Reports`, `Told`, `Whys` and
+-- `Pictures` of litmusbench first. Want of memory and a failed read are no answers: of them these
+-- laws say nothing.
 use Rattle.std.specs.Prelude.{◌≡◌, ℕ, List, ◌++◌, map, Bool, true, Option, Some, Result, Ok, Err}
 use Rattle.command_line.specs.declared.fault.SessionFault.{SessionFault}
 use Rattle.command_line.specs.declared.fault.SessionFault.TheVariants as session_faults
