@@ -1,12 +1,1 @@
-pub mod Linking
-pub mod Linked
-pub mod Fences
-pub mod Named
-pub mod Growing
-pub mod Same
-pub mod Lookups
-pub mod Meant
-pub mod Covering
-pub mod Every
-pub mod Rising
-pub mod Tails
+pub mod Facts

@@ -1,5 +1,1 @@
-pub mod Candidate
-pub mod Events
-pub mod Known
-pub mod Names
-pub mod Orders
+pub mod Environment

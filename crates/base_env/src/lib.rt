@@ -1,12 +1,8 @@
-//! The predefined names of a model, as sets of events and relations over a candidate execution
-//! (the herd7 manual, chapter on cat; Alglave, Maranget and Tautschnig, Herding Cats, TOPLAS
-//! 36(2), 2014). Read specs/Names and specs/Candidate first: what each name is.
+//! All predefined names of one execution, as plain data (the herd7 manual, chapter on cat; Alglave,
+//! Maranget and Tautschnig, Herding Cats, TOPLAS 36(2), 2014). Read specs/Environment.antt:
+//! `IsEnvironment` says what each field is.
 #![tactic(auto)]
 
-mod changing;
-mod fixed;
-mod names;
-mod reordering;
-mod sets;
+mod env;
 
-pub use names::Base;
+pub use env::{BaseEnv, base};

@@ -7,7 +7,7 @@ ghost use Rattle.bench_slices.specs.Slices.{slice, slice_of};
 use crate::lists::{are_same_items, are_same_numbers};
 use crate::uses::{Reached, are_same_uses};
 use bench_texts::{NamedModel, Reading};
-use test_parts::{are_same_entries, are_same_places, are_same_steps, is_same_condition};
+use text_equality::{are_same_entries, are_same_places, are_same_steps, is_same_condition};
 use text_values::{Test, Thread};
 
 fn are_same_threads(first: &[Thread], second: &[Thread]) -> bool

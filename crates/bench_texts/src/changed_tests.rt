@@ -4,9 +4,9 @@ ghost use Rattle.std.specs.Prelude.{◌≡◌, ◌<◌, IfOk, length, vec_len};
 ghost use Rattle.text_values.specs.TestValue.{content_of, steps_of, formula_of};
 ghost use Rattle.bench_texts.specs.BenchTexts.{with_init, with_thread, with_condition, with_observed};
 
-use part_copies::copied_test;
 use std::alloc::{AllocError, Global};
 use std::mem::{drop, replace};
+use text_copies::copied_test;
 use text_values::{Condition, InitEntry, Place, Test, Thread};
 
 // The test with other initial values. Errors: want of memory.

@@ -7,9 +7,9 @@ ghost use Rattle.text_values.specs.ModelValues.{clause_of, clauses_of};
 
 use crate::count::count_items;
 use crate::reading::{Reading, read_items};
-use item_copies::copied_items;
 use std::alloc::{AllocError, Global};
 use std::mem::replace;
+use text_copies::copied_items;
 use text_values::{Item, ModelText, Name};
 
 /// The most items that a model has.

@@ -8,7 +8,7 @@ use crate::tally::Tally;
 use crate::worker::work;
 use crate::workers::{MOST_WORKERS, WorkersFault};
 use desk::{BoardTexts, Desk};
-use desk_rule::{Entry, Naming, Plate};
+use desk_history::{Entry, Naming, Plate};
 use left_right::Absorb;
 use std::alloc::Global;
 use std::marker::Model;

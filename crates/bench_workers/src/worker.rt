@@ -4,7 +4,7 @@ use crate::gate::Gate;
 use crate::tally::Tally;
 use cells::job::{Done, Job, RunFault};
 use desk::{BoardTexts, Desk, DeskFault, Refusals};
-use desk_rule::{Entry, Naming, Plate};
+use desk_history::{Entry, Naming, Plate};
 use left_right::Absorb;
 use std::alloc::Global;
 use std::sync::Wait;

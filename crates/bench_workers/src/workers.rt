@@ -6,7 +6,7 @@ use crate::gate::Gate;
 use crate::tally::Tally;
 use crate::worker::work;
 use desk::{BoardTexts, Desk};
-use desk_rule::{Entry, Naming, Plate};
+use desk_history::{Entry, Naming, Plate};
 use left_right::Absorb;
 use std::alloc::Global;
 use std::sync::{Mutex, Wait};

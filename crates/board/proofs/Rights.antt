@@ -5,7 +5,7 @@ use Rattle.std.proofs.lemmas.Option.{same_Some, slice_get_past}
 use Rattle.text_values.specs.declared.test.Test.{Test}
 use Rattle.verdict.specs.declared.answer.Outcome.{Outcome}
 use Rattle.bench_texts.specs.declared.model.NamedModel.{NamedModel}
-use Rattle.memo_graph.specs.FromScratch.{IsFromScratch}
+use Rattle.from_scratch.specs.FromScratch.{IsFromScratch}
 use Rattle.evaluation_laws.proofs.Saying.{one_outcome}
 use Rattle.evaluation_laws.proofs.Deciding.{decide}
 use Rattle.evaluation_laws.proofs.SliceModels.{items_suffice}

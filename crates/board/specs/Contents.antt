@@ -3,7 +3,7 @@
 use Rattle.std.specs.Prelude.{ℕ, List, [], Option, Some, None, bytes_eq, slice_get, option_map}
 use Rattle.std.specs.List.{position_or_len}
 use Rattle.verdict.specs.declared.answer.Outcome.{Outcome}
-use Rattle.compare_report.specs.Cells.{Cell, NoCell, Open, Settled}
+use Rattle.outcome_texts.specs.Cells.{Cell, NoCell, Open, Settled}
 
 -- a test: its name, and its cells, one for each model: open, or settled with an outcome
 pub record RowContent : Type 0 where

@@ -11,7 +11,7 @@ use Rattle.bench_texts.specs.Held.{IsRead}
 use Rattle.bench_texts.specs.Replacements.{tests_with, models_with, printed_by}
 use Rattle.bench_slices.specs.Slices.{Slice}
 use Rattle.bench_slices.specs.Reach.{test_after, model_after, cell_slice, is_of}
-use Rattle.memo_graph.specs.FromScratch.{IsFromScratch}
+use Rattle.from_scratch.specs.FromScratch.{IsFromScratch}
 use Rattle.board.specs.declared.operation.BoardOp.{BoardOp}
 use Rattle.board.specs.declared.operation.BoardOp.TheVariants.{Edit, Settle}
 use Rattle.board.specs.declared.operation.CellIndex.{CellIndex}

@@ -3,9 +3,9 @@ use Rattle.std.specs.Prelude.{◌≡◌, ◌⊎◌, ℕ, List, Option, Some, Non
 use Rattle.std.specs.List.{position_or_len}
 use Rattle.text_values.specs.declared.test.Test.{Test}
 use Rattle.verdict.specs.declared.answer.Outcome.{Outcome}
-use Rattle.compare_report.specs.Cells.{Cell, NoCell, Open, Settled}
+use Rattle.outcome_texts.specs.Cells.{Cell, NoCell, Open, Settled}
 use Rattle.bench_texts.specs.declared.model.NamedModel.{NamedModel}
-use Rattle.memo_graph.specs.FromScratch.{IsFromScratch}
+use Rattle.from_scratch.specs.FromScratch.{IsFromScratch}
 use Rattle.board.specs.declared.operation.BoardOp.{BoardOp}
 use Rattle.board.specs.Contents.{shown}
 use Rattle.board.specs.Operations.{board_after}

@@ -1,7 +1,7 @@
 //! The board, and what operations make of it.
 
 ghost use Rattle.std.specs.Prelude.{◌≡◌, MatchResult, option_map, length, slice_get};
-ghost use Rattle.compare_report.specs.Cells.{cell_of};
+ghost use Rattle.outcome_texts.specs.Cells.{cell_of};
 
 use crate::changes::{
     column_index, drop_cells, drop_model, drop_test, open_cells, put_cell, put_column, put_test,
@@ -10,7 +10,7 @@ use crate::changes::{
 use crate::column::Column;
 use crate::operation::{BoardOp, CellIndex, NameChange};
 use crate::row::Row;
-use compare_report::Shown;
+use outcome_texts::Shown;
 use std::alloc::{AllocError, Global};
 use std::marker::Model;
 use std::mem::drop;

@@ -2,10 +2,10 @@
 
 ghost use Rattle.std.specs.Prelude.{◌≡◌, IfOk, option_map};
 ghost use Rattle.std.specs.Arc.{arc_value};
-ghost use Rattle.compare_report.specs.Cells.{cell_of};
+ghost use Rattle.outcome_texts.specs.Cells.{cell_of};
 
 use crate::column::Column;
-use compare_report::Shown;
+use outcome_texts::Shown;
 use std::alloc::{AllocError, Global};
 use std::marker::Model;
 use std::mem::{drop, replace};

@@ -11,7 +11,7 @@ use Rattle.bit_relations.specs.Relation.{Bit, Relation, Events, Has, IsMember}
 use Rattle.bit_relations.proofs.Bits.{Bit-zero, Bit_cases}
 use Rattle.bit_relations.proofs.Closing.{Plus-within}
 use Rattle.bit_relations.proofs.Paths.{PlusBelow-suc, PlusBelow-zero, PlusBelow-all}
-use Rattle.base_env.specs.Known.{EventsFound}
+use Rattle.base_names.specs.Known.{EventsFound}
 use Rattle.text_values.specs.declared.model.CheckWord.{CheckWord}
 use Rattle.text_values.specs.declared.model.CheckWord.TheVariants as words
 use Rattle.text_values.specs.declared.model.Postfix.{Postfix}

@@ -8,8 +8,8 @@ use Rattle.std.proofs.lemmas.Grind.{flat_map-append}
 use Rattle.std.proofs.lemmas.List.Elements.{Contains-append_right}
 use Rattle.std.proofs.Math.Seq.{take-suc}
 use Rattle.run_combinations.specs.declared.combination.Combination.{Combination}
-use Rattle.base_env.specs.Known.{Known, set_names}
-use Rattle.base_env.specs.Candidate.{Gives}
+use Rattle.base_names.specs.Known.{Known, set_names}
+use Rattle.base_names.specs.Candidate.{Gives}
 use Rattle.run_combinations.specs.Lists.{lists_of}
 use Rattle.run_combinations.specs.Combinations.{pairs, candidates_of}
 use Rattle.candidates.specs.Space.{candidates_in, Candidate}

@@ -9,8 +9,8 @@ use Rattle.text_values.specs.declared.predefined.Predefined.{Predefined}
 use Rattle.text_values.specs.declared.predefined.Predefined.TheVariants as names
 use Rattle.text_values.specs.PredefinedNames.{is_set}
 use Rattle.run_combinations.specs.declared.combination.Combination.{Combination}
-use Rattle.base_env.specs.Candidate.{SetIn, RelationIn}
-use Rattle.base_env.specs.Known.{Known, EventsFound, EventsOf, PairsOf}
+use Rattle.base_names.specs.Candidate.{SetIn, RelationIn}
+use Rattle.base_names.specs.Known.{Known, EventsFound, EventsOf, PairsOf}
 use Rattle.candidates.specs.Space.{Candidate}
 use Rattle.cat_eval.specs.declared.column.Column.{Column}
 use Rattle.cat_eval.specs.declared.column.Column.TheVariants as columns

@@ -11,10 +11,10 @@ use Rattle.run_combinations.specs.declared.combination.Action.{Action}
 use Rattle.run_combinations.specs.declared.combination.Action.TheVariants.{Read, Write, Fence}
 use Rattle.run_combinations.specs.declared.combination.Combination.{Combination}
 use Rattle.run_combinations.specs.declared.combination.Event.{Event}
-use Rattle.base_env.specs.Events.{location_of, IsAccess, IsFence, IsSameThread, IsSameLocation, At, Both, ProgramOrder, Fenced, Listed}
-use Rattle.base_env.specs.Names.{IsIn, Fixed}
-use Rattle.base_env.specs.Candidate.{IsEntered, SetIn, SharedIn}
-use Rattle.base_env.specs.Known.{Known}
+use Rattle.base_names.specs.Events.{location_of, IsAccess, IsFence, IsSameThread, IsSameLocation, At, Both, ProgramOrder, Fenced, Listed}
+use Rattle.base_names.specs.Names.{IsIn, Fixed}
+use Rattle.base_names.specs.Candidate.{IsEntered, SetIn, SharedIn}
+use Rattle.base_names.specs.Known.{Known}
 use Rattle.cat_eval.specs.Alike.{IsActionLike, IsLike, AreEventsLike, AreAlike}
 use Rattle.cat_eval.proofs.Visits.{get_within}
 

@@ -2,8 +2,8 @@
 use Rattle.std.proofs.Common.{ℕ, ◌≡◌, ◌↔◌, inl, inr, zero, suc, List, [], ◌∷◌, Contains, arith, refl}
 use Rattle.std.specs.Prelude.{Some, slice_get, map}
 use Rattle.text_values.specs.declared.predefined.Predefined.{Predefined}
-use Rattle.base_env.specs.Candidate.{SetIn, RelationIn}
-use Rattle.base_env.proofs.Same.{same_or_not}
+use Rattle.base_names.specs.Candidate.{SetIn, RelationIn}
+use Rattle.base_names.proofs.Same.{same_or_not}
 use Rattle.candidates.specs.Space.{Candidate}
 use Rattle.cat_eval.specs.declared.seen.NamedColumn.{NamedColumn}
 use Rattle.cat_eval.specs.Executions.{events_of}

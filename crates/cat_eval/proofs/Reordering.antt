@@ -5,7 +5,7 @@ use Rattle.bit_relations.specs.Relation.{Relation, Events}
 use Rattle.text_values.specs.declared.predefined.Predefined.{Predefined}
 use Rattle.text_values.specs.declared.predefined.Predefined.TheVariants as names
 use Rattle.text_values.specs.PredefinedNames.{is_set}
-use Rattle.base_env.specs.Known.{Known, PairsOf, SharedPairs}
+use Rattle.base_names.specs.Known.{Known, PairsOf, SharedPairs}
 use Rattle.cat_eval.specs.Needed.{changes_with_orders}
 use Rattle.cat_eval.specs.Reordered.{IsReordered, HoldsSame}
 use Rattle.cat_eval.specs.Tables.{IsHeld}

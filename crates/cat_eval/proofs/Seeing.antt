@@ -4,7 +4,7 @@ use Rattle.std.specs.Prelude.{Some, slice_get, map}
 use Rattle.std.proofs.lemmas.List.{append-nil}
 use Rattle.std.proofs.lemmas.Option.{none-some, same_Some}
 use Rattle.run_combinations.specs.declared.combination.Combination.{Combination}
-use Rattle.base_env.specs.Known.{EventsFound}
+use Rattle.base_names.specs.Known.{EventsFound}
 use Rattle.candidates.specs.Space.{Candidate}
 use Rattle.cat_eval.specs.declared.column.Column.{Column}
 use Rattle.cat_eval.specs.declared.column.Column.TheVariants as columns

@@ -6,13 +6,13 @@ use Rattle.text_values.specs.declared.predefined.Predefined.{Predefined}
 use Rattle.text_values.specs.declared.predefined.Predefined.TheVariants as names
 use Rattle.text_values.specs.PredefinedNames.{is_set}
 use Rattle.run_combinations.specs.declared.combination.Combination.{Combination}
-use Rattle.base_env.specs.declared.names.Named.{Named}
-use Rattle.base_env.specs.declared.names.Shared.{Shared}
-use Rattle.base_env.specs.Known.{Known, IsConsistent, EventsUnder, PairsUnder, EventsOf, PairsOf, SharedPairs, set_names, shared_names}
-use Rattle.base_env.specs.Candidate.{IsEntered, IsReading, IsOrdered, Gives, SetIn, SharedIn, RelationIn, FromReadsIn}
+use Rattle.base_names.specs.declared.names.Named.{Named}
+use Rattle.base_names.specs.declared.names.Shared.{Shared}
+use Rattle.base_names.specs.Known.{Known, IsConsistent, EventsUnder, PairsUnder, EventsOf, PairsOf, SharedPairs, set_names, shared_names}
+use Rattle.base_names.specs.Candidate.{IsEntered, IsReading, IsOrdered, Gives, SetIn, SharedIn, RelationIn, FromReadsIn}
 use Rattle.cat_eval.specs.Needed.{changes_with_reads, changes_with_orders}
 use Rattle.cat_eval.proofs.Same.{Same, SameSet}
-use Rattle.base_env.proofs.Meant.{both, either}
+use Rattle.base_names.proofs.Meant.{both, either}
 
 -- what has events or pairs is held
 set_held : (xs : List Named) (name : Predefined) (n a : ℕ) → EventsUnder xs name n a

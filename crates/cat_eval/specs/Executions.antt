@@ -3,7 +3,7 @@ use Rattle.std.specs.Prelude.{ℕ, List, length, slice_get}
 use denote.Ref.{Bor}
 use Rattle.binding_graph.specs.declared.resolved.Source.{Source}
 use Rattle.binding_graph.specs.declared.resolved.Source.TheVariants as sources
-use Rattle.base_env.specs.Candidate.{SetIn, RelationIn}
+use Rattle.base_names.specs.Candidate.{SetIn, RelationIn}
 use Rattle.cat_eval.specs.declared.column.Column.{Column}
 use Rattle.candidates.specs.Space.{Candidate}
 use Rattle.cat_eval.specs.Named.{InputEvents, InputPairs}

@@ -4,7 +4,7 @@ use denote.Ref.{Bor}
 use Rattle.bit_relations.specs.Relation.{Relation}
 use Rattle.binding_graph.specs.declared.resolved.Source.{Source}
 use Rattle.binding_graph.specs.declared.resolved.Source.TheVariants as sources
-use Rattle.base_env.specs.Known.{EventsFound}
+use Rattle.base_names.specs.Known.{EventsFound}
 use Rattle.cat_eval.specs.declared.column.Column.{Column}
 use Rattle.cat_eval.specs.declared.column.Column.TheVariants as columns
 use Rattle.cat_eval.specs.declared.names.Names.{Names}

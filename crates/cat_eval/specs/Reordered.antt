@@ -3,7 +3,7 @@ use Rattle.std.specs.Prelude.{◌≡◌, List}
 use Rattle.bit_relations.specs.Relation.{Relation, Events}
 use Rattle.text_values.specs.declared.predefined.Predefined.{Predefined}
 use Rattle.text_values.specs.PredefinedNames.{is_set}
-use Rattle.base_env.specs.Known.{Known}
+use Rattle.base_names.specs.Known.{Known}
 use Rattle.cat_eval.specs.Steady.{EndsWith}
 use Rattle.cat_eval.specs.Tables.{IsHeld}
 

@@ -3,7 +3,7 @@ use Rattle.std.specs.Prelude.{ℕ, ◌≡◌, ◌⊎◌, ◌+◌, ◌++◌, zero
 use denote.Ref.{Bor}
 use Rattle.bit_relations.specs.Relation.{Relation, Events, Has}
 use Rattle.text_values.specs.declared.predefined.Predefined.{Predefined}
-use Rattle.base_env.specs.Known.{EventsFound}
+use Rattle.base_names.specs.Known.{EventsFound}
 use Rattle.candidates.specs.Space.{Candidate}
 use Rattle.cat_eval.specs.declared.column.Column.{Column}
 use Rattle.cat_eval.specs.declared.column.Column.TheVariants as columns

@@ -4,8 +4,8 @@ use Rattle.std.specs.declared.alloc.Global.{Global}
 use Rattle.bit_relations.specs.Relation.{Relation, Events, IsRelation, IsEvents}
 use Rattle.text_values.specs.declared.predefined.Predefined.{Predefined}
 use Rattle.text_values.specs.PredefinedNames.{is_set}
-use Rattle.base_env.specs.Known.{Known, EventsOf, PairsOf}
-use Rattle.base_env.specs.Candidate.{SetIn, RelationIn}
+use Rattle.base_names.specs.Known.{Known, EventsOf, PairsOf}
+use Rattle.base_names.specs.Candidate.{SetIn, RelationIn}
 use Rattle.candidates.specs.declared.candidate.Space.{Space}
 use Rattle.candidates.specs.Space.{candidates_in, Candidate}
 use Rattle.binding_kinds.specs.declared.kinds.Kind.{Kind}

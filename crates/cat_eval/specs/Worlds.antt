@@ -3,8 +3,8 @@ use Rattle.std.specs.Prelude.{◌≡◌, Bool, IsTrue, false, List, [], ◌∷�
 use Rattle.text_values.specs.declared.predefined.Predefined.{Predefined}
 use Rattle.text_values.specs.PredefinedNames.{is_set}
 use Rattle.run_combinations.specs.declared.combination.Combination.{Combination}
-use Rattle.base_env.specs.Known.{Known, IsConsistent, set_names}
-use Rattle.base_env.specs.Candidate.{IsEntered, IsReading, IsOrdered, Gives}
+use Rattle.base_names.specs.Known.{Known, IsConsistent, set_names}
+use Rattle.base_names.specs.Candidate.{IsEntered, IsReading, IsOrdered, Gives}
 use Rattle.candidates.specs.Space.{Candidate}
 
 -- what these names need is held: the sets among them, and what the relations among them are made of

@@ -2,14 +2,14 @@
 
 ghost use Rattle.std.specs.Prelude.{◌≡◌, ◌+◌, ◌-◌, ◌^◌, ◌<◌, ◌≤◌, ◌↔◌, ℕ, slice_get, IsTrue, OnOk};
 ghost use Rattle.bit_relations.specs.Relation.{IsRelation, IsEvents};
-ghost use Rattle.base_env.specs.Known.{EventsFound};
+ghost use Rattle.base_names.specs.Known.{EventsFound};
 ghost use Rattle.binding_kinds.specs.declared.kinds.Kind.TheVariants as kinds;
 ghost use Rattle.cat_eval.specs.Values.{Adds, AddsRun, IsFor, column_len};
 ghost use Rattle.cat_eval.specs.Named.{ColumnEvents, ColumnPairs, PairsFound};
 ghost use Rattle.cat_eval.specs.Steady.{HasSame, Repeats};
 
 use bit_relations::{EventSet, Rel};
-use columns::{Cursor, RunColumn, SetRuns};
+use relation_columns::{Cursor, RunColumn, SetRuns};
 use std::alloc::{AllocError, Global};
 
 /// The value of a name in each candidate of a space, in order. Contracts see one value a candidate;

@@ -8,7 +8,7 @@ ghost use Rattle.std.specs.Prelude.{OnOk, Contains};
 use crate::machine::Machine;
 use crate::needs::Needs;
 use crate::table::Table;
-use base_env::Base;
+use base_names::Base;
 use binding_graph::ResolvedItem;
 use bit_relations::Rel;
 use candidates::Space;

@@ -1,7 +1,7 @@
 //! The predefined names over the candidates of a space.
 
 ghost use Rattle.std.specs.Prelude.{◌≡◌, ℕ, ◌<◌, ◌++◌, ◌∷◌, ◌⊎◌, [], List, length, slice_index_or, IfOk, OnOk, IsTrue, MatchOption, Contains, false};
-ghost use Rattle.base_env.specs.Known.{Known};
+ghost use Rattle.base_names.specs.Known.{Known};
 ghost use Rattle.candidates.specs.declared.candidate.Space.{Space};
 ghost use Rattle.candidates.specs.Space.{candidates_in, Candidate};
 ghost use Rattle.text_values.specs.PredefinedNames.{is_set};
@@ -17,7 +17,7 @@ use crate::few::Few;
 use crate::needs::{Needs, changes_with_orders};
 use crate::seen::NamedColumn;
 use crate::walk::{Enter, enter_space};
-use base_env::Base;
+use base_names::Base;
 use bit_relations::Rel;
 use candidates::Space;
 use std::alloc::{AllocError, Global};

@@ -2,8 +2,8 @@
 
 ghost use Rattle.std.specs.Prelude.{◌≡◌, ℕ, ◌++◌, List, [], ◌∷◌, IsTrue, IfOk, IfSome, OnOk};
 ghost use Rattle.candidates.specs.Space.{candidates_in};
-ghost use Rattle.base_env.specs.Known.{Known, IsConsistent};
-ghost use Rattle.base_env.specs.Candidate.{IsEntered, IsReading, IsOrdered};
+ghost use Rattle.base_names.specs.Known.{Known, IsConsistent};
+ghost use Rattle.base_names.specs.Candidate.{IsEntered, IsReading, IsOrdered};
 ghost use Rattle.cat_eval.specs.Candidates.{reading_so, reading_in};
 ghost use Rattle.cat_eval.specs.Steady.{EndsWith};
 ghost use Rattle.cat_eval.specs.Reordered.{IsReordered, EndsReordered};
@@ -11,7 +11,7 @@ ghost use Rattle.cat_eval.specs.Worlds.{AreHeld, IsReady, AreWorlds};
 
 use crate::needs::Needs;
 use crate::shape::is_same_shape;
-use base_env::Base;
+use base_names::Base;
 use candidates::{Combination, Space};
 use std::alloc::AllocError;
 

@@ -1,7 +1,7 @@
 -- A part where an expression begins anew.
 use Rattle.std.proofs.Common.{◌≡◌, refl}
-use Rattle.cat_terms.specs.declared.terms.OpenExpression.{OpenExpression}
-use Rattle.cat_terms.specs.OpenReading.{IsStart}
+use Rattle.cat_expressions.specs.declared.terms.OpenExpression.{OpenExpression}
+use Rattle.cat_expressions.specs.OpenReading.{IsStart}
 use Rattle.cat_syntax.specs.declared.parts.Part.{Part}
 use Rattle.cat_syntax.specs.declared.parts.Part.TheVariants as parts
 use Rattle.cat_syntax.specs.ParserState.{part_with}

@@ -8,8 +8,8 @@ use Rattle.cat_syntax.specs.declared.fault.CatFault.{CatFault}
 use Rattle.cat_syntax.specs.declared.fault.CatFault.TheVariants as faults
 use Rattle.cat_tokens.specs.declared.rule.CatRule.{CatRule}
 use Rattle.cat_tokens.specs.declared.rule.CatRule.TheVariants.{TooLong}
-use Rattle.cat_terms.specs.declared.frames.StepError.{StepError}
-use Rattle.cat_terms.specs.declared.frames.StepError.TheVariants as errors
+use Rattle.cat_expressions.specs.declared.frames.StepError.{StepError}
+use Rattle.cat_expressions.specs.declared.frames.StepError.TheVariants as errors
 use Rattle.cat_grammar.specs.declared.form.Form.{Form}
 use Rattle.cat_tokens.specs.declared.token.Token.{Token}
 use Rattle.cat_tokens.specs.declared.token.Token.TheVariants as tokens

@@ -1,7 +1,7 @@
 -- A parser as a state of the machine.
 use Rattle.std.specs.Prelude.{◌≡◌, Result, Ok, Err}
-use Rattle.cat_terms.specs.declared.frames.StepError.{StepError}
-use Rattle.cat_terms.specs.declared.terms.OpenExpression.{OpenExpression}
+use Rattle.cat_expressions.specs.declared.frames.StepError.{StepError}
+use Rattle.cat_expressions.specs.declared.terms.OpenExpression.{OpenExpression}
 use Rattle.cat_syntax.specs.declared.items.Parser.{Parser}
 use Rattle.cat_syntax.specs.declared.parts.Head.{Head}
 use Rattle.cat_syntax.specs.declared.parts.Part as code_part
@@ -9,7 +9,7 @@ use Rattle.cat_syntax.specs.declared.parts.Part.TheVariants as parts
 use Rattle.cat_grammar.specs.ItemMachine as machine
 use Rattle.cat_grammar.specs.ItemMachine.{State, Fault}
 use Rattle.text_values.specs.ModelValues.{clauses_of}
-use Rattle.cat_terms.specs.Reading.{stack_of, expectation_of}
+use Rattle.cat_expressions.specs.Reading.{stack_of, expectation_of}
 use Rattle.cat_syntax.specs.ReadingItems.{head_of, part_of, Fails}
 
 -- the part with the expression that is read in it

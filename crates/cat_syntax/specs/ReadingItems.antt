@@ -1,7 +1,7 @@
 -- What the reader holds of the items, as the machine sees it.
 use Rattle.std.specs.Prelude.{◌≡◌, Bool, true, false, List, map, Result, Ok, Err}
-use Rattle.cat_terms.specs.declared.frames.StepError.{StepError}
-use Rattle.cat_terms.specs.declared.frames.StepError.TheVariants as errors
+use Rattle.cat_expressions.specs.declared.frames.StepError.{StepError}
+use Rattle.cat_expressions.specs.declared.frames.StepError.TheVariants as errors
 use Rattle.text_values.specs.declared.model.Item.{Item}
 use Rattle.cat_syntax.specs.declared.lets.Group as code_group
 use Rattle.cat_syntax.specs.declared.lets.LetPart as code_let

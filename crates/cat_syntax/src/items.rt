@@ -8,8 +8,8 @@ ghost use Rattle.cat_syntax.specs.ReadingItems.{show_of, head_of, part_of, is_bo
 
 use crate::lets::{LetPart, after_let};
 use crate::parts::{Head, Part, ShowHead, body_start, check_body, show_body};
+use cat_expressions::{ExpressionStep, OpenExpression, StepError};
 use cat_grammar::{CheckHead, Form};
-use cat_terms::{ExpressionStep, OpenExpression, StepError};
 use cat_tokens::{CatRule, Token};
 use std::alloc::Global;
 use std::mem;
@@ -354,7 +354,7 @@ pub struct Parser {
 
 impl Parser {
     ghost use Rattle.cat_syntax.specs.declared.parts.Head.{Head};
-    ghost use Rattle.cat_terms.specs.OpenReading.{whole_of};
+    ghost use Rattle.cat_expressions.specs.OpenReading.{whole_of};
     ghost use Rattle.cat_syntax.specs.ParserState.{state_of, AreSteps, IsBody};
 
     /// The reader before a text of this form.

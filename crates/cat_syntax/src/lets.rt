@@ -7,7 +7,7 @@ ghost use Rattle.cat_grammar.specs.ItemMachine.{fresh, extended, group_clause, a
 ghost use Rattle.cat_syntax.specs.ReadingItems.{group_of, let_of, part_of, Gives};
 
 use crate::parts::{Head, Part, body_start};
-use cat_terms::StepError;
+use cat_expressions::StepError;
 use cat_tokens::{CatRule, Token};
 use std::alloc::{AllocError, Global};
 use text_values::{Binding, Expression, Item, MAX_PARAMETERS, Name};

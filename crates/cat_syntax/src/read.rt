@@ -14,8 +14,8 @@ ghost use Rattle.text_values.specs.ModelValue.{Clause};
 
 use crate::fault::CatFault;
 use crate::items::Parser;
+use cat_expressions::StepError;
 use cat_grammar::Form;
-use cat_terms::StepError;
 use cat_tokens::{CatRule, Front, Token, front_of};
 use std::alloc::{AllocError, Global};
 use text_values::{Item, MAX_BYTES, ModelText};

@@ -8,7 +8,7 @@ use Rattle.memo_core.specs.Laws.{GivenStays, IsUsedClosed}
 use Rattle.memo_core.specs.Right.{Making, IsRight, IsCounted, IsSound}
 use Rattle.memo_core.proofs.Counted.{counted_made}
 use Rattle.memo_core.proofs.Headline.{settled_solved}
-use Rattle.memo_bench.proofs.WorkLemmas.{has_there}
+use Rattle.memo_engine.proofs.WorkLemmas.{has_there}
 use Rattle.cells.specs.Cells.{AreSolved, Carries}
 
 -- where memos are right, settled nodes are solved

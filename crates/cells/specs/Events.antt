@@ -10,7 +10,7 @@ use Rattle.memo_core.specs.Step.{Return as Returning}
 use Rattle.memo_core.specs.Run as core
 use Rattle.memo_core.specs.Run.{Bench, Meaning, Step}
 use Rattle.memo_core.specs.Work.{is_accepted}
-use Rattle.memo_bench.specs.declared.graph.TheConstants.{LAST}
+use Rattle.memo_engine.specs.declared.graph.TheConstants.{LAST}
 use Rattle.cells.specs.declared.events.Event.{Event}
 use Rattle.cells.specs.declared.events.Event.TheVariants.{Edit, Claim, Return, Lose, Renew}
 use Rattle.cells.specs.declared.events.Reply.{Reply}

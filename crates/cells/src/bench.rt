@@ -3,17 +3,17 @@
 ghost use Rattle.std.specs.Prelude.{◌≡◌, ◌<◌, ◌≤◌, ◌+◌, leb, [], ℕ, IsTrue, IsFalse, IfOk, OnOk, OnErr, IfErr, IfSome, IfNone, Err};
 ghost use Rattle.memo_core.specs.Laws.{meaning};
 ghost use Rattle.memo_core.specs.Run.{Edit as Edited, Claim as Claimed, NoClaim, Returned, Lose as Lost, Renew as Renewed, Refused, Step};
-ghost use Rattle.memo_bench.specs.Told.{IsTold, OnNone};
+ghost use Rattle.memo_engine.specs.Told.{IsTold, OnNone};
 ghost use Rattle.cells.specs.Cells.{cells, IsShown, ShowsFromScratch, AllAreSettled};
 ghost use Rattle.cells.specs.Views.{IsRightBench};
 
 use crate::job::{Done, Job};
 use crate::shown::Shown;
 use crate::texts::CellTexts;
-use memo_bench::graph::{Graph, LAST};
-use memo_bench::witness::Witness;
 use memo_core::claims::{ClaimFault, Finish};
 use memo_core::table::output_token;
+use memo_engine::graph::{Graph, LAST};
+use memo_engine::witness::Witness;
 use std::alloc::{AllocError, Global};
 use std::marker::Model;
 use std::sync::Arc;

@@ -1,12 +1,12 @@
 //! What is handed out to be computed, and what comes back.
 
 ghost use Rattle.std.specs.Prelude.{◌≡◌, ◌≤◌, IfOk, IfErr, length, vec_len, vec_capacity};
-ghost use Rattle.memo_bench.specs.Clauses.{IsComputed, return_from};
+ghost use Rattle.memo_engine.specs.Clauses.{IsComputed, return_from};
 ghost use Rattle.cells.specs.Views.{task_answered};
 
 use crate::texts::CellTexts;
-use memo_bench::job;
 use memo_core::keys::Node;
+use memo_engine::job;
 use std::alloc::{AllocError, Global};
 use std::marker::Model;
 use std::sync::Wait;
@@ -50,7 +50,7 @@ impl<K: StoreName, T: CellTexts> Drop for Done<K, T> {
 impl<K: StoreName, T: CellTexts> Model for Done<K, T> {
     ghost use Rattle.memo_core.specs.Step.{Return};
     ghost use Rattle.memo_core.specs.Views.{shown_values};
-    ghost use Rattle.memo_bench.specs.Clauses.{return_from};
+    ghost use Rattle.memo_engine.specs.Clauses.{return_from};
     ghost use Rattle.cells.specs.Views.{IsAnswer};
 
     ghost Value = { Return T.Value T.Given };
@@ -71,7 +71,7 @@ impl<K: StoreName, T: CellTexts> Job<K, T> {
 
     /// Computes what its node makes, and puts it into the store. Where memory is refused or the
     /// store is full, the job comes back as it was. It may wait while another thread grows the
-    /// store. That a value which did not change keeps its token is said of the job of `memo_bench`,
+    /// store. That a value which did not change keeps its token is said of the job of `memo_engine`,
     /// which this runs.
     pub fn run<R: Wait>(self, rt: &R, alloc: Global) -> Result<Done<K, T>, (Job<K, T>, RunFault)>
         ensures same { IfOk result (λ done. task_answered done ≡ self) }

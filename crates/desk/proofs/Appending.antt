@@ -5,8 +5,8 @@ use Rattle.std.proofs.lemmas.List.{append-nil}
 use Rattle.memo_core.specs.Graph.{Net}
 use Rattle.memo_core.specs.Run.{Bench}
 use Rattle.cells.specs.Cells.{Cells, IsSettledCell}
-use Rattle.desk_rule.specs.Histories.{Pressed}
-use Rattle.desk_rule.proofs.Showing.{fold_push}
+use Rattle.desk_history.specs.Histories.{Pressed}
+use Rattle.desk_history.proofs.Showing.{fold_push}
 use Rattle.desk.specs.Boards.{BoardCell, with_outcome}
 use Rattle.desk.specs.Posts.{IsPosted, Posts}
 use Rattle.desk.proofs.Outcomes.{length_with, settled_here, settled_kept, each_append}

@@ -3,7 +3,7 @@ use Rattle.std.proofs.Common.{◌≡◌, ◌⊎◌, inl, inr, Bool, true, false,
 use Rattle.std.specs.Prelude.{MatchBool}
 use mathlib.Core.List.{IsPrefix}
 use Rattle.memo_core.specs.Run.{Bench}
-use Rattle.desk_rule.proofs.Fronts.{prefix_self, prefix_trans}
+use Rattle.desk_history.proofs.Fronts.{prefix_self, prefix_trans}
 use Rattle.desk.specs.declared.answer.Posted.{Posted}
 use Rattle.desk.specs.declared.answer.Posted.TheVariants.{Now, Later}
 use Rattle.desk.specs.Held.{Held, PublishesOr, ShowsAllOrAsBefore}

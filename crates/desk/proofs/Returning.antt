@@ -17,7 +17,7 @@ use Rattle.memo_core.specs.Graph.{Memo, Net, memo_of, at, stored_at, stamp_in, p
 use Rattle.memo_core.specs.Step.{Has, State, Return, Accepts, Finishes}
 use Rattle.memo_core.specs.Run.{Bench, Meaning, Claim, NoClaim, Returned, Refused, Step, state_in}
 use Rattle.memo_core.proofs.Theory.{put_other}
-use Rattle.desk_rule.proofs.Showing.{fold_push}
+use Rattle.desk_history.proofs.Showing.{fold_push}
 use Rattle.cells.specs.Cells.{Cells, Carries, IsSettledCell, StandsOn}
 use Rattle.desk.specs.Boards.{BoardCell, IsSettledOn, IsListedWithin, HoldsFor, ArePosted, ArePostedAbove, ArePostedFor, ArePostedBut, IsKept, AreKept, settled_with, with_outcome}
 use Rattle.desk.specs.declared.answer.Posted.{Posted}

@@ -1,7 +1,7 @@
 -- Settled cells that are appended. Read after Boards.
 use Rattle.std.specs.Prelude.{◌≡◌, ℕ, List, ◌++◌, Some, IsSome, slice_get}
 use Rattle.std.specs.List.{AllByRecursion as Each}
-use Rattle.desk_rule.specs.Histories.{Pressed}
+use Rattle.desk_history.specs.Histories.{Pressed}
 use Rattle.memo_core.specs.Graph.{Net}
 use Rattle.memo_core.specs.Run.{Bench}
 use Rattle.cells.specs.Cells.{Cells, IsSettledCell}

@@ -1,6 +1,6 @@
 -- What the desk's list is told of an edit before it is put in place.
 use Rattle.std.specs.Prelude.{◌≡◌, ℕ, List, [], ◌∷◌, ◌++◌}
-use Rattle.desk_rule.specs.Histories.{Pressed}
+use Rattle.desk_history.specs.Histories.{Pressed}
 
 module _ {T E P O : Type 0} (prepares : T → E → P → T → Type 0) (announces : T → P → ℕ → O → Type 0)
     (may_follow : List O → O → Type 0) where

@@ -9,10 +9,10 @@ ghost use Rattle.desk.specs.Posts.{Posts};
 use crate::posting::{is_settled, post_settled};
 use crate::texts::BoardTexts;
 use cells::bench::Bench;
-use desk_rule::{Entry, Front, Naming, Plate, Press, Viewer};
+use desk_history::{Entry, Front, Naming, Plate, Press, Viewer};
 use left_right::Absorb;
-use memo_bench::witness::Witness;
 use memo_core::keys::Node;
+use memo_engine::witness::Witness;
 use std::alloc::Global;
 use std::marker::Model;
 use std::sync::Wait;
@@ -31,7 +31,7 @@ impl<J: Naming, X: BoardTexts> Model for Ledger<J, X>
 where
     Plate<J, X>: Absorb<Entry<J, X>, State = [X::Op; 0]>,
 {
-    ghost use Rattle.desk_rule.specs.Histories.{Pressed};
+    ghost use Rattle.desk_history.specs.Histories.{Pressed};
 
     ghost Value = { Pressed X.Op };
 

@@ -8,7 +8,7 @@ ghost use Rattle.desk.specs.Posts.{IsPosted, SettlesRight, Posts};
 use crate::texts::{BoardTexts, CellRange};
 use cells::bench::Bench;
 use cells::shown::Shown;
-use desk_rule::{Naming, Press};
+use desk_history::{Naming, Press};
 use memo_core::keys::Node;
 use std::alloc::{AllocError, Global};
 use value_store::StoreName;

@@ -10,7 +10,7 @@ use crate::ledger::Ledger;
 use crate::texts::BoardTexts;
 use cells::bench::Bench;
 use cells::job::Done;
-use desk_rule::Naming;
+use desk_history::Naming;
 use memo_core::claims::Finish;
 use memo_core::keys::Node;
 use value_store::StoreName;

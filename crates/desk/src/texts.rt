@@ -6,7 +6,7 @@ ghost use Rattle.memo_core.specs.declared.keys.Node.{Node as NodeRecord};
 ghost use Rattle.desk.specs.Boards.{BoardCell, HoldsAbove, open_of, with_outcome};
 
 use cells::texts::CellTexts;
-use desk_rule::Operations;
+use desk_history::Operations;
 use memo_core::keys::Node;
 use std::alloc::{AllocError, Global};
 

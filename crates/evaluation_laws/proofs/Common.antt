@@ -18,12 +18,12 @@ use Rattle.binding_kinds.specs.Meanings.{parameter_of}
 use Rattle.binding_kinds.specs.Senses.{Sense, count_of}
 use Rattle.binding_kinds.specs.Value.{Naming}
 use Rattle.binding_graph.specs.Usages.{Usage, usage_seen, values_of}
-use Rattle.model_slots.proofs.Lists.{each_to}
-use Rattle.reading_laws.specs.ItemLaws.{Scope, Pairing, IsPairing, IsSameBinder, IsSameName, IsSameUnless, IsSameFormula, IsSameSense, IsSameFunction, AreSameUsed, HasSameNames, HaveSameNames}
-use Rattle.reading_laws.proofs.Before.{get_kept}
-use Rattle.reading_laws.proofs.Told.{found_here}
-use Rattle.reading_laws.proofs.Lists.{contains_later, contains_one_of, IsSamePair}
-use Rattle.reading_laws.proofs.Named.{IsApplied, seen_usage}
+use Rattle.bench_slots.proofs.Lists.{each_to}
+use Rattle.binding_laws.specs.ItemLaws.{Scope, Pairing, IsPairing, IsSameBinder, IsSameName, IsSameUnless, IsSameFormula, IsSameSense, IsSameFunction, AreSameUsed, HasSameNames, HaveSameNames}
+use Rattle.binding_laws.proofs.Before.{get_kept}
+use Rattle.binding_laws.proofs.Told.{found_here}
+use Rattle.binding_laws.proofs.Lists.{contains_later, contains_one_of, IsSamePair}
+use Rattle.binding_laws.proofs.Named.{IsApplied, seen_usage}
 use Rattle.evaluation_laws.proofs.Kept.{Reach, IsKept, IsNameKept, IsFunctionKept, HasKeptNames, HaveKeptNames}
 
 -- ---- names of both models

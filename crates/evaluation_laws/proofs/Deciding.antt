@@ -7,18 +7,18 @@ use Rattle.text_values.specs.declared.test.Test.{Test}
 use Rattle.text_values.specs.TestValue.{content_of}
 use Rattle.binding_kinds.specs.Value.{clause_of}
 use Rattle.binding_graph.specs.declared.resolved.ResolvedItem.{ResolvedItem}
-use Rattle.column_laws.specs.Items.{ItemContent, item_content}
+use Rattle.cat_eval_laws.specs.Items.{ItemContent, item_content}
 use Rattle.verdict.specs.declared.answer.Evaluation.{Evaluation}
 use Rattle.bench_texts.specs.declared.model.NamedModel.{NamedModel}
 use Rattle.bench_texts.specs.declared.reading.Reading.{Reading}
 use Rattle.bench_texts.specs.declared.reading.Reading.TheVariants as readings
 use Rattle.bench_texts.specs.Readings.{predefined_names, AreSound, IsReading}
 use Rattle.bench_slices.specs.Slices.{slice_by}
-use Rattle.memo_graph.specs.Answers.{IsRising}
-use Rattle.memo_graph.specs.FromScratch.{AreItemsOf, IsFaultless, IsEvaluationOf}
-use Rattle.memo_graph.proofs.Ordered.{all_reverse}
-use Rattle.memo_graph.proofs.Rising.{resolved_rising}
-use Rattle.memo_graph.proofs.Sole.{fault_or_none}
+use Rattle.from_scratch.specs.Answers.{IsRising}
+use Rattle.from_scratch.specs.FromScratch.{AreItemsOf, IsFaultless, IsEvaluationOf}
+use Rattle.from_scratch.proofs.Ordered.{all_reverse}
+use Rattle.from_scratch.proofs.Rising.{resolved_rising}
+use Rattle.from_scratch.proofs.Sole.{fault_or_none}
 use Rattle.evaluation_laws.proofs.Resolving.{one_resolution}
 use Rattle.evaluation_laws.specs.Alignment.{AreAligned}
 use Rattle.evaluation_laws.proofs.ReadModels.{models_walked}

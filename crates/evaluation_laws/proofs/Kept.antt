@@ -20,10 +20,10 @@ use Rattle.binding_kinds.specs.Applicable.{applied_of}
 use Rattle.binding_kinds.specs.Senses.{count_of}
 use Rattle.binding_graph.specs.Inputs.{index_of, noted, with_binder, with_found, with_name}
 use Rattle.binding_graph.specs.Usages.{Usage, all_noted, is_among, with_item, with_items, usage_at, usage_seen, values_of, functions_of, with_meaning, with_values, with_values_among, with_functions, with_functions_among}
-use Rattle.reading_laws.specs.ItemLaws.{Scope}
-use Rattle.slot_laws.proofs.Naming.{binder_at}
-use Rattle.slot_laws.proofs.Using.{IsBoundBy, items_in}
-use Rattle.reading_laws.proofs.Named.{IsNamed, IsApplied, HasNames, HaveNames, seen_usage}
+use Rattle.binding_laws.specs.ItemLaws.{Scope}
+use Rattle.bench_slot_laws.proofs.Naming.{binder_at}
+use Rattle.bench_slot_laws.proofs.Using.{IsBoundBy, items_in}
+use Rattle.binding_laws.proofs.Named.{IsNamed, IsApplied, HasNames, HaveNames, seen_usage}
 
 -- ---- what an expression may see
 

@@ -18,15 +18,15 @@ use Rattle.binding_graph.specs.declared.resolved.ResolvedItem.{ResolvedItem}
 use Rattle.binding_graph.specs.Inputs.{inputs_of}
 use Rattle.binding_graph.specs.Resolved.{IsResolvedIn}
 use Rattle.binding_graph.specs.Usages.{Usage, with_values, with_functions, with_all_values, with_all_functions}
-use Rattle.reading_laws.specs.ItemLaws.{Scope, with_names}
-use Rattle.model_slots.proofs.Lists.{has_reverse, has_map}
-use Rattle.slot_laws.proofs.Naming.{binder_at, at_below, found_at, own_same}
-use Rattle.slot_laws.proofs.Using.{IsBoundBy, items_in}
+use Rattle.binding_laws.specs.ItemLaws.{Scope, with_names}
+use Rattle.bench_slots.proofs.Lists.{has_reverse, has_map}
+use Rattle.bench_slot_laws.proofs.Naming.{binder_at, at_below, found_at, own_same}
+use Rattle.bench_slot_laws.proofs.Using.{IsBoundBy, items_in}
 use Rattle.std.proofs.lemmas.Bool.{leb-false}
 use Rattle.std.proofs.lemmas.Option.{same_Some}
-use Rattle.reading_laws.proofs.Named.{HasNames}
+use Rattle.binding_laws.proofs.Named.{HasNames}
 use Rattle.evaluation_laws.proofs.Kept.{Reach, IsKept, HasKeptNames, Grows, values_grow, functions_grow, term_bound, term_kept}
-use Rattle.reading_laws.proofs.Sound.{sound_term, sound_group, sound_body}
+use Rattle.binding_laws.proofs.Sound.{sound_term, sound_group, sound_body}
 
 -- each name of an item is kept: the bodies of a recursive group see its own names too
 abbrev pub HasKeptNamesIn : Reach → Scope → List Naming → Clause → Type 0

@@ -17,14 +17,14 @@ use Rattle.binding_graph.specs.Reach.{UsesAt, AreReached}
 use Rattle.binding_graph.proofs.Reaching.{leads_more}
 use Rattle.bench_texts.specs.Readings.{predefined_names, AreSound}
 use Rattle.bench_slices.specs.Slices.{clause_at}
-use Rattle.reading_laws.specs.ItemLaws.{Scope, first_scope}
-use Rattle.model_slots.proofs.Lists.{each_has, each_reverse, has_contains, contains_has}
-use Rattle.model_slots.specs.Tables.{IsNameOf}
-use Rattle.slot_laws.specs.Closed.{AreClosed, IsPassedOn}
-use Rattle.slot_laws.proofs.Items.{resolved_closed}
+use Rattle.binding_laws.specs.ItemLaws.{Scope, first_scope}
+use Rattle.bench_slots.proofs.Lists.{each_has, each_reverse, has_contains, contains_has}
+use Rattle.bench_slots.specs.Tables.{IsNameOf}
+use Rattle.bench_slot_laws.specs.Closed.{AreClosed, IsPassedOn}
+use Rattle.bench_slot_laws.proofs.Items.{resolved_closed}
 use Rattle.evaluation_laws.proofs.Kept.{Reach}
-use Rattle.reading_laws.proofs.Told.{found_here}
-use Rattle.reading_laws.proofs.Lists.{contains_here}
+use Rattle.binding_laws.proofs.Told.{found_here}
+use Rattle.binding_laws.proofs.Lists.{contains_here}
 use Rattle.evaluation_laws.proofs.Common.{Shared, Looks, look_one, inputs_of, pairing_of, IsCommon, all_within, within_one, slots_of, IsFalling}
 use Rattle.evaluation_laws.proofs.ReadItems.{of_map}
 use Rattle.evaluation_laws.proofs.Side.{Whole, reach, IsWhole, functions_in, IsSeen, IsRising, IsLeft}

@@ -9,7 +9,7 @@ use Rattle.text_values.specs.ModelValues as values
 use Rattle.binding_kinds.specs.Value.{Bound, Clause, Group, Check, Mute, Defined, bound_of, clause_of}
 use Rattle.binding_graph.specs.declared.resolved.ResolvedItem.{ResolvedItem}
 use Rattle.binding_graph.specs.Resolved.{IsLabelled, IsLabelledAs}
-use Rattle.reading_laws.specs.ItemLaws.{label_of, SayTheSame}
+use Rattle.binding_laws.specs.ItemLaws.{label_of, SayTheSame}
 
 abbrev to_bound : List ℕ × Term → Bound
 to_bound b = record { name = b.0; body = b.1 }

@@ -26,11 +26,11 @@ use Rattle.binding_graph.specs.Trees.{SetTree, RelTree}
 use Rattle.binding_graph.specs.Meaning.{IsCode, set_of, relation_of, steps_of}
 use Rattle.binding_graph.specs.Resolved.{AreBodies, IsGroupRole, IsCheckRole, HasUses, IsResolvedIn, AreResolved, IsLabelled, IsLabelledAs, AreLabelled}
 use Rattle.binding_graph.specs.Usages.{Usage, with_values, usages_after}
-use Rattle.column_laws.specs.Items as content
-use Rattle.column_laws.specs.Items.{code_content, body_content, role_content, item_content}
-use Rattle.memo_graph.specs.Answers.{AreRising, IsRising}
-use Rattle.memo_graph.specs.FromScratch.{outermost, clauses_of}
-use Rattle.memo_graph.proofs.Rising.{resolved_rising}
+use Rattle.cat_eval_laws.specs.Items as content
+use Rattle.cat_eval_laws.specs.Items.{code_content, body_content, role_content, item_content}
+use Rattle.from_scratch.specs.Answers.{AreRising, IsRising}
+use Rattle.from_scratch.specs.FromScratch.{outermost, clauses_of}
+use Rattle.from_scratch.proofs.Rising.{resolved_rising}
 use Rattle.evaluation_laws.specs.Laws.{HasTree, AreCoded, IsCoded, HasOneResolution, HasCodedItems}
 
 -- ---- one content

@@ -24,16 +24,16 @@ use Rattle.verdict.specs.declared.answer.Refusal.TheVariants as refusals
 use Rattle.verdict.specs.Evaluated.{IsEvaluation}
 use Rattle.verdict.specs.Kept.{Flag}
 use Rattle.verdict.proofs.Uniqueness as verdicts
-use Rattle.memo_graph.specs.Answers.{AreNamed, HasColumns, HasAnswers, IsValued, IsSaidAs, IsSaidBy, AreSaid}
-use Rattle.memo_graph.specs.FromScratch.{IsFaultless, IsEvaluationOf, IsResultOf}
-use Rattle.memo_graph.proofs.Sole.{one_fault, fault_or_none}
-use Rattle.column_laws.specs.Items.{ItemContent, RoleContent, Group, Check, Silent, role_content, item_content}
-use Rattle.column_laws.specs.Laws.{AreSame}
-use Rattle.column_laws.proofs.Keeping.{columns_kept, answers_kept, later}
+use Rattle.from_scratch.specs.Answers.{AreNamed, HasColumns, HasAnswers, IsValued, IsSaidAs, IsSaidBy, AreSaid}
+use Rattle.from_scratch.specs.FromScratch.{IsFaultless, IsEvaluationOf, IsResultOf}
+use Rattle.from_scratch.proofs.Sole.{one_fault, fault_or_none}
+use Rattle.cat_eval_laws.specs.Items.{ItemContent, RoleContent, Group, Check, Silent, role_content, item_content}
+use Rattle.cat_eval_laws.specs.Laws.{AreSame}
+use Rattle.cat_eval_laws.proofs.Keeping.{columns_kept, answers_kept, later}
 use Rattle.evaluation_laws.specs.Laws.{IsCoded, HasOneOutcome}
 use Rattle.evaluation_laws.proofs.Sole.{one_columns, one_answers}
 use Rattle.evaluation_laws.proofs.Resolving.{one_resolution, coded_items}
-use Rattle.memo_graph.proofs.Ordered.{all_reverse}
+use Rattle.from_scratch.proofs.Ordered.{all_reverse}
 
 -- ---- lists
 

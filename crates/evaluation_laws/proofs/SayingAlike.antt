@@ -9,13 +9,13 @@ use Rattle.binding_graph.specs.declared.resolved.Role.TheVariants as roles
 use Rattle.binding_graph.specs.Reach.{is_check}
 use Rattle.candidates.specs.declared.candidate.Space.{Space}
 use Rattle.cat_eval.specs.declared.column.Column.{Column}
-use Rattle.column_laws.specs.Items.{ItemContent, RoleContent, Group, Check, Silent, role_content, item_content}
-use Rattle.column_laws.proofs.Keeping.{columns_kept, answers_kept, later}
+use Rattle.cat_eval_laws.specs.Items.{ItemContent, RoleContent, Group, Check, Silent, role_content, item_content}
+use Rattle.cat_eval_laws.proofs.Keeping.{columns_kept, answers_kept, later}
 use Rattle.verdict.specs.Kept.{Flag}
-use Rattle.memo_graph.specs.Answers.{AreNamed, HasColumns, HasAnswers, IsValued, IsSaidAs, IsSaidBy, AreSaid, IsRising}
-use Rattle.memo_graph.proofs.Knowing.{least_of}
+use Rattle.from_scratch.specs.Answers.{AreNamed, HasColumns, HasAnswers, IsValued, IsSaidAs, IsSaidBy, AreSaid, IsRising}
+use Rattle.from_scratch.proofs.Knowing.{least_of}
 use Rattle.evaluation_laws.specs.Alignment.{Move, First, Second, Both, pairs_of, IsPaired, AreAligned}
-use Rattle.reading_laws.proofs.Lists.{IsSamePair, contains_one_of}
+use Rattle.binding_laws.proofs.Lists.{IsSamePair, contains_one_of}
 
 -- ---- an item
 

@@ -19,12 +19,12 @@ use Rattle.binding_graph.specs.declared.resolved.ResolvedItem.{ResolvedItem}
 use Rattle.binding_graph.specs.Reach.{is_check}
 use Rattle.binding_graph.specs.Resolved.{AreResolved, AreLabelled}
 use Rattle.binding_graph.specs.Usages.{Usage, usage_of_function, usages_after, with_values}
-use Rattle.reading_laws.specs.ItemLaws.{Scope, with_function}
-use Rattle.model_slots.proofs.Lists.{each_to, each_reverse}
-use Rattle.slot_laws.proofs.Naming.{at_below, one_more, found_at}
-use Rattle.slot_laws.proofs.Using.{IsBoundBy}
-use Rattle.reading_laws.proofs.Named.{map_at}
-use Rattle.reading_laws.proofs.Before.{next_counts}
+use Rattle.binding_laws.specs.ItemLaws.{Scope, with_function}
+use Rattle.bench_slots.proofs.Lists.{each_to, each_reverse}
+use Rattle.bench_slot_laws.proofs.Naming.{at_below, one_more, found_at}
+use Rattle.bench_slot_laws.proofs.Using.{IsBoundBy}
+use Rattle.binding_laws.proofs.Named.{map_at}
+use Rattle.binding_laws.proofs.Before.{next_counts}
 use Rattle.evaluation_laws.proofs.Kept.{Reach, Grows, term_bound}
 use Rattle.evaluation_laws.proofs.Common.{IsFront, front_append}
 use Rattle.evaluation_laws.proofs.Stepping.{scope_behind}

@@ -17,8 +17,8 @@ use Rattle.bench_texts.specs.declared.reading.Reading.TheVariants as readings
 use Rattle.bench_texts.specs.Held.{IsRead}
 use Rattle.bench_texts.specs.Readings.{IsReading}
 use Rattle.bench_slices.specs.Slices.{Uses, OfFault, OfItems, slice, slice_by}
-use Rattle.memo_graph.specs.FromScratch.{IsFaultOf, IsFaultless, IsResultOf, IsFromScratch}
-use Rattle.memo_graph.proofs.Sole.{one_fault, fault_or_none}
+use Rattle.from_scratch.specs.FromScratch.{IsFaultOf, IsFaultless, IsResultOf, IsFromScratch}
+use Rattle.from_scratch.proofs.Sole.{one_fault, fault_or_none}
 use Rattle.evaluation_laws.specs.SliceLaws.{ItemsDecide, SlicesDecide}
 use Rattle.evaluation_laws.proofs.Tests.{equal_tests}
 

@@ -25,9 +25,9 @@ use Rattle.cat_eval.specs.Executions.{events_of, EventsAt, PairsAt}
 use Rattle.cat_eval.specs.Least.{IsLeast, AreMonotone}
 use Rattle.cat_eval.specs.Named.{PairsFound}
 use Rattle.cat_eval.specs.Values.{IsAnswer, IsFor, IsMeant, column_len}
-use Rattle.memo_graph.proofs.Sole.{one_least}
+use Rattle.from_scratch.proofs.Sole.{one_least}
 use Rattle.evaluation_laws.specs.Laws.{HasTree, AreCoded, HasOneColumns, HasOneAnswers}
-use Rattle.memo_graph.proofs.Knowing.{item_at}
+use Rattle.from_scratch.proofs.Knowing.{item_at}
 use Rattle.cat_eval.proofs.Growing.{codes_long}
 
 -- ---- values

@@ -15,14 +15,14 @@ use Rattle.binding_kinds.specs.Senses.{Sense, kind_in}
 use Rattle.binding_kinds.specs.Functions.{sense_of_function}
 use Rattle.binding_kinds.specs.Faults.{naming_at, with_own, with_all, extended, senses_after}
 use Rattle.binding_graph.specs.Usages.{usage_of_function, usages_after}
-use Rattle.reading_laws.specs.ItemLaws.{Scope, IsPairing, HasSameNames, HasSameNamesIn, with_names}
-use Rattle.reading_laws.proofs.Alike.{kind_same}
-use Rattle.reading_laws.proofs.Applied.{alike_sense, alike_usage}
-use Rattle.reading_laws.proofs.Before.{get_last}
+use Rattle.binding_laws.specs.ItemLaws.{Scope, IsPairing, HasSameNames, HasSameNamesIn, with_names}
+use Rattle.binding_laws.proofs.Alike.{kind_same}
+use Rattle.binding_laws.proofs.Applied.{alike_sense, alike_usage}
+use Rattle.binding_laws.proofs.Before.{get_last}
 use Rattle.evaluation_laws.proofs.Kept.{Reach, HasKeptNames}
-use Rattle.reading_laws.proofs.Added.{with_kinds, own_kinds, all_kinds}
-use Rattle.reading_laws.proofs.Told.{found_here}
-use Rattle.reading_laws.proofs.Lists.{contains_here, contains_one_of, IsSamePair}
+use Rattle.binding_laws.proofs.Added.{with_kinds, own_kinds, all_kinds}
+use Rattle.binding_laws.proofs.Told.{found_here}
+use Rattle.binding_laws.proofs.Lists.{contains_here, contains_one_of, IsSamePair}
 use Rattle.evaluation_laws.proofs.Common.{Shared, Looks, look_past, look_one, slots_of, inputs_of, pairing_of, AreShared, front_append, sense_within, used_within, all_within, within_one, falling_below, IsPlaced, placed_pairing, term_same}
 use Rattle.evaluation_laws.proofs.ReadItems.{HasKeptNamesIn}
 

@@ -26,8 +26,8 @@ use Rattle.verdict.specs.declared.answer.OutcomeResult.TheVariants.{Refused, Eva
 use Rattle.verdict.specs.declared.answer.Refusal.TheVariants as refusals
 use Rattle.verdict.specs.Evaluated.{IsEvaluation}
 use Rattle.candidates.specs.Space.{shown_in}
-use Rattle.memo_graph.specs.Cell.{IsEvaluationBy}
-use Rattle.memo_graph.specs.FromScratch.{IsResultOf}
+use Rattle.from_scratch.specs.Cell.{IsEvaluationBy}
+use Rattle.from_scratch.specs.FromScratch.{IsResultOf}
 use Rattle.evaluation_laws.specs.SliceLaws.{GiveTheSame}
 
 -- the names of the locations of a test that says this

@@ -18,10 +18,10 @@ use Rattle.binding_graph.specs.Contents.{RoleContent, role_content}
 use Rattle.binding_graph.specs.Reach.{is_check}
 use Rattle.binding_graph.specs.Resolved.{IsResolvedIn}
 use Rattle.bench_slices.specs.Slices.{clause_at}
-use Rattle.reading_laws.specs.ItemLaws.{Scope, DoTheSame}
-use Rattle.reading_laws.proofs.AlikeItems.{alike_items}
+use Rattle.binding_laws.specs.ItemLaws.{Scope, DoTheSame}
+use Rattle.binding_laws.proofs.AlikeItems.{alike_items}
 use Rattle.evaluation_laws.specs.Alignment.{Move, First, Second, Both, pairs_of, IsPaired, AreAligned}
-use Rattle.reading_laws.proofs.Lists.{contains_here, contains_later}
+use Rattle.binding_laws.proofs.Lists.{contains_here, contains_later}
 use Rattle.evaluation_laws.proofs.Common.{Shared, inputs_of, pairing_of, AreShared, all_within, within_self, falling_more}
 use Rattle.evaluation_laws.proofs.ReadItems.{HasKeptNamesIn, item_kept}
 use Rattle.evaluation_laws.proofs.Stepping.{HasFunction, item_past, IsOwnPair, AreFrom, scope_behind, item_step}

@@ -1,5 +1,5 @@
 -- Laws of what evaluating from nothing gives, each the contract of a call of this crate. Read
--- `FromScratch` of memo_graph first.
+-- `FromScratch` of from_scratch first.
 use Rattle.std.specs.Prelude.{◌≡◌, Bool, true, false, List, [], map}
 use Rattle.std.specs.List.{AllByRecursion}
 use denote.Ref.{Bor}
@@ -17,10 +17,10 @@ use Rattle.candidates.specs.declared.candidate.Space.{Space}
 use Rattle.cat_eval.specs.declared.column.Column.{Column}
 use Rattle.cat_eval.specs.Columns.{ColumnsOf}
 use Rattle.cat_eval.specs.Values.{AnswersOf}
-use Rattle.column_laws.specs.Items.{item_content}
+use Rattle.cat_eval_laws.specs.Items.{item_content}
 use Rattle.verdict.specs.declared.answer.Outcome.{Outcome}
-use Rattle.memo_graph.specs.Answers.{AreRising}
-use Rattle.memo_graph.specs.FromScratch.{AreItemsOf, IsFaultless, IsFromScratch}
+use Rattle.from_scratch.specs.Answers.{AreRising}
+use Rattle.from_scratch.specs.FromScratch.{AreItemsOf, IsFaultless, IsFromScratch}
 
 -- ---- items whose steps are those of expressions
 

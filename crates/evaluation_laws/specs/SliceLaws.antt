@@ -1,5 +1,5 @@
 -- Laws of slices, each the contract of a call of this crate. Read `Slices` of bench_slices and
--- `FromScratch` of memo_graph first.
+-- `FromScratch` of from_scratch first.
 use Rattle.std.specs.Prelude.{◌≡◌}
 use Rattle.text_values.specs.declared.test.Test.{Test}
 use Rattle.text_values.specs.TestValue.{content_of}
@@ -9,7 +9,7 @@ use Rattle.verdict.specs.declared.answer.Outcome.{Outcome}
 use Rattle.bench_texts.specs.declared.model.NamedModel.{NamedModel}
 use Rattle.bench_texts.specs.Held.{IsRead}
 use Rattle.bench_slices.specs.Slices.{slice}
-use Rattle.memo_graph.specs.FromScratch.{IsFaultless, IsEvaluationOf, IsFromScratch}
+use Rattle.from_scratch.specs.FromScratch.{IsFaultless, IsEvaluationOf, IsFromScratch}
 
 -- each outcome of a test under a model is one of a test that says the same
 abbrev pub GiveTheSame : Test → Test → ModelText → Type 0

@@ -1,7 +1,7 @@
 //! Laws of evaluation.
 //!
 //! - Evaluating from nothing gives one outcome, from one list of columns and of answers of each
-//!   item: specs/Laws, after `FromScratch` of `memo_graph/specs`.
+//!   item: specs/Laws, after `FromScratch` of `from_scratch/specs`.
 //! - Two models whose slices for a test are equal are read alike: specs/Readings, after `Slices` of
 //!   `bench_slices/specs`; specs/Alignment is how the proof goes.
 //! - What a cell gives from nothing depends on what its slice has: specs/SliceLaws.

@@ -7,10 +7,9 @@ use clap::error::ErrorKind;
 use litmusbench::{
     Asked, Drawn, Form, NoProgress, OfRead, OfWrite, ProgressTeller, RefusalTeller, Report, RunEnd,
     SessionFault, TextFile, difference_report, eval_stream, exit_status, form_of, model_fault,
-    read_text, refusal_lines, table_report, write_answer, write_drawings, write_report, write_why,
+    read_text, refusal_lines, session, table_report, watch_files, write_answer, write_drawings,
+    write_report, write_why,
 };
-use live_session::session;
-use live_watch::watch_files;
 use std::alloc::AllocError;
 use std::fmt::Display;
 use std::fs::File;

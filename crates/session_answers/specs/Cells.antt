@@ -7,9 +7,9 @@ use Rattle.text_values.specs.TestValue.{Content, content_of}
 use Rattle.text_values.specs.declared.model.ModelText.{ModelText}
 use Rattle.text_values.specs.ModelValues.{clauses_of}
 use Rattle.verdict.specs.declared.answer.Outcome.{Outcome}
-use Rattle.memo_graph.specs.FromScratch.{IsFromScratch}
-use Rattle.compare_report.specs.Cells.{Cell, NoCell, Open, Settled}
-use Rattle.compare_report.specs.Columns.{Row}
+use Rattle.from_scratch.specs.FromScratch.{IsFromScratch}
+use Rattle.outcome_texts.specs.Cells.{Cell, NoCell, Open, Settled}
+use Rattle.outcome_texts.specs.Columns.{Row}
 use Rattle.bench_texts.specs.BenchTexts.{BenchTexts, PlainModel, test_index, model_index}
 
 -- the test or the model of that name, if there is one

@@ -4,9 +4,9 @@ use Rattle.std.specs.Prelude.{◌≡◌, ℕ, List, [], ◌∷◌, map, Option, 
 use Rattle.std.specs.List.{AllZip}
 use Rattle.text_values.specs.TestValue.{Content}
 use Rattle.verdict.specs.declared.answer.Outcome.{Outcome}
-use Rattle.compare_report.specs.Cells.{Settled, cell_log, cell_counts}
-use Rattle.compare_report.specs.Columns.{Row, table_of}
-use Rattle.compare_report.specs.Differences.{difference_of}
+use Rattle.outcome_texts.specs.Cells.{Settled, cell_log, cell_counts}
+use Rattle.outcome_texts.specs.Columns.{Row, table_of}
+use Rattle.outcome_texts.specs.Differences.{difference_of}
 use Rattle.bench_texts.specs.BenchTexts.{BenchTexts, PlainModel}
 use Rattle.bench_texts.specs.Printed.{printed_items}
 use Rattle.bench_texts.specs.declared.fault.EditFault.TheVariants.{NoTest, NoModel}

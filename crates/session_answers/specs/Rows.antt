@@ -3,10 +3,10 @@ use Rattle.std.specs.Prelude.{◌≡◌, List, map, slice_index_or}
 use denote.Ref.{Bor}
 use Rattle.text_values.specs.declared.test.Test.{Test}
 use Rattle.text_values.specs.declared.model.ModelText.{ModelText}
-use Rattle.memo_graph.specs.Suites.{AreOutcomes}
-use Rattle.compare_report.specs.Cells.{NoCell, Settled}
-use Rattle.compare_report.specs.Columns.{Row}
-use Rattle.compare_report.specs.Differences.{Pair}
+use Rattle.from_scratch.specs.Suites.{AreOutcomes}
+use Rattle.outcome_texts.specs.Cells.{NoCell, Settled}
+use Rattle.outcome_texts.specs.Columns.{Row}
+use Rattle.outcome_texts.specs.Differences.{Pair}
 use Rattle.session_answers.specs.declared.rows.TestOutcomes.{TestOutcomes}
 
 abbrev pub row_said : TestOutcomes → Row

@@ -3,13 +3,13 @@
 ghost use denote.Ref.{Bor};
 ghost use Rattle.std.specs.Prelude.{List, IfOk};
 ghost use Rattle.std.specs.List.{AllZip};
-ghost use Rattle.memo_graph.specs.Suites.{AreResolvedAs};
+ghost use Rattle.from_scratch.specs.Suites.{AreResolvedAs};
 ghost use Rattle.session_answers.specs.Rows.{HasOutcomes};
 
 use crate::progress::{Progress, ProgressListener};
 use crate::rows::TestOutcomes;
 use binding_graph::{ModelFault, Resolved};
-use memo_graph::{eval_row, resolved_models};
+use from_scratch::{eval_row, resolved_models};
 use std::alloc::{AllocError, Global};
 use text_values::{ModelText, Test};
 

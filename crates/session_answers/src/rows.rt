@@ -1,13 +1,13 @@
 //! The outcomes of tests as rows of a table, and as pairs of cells.
 
 ghost use Rattle.std.specs.Prelude.{◌≡◌, IfOk, map, slice_index_or};
-ghost use Rattle.compare_report.specs.Cells as cells;
-ghost use Rattle.compare_report.specs.Cells.{cell_of};
-ghost use Rattle.compare_report.specs.Columns.{row_of};
-ghost use Rattle.compare_report.specs.Differences.{pair_of};
+ghost use Rattle.outcome_texts.specs.Cells as cells;
+ghost use Rattle.outcome_texts.specs.Cells.{cell_of};
+ghost use Rattle.outcome_texts.specs.Columns.{row_of};
+ghost use Rattle.outcome_texts.specs.Differences.{pair_of};
 ghost use Rattle.session_answers.specs.Rows.{row_said, pair_in};
 
-use compare_report::{Shown, TestPair, TestRow};
+use outcome_texts::{Shown, TestPair, TestRow};
 use std::alloc::{AllocError, Global};
 use text_values::Name;
 use verdict::Outcome;

@@ -14,7 +14,7 @@ use Rattle.bench_texts.specs.declared.fault.EditFault.{EditFault}
 use Rattle.bench_texts.specs.declared.fault.EditFault.TheVariants as faults
 use Rattle.bench_texts.specs.BenchTexts.{BenchTexts, NumberedItem, test_index, model_index, put_at, changed_at, with_init, with_thread, with_condition, with_observed, with_items, with_tests, with_models, numbered_items}
 use Rattle.bench_texts.specs.Edits.{Edit, PutTest, DropTest, SetInit, SetThread, SetCond, SetLocations, PutModel, DropModel, SetItem, InsertItem, RemoveItem, Makes, missing, unless, has_test, thread_count, index_in, index_before}
-use Rattle.text_meanings.proofs.Meanings.{one_test, one_init, one_thread, one_condition, one_list, one_model, few_threads}
+use Rattle.text_reading_laws.proofs.Meanings.{one_test, one_init, one_thread, one_condition, one_list, one_model, few_threads}
 
 -- ---- tests have few threads
 

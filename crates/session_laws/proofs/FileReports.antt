@@ -2,12 +2,12 @@
 use Rattle.std.proofs.Common.{◌≡◌, ℕ, List, [], ◌∷◌, map, refl, sym, ap, ◌∙◌}
 use Rattle.std.proofs.lemmas.Simd.{map-map}
 use Rattle.std.specs.List.{AllZip}
-use Rattle.compare_report.specs.Cells.{Cell, NoCell, Open, Settled}
-use Rattle.compare_report.specs.Columns.{Row, table_of}
-use Rattle.compare_report.specs.Differences.{difference_of}
-use Rattle.litmusbench.specs.declared.file.TextFile.{TextFile}
-use Rattle.litmusbench.specs.declared.reading.NamedModel.{NamedModel}
-use Rattle.litmusbench.specs.Reports.{IsCellUnder, IsRow, AreRead, names_of, IsTable, difference_under, IsDifference}
+use Rattle.outcome_texts.specs.Cells.{Cell, NoCell, Open, Settled}
+use Rattle.outcome_texts.specs.Columns.{Row, table_of}
+use Rattle.outcome_texts.specs.Differences.{difference_of}
+use Rattle.command_answers.specs.declared.file.TextFile.{TextFile}
+use Rattle.command_answers.specs.declared.reading.NamedModel.{NamedModel}
+use Rattle.command_answers.specs.Reports.{IsCellUnder, IsRow, AreRead, names_of, IsTable, difference_under, IsDifference}
 use Rattle.session_answers.specs.Rows.{pair_in}
 use Rattle.text_values.specs.declared.test.Test.{Test}
 use Rattle.text_values.specs.ModelValue.{Clause}

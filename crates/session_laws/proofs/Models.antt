@@ -18,7 +18,7 @@ use Rattle.verdict.specs.declared.answer.Outcome.{Outcome}
 use Rattle.verdict.specs.declared.answer.OutcomeResult.{OutcomeResult}
 use Rattle.verdict.specs.declared.answer.OutcomeResult.TheVariants.{Refused, Evaluated}
 use Rattle.verdict.specs.declared.answer.Refusal.TheVariants as refusals
-use Rattle.memo_graph.specs.FromScratch.{outermost, IsResultOf, IsFromScratch}
+use Rattle.from_scratch.specs.FromScratch.{outermost, IsResultOf, IsFromScratch}
 use Rattle.bench_texts.specs.BenchTexts.{PlainModel}
 use Rattle.evaluation_laws.proofs.Saying.{one_outcome}
 use Rattle.evaluation_laws.proofs.Tests.{equal_tests}

@@ -9,13 +9,13 @@ use Rattle.fault_lines.specs.Words.{rule_words}
 use Rattle.litmus_grammar.specs.Texts.{ReadsTest, IsTestFault}
 use Rattle.litmus_tokens.specs.declared.rule.LitmusRule.{LitmusRule}
 use Rattle.litmus_tokens.specs.Numbers.{number_of as test_rule_number}
-use Rattle.litmusbench.specs.declared.file.TextFile.{TextFile}
-use Rattle.litmusbench.specs.declared.reading.NamedModel.{NamedModel}
-use Rattle.litmusbench.specs.Answer.{IsModelRefused, IsTestRefused}
-use Rattle.litmusbench.specs.Files.{model_name, AddsFault}
-use Rattle.litmusbench.specs.Reports.{AddsModel, IsModelAdded, IsModelFault, AreModels, NoModel, NextModel, AddsTest, IsTestAdded, IsTestFault as IsTestFaulty, AreTests, NoTest, NextTest}
-use Rattle.text_meanings.proofs.Faults.{one_test_fault, one_model_fault}
-use Rattle.text_meanings.proofs.Meanings.{one_test, one_model}
+use Rattle.command_answers.specs.declared.file.TextFile.{TextFile}
+use Rattle.command_answers.specs.declared.reading.NamedModel.{NamedModel}
+use Rattle.command_answers.specs.Answer.{IsModelRefused, IsTestRefused}
+use Rattle.command_answers.specs.Files.{model_name, AddsFault}
+use Rattle.command_answers.specs.Reports.{AddsModel, IsModelAdded, IsModelFault, AreModels, NoModel, NextModel, AddsTest, IsTestAdded, IsTestFault as IsTestFaulty, AreTests, NoTest, NextTest}
+use Rattle.text_reading_laws.proofs.Faults.{one_test_fault, one_model_fault}
+use Rattle.text_reading_laws.proofs.Meanings.{one_test, one_model}
 use Rattle.text_values.specs.declared.test.Test.{Test}
 use Rattle.text_values.specs.ModelValue.{Clause}
 use Rattle.text_values.specs.ModelValues.{clauses_of}

@@ -10,7 +10,7 @@ use Rattle.bench_texts.specs.declared.fault.EditFault.TheVariants as faults
 use Rattle.bench_texts.specs.BenchTexts.{BenchTexts, test_index}
 use Rattle.bench_texts.specs.Edits.{Edit, PutTest, DropTest, SetInit, SetThread, SetCond, SetLocations, PutModel, DropModel, SetItem, InsertItem, RemoveItem, Makes, missing, thread_count, limit_fault, IsTestRefused, IsModelRefused, IsOverLimit, Applies, Refuses}
 use Rattle.session_edits.specs.Faults.{IsAnswer}
-use Rattle.text_meanings.proofs.Faults.{one_test_fault, test_apart, one_thread_fault, thread_apart, one_init_fault, init_apart, one_condition_fault, condition_apart, one_locations_fault, locations_apart, one_model_fault, model_apart}
+use Rattle.text_reading_laws.proofs.Faults.{one_test_fault, test_apart, one_thread_fault, thread_apart, one_init_fault, init_apart, one_condition_fault, condition_apart, one_locations_fault, locations_apart, one_model_fault, model_apart}
 use Rattle.session_laws.proofs.Edits.{AreFew, few_at, one_made}
 
 some_is : (f g : EditFault) → Some f ≡ Some g → f ≡ g

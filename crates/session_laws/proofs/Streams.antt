@@ -2,8 +2,8 @@
 use Rattle.std.proofs.Common.{◌≡◌, ℕ, ◌+◌, ◌<◌, ◌⊎◌, inl, inr, List, ◌++◌, take, drop, take-append-drop, Bool, Option, Some, None, refl, sym, ap, ◌∙◌, subst, append_assoc}
 use Rattle.std.proofs.lemmas.Bool.{cases_order}
 use Rattle.std.specs.Io.KnownBytes.{Appends}
-use Rattle.litmusbench.specs.Answer.{IsAnswer, IsWritten, IsStreamed}
-use Rattle.litmusbench.specs.Cut.{IsCutAt, IsCut}
+use Rattle.command_answers.specs.Answer.{IsAnswer, IsWritten, IsStreamed}
+use Rattle.command_answers.specs.Cut.{IsCutAt, IsCut}
 use Rattle.session_script.specs.Written.{WritesFront}
 use Rattle.session_laws.specs.Answers.{LeaveOne, LeaveFronts}
 use Rattle.session_laws.proofs.TextAnswers.{one_answer}

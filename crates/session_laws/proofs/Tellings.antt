@@ -8,11 +8,11 @@ use Rattle.binding_kinds.specs.Faults.{HasNoFault, FirstFault}
 use Rattle.fault_places.specs.declared.place.ItemFault.{ItemFault}
 use Rattle.fault_places.specs.Found.{outermost, IsPlace}
 use Rattle.fault_places.specs.Signs.{signs_of_item}
-use Rattle.litmusbench.specs.declared.file.TextFile.{TextFile}
-use Rattle.litmusbench.specs.Reports.{IsModelTold, IsTestTold, IsToldOf}
-use Rattle.litmusbench.specs.Told.{IsFaultTold, IsRead, IsUnread}
-use Rattle.memo_graph.proofs.Sole.{one_fault}
-use Rattle.model_faults.specs.Told.{item_number, fault_told, IsTold, IsFaultless, IsFaulty}
+use Rattle.command_answers.specs.declared.file.TextFile.{TextFile}
+use Rattle.command_answers.specs.Reports.{IsModelTold, IsTestTold, IsToldOf}
+use Rattle.command_answers.specs.Told.{IsFaultTold, IsRead, IsUnread}
+use Rattle.from_scratch.proofs.Sole.{one_fault}
+use Rattle.fault_models.specs.Told.{item_number, fault_told, IsTold, IsFaultless, IsFaulty}
 use Rattle.text_values.specs.declared.model.Item.{Item}
 use Rattle.text_values.specs.ModelValue.{Clause}
 use Rattle.text_values.specs.ModelValues.{clause_of, clauses_of}

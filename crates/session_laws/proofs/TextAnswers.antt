@@ -4,17 +4,17 @@ use Rattle.cat_grammar.specs.declared.form.Form.TheVariants.{Model}
 use Rattle.cat_tokens.specs.declared.rule.CatRule.{CatRule}
 use Rattle.cat_tokens.specs.Tokens.{number_of as model_rule_number}
 use Rattle.command_line.specs.declared.form.Drawn.{Drawn}
-use Rattle.compare_report.specs.Log.{log_of}
+use Rattle.outcome_texts.specs.Log.{log_of}
 use Rattle.litmus_tokens.specs.declared.rule.LitmusRule.{LitmusRule}
 use Rattle.litmus_tokens.specs.Numbers.{number_of as test_rule_number}
-use Rattle.litmusbench.specs.declared.fault.EvalFault.TheVariants as faults
-use Rattle.litmusbench.specs.Answer.{IsLog, IsModel, IsModelRefused, IsTestRefused, IsAnswer, IsEvaluated, RefusesModel, RefusesTest}
-use Rattle.litmusbench.specs.Pictures.{IsPictureOf, IsPictureAnswer}
-use Rattle.litmusbench.specs.Whys.{IsWhyOf, IsWhyAnswer}
-use Rattle.reasons.specs.declared.answer.Asked.{Asked}
+use Rattle.command_answers.specs.declared.fault.EvalFault.TheVariants as faults
+use Rattle.command_answers.specs.Answer.{IsLog, IsModel, IsModelRefused, IsTestRefused, IsAnswer, IsEvaluated, RefusesModel, RefusesTest}
+use Rattle.command_answers.specs.Pictures.{IsPictureOf, IsPictureAnswer}
+use Rattle.command_answers.specs.Whys.{IsWhyOf, IsWhyAnswer}
+use Rattle.why_forbidden.specs.declared.answer.Asked.{Asked}
 use Rattle.session_edits.specs.Answer.{refused_line}
-use Rattle.text_meanings.proofs.Faults.{one_test_fault, one_model_fault}
-use Rattle.text_meanings.proofs.Meanings.{one_test, one_model}
+use Rattle.text_reading_laws.proofs.Faults.{one_test_fault, one_model_fault}
+use Rattle.text_reading_laws.proofs.Meanings.{one_test, one_model}
 use Rattle.text_values.specs.ModelValues.{clauses_of}
 use Rattle.text_values.specs.TestValue.{content_of}
 use Rattle.session_laws.specs.Answers.{HasOneAnswer, HasOneEvaluation, HasOneRefusal}

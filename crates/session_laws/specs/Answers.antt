@@ -5,10 +5,10 @@
 use Rattle.std.specs.Prelude.{◌≡◌, ℕ, List, ◌++◌, map, Bool, true, Option, Some, Result, Ok, Err}
 use Rattle.command_line.specs.declared.fault.SessionFault.{SessionFault}
 use Rattle.command_line.specs.declared.fault.SessionFault.TheVariants as session_faults
-use Rattle.litmusbench.specs.declared.fault.EvalFault.{EvalFault}
-use Rattle.litmusbench.specs.declared.fault.EvalFault.TheVariants as eval_faults
-use Rattle.litmusbench.specs.declared.file.TextFile.{TextFile}
-use Rattle.litmusbench.specs.Answer.{IsLog, IsRefusal, IsAnswer}
+use Rattle.command_answers.specs.declared.fault.EvalFault.{EvalFault}
+use Rattle.command_answers.specs.declared.fault.EvalFault.TheVariants as eval_faults
+use Rattle.command_answers.specs.declared.file.TextFile.{TextFile}
+use Rattle.command_answers.specs.Answer.{IsLog, IsRefusal, IsAnswer}
 
 -- ---- a model's text and a test's text
 

@@ -1,19 +1,19 @@
 //! Laws of what is said: over the same texts a question of a session has one answer, and commands
 //! have one output, also where some are refused (specs/Laws, after `Sessions` of
 //! `session_answers/specs`). A model's text and a test's text have one answer, and files one table
-//! and one difference (specs/Answers, after `Answer` and `Reports` of `litmusbench/specs`).
+//! and one difference (specs/Answers, after `Answer` and `Reports` of `command_answers/specs`).
 #![tactic(auto)]
 
 ghost use Rattle.std.specs.Prelude.{ℕ, List, [], Some};
 ghost use Rattle.text_values.specs.TestValue.{Content};
 ghost use Rattle.bench_texts.specs.BenchTexts.{PlainModel, BenchTexts};
 ghost use Rattle.command_line.specs.declared.form.Drawn.{Drawn};
-ghost use Rattle.litmusbench.specs.Answer.{IsWritten, IsStreamed};
-ghost use Rattle.litmusbench.specs.Pictures.{IsPictureAnswer};
-ghost use Rattle.litmusbench.specs.Reports.{IsTable, IsDifference, IsModelTold, IsTestTold, IsToldOf};
-ghost use Rattle.litmusbench.specs.Told.{IsFaultTold};
-ghost use Rattle.litmusbench.specs.Whys.{IsWhyAnswer};
-ghost use Rattle.reasons.specs.declared.answer.Asked.{Asked};
+ghost use Rattle.command_answers.specs.Answer.{IsWritten, IsStreamed};
+ghost use Rattle.command_answers.specs.Pictures.{IsPictureAnswer};
+ghost use Rattle.command_answers.specs.Reports.{IsTable, IsDifference, IsModelTold, IsTestTold, IsToldOf};
+ghost use Rattle.command_answers.specs.Told.{IsFaultTold};
+ghost use Rattle.command_answers.specs.Whys.{IsWhyAnswer};
+ghost use Rattle.why_forbidden.specs.declared.answer.Asked.{Asked};
 ghost use Rattle.session_edits.specs.declared.request.Question.{Question};
 ghost use Rattle.session_script.specs.declared.command.Command.{Command};
 ghost use Rattle.session_laws.specs.Answers.{HasOneAnswer, HasOneEvaluation, HasOneRefusal, LeaveOne, LeaveFronts, HasOneReport, HasOneTelling, HasOneTellingOfBoth};

@@ -8,7 +8,7 @@ use Rattle.bench_texts.specs.BenchTexts.{BenchTexts, PlainModel}
 use Rattle.bench_texts.specs.Held.{model_of}
 use Rattle.evaluation_laws.proofs.Deciding.{decide}
 use Rattle.evaluation_laws.proofs.SliceModels.{items_suffice}
-use Rattle.compare_report.specs.Cells.{Settled}
+use Rattle.outcome_texts.specs.Cells.{Settled}
 use Rattle.board.specs.Contents.{BoardContent, cell_at, shown_cell}
 use Rattle.board.specs.Legal.{texts_after, IsRightAt}
 use Rattle.board.proofs.Legal.{legal_is_right}

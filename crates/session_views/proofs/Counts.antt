@@ -14,7 +14,7 @@ use Rattle.board.specs.Operations.{board_after}
 use Rattle.board.specs.Legal.{IsLegal}
 use Rattle.board.specs.Histories.{no_contents, contents_with, contents_after, IsEditOf}
 use Rattle.board.specs.Edits.{counted_with, edits_in, edit_count}
-use Rattle.applied_laws.specs.Laws.{HasOneResult}
+use Rattle.bench_text_laws.specs.Laws.{HasOneResult}
 use Rattle.session_views.specs.Knowing.{KnowsOwn, HasOwnEdit}
 use Rattle.session_views.specs.Shown.{ShowsTexts}
 

@@ -8,7 +8,7 @@ use Rattle.text_values.specs.TestValue.{Content, content_of}
 use Rattle.verdict.specs.declared.answer.Outcome.{Outcome}
 use Rattle.bench_texts.specs.BenchTexts.{BenchTexts, PlainModel}
 use Rattle.bench_texts.specs.Held.{model_of}
-use Rattle.compare_report.specs.Cells.{NoCell, Open}
+use Rattle.outcome_texts.specs.Cells.{NoCell, Open}
 use Rattle.board.specs.Contents.{BoardContent, RowContent, cells_of, cell_at, shown_cell}
 use Rattle.board.specs.Operations.{no_board, board_after}
 use Rattle.board.specs.Legal.{nothing_held, texts_after}

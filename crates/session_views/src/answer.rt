@@ -13,7 +13,7 @@ use crate::find::{AskedModel, asked_outcome, named_model, named_models, named_te
 use crate::rows::{asked_rows, row_pairs};
 use bench_texts::{EditFault, Texts};
 use board::Board;
-use compare_report::{Shown, counts_text, difference_text, log_text, table_text};
+use outcome_texts::{Shown, counts_text, difference_text, log_text, table_text};
 use session_edits::{Answer, Question, refused_edit};
 use session_script::ScriptText;
 use std::alloc::{AllocError, Global};

@@ -12,7 +12,7 @@ ghost use Rattle.session_views.specs.Waiting.{IsOpenAt, IsUnsettled, model_index
 
 use bench_texts::{NamedModel, Texts};
 use board::{Board, CellIndex};
-use compare_report::Shown;
+use outcome_texts::Shown;
 use session_script::ScriptText;
 use std::alloc::{AllocError, Global};
 use text_values::Test;

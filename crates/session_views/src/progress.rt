@@ -2,7 +2,7 @@
 
 use bench_texts::Texts;
 use board::{Board, CellIndex};
-use compare_report::Shown;
+use outcome_texts::Shown;
 use session_answers::Progress;
 use session_edits::Question;
 use session_script::ScriptText;

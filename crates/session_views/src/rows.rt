@@ -3,9 +3,9 @@
 ghost use Rattle.std.specs.Prelude.{◌≡◌, IfOk, IfSome, IfNone, All, Some, map, slice_get, slice_index_or};
 ghost use Rattle.text_values.specs.TestValue.{content_of};
 ghost use Rattle.bench_texts.specs.Held.{texts_of};
-ghost use Rattle.compare_report.specs.Cells.{cell_of, NoCell};
-ghost use Rattle.compare_report.specs.Columns.{row_of};
-ghost use Rattle.compare_report.specs.Differences.{pair_of};
+ghost use Rattle.outcome_texts.specs.Cells.{cell_of, NoCell};
+ghost use Rattle.outcome_texts.specs.Columns.{row_of};
+ghost use Rattle.outcome_texts.specs.Differences.{pair_of};
 ghost use Rattle.session_answers.specs.Cells.{IsRow, IsCell};
 ghost use Rattle.session_answers.specs.Questions.{AreRows};
 ghost use Rattle.session_answers.specs.Rows.{pair_in};
@@ -16,7 +16,7 @@ ghost use Rattle.session_views.specs.Waiting.{IsOpenAt, IsOpenAmong};
 use crate::find::{AskedModel, asked_outcome};
 use bench_texts::Texts;
 use board::Board;
-use compare_report::{Shown, TestPair, TestRow};
+use outcome_texts::{Shown, TestPair, TestRow};
 use std::alloc::{AllocError, Global};
 use text_values::Test;
 

@@ -5,11 +5,11 @@ ghost use Rattle.std.specs.Prelude.{◌≡◌};
 
 use crate::player::edits_of;
 use crate::tables::{Size, each};
+use bench_instance::{DeskSeed, RunningTexts};
 use bench_texts::Edit;
 use bench_workers::{NoGate, with_workers};
 use desk::{Accepted, BoardTexts, Desk, Settling};
-use desk_rule::{Naming, Viewer};
-use running_bench::{DeskSeed, RunningTexts};
+use desk_history::{Naming, Viewer};
 use std::alloc::Global;
 use std::io;
 use std::marker::Brand;

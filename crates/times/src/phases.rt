@@ -4,9 +4,9 @@ use crate::timing::Work;
 use binding_graph::{Resolved, Role, Source, Step, resolve};
 use candidates::space;
 use cat_syntax::{ModelText, read_model};
+use command_answers::eval;
+use from_scratch::{answers, eval_cell};
 use litmus_ppc::{Test, read_test};
-use litmusbench::eval;
-use memo_graph::{answers, eval_cell};
 use std::alloc::Global;
 
 /// How far an evaluation goes, from the two texts on.

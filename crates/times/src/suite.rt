@@ -4,8 +4,8 @@ ghost use Rattle.std.specs.Prelude.{◌≤◌, length};
 
 use crate::timing::{Work, forget_memory, show_memory, show_microseconds, time_of};
 use cat_syntax::{ModelText, read_model};
+use from_scratch::{eval_cell, eval_suite};
 use litmus_ppc::{Test, read_test};
-use memo_graph::{eval_cell, eval_suite};
 use std::alloc::{AllocError, Global};
 use std::rt::{Clock, Files};
 use std::{fs, io};

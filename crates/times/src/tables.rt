@@ -3,10 +3,10 @@
 ghost use Rattle.std.specs.Prelude.{◌≡◌};
 
 use crate::player::{Played, edit_of_dp, edits_of, fill, play};
+use bench_instance::StampedTexts;
+use bench_values::NodeValue;
 use cells::bench::Bench;
 use cells::texts::CellTexts;
-use node_values::NodeValue;
-use running_bench::StampedTexts;
 use std::alloc::Global;
 use std::io;
 use std::rt::Clock;

@@ -1,6 +1,6 @@
 use Rattle.std.proofs.Common.{List, take, ◌++◌}
 use Rattle.std.specs.Prelude.{IsTrue}
-use Rattle.base_env.specs.Known.{Known}
+use Rattle.base_names.specs.Known.{Known}
 use Rattle.cat_eval.specs.Candidates.{reading_in}
 use Rattle.cat_eval.specs.Steady.{EndsWith}
 use Rattle.cat_eval.specs.Worlds.{IsReady, AreWorlds}

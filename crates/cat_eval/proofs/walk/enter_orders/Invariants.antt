@@ -1,7 +1,7 @@
 use Rattle.std.proofs.Common.{ℕ, List, take, ◌++◌}
 use Rattle.std.specs.Prelude.{IsTrue, IfSome}
-use Rattle.base_env.specs.Known.{Known}
-use Rattle.base_env.specs.Candidate.{IsReading, IsOrdered}
+use Rattle.base_names.specs.Known.{Known}
+use Rattle.base_names.specs.Candidate.{IsReading, IsOrdered}
 use Rattle.cat_eval.specs.Candidates.{reading_so}
 use Rattle.cat_eval.specs.Steady.{EndsWith}
 use Rattle.cat_eval.specs.Worlds.{IsReady, AreWorlds}

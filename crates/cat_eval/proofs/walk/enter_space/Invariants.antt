@@ -1,7 +1,7 @@
 use Rattle.std.proofs.Common.{List, [], take}
 use Rattle.std.specs.Prelude.{IfSome, IsTrue}
-use Rattle.base_env.specs.Known.{Known, IsConsistent}
-use Rattle.base_env.specs.Candidate.{IsEntered}
+use Rattle.base_names.specs.Known.{Known, IsConsistent}
+use Rattle.base_names.specs.Candidate.{IsEntered}
 use Rattle.cat_eval.specs.Candidates.{of_combinations}
 use Rattle.cat_eval.specs.Steady.{EndsWith}
 use Rattle.cat_eval.specs.Worlds.{AreHeld, AreWorlds}

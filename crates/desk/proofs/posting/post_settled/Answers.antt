@@ -1,6 +1,6 @@
 use Rattle.std.proofs.Common.{fold, ap}
 use Rattle.cells.specs.Cells.{cells as cells_of}
-use Rattle.desk_rule.specs.Histories.{Pressed}
+use Rattle.desk_history.specs.Histories.{Pressed}
 use Rattle.desk.proofs.Returning.{for_posted, keeps_self}
 use Rattle.desk.proofs.posting.post_settled.Goals as goal
 

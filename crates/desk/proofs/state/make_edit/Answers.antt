@@ -1,5 +1,5 @@
 use Rattle.std.proofs.Common.{◌<◌, ◌+◌, ap, sym, subst, arith}
-use Rattle.desk_rule.specs.Histories.{Pressed}
+use Rattle.desk_history.specs.Histories.{Pressed}
 use Rattle.desk.proofs.Refusing.{not_so}
 use Rattle.desk.proofs.state.make_edit.Goals as goal
 

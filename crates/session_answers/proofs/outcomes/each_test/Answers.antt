@@ -1,5 +1,5 @@
 use Rattle.session_answers.specs.Rows.{HasOutcomes}
-use Rattle.memo_graph.proofs.Suiting.{each_more}
+use Rattle.from_scratch.proofs.Suiting.{each_more}
 use Rattle.session_answers.proofs.outcomes.each_test.Goals as goal
 
 pub loop-test-preserved : goal.loop-test-preserved

@@ -1,7 +1,7 @@
 use Rattle.std.proofs.Common.{List, Bor, take}
 use Rattle.std.specs.List.{AllZip}
 use Rattle.text_values.specs.declared.model.ModelText.{ModelText}
-use Rattle.memo_graph.specs.Suites.{AreResolvedAs}
+use Rattle.from_scratch.specs.Suites.{AreResolvedAs}
 use Rattle.session_answers.specs.Rows.{HasOutcomes}
 use Rattle.session_answers.proofs.outcomes.each_test.Given as goal
 

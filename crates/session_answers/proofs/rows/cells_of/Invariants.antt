@@ -1,5 +1,5 @@
 use Rattle.std.proofs.Common.{◌≡◌, take, map}
-use Rattle.compare_report.specs.Cells.{cell_of, Settled}
+use Rattle.outcome_texts.specs.Cells.{cell_of, Settled}
 use Rattle.session_answers.proofs.rows.cells_of.Given as goal
 
 abbrev pub invariant-loop-outcome : goal.invariant-loop-outcome

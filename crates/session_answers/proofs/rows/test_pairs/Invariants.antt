@@ -1,5 +1,5 @@
 use Rattle.std.proofs.Common.{◌≡◌, take, map}
-use Rattle.compare_report.specs.Differences.{pair_of}
+use Rattle.outcome_texts.specs.Differences.{pair_of}
 use Rattle.session_answers.specs.Rows.{row_said}
 use Rattle.session_answers.specs.Rows.{pair_in}
 use Rattle.session_answers.proofs.rows.test_pairs.Given as goal

@@ -1,5 +1,5 @@
 use Rattle.std.proofs.Common.{◌≡◌, take, map}
-use Rattle.compare_report.specs.Columns.{row_of}
+use Rattle.outcome_texts.specs.Columns.{row_of}
 use Rattle.session_answers.specs.Rows.{row_said}
 use Rattle.session_answers.proofs.rows.test_rows.Given as goal
 

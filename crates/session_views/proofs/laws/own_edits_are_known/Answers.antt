@@ -1,6 +1,6 @@
 use Rattle.bench_texts.specs.Held.{texts_of}
 use Rattle.bench_texts.specs.Edits.{edit_of}
-use Rattle.applied_laws.proofs.Results.{result_one}
+use Rattle.bench_text_laws.proofs.Results.{result_one}
 use Rattle.session_views.proofs.Counts.{knows_own_edit}
 use Rattle.session_views.proofs.laws.own_edits_are_known.Goals as goal
 

@@ -1,5 +1,5 @@
 use Rattle.std.proofs.Common.{rules}
-use Rattle.compare_report.specs.Cells.{cell_of}
+use Rattle.outcome_texts.specs.Cells.{cell_of}
 use Rattle.text_values.specs.TestValue.{content_of}
 use Rattle.session_answers.specs.Cells.{IsCell}
 use Rattle.session_answers.proofs.Joined.{zip_more}

@@ -1,6 +1,6 @@
 use Rattle.std.proofs.Common.{rules, map, Option, IfSome, subst}
-use Rattle.compare_report.specs.Columns.{row_of}
-use Rattle.compare_report.specs.declared.table.TestRow.{TestRow}
+use Rattle.outcome_texts.specs.Columns.{row_of}
+use Rattle.outcome_texts.specs.declared.table.TestRow.{TestRow}
 use Rattle.text_values.specs.TestValue.{content_of}
 use Rattle.session_answers.specs.Cells.{IsRow}
 use Rattle.session_answers.proofs.Joined.{zip_more}

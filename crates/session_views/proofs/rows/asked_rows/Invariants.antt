@@ -1,6 +1,6 @@
 use Rattle.std.proofs.Common.{take, map}
 use Rattle.std.specs.List.{AllZip}
-use Rattle.compare_report.specs.Columns.{row_of}
+use Rattle.outcome_texts.specs.Columns.{row_of}
 use Rattle.text_values.specs.TestValue.{content_of}
 use Rattle.session_answers.specs.Cells.{IsRow}
 use Rattle.session_views.specs.Asked.{asked_model}

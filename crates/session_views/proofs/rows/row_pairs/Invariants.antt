@@ -1,6 +1,6 @@
 use Rattle.std.proofs.Common.{◌≡◌, take, map}
-use Rattle.compare_report.specs.Columns.{row_of}
-use Rattle.compare_report.specs.Differences.{pair_of}
+use Rattle.outcome_texts.specs.Columns.{row_of}
+use Rattle.outcome_texts.specs.Differences.{pair_of}
 use Rattle.session_answers.specs.Rows.{pair_in}
 use Rattle.session_views.proofs.rows.row_pairs.Given as goal
 

@@ -1,5 +1,5 @@
 -- What crosses to the workers holds no thread's own.
-use Rattle.running_bench.proofs.Crossings.{bench_crosses}
+use Rattle.bench_instance.proofs.Crossings.{bench_crosses}
 use Rattle.times.proofs.desks.show_desk.Goals as goal
 
 pub measure-requires-send-X : goal.measure-requires-send-X

@@ -1,6 +1,6 @@
 use Rattle.std.proofs.Common.{ℕ, ◌≡◌, ◌<◌, ◌≤◌, ◌++◌, ◌∷◌, [], List, length, slice_index_or}
 use Rattle.std.specs.Prelude.{IsTrue}
-use Rattle.base_env.specs.Known.{Known}
+use Rattle.base_names.specs.Known.{Known}
 use Rattle.cat_eval.specs.declared.table.Entry.{Entry}
 use Rattle.cat_eval.specs.Reordered.{EndsReordered}
 use Rattle.cat_eval.specs.Steady.{EndsWith}

@@ -1,9 +1,0 @@
-use Rattle.bit_relations.specs.Relation.{Has, IsRelation}
-use Rattle.bit_relations.specs.Pairs.{Union}
-use Rattle.base_env.specs.Events.{Below, CoherenceFromTo}
-use Rattle.base_env.proofs.changing.put_later.Given as goal
-
-abbrev pub invariant-loop-behind : goal.invariant-loop-behind
-invariant-loop-behind l =
-    IsRelation l.coherence l.initial.coherence.count (Union (Has l.initial.coherence)
-    (Below l.initial.coherence.count (CoherenceFromTo l.events l.order l.index l.behind)))

@@ -1,7 +1,0 @@
-use Rattle.bit_relations.specs.Relation.{IsRelation}
-use Rattle.base_env.specs.Events.{Below, CoherenceTo}
-use Rattle.base_env.proofs.changing.write_order.Given as goal
-
-abbrev pub invariant-loop-index : goal.invariant-loop-index
-invariant-loop-index l =
-    IsRelation l.coherence l.count (Below l.count (CoherenceTo l.events l.order l.index))

@@ -1,9 +1,0 @@
-use Rattle.bit_relations.specs.Relation.{Has, IsRelation}
-use Rattle.bit_relations.specs.Pairs.{Union}
-use Rattle.base_env.specs.Events.{Links, RowTo}
-use Rattle.base_env.proofs.fixed.put_linked_from.Given as goal
-
-abbrev pub invariant-loop-to : goal.invariant-loop-to
-invariant-loop-to l =
-    IsRelation l.target l.initial.target.count (Union (Has l.initial.target)
-    (RowTo (Links l.events l.name) l.from l.to))

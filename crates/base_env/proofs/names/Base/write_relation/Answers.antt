@@ -1,9 +1,0 @@
-use Rattle.base_env.proofs.Linking.{with_pairs}
-use Rattle.base_env.proofs.Meant.{relation_meant}
-use Rattle.base_env.proofs.names.Base.write_relation.Goals as goal
-
-pub returns-clause-meant : goal.returns-clause-meant
-returns-clause-meant c =
-    λ k sources order entered reading ordered given. with_pairs c.write_named.ensures
-    (relation_meant c.args.self.now k sources order c.count.ensures.known entered reading ordered
-    c.args.name given)

@@ -1,7 +1,0 @@
-use Rattle.std.proofs.Common.{ℕ, ◌↔◌, drop}
-use Rattle.base_env.specs.Known.{EventsUnder}
-use Rattle.base_env.proofs.names.find_set.Given as goal
-
-abbrev pub invariant-loop-named : goal.invariant-loop-named
-invariant-loop-named l =
-    (n a : ℕ) → EventsUnder (drop l.named-index l.sets) l.name n a ↔ EventsUnder l.sets l.name n a

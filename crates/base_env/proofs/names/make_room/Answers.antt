@@ -1,6 +1,0 @@
-use Rattle.base_env.proofs.Covering.{kept_with_one}
-use Rattle.base_env.proofs.names.make_room.Goals as goal
-
-pub returns-clause-kept : goal.returns-clause-kept
-returns-clause-kept c other inside =
-    kept_with_one _ _ _ (rw c.reserve.ensures.items at c.push_reserved.ensures.items) other inside

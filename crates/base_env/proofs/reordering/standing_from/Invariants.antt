@@ -1,8 +1,0 @@
-use Rattle.std.proofs.Common.{◌<◌}
-use Rattle.bit_relations.specs.Relation.{IsEvents}
-use Rattle.base_env.specs.Orders.{StandsBetween}
-use Rattle.base_env.proofs.reordering.standing_from.Given as goal
-
-abbrev pub invariant-loop-index : goal.invariant-loop-index
-invariant-loop-index l =
-    IsEvents l.standing l.count (λ a. (a < l.count) × StandsBetween l.order l.from l.index a)

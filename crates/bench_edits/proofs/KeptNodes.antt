@@ -1,0 +1,36 @@
+-- What a node is made of columns and answers holds over each space that shows the same.
+use Rattle.std.proofs.Common.{◌≡◌, List, map, Bool, ap}
+use denote.Ref.{Bor}
+use Rattle.binding_graph.specs.declared.resolved.Role.{Role}
+use Rattle.candidates.specs.declared.candidate.Space.{Space}
+use Rattle.cat_eval.specs.declared.column.Column.{Column}
+use Rattle.cat_eval.specs.Columns.{ColumnsOf}
+use Rattle.cat_eval.specs.Values.{AnswersOf}
+use Rattle.cat_eval_laws.specs.Laws.{AreSame}
+use Rattle.cat_eval_laws.proofs.Keeping.{columns_kept, answers_kept}
+use Rattle.bench_items.specs.Items.{role_content}
+use Rattle.bench_values.specs.Makes.{HasColumns, HasAnswers}
+use Rattle.bench_values.specs.Spaces.{SpaceContent, space_content}
+
+same_items : (role read : Role) (space over : Space) (inputs found : List (Bor Column))
+    → role_content read ≡ role_content role → space_content over ≡ space_content space
+    → map (λ c. c.now) found ≡ map (λ c. c.now) inputs → AreSame read role over space found inputs
+same_items role read space over inputs found reading shown are = record {
+  roles = reading;
+  candidates = ap (λ (s : SpaceContent). s.executions) shown;
+  values = are;
+}
+
+pub columns_over : (role : Role) (space : Space) (inputs : List (Bor Column)) (cs : List Column)
+    → HasColumns (role_content role) (space_content space) (map (λ c. c.now) inputs) cs
+    → ColumnsOf role inputs space cs
+columns_over role space inputs cs h =
+    columns_kept h.read role h.over space h.inputs inputs cs
+    (same_items role h.read space h.over inputs h.inputs h.reading h.shown h.are) h.values
+
+pub answers_over : (role : Role) (space : Space) (inputs : List (Bor Column)) (answers : List Bool)
+    → HasAnswers (role_content role) (space_content space) (map (λ c. c.now) inputs) answers
+    → AnswersOf role inputs space answers
+answers_over role space inputs answers h =
+    answers_kept h.read role h.over space h.inputs inputs answers
+    (same_items role h.read space h.over inputs h.inputs h.reading h.shown h.are) h.values

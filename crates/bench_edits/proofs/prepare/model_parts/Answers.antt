@@ -1,0 +1,11 @@
+use Rattle.bench_edits.proofs.prepare.model_parts.Goals as goal
+
+pub returns : goal.returns
+returns c = record {
+  rows = rw c.next_number-fresh.ensures at c.in_ok-rows.ensures;
+  faults = c.in_ok-faults.ensures;
+  items = rw c.next_number-fresh.ensures at c.in_ok-items.ensures;
+  slots =
+      rw (c.deref.ensures.value, c.deref-2.ensures.value, c.deref-3.ensures.value) at
+      c.in_ok-slots.ensures;
+}

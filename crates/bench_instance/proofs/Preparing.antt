@@ -1,0 +1,140 @@
+-- Texts that are the same after an edit is prepared, wherever they lie in memory.
+use Rattle.std.proofs.Common.{◌≡◌, ℕ, Bool, true, false, ◌||◌, if◌then◌else◌, Option, Some, None, List, length, map, refl, subst, sym, ap, ◌∙◌}
+use Rattle.std.specs.List.{AllZip, AllByRecursion as Each}
+use Rattle.text_values.specs.declared.test.Test.{Test}
+use Rattle.ppc_semantics.specs.Lowering.{AreNames, test_names}
+use Rattle.bench_texts.specs.BenchTexts.{BenchTexts}
+use Rattle.bench_texts.specs.declared.model.NamedModel.{NamedModel}
+use Rattle.bench_texts.specs.declared.fault.EditFault.TheVariants as faults
+use Rattle.bench_texts.specs.Edits.{Edit, Applies}
+use Rattle.bench_texts.specs.Limits.{is_full, is_spent}
+use Rattle.memo_core.specs.declared.keys.Kind.{Kind}
+use Rattle.bench_nodes.specs.declared.table.ItemRow.{ItemRow}
+use Rattle.bench_nodes.specs.declared.table.ModelRow.{ModelRow}
+use Rattle.bench_nodes.specs.declared.table.TestRow.{TestRow}
+use Rattle.bench_parts.specs.declared.parts.Parts.{Parts}
+use Rattle.bench_parts.specs.Built.{IsBuilt}
+use Rattle.bench_parts.specs.Contents as contents
+use Rattle.bench_parts.specs.States.{IsSameState}
+use Rattle.bench_parts.proofs.Same as states
+use Rattle.bench_parts.proofs.SameWritten as written
+use Rattle.bench_parts.specs.Written.{IsSameWritten}
+use Rattle.bench_parts.specs.ItemLaws.{IsOfItsKind}
+use Rattle.bench_edits.specs.Edited.{AreTestsSame, AreModelsSame}
+use Rattle.bench_edits.specs.Owed.{AreNumbered, ArePartsOf}
+use Rattle.bench_edits.specs.Readings.{readings_of, all_facts, written_models}
+use Rattle.bench_edits.specs.Left.{AreKindsOf}
+use Rattle.bench_text_laws.specs.Orderly.{IsOrderly}
+use Rattle.bench_instance.specs.declared.stamped_texts.StampedTexts.{StampedTexts}
+use Rattle.bench_instance.specs.StampedTexts.{state_of, written_of, net_of, IsSound, IsSince}
+use Rattle.bench_instance.specs.Edited.{IsSame}
+
+-- ---- the numbers are not spent
+
+within_unspent : (full spent is : Bool)
+    → (if full then Some faults.Full else (if spent || is then Some faults.Spent else None)) ≡ None
+    → spent ≡ false
+within_unspent true spent is e = cc
+within_unspent false true is e = cc
+within_unspent false false is e = refl
+
+pub is_unspent : (t new : BenchTexts) (spent : Bool) (e : Edit) → Applies t spent e new
+    → spent ≡ false
+is_unspent t new spent e h = within_unspent (is_full new) spent (is_spent t) h.within
+
+pub applies_unspent : (t new : BenchTexts) (spent : Bool) (e : Edit) → Applies t spent e new
+    → Applies t false e new
+applies_unspent t new spent e h =
+    subst (λ (b : Bool). Applies t b e new) (is_unspent t new spent e h) h
+
+-- ---- states that are the same
+
+pub same_state : (p q : Parts) (ts us : List Test) → us ≡ ts → AreTestsSame p q → AreModelsSame p q
+    → q.last ≡ p.last → IsSameState (contents.state_of p ts) (contents.state_of q us)
+same_state p q ts us e t m l = record {
+  tests = e;
+  test_rows = t.rows;
+  locations = t.locations;
+  model_rows = m.rows;
+  faults = m.faults;
+  item_rows = m.items;
+  roles = m.roles;
+  kinds = m.kinds;
+  slots = m.slots;
+  last = l;
+}
+
+module _ (p q : Parts) (ts us : List Test) (ms : List NamedModel)
+    (same : IsSameState (contents.state_of p ts) (contents.state_of q us)) where
+  numbered_is : AreNumbered p.last p.table.tests.items p.table.models.items
+      → AreNumbered q.last q.table.tests.items q.table.models.items
+  numbered_is h =
+      subst (λ (l : ℕ). AreNumbered l q.table.tests.items q.table.models.items) (sym same.last)
+      (subst (λ (rs : List TestRow). AreNumbered p.last rs q.table.models.items)
+      (sym same.test_rows)
+      (subst (λ (rs : List ModelRow). AreNumbered p.last p.table.tests.items rs)
+      (sym same.model_rows) h))
+
+  pub parts_are_same : ArePartsOf p ts ms → ArePartsOf q us ms
+  parts_are_same h = record {
+    built =
+        subst (λ (rows : List ModelRow). IsBuilt (contents.state_of q us) (readings_of rows ms))
+        (sym same.model_rows) (states.built_is (contents.state_of p ts) (contents.state_of q us)
+        same (readings_of p.table.models.items ms) h.built);
+    each_model = ap length same.model_rows ∙ h.each_model;
+    each_item = ap (map (λ i. i.number)) same.item_rows ∙ h.each_item;
+    numbered = numbered_is h.numbered;
+    locations =
+        subst (λ ls. AllZip (λ c l. AreNames (test_names c) l.items) us ls) (sym same.locations)
+        (subst
+        (λ (cs : List Test).
+        AllZip (λ c l. AreNames (test_names c) l.items) cs p.locations.items)
+        (sym same.tests) h.locations);
+  }
+
+  pub kinds_are_same : AreKindsOf p ms → AreKindsOf q ms
+  kinds_are_same h =
+      subst (λ (ks : List (Option Kind)). Each (IsOfItsKind q.table.items.items ks) (all_facts ms))
+      (sym same.kinds)
+      (subst (λ (is : List ItemRow). Each (IsOfItsKind is p.kinds.items) (all_facts ms))
+      (sym same.item_rows) h)
+
+module _ (t u : StampedTexts) (same : IsSame t u) where
+  pub sound_is : IsSound t → IsSound u
+  sound_is s = record {
+    read = same.read s.read;
+    parts_are =
+        subst (λ (ms : List NamedModel). ArePartsOf u.parts u.texts.tests.items ms)
+        (sym same.models) (parts_are_same t.parts u.parts t.texts.tests.items u.texts.tests.items
+        t.texts.models.items same.state s.parts_are);
+    orderly = subst IsOrderly (sym same.texts) s.orderly;
+    kinds =
+        subst (λ (ms : List NamedModel). AreKindsOf u.parts ms) (sym same.models)
+        (kinds_are_same t.parts u.parts t.texts.tests.items u.texts.tests.items t.texts.models.items
+        same.state s.kinds);
+  }
+
+  pub net_is : net_of u ≡ net_of t
+  net_is = states.net_is (state_of t) (state_of u) same.state
+
+  models_are : (written_of u).models ≡ (written_of t).models
+  models_are =
+      ap (λ (rows : List ModelRow). written_models rows u.texts.models.items) same.state.model_rows
+      ∙ ap (written_models t.parts.table.models.items) same.models
+
+  same_written : IsSameWritten (written_of t) (written_of u)
+  same_written =
+      record {
+        state = same.state;
+        models = models_are;
+        next = ap (λ (b : BenchTexts). b.next) same.texts;
+      }
+
+  pub since_is : (r : StampedTexts) → IsSince r t → IsSince r u
+  since_is r since = record {
+    sound = sound_is since.sound;
+    since = written.since_is (written_of t) (written_of u) same_written (written_of r) since.since;
+    same = λ e. (
+        let h = since.same (sym same.state.last ∙ e) in
+        record { texts = same.texts ∙ h.texts; tests = same.state.tests ∙ h.tests; models = same.models ∙ h.models });
+  }

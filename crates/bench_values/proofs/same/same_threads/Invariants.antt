@@ -1,0 +1,6 @@
+use Rattle.text_values.specs.TestValue.{steps_of}
+use Rattle.bench_values.proofs.Compared.{AreSameTo}
+use Rattle.bench_values.proofs.same.same_threads.Given as goal
+
+abbrev pub invariant-loop-index : goal.invariant-loop-index
+invariant-loop-index l = AreSameTo steps_of l.these l.those l.index

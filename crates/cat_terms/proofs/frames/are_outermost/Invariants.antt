@@ -1,8 +1,0 @@
-use Rattle.std.proofs.Common.{◌≡◌, drop}
-use Rattle.std.specs.List.{list_all}
-use Rattle.cat_terms.specs.Reading.{is_no_bracket}
-use Rattle.cat_terms.proofs.frames.are_outermost.Given as goal
-
-abbrev pub invariant-loop-f : goal.invariant-loop-f
-invariant-loop-f l =
-    list_all is_no_bracket l.frames ≡ list_all is_no_bracket (drop l.f-index l.frames)

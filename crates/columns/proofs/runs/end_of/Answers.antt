@@ -1,9 +1,0 @@
-use Rattle.std.proofs.Common.{◌∙◌, arith}
-use Rattle.columns.specs.Storage.{ends_of}
-use Rattle.columns.proofs.Expanding.{last_is, as_many_ends}
-use Rattle.columns.proofs.runs.end_of.Goals as goal
-
-pub returns-else-count-eq0 : goal.returns-else-count-eq0
-returns-else-count-eq0 g c =
-    c.end_at.ensures
-    ∙ last_is 0 (ends_of c.args.runs.now) _ (omega (arith, as_many_ends c.args.runs.now))

@@ -1,0 +1,134 @@
+-- What is said of a model's text and a test's text.
+use Rattle.std.specs.Prelude.{◌≡◌, ◌+◌, ◌≤◌, ◌⊎◌, ℕ, List, length, Bool, true, false, Option, Result, Ok, Err, IfSome}
+use Rattle.std.specs.Io.KnownBytes.{Keeps}
+use Rattle.std.specs.declared.alloc.Global.{Global}
+use Rattle.std.specs.declared.vec.Vec.{Vec}
+use Rattle.litmus_tokens.specs.declared.rule.LitmusRule.{LitmusRule}
+use Rattle.litmus_tokens.specs.Numbers.{number_of as test_rule_number}
+use Rattle.text_values.specs.declared.test.Test.{Test}
+use Rattle.text_values.specs.TestValue.{Content, content_of}
+use Rattle.litmus_grammar.specs.Texts.{ReadsTest, IsTestFault}
+use Rattle.cat_tokens.specs.declared.rule.CatRule.{CatRule}
+use Rattle.cat_tokens.specs.Tokens.{number_of as model_rule_number}
+use Rattle.text_values.specs.declared.model.ModelText.{ModelText}
+use Rattle.text_values.specs.ModelValue as cat_value
+use Rattle.text_values.specs.ModelValues.{clauses_of}
+use Rattle.cat_grammar.specs.declared.form.Form.TheVariants.{Model}
+use Rattle.cat_syntax.specs.Reads.{Reads, FaultAt}
+use Rattle.verdict.specs.declared.answer.Outcome.{Outcome}
+use Rattle.from_scratch.specs.FromScratch.{IsFromScratch}
+use Rattle.command_answers.specs.declared.fault.EvalFault.{EvalFault}
+use Rattle.command_answers.specs.declared.fault.EvalFault.TheVariants as eval_faults
+use Rattle.command_line.specs.declared.fault.SessionFault.{SessionFault}
+use Rattle.command_line.specs.declared.fault.SessionFault.TheVariants as session_faults
+use Rattle.command_answers.specs.Cut.{IsCut}
+use Rattle.outcome_texts.specs.Log.{log_of}
+use Rattle.session_edits.specs.Answer.{refused_line}
+use Rattle.command_answers.specs.Made.{AreWritten}
+
+-- ---- what a test that was read says under a model that was read
+
+-- the log of what evaluating them from nothing gives
+abbrev pub IsLogOf : Test → ModelText → List ℕ → Type 0
+IsLogOf test model log = (o : Outcome) × IsFromScratch test model o × (log ≡ log_of test.name o)
+
+-- the log of the test and the model that the two texts mean
+pub record IsLog (model test log : List ℕ) : Type 0 where
+  pub items : ModelText
+  pub model_read : Reads Model model (clauses_of items.items.items)
+  pub known : Test
+  pub test_read : ReadsTest test (content_of known)
+  pub said : IsLogOf known items log
+
+-- ---- refusals
+
+-- the text means no model, and is blamed at this offset, by this rule
+pub record IsModelRefused (model : List ℕ) (rule : CatRule) (offset : ℕ) : Type 0 where
+  pub unread : (v : List cat_value.Clause) → Reads Model model v → ⊥
+  pub fault : FaultAt Model model rule offset
+
+-- the text means no test that the later checks pass, and is blamed at this offset, by this rule
+pub record IsTestRefused (test : List ℕ) (rule : LitmusRule) (offset : ℕ) : Type 0 where
+  pub unread : (v : Content) → ReadsTest test v → ⊥
+  pub fault : IsTestFault test rule offset
+
+-- the text means some model
+abbrev pub IsModel : List ℕ → Type 0
+IsModel model = (v : List cat_value.Clause) × Reads Model model v
+
+-- what stands in the way of a log: the fault of the model's text,
+abbrev pub IsOfModel : List ℕ → EvalFault → Type 0
+IsOfModel model (eval_faults.Model rule offset) = IsModelRefused model rule offset
+IsOfModel model (eval_faults.Test rule offset) = ⊥
+IsOfModel model (eval_faults.Memory e) = Unit {0}
+
+-- that of the test's text,
+abbrev pub IsOfTest : List ℕ → EvalFault → Type 0
+IsOfTest test (eval_faults.Model rule offset) = ⊥
+IsOfTest test (eval_faults.Test rule offset) = IsTestRefused test rule offset
+IsOfTest test (eval_faults.Memory e) = Unit {0}
+
+-- the first of the two, or want of memory
+abbrev pub IsRefusal : List ℕ → List ℕ → EvalFault → Type 0
+IsRefusal model test (eval_faults.Model rule offset) = IsModelRefused model rule offset
+IsRefusal model test (eval_faults.Test rule offset) = IsModel model × IsTestRefused test rule offset
+IsRefusal model test (eval_faults.Memory e) = Unit {0}
+
+-- ---- answers
+
+-- this is said of the two texts, where `refused` is whether one is refused: the log, or the line of
+-- the first text that is refused
+pub data IsAnswer (model test text : List ℕ) (refused : Bool) : Type 0 where
+  IsEvaluated : refused ≡ false → IsLog model test text → IsAnswer model test text refused
+  RefusesModel : refused ≡ true → (rule : CatRule) → (offset : ℕ) → IsModelRefused model rule offset
+      → text ≡ refused_line 67 (model_rule_number rule) offset → IsAnswer model test text refused
+  RefusesTest : refused ≡ true → (rule : LitmusRule) → (offset : ℕ) → IsModel model
+      → IsTestRefused test rule offset → text ≡ refused_line 76 (test_rule_number rule) offset
+      → IsAnswer model test text refused
+
+-- what is printed of a report, where `refused` is whether it was refused: the report, or the line
+-- of the refusal
+abbrev pub IsSaidOf : Result (Vec ℕ Global) EvalFault → List ℕ → Bool → Type 0
+IsSaidOf (Ok report) text refused = (text ≡ report.items) × (refused ≡ false)
+IsSaidOf (Err (eval_faults.Model rule offset)) text refused =
+    (text ≡ refused_line 67 (model_rule_number rule) offset) × (refused ≡ true)
+IsSaidOf (Err (eval_faults.Test rule offset)) text refused =
+    (text ≡ refused_line 76 (test_rule_number rule) offset) × (refused ≡ true)
+IsSaidOf (Err (eval_faults.Memory e)) text refused = ⊥
+
+-- whatever is said of the first two texts is said of the other two
+abbrev pub AreAnsweredAlike : List ℕ → List ℕ → List ℕ → List ℕ → Type 0
+AreAnsweredAlike model test other_model other_test =
+    (text : List ℕ) (refused : Bool) → IsAnswer model test text refused
+    → IsAnswer other_model other_test text refused
+
+-- the bytes of a sink, before and after an answer was written: all of it, or a front of it where a
+-- write failed, and else nothing
+abbrev pub IsWritten : List ℕ → List ℕ → Option (List ℕ) → Option (List ℕ)
+    → Result Bool SessionFault → Type 0
+IsWritten model test old new result = AreWritten (IsAnswer model test) old new result
+
+-- the same for the two texts into which an input is cut, of which these bytes are left, where they
+-- are known
+pub record IsWrittenOf (left old new : Option (List ℕ)) (result : Result Bool SessionFault)
+    : Type 0 where
+  pub model : List ℕ
+  pub test : List ℕ
+  pub cut : IfSome left (λ bytes. IsCut bytes model test)
+  pub written : IsWritten model test old new result
+
+-- a stream's answer: nothing is written unless the whole input was read
+abbrev pub IsStreamed : Option (List ℕ) → Option (List ℕ) → Option (List ℕ)
+    → Result Bool SessionFault → Type 0
+IsStreamed left old new (Ok refused) = IsWrittenOf left old new (Ok refused)
+IsStreamed left old new (Err session_faults.Write) =
+    IsWrittenOf left old new (Err session_faults.Write)
+IsStreamed left old new (Err session_faults.Read) = Keeps old new
+IsStreamed left old new (Err session_faults.Memory) = Keeps old new
+IsStreamed left old new (Err session_faults.Shared) = ⊥
+
+-- a read is refused: one call failed, or, where none did, the input has so many bytes that it is
+-- taken for one that does not end
+abbrev pub IsReadFault : ℕ → ℕ → Option (List ℕ) → Type 0
+IsReadFault old new left =
+    (new ≡ old + 1) ⊎ ((new ≡ old) × IfSome left (λ all. 16777216 ≤ length all))

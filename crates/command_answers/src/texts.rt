@@ -1,0 +1,152 @@
+//! One test under one model, from bytes to a log.
+
+ghost use Rattle.std.specs.Prelude.{◌≡◌, IfOk, IfErr};
+ghost use Rattle.cat_grammar.specs.declared.form.Form.{Form};
+ghost use Rattle.cat_syntax.specs.Reads.{Reads};
+ghost use Rattle.text_values.specs.ModelValues.{clauses_of};
+ghost use Rattle.litmus_grammar.specs.Texts.{ReadsTest};
+ghost use Rattle.text_values.specs.TestValue.{content_of};
+ghost use Rattle.command_answers.specs.Pictures as pictures;
+ghost use Rattle.command_answers.specs.Pictures.{IsPictureOf};
+ghost use Rattle.command_answers.specs.Answer.{IsLogOf, IsLog, IsRefusal, IsOfModel, IsOfTest};
+ghost use Rattle.command_answers.specs.Whys.{IsWhyOf};
+
+use crate::fault::EvalFault;
+use cat_syntax::{CatFault, ModelText, read_model};
+use command_line::Drawn;
+use from_scratch::eval_cell;
+use litmus_ppc::{LitmusFault, Test, read_test};
+use outcome_texts::outcome_log;
+use std::alloc::{AllocError, Global};
+use why_forbidden::{Asked, Wanted, draw, why};
+
+// The model and the test that two texts mean.
+#[derive(Drop)]
+struct KnownTexts {
+    model: ModelText,
+    test: Test,
+}
+
+fn model_of(alloc: Global, text: &[u8]) -> Result<ModelText, EvalFault>
+    ensures found { IfOk result (λ m. Reads Form.Model text.now (clauses_of m.items.items)) }
+    ensures fault { IfErr result (IsOfModel text.now) }
+{
+    match read_model(alloc, text) {
+        Ok(model) => Ok(model),
+        Err(CatFault::OutOfMemory(e)) => Err(EvalFault::Memory(e)),
+        Err(CatFault::Refused { rule, offset }) => Err(EvalFault::Model { rule, offset }),
+    }
+}
+
+fn test_of(alloc: Global, text: &[u8]) -> Result<Test, EvalFault>
+    ensures found { IfOk result (λ t. ReadsTest text.now (content_of t)) }
+    ensures fault { IfErr result (IsOfTest text.now) }
+{
+    match read_test(alloc, text) {
+        Ok(test) => Ok(test),
+        Err(LitmusFault::OutOfMemory(e)) => Err(EvalFault::Memory(e)),
+        Err(LitmusFault::Refused { rule, offset }) => Err(EvalFault::Test { rule, offset }),
+    }
+}
+
+// The model is read first.
+fn known_texts(alloc: Global, model: &[u8], test: &[u8]) -> Result<KnownTexts, EvalFault>
+    ensures model_read { IfOk result (λ k.
+        Reads Form.Model model.now (clauses_of k.model.items.items)) }
+    ensures test_read { IfOk result (λ k. ReadsTest test.now (content_of k.test)) }
+    ensures refusal { IfErr result (IsRefusal model.now test.now) }
+{
+    let known_model = match model_of(alloc, model) {
+        Ok(known) => known,
+        Err(fault) => return Err(fault),
+    };
+    match test_of(alloc, test) {
+        Ok(known_test) => Ok(KnownTexts {
+            model: known_model,
+            test: known_test,
+        }),
+        Err(fault) => Err(fault),
+    }
+}
+
+fn outcome_text(alloc: Global, test: &Test, model: &ModelText) -> Result<Vec<u8>, AllocError>
+    ensures { IfOk result (λ log. IsLogOf test.now model.now log.items) }
+{
+    let outcome = eval_cell(alloc, test, model)?;
+    outcome_log(alloc, test.name.as_bytes(), &outcome)
+}
+
+/// The log of the test under the model. The model is read first. Errors: the first rule that the
+/// model breaks, with its byte, then that of the test, or want of memory.
+pub fn eval(alloc: Global, model: &[u8], test: &[u8]) -> Result<Vec<u8>, EvalFault>
+    // A log is that of an outcome of the test and the model that the texts mean.
+    ensures log { IfOk result (λ log. IsLog model.now test.now log.items) }
+    // A refusal is that of the first text that means nothing.
+    ensures refusal { IfErr result (IsRefusal model.now test.now) }
+{
+    let known = match known_texts(alloc, model, test) {
+        Ok(known) => known,
+        Err(fault) => return Err(fault),
+    };
+    match outcome_text(alloc, &known.test, &known.model) {
+        Ok(log) => Ok(log),
+        Err(e) => Err(EvalFault::Memory(e)),
+    }
+}
+
+/// Why the model forbids what the condition of the test asks for, or an execution that it keeps.
+/// The model is read first. Errors: those of `eval`.
+pub fn why_report(
+    alloc: Global,
+    asked: Asked,
+    model: &[u8],
+    test: &[u8],
+) -> Result<Vec<u8>, EvalFault>
+    // A report is what is said of the test and the model that the texts mean.
+    ensures report { IfOk result (λ text. IsWhyOf asked model.now test.now text.items) }
+    // A refusal is that of the first text that means nothing.
+    ensures refusal { IfErr result (IsRefusal model.now test.now) }
+{
+    let known = match known_texts(alloc, model, test) {
+        Ok(known) => known,
+        Err(fault) => return Err(fault),
+    };
+    match why(alloc, asked, &known.test, &known.model) {
+        Ok(text) => Ok(text),
+        Err(e) => Err(EvalFault::Memory(e)),
+    }
+}
+
+fn wanted(drawn: Drawn) -> Wanted
+    ensures { result ≡ pictures.wanted drawn }
+{
+    match drawn {
+        Drawn::Shown => Wanted::Shown,
+        Drawn::Forbidden => Wanted::Forbidden,
+        Drawn::All => Wanted::All,
+    }
+}
+
+/// Drawings of executions of the test under the model, at most so many, for `dot`. The model is
+/// read first. Errors: those of `eval`.
+pub fn draw_report(
+    alloc: Global,
+    model: &[u8],
+    test: &[u8],
+    drawn: Drawn,
+    most: u64,
+) -> Result<Vec<u8>, EvalFault>
+    // A report is what is drawn of the test and the model that the texts mean.
+    ensures report { IfOk result (λ text. IsPictureOf drawn most model.now test.now text.items) }
+    // A refusal is that of the first text that means nothing.
+    ensures refusal { IfErr result (IsRefusal model.now test.now) }
+{
+    let known = match known_texts(alloc, model, test) {
+        Ok(known) => known,
+        Err(fault) => return Err(fault),
+    };
+    match draw(alloc, &known.test, &known.model, wanted(drawn), most) {
+        Ok(text) => Ok(text),
+        Err(e) => Err(EvalFault::Memory(e)),
+    }
+}

@@ -1,8 +1,0 @@
-use Rattle.std.proofs.Common.{◌≡◌, ◌++◌, take}
-use Rattle.std.specs.List.{flat_map}
-use Rattle.compare_report.specs.Log.{state_line}
-use Rattle.compare_report.proofs.log.put_each_state.Given as goal
-
-abbrev pub invariant-loop-state : goal.invariant-loop-state
-invariant-loop-state l =
-    l.text.items ≡ l.initial.text.items ++ flat_map state_line (take l.state-index l.states)

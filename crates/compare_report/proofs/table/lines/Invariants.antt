@@ -1,7 +1,0 @@
-use Rattle.std.proofs.Common.{◌≡◌, ◌∷◌, take, map}
-use Rattle.compare_report.specs.Columns.{head_fields, row_fields, row_of}
-use Rattle.compare_report.proofs.table.lines.Given as goal
-
-abbrev pub invariant-loop-row : goal.invariant-loop-row
-invariant-loop-row l =
-    l.lines.items ≡ head_fields l.models ∷ map row_fields (map row_of (take l.row-index l.rows))

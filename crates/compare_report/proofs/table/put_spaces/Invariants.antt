@@ -1,6 +1,0 @@
-use Rattle.std.proofs.Common.{◌≡◌, ◌++◌}
-use Rattle.std.specs.Prelude.{replicate}
-use Rattle.compare_report.proofs.table.put_spaces.Given as goal
-
-abbrev pub invariant-loop-space : goal.invariant-loop-space
-invariant-loop-space l = l.text.items ≡ l.initial.text.items ++ replicate l._space 32

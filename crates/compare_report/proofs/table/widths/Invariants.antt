@@ -1,7 +1,0 @@
-use Rattle.std.proofs.Common.{◌≡◌, ℕ, take, get_or}
-use Rattle.compare_report.specs.Columns.{column_width}
-use Rattle.compare_report.proofs.table.widths.Given as goal
-
-abbrev pub invariant-loop-line : goal.invariant-loop-line
-invariant-loop-line l =
-    (k : ℕ) → get_or l.widths.items k 0 ≡ column_width (take l.line-index l.lines) k

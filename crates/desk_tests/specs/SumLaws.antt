@@ -1,9 +1,0 @@
--- A number more.
-use Rattle.std.proofs.Common.{List, [], ◌∷◌, ◌++◌}
-use Rattle.desk_tests.specs.declared.sums.Addend.{Addend}
-use Rattle.desk_tests.specs.Sums.{IsSmall, AreSmall}
-
-pub small_more : (ops : List Addend) (op : Addend) → AreSmall ops → IsSmall op
-    → AreSmall (ops ++ op ∷ [])
-small_more [] op all one = (one, tt)
-small_more (o ∷ ops) op all one = (all.0, small_more ops op all.1 one)

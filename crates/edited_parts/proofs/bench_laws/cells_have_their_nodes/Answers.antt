@@ -1,5 +1,0 @@
-use Rattle.edited_parts.proofs.Nodes.{are_nodes}
-use Rattle.edited_parts.proofs.bench_laws.cells_have_their_nodes.Goals as goal
-
-pub returns : goal.returns
-returns c = are_nodes

@@ -1,5 +1,0 @@
-use Rattle.edited_parts.proofs.SliceCells.{same_cells}
-use Rattle.edited_parts.proofs.bench_laws.equal_slices_have_same_cells.Goals as goal
-
-pub returns : goal.returns
-returns c = same_cells

@@ -1,7 +1,0 @@
-use Rattle.edited_parts.proofs.Scratch.{sound_scratch}
-use Rattle.edited_parts.proofs.bench_laws.verdicts_are_from_scratch.Goals as goal
-
-pub returns : goal.returns
-returns c =
-    λ s models kept index row test at id numbers items used there none of_model. sound_scratch s
-    models kept index row test at id numbers items used there c.args.model.now none of_model

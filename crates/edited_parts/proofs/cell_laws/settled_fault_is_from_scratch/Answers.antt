@@ -1,7 +1,0 @@
-use Rattle.edited_parts.proofs.Cells.{settled_fault_scratch}
-use Rattle.edited_parts.proofs.cell_laws.settled_fault_is_from_scratch.Goals as goal
-
-pub returns : goal.returns
-returns c =
-    λ net memos all cell.
-    settled_fault_scratch net memos all c.args.test.now c.args.model.now c.args.outcome.now cell

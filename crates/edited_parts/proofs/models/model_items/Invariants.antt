@@ -1,9 +1,0 @@
-use Rattle.std.proofs.Common.{map, take}
-use Rattle.stamped_parts.specs.Items.{AreListsOf}
-use Rattle.edited_parts.specs.Readings.{named_text, all_facts}
-use Rattle.edited_parts.proofs.models.model_items.Given as goal
-
-abbrev pub invariant-loop-model : goal.invariant-loop-model
-invariant-loop-model l =
-    AreListsOf l.fresh l.parts (named_text l.before)
-    (all_facts (map (λ m. m.now) (take l.model-index l.models))) l.lists

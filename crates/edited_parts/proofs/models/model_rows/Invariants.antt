@@ -1,7 +1,0 @@
-use Rattle.std.proofs.Common.{map, take}
-use Rattle.edited_parts.specs.Edited.{AreModelsMade}
-use Rattle.edited_parts.proofs.models.model_rows.Given as goal
-
-abbrev pub invariant-loop-index : goal.invariant-loop-index
-invariant-loop-index l =
-    AreModelsMade l.fresh l.before (map (λ m. m.now) (take l.index l.models)) l.rows.items

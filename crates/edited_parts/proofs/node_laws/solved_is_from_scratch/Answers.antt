@@ -1,5 +1,0 @@
-use Rattle.edited_parts.proofs.FromScratch.{solved_scratch}
-use Rattle.edited_parts.proofs.node_laws.solved_is_from_scratch.Goals as goal
-
-pub returns : goal.returns
-returns c = solved_scratch c.args.test.now c.args.model.now

@@ -1,6 +1,0 @@
-use Rattle.std.proofs.Common.{ℕ, ◌<◌}
-use Rattle.bit_relations.specs.Relation.{Has}
-use Rattle.factor_walks.proofs.run.least_middle.Given as goal
-
-abbrev pub invariant-loop-event : goal.invariant-loop-event
-invariant-loop-event l = (c : ℕ) → c < l.event → Has l.left l.from c → Has l.right c l.to → ⊥

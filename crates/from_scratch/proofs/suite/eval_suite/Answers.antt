@@ -1,0 +1,5 @@
+use Rattle.from_scratch.proofs.suite.eval_suite.Goals as goal
+
+pub returns : goal.returns
+returns c =
+    c.each_test.ensures c.args.models.now (rw c.deref.ensures.value c.in_ok-resolved.ensures)

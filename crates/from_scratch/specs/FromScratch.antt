@@ -1,0 +1,64 @@
+-- What a test says under a model, evaluated from nothing: `eval_cell` gives it. Read before it, in
+-- this order: the first fault (binding_kinds, specs/Faults), the items (binding_graph,
+-- specs/Resolved), the executions (candidates, specs/Executions and Listed), the answers of checks
+-- and flags (specs/Answers), states, counts and words (verdict, specs/Evaluated).
+use Rattle.std.specs.Prelude.{◌≡◌, List, [], map, reverse}
+use Rattle.text_values.specs.declared.test.Test.{Test}
+use Rattle.text_values.specs.TestValue.{formula_of}
+use Rattle.litmus_printing.specs.Printing.{condition_text}
+use Rattle.candidates.specs.declared.candidate.Space.{Space}
+use Rattle.candidates.specs.Listed.{ListsExecutions, IsRefusal}
+use Rattle.text_values.specs.declared.model.ModelText.{ModelText}
+use Rattle.text_values.specs.declared.predefined.TheConstants.{PREDEFINED}
+use Rattle.binding_kinds.specs.declared.fault.ModelFault.{ModelFault}
+use Rattle.binding_kinds.specs.Faults.{HasNoFault, FirstFault}
+use Rattle.binding_kinds.specs.Outermost.{naming_of}
+use Rattle.binding_kinds.specs.Value.{Naming, Clause, clause_of}
+use Rattle.binding_graph.specs.declared.resolved.ResolvedItem.{ResolvedItem}
+use Rattle.binding_graph.specs.Resolved.{AreResolved, AreLabelled}
+use Rattle.verdict.specs.declared.answer.Evaluation.{Evaluation}
+use Rattle.verdict.specs.declared.answer.Outcome.{Outcome}
+use Rattle.verdict.specs.declared.answer.OutcomeResult.{OutcomeResult}
+use Rattle.verdict.specs.declared.answer.OutcomeResult.TheVariants.{Refused, Evaluated}
+use Rattle.verdict.specs.declared.answer.Refusal.TheVariants as refusals
+use Rattle.from_scratch.specs.Cell.{IsEvaluationBy}
+
+-- the names that the first item of a model sees
+abbrev pub outermost : List Naming
+outermost = reverse (map naming_of PREDEFINED)
+
+abbrev pub clauses_of : ModelText → List Clause
+clauses_of model = map clause_of model.items.items
+
+-- the model has this fault as its first
+abbrev pub IsFaultOf : ModelText → ModelFault → Type 0
+IsFaultOf model k = FirstFault [] outermost 0 (clauses_of model) k
+
+abbrev pub IsFaultless : ModelText → Type 0
+IsFaultless model = HasNoFault [] outermost 0 (clauses_of model)
+
+-- the items of the model with their names resolved, their checks negated and their flags named as
+-- in the text
+abbrev pub AreItemsOf : ModelText → List ResolvedItem → Type 0
+AreItemsOf model items =
+    AreResolved [] [] outermost 0 (clauses_of model) items × AreLabelled model.items.items items
+
+-- the evaluation of the test's condition on its candidates that the checks of the model keep
+abbrev pub IsEvaluationOf : Test → ModelText → Evaluation → Type 0
+IsEvaluationOf test model e =
+    (items : List ResolvedItem) × AreItemsOf model items × (space : Space)
+    × ListsExecutions test space × IsEvaluationBy items space test e
+
+-- the first fault of the model; where it has none, why the test has no candidates; and else the
+-- evaluation
+abbrev pub IsResultOf : Test → ModelText → OutcomeResult → Type 0
+IsResultOf test model (Refused (refusals.Model k)) = IsFaultOf model k
+IsResultOf test model (Refused (refusals.Space r)) = IsFaultless model × IsRefusal test r
+IsResultOf test model (Evaluated e) = IsFaultless model × IsEvaluationOf test model e
+
+-- the outcome: the kind of the test's condition, the condition as it is printed, and that result
+pub record IsFromScratch (test : Test) (model : ModelText) (o : Outcome) : Type 0 where
+  pub kind : o.kind ≡ test.condition.quantifier
+  pub condition : o.condition
+      ≡ condition_text test.condition.quantifier (formula_of test.condition.proposition)
+  pub result : IsResultOf test model o.result

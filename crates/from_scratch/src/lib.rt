@@ -1,0 +1,13 @@
+//! One test under one model, evaluated from nothing. Read `specs/FromScratch` first: `eval_cell`
+//! gives what it says, and `laws` says of what it is the only answer. `eval_suite` gives it for
+//! many tests under many models: specs/Suites.
+#![tactic(auto)]
+
+mod cell;
+pub mod fixtures;
+mod keeping;
+pub mod laws;
+mod suite;
+
+pub use cell::{FlagAnswer, ItemAnswers, answers, eval_cell, inputs};
+pub use suite::{eval_row, eval_suite, resolved_models};

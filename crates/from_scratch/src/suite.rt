@@ -1,0 +1,166 @@
+//! Many tests under many models: each space is made once, and each model is resolved once.
+
+ghost use denote.Ref.{Bor};
+ghost use Rattle.std.specs.Prelude.{List, IfOk};
+ghost use Rattle.std.specs.Result.{ForOk};
+ghost use Rattle.text_values.specs.declared.model.ModelText.{ModelText};
+ghost use Rattle.cat_eval.specs.Tables.{IsOver};
+ghost use Rattle.from_scratch.specs.Answers.{AreSound};
+ghost use Rattle.from_scratch.specs.Cell.{IsCell, IsEvaluationOver, OfModel};
+ghost use Rattle.from_scratch.specs.FromScratch.{IsFromScratch};
+ghost use Rattle.from_scratch.specs.Suites.{AreOutcomes, AreRows, IsSpaceFor, IsResolvedAs, AreResolvedAs};
+
+use crate::cell::{evaluated, refused};
+use binding_graph::{ModelFault, ResolveFault, Resolved, resolve};
+use candidates::{EvalRefusal, Space, SpaceFault, space};
+use cat_eval::Evaluator;
+use std::alloc::{AllocError, Global};
+use text_values::{ModelText, Test};
+use verdict::{Outcome, Refusal};
+
+/// The candidates of a test, or why it has none. Errors: want of memory.
+pub(crate) fn space_for(
+    alloc: Global,
+    test: &Test,
+) -> Result<Result<Space, EvalRefusal>, AllocError>
+    ensures { IfOk result (IsSpaceFor test.now) }
+{
+    match space(alloc, test) {
+        Ok(space) => Ok(Ok(space)),
+        Err(SpaceFault::Refused(refusal)) => Ok(Err(refusal)),
+        Err(SpaceFault::OutOfMemory(e)) => Err(e),
+    }
+}
+
+/// The items of a model, or its first fault. Errors: want of memory.
+pub(crate) fn items_of(
+    alloc: Global,
+    model: &ModelText,
+) -> Result<Result<Resolved, ModelFault>, AllocError>
+    ensures { IfOk result (IsResolvedAs model.now) }
+{
+    match resolve(alloc, model) {
+        Ok(resolved) => Ok(Ok(resolved)),
+        Err(ResolveFault::Refused(fault)) => Ok(Err(fault)),
+        Err(ResolveFault::OutOfMemory(e)) => Err(e),
+    }
+}
+
+/// The items of each model, or its first fault. Errors: want of memory.
+pub fn resolved_models(
+    alloc: Global,
+    models: &[&ModelText],
+) -> Result<Vec<Result<Resolved, ModelFault>>, AllocError>
+    ensures { IfOk result (λ v. AreResolvedAs models.now v.items) }
+{
+    let mut all = Vec::with_capacity(alloc, models.len())?;
+    for model in models {
+        all.push(items_of(alloc, *model)?)?;
+    }
+    Ok(all)
+}
+
+/// What the test says over its candidates.
+pub(crate) fn over_space(
+    alloc: Global,
+    evaluator: &mut Evaluator,
+    test: &Test,
+    resolved: &Resolved,
+    space: &Result<Space, EvalRefusal>,
+) -> Result<Outcome, AllocError>
+    requires space { IsSpaceFor test.now space.now }
+    requires over { ForOk space.now (IsOver evaluator.old) }
+    ensures over { ForOk space.now (IsOver evaluator.new) }
+    ensures cell { IfOk result (λ o. IsCell test.now o) }
+    ensures model { IfOk result (λ o. OfModel (λ _. ⊥) (Unit {0})
+        (λ e. AreSound resolved.now.items.items
+        → IsEvaluationOver resolved.now.items.items test.now e) o.result) }
+{
+    match space {
+        Ok(space) => evaluated(alloc, evaluator, test, resolved, space),
+        Err(refusal) => refused(alloc, test, Refusal::Space(*refusal)),
+    }
+}
+
+/// What the test says under a model.
+fn under_model(
+    alloc: Global,
+    evaluator: &mut Evaluator,
+    test: &Test,
+    space: &Result<Space, EvalRefusal>,
+    model: &Result<Resolved, ModelFault>,
+) -> Result<Outcome, AllocError>
+    requires space { IsSpaceFor test.now space.now }
+    requires over { ForOk space.now (IsOver evaluator.old) }
+    ensures over { ForOk space.now (IsOver evaluator.new) }
+    ensures outcome { (text : ModelText) → IsResolvedAs text model.now
+        → IfOk result (IsFromScratch test.now text) }
+{
+    match model {
+        Ok(resolved) => over_space(alloc, evaluator, test, resolved, space),
+        Err(fault) => refused(alloc, test, Refusal::Model(*fault)),
+    }
+}
+
+/// What the test says over its space under each model.
+fn each_model(
+    alloc: Global,
+    test: &Test,
+    space: &Result<Space, EvalRefusal>,
+    models: &[Result<Resolved, ModelFault>],
+) -> Result<Vec<Outcome>, AllocError>
+    requires { IsSpaceFor test.now space.now }
+    ensures { (texts : List (Bor ModelText)) → AreResolvedAs texts models.now
+        → IfOk result (λ v. AreOutcomes texts test.now v.items) }
+{
+    let mut evaluator = Evaluator::new(alloc);
+    let mut outcomes = Vec::with_capacity(alloc, models.len())?;
+    for model in models {
+        outcomes.push(under_model(alloc, &mut evaluator, test, space, model)?)?;
+    }
+    Ok(outcomes)
+}
+
+/// What the test says under each model, whose items are resolved: as `eval_cell` gives it, over
+/// candidates that are made once. Errors: want of memory.
+pub fn eval_row(
+    alloc: Global,
+    test: &Test,
+    models: &[Result<Resolved, ModelFault>],
+) -> Result<Vec<Outcome>, AllocError>
+    ensures { (texts : List (Bor ModelText)) → AreResolvedAs texts models.now
+        → IfOk result (λ v. AreOutcomes texts test.now v.items) }
+{
+    let space = space_for(alloc, test)?;
+    each_model(alloc, test, &space, models)
+}
+
+/// What each test says under each model.
+fn each_test(
+    alloc: Global,
+    tests: &[Test],
+    models: &[Result<Resolved, ModelFault>],
+) -> Result<Vec<Vec<Outcome>>, AllocError>
+    ensures { (texts : List (Bor ModelText)) → AreResolvedAs texts models.now
+        → IfOk result (λ rows. AreRows texts tests.now rows.items) }
+{
+    let mut rows = Vec::with_capacity(alloc, tests.len())?;
+    for test in tests {
+        rows.push(eval_row(alloc, test, models)?)?;
+    }
+    Ok(rows)
+}
+
+/// What each test says under each model: for each test one outcome a model, as `eval_cell` gives
+/// it. The candidates of a test are made once, and a model is resolved once. Errors: want of
+/// memory.
+pub fn eval_suite(
+    alloc: Global,
+    tests: &[Test],
+    models: &[&ModelText],
+) -> Result<Vec<Vec<Outcome>>, AllocError>
+    ensures { IfOk result (λ rows. AreRows models.now tests.now rows.items) }
+{
+    let resolved = resolved_models(alloc, models)?;
+    each_test(alloc, tests, &resolved)
+}

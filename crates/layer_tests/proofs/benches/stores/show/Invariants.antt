@@ -1,4 +1,0 @@
-use Rattle.layer_tests.proofs.benches.stores.show.Given as goal
-
-abbrev pub ghosts-fill : goal.ghosts-fill
-ghosts-fill g a = record { shelves = a.opened.values }

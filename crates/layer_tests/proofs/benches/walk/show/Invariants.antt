@@ -1,4 +1,0 @@
-use Rattle.layer_tests.proofs.benches.walk.show.Given as goal
-
-abbrev pub ghosts-take_walk : goal.ghosts-take_walk
-ghosts-take_walk g a = record { shelves = a.opened.values }

@@ -1,8 +1,0 @@
-use Rattle.std.proofs.Common.{take}
-use Rattle.litmusbench.specs.Reports.{AreTests}
-use Rattle.litmusbench.proofs.reading.read_tests.Given as goal
-
-abbrev pub invariant-loop-file : goal.invariant-loop-file
-invariant-loop-file l =
-    AreTests l.initial.read.faults.items (take l.file-index l.files) l.read.tests.items
-    l.read.faults.items

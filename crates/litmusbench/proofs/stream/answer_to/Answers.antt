@@ -1,7 +1,0 @@
-use Rattle.litmusbench.proofs.Answering.{evaluated}
-use Rattle.litmusbench.proofs.stream.answer_to.Goals as goal
-
-pub returns : goal.returns
-returns c =
-    evaluated c.answer_of.result c.eval.result c.args.model.now c.args.test.now c.eval.ensures.log
-    c.eval.ensures.refusal c.answer_of.ensures

@@ -1,7 +1,0 @@
-use Rattle.litmusbench.proofs.Picturing.{pictured}
-use Rattle.litmusbench.proofs.stream.draw_answer.Goals as goal
-
-pub returns : goal.returns
-returns c =
-    pictured c.answer_of.result c.draw_report.result c.args.drawn c.args.most c.args.model.now
-    c.args.test.now c.draw_report.ensures.report c.draw_report.ensures.refusal c.answer_of.ensures

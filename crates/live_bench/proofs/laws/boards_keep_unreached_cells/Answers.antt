@@ -1,6 +1,0 @@
-use Rattle.live_bench.proofs.Openings.{keeps_unreached, opens_reached}
-use Rattle.live_bench.proofs.StaysSettled.{stays_settled}
-use Rattle.live_bench.proofs.laws.boards_keep_unreached_cells.Goals as goal
-
-pub returns : goal.returns
-returns c = record { kept = keeps_unreached; opened = opens_reached; lasting = stays_settled }

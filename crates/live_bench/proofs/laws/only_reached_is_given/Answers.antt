@@ -1,5 +1,0 @@
-use Rattle.live_bench.proofs.OnlyReached.{only_reached_is_given, reached_bounds_given}
-use Rattle.live_bench.proofs.laws.only_reached_is_given.Goals as goal
-
-pub returns : goal.returns
-returns c = record { given = only_reached_is_given; bounded = reached_bounds_given }

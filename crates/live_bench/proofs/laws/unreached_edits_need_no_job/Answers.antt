@@ -1,5 +1,0 @@
-use Rattle.live_bench.proofs.Unreached.{unreached_needs_no_job}
-use Rattle.live_bench.proofs.laws.unreached_edits_need_no_job.Goals as goal
-
-pub returns : goal.returns
-returns c = unreached_needs_no_job

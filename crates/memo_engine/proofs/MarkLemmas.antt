@@ -1,0 +1,338 @@
+use Rattle.std.proofs.Common.{◌≡◌, ℕ, zero, suc, ◌<◌, ◌⊎◌, inl, inr, Bool, true, false, not, ◌&&◌, ◌++◌, List, [], ◌∷◌, Some, option_map, if◌then◌else◌, refl, ap, subst, sym, ◌∙◌, arith, slice_get, length, Option}
+use Rattle.std.specs.List.{AllByRecursion as Each}
+use Rattle.std.proofs.lemmas.Bool.{cases_Bool}
+use Rattle.memo_core.specs.declared.keys.Node.{Node}
+use Rattle.memo_core.specs.declared.keys.Input.{Input}
+use Rattle.memo_core.specs.Names.{same_node}
+use Rattle.memo_core.specs.Graph.{Memo, Net, memo_of, present_inputs, Matches, input_nodes, IsSettled, IsSettledBy}
+use Rattle.memo_core.specs.Views.{Slot, as_memo, as_memos}
+use Rattle.memo_core.specs.declared.claims.Claim.{Claim}
+use Rattle.memo_core.specs.Tests.{is_match, all_nodes, is_out}
+use Rattle.memo_core.specs.Graph.{put_memo}
+use Rattle.memo_core.specs.Step.{Has, IsWork}
+use Rattle.memo_core.specs.Marks.{mark_of, with_mark_at, unmarked_count, is_ready, IsMarkedTo, can_work, IsWorkAt, IsIdle, AreMarked, HasUnmarked}
+use Rattle.memo_core.proofs.Tests.{same_node_exact, same_node_refl}
+use Rattle.memo_core.proofs.Depth.{match_is, all_to, all_from}
+use Rattle.memo_core.proofs.JudgeLemmas.{of_all, true_false}
+use Rattle.memo_core.proofs.Theory.{put_other}
+use Rattle.memo_core.proofs.Headline.{settled_stays, same_present}
+use Rattle.memo_engine.proofs.WorkLemmas.{not_out_yes, not_out_is}
+use Rattle.memo_core.proofs.Progress.{one_depth}
+
+pub as_memos-with_mark_at : {V : Type 0} (n : Node) (ks : List (Slot V))
+    → as_memos (with_mark_at n ks) ≡ as_memos ks
+as_memos-with_mark_at n [] = refl
+as_memos-with_mark_at {V} n (k ∷ ks) = elim (cases_Bool (same_node n k.0)) [
+  | inl t ↦ rw t refl
+  | inr f ↦ rw f (ap (λ (ms : List (Memo V)). as_memo k ∷ ms) (as_memos-with_mark_at n ks))
+]
+
+pub mark_of-other : {V : Type 0} (n m : Node) (ks : List (Slot V)) → same_node m n ≡ false
+    → mark_of (with_mark_at n ks) m ≡ mark_of ks m
+mark_of-other n m [] h = refl
+mark_of-other {V} n m (k ∷ ks) h = elim (cases_Bool (same_node n k.0)) [
+  | inl t ↦ (
+      let g : same_node m k.0 ≡ false =
+      subst (λ (x : Node). same_node m x ≡ false) (same_node_exact n k.0 t) h in
+      rw t (rw g refl))
+  | inr f ↦ rw f (ap (λ (b : Bool). if same_node m k.0 then k.1.settled else b)
+      (mark_of-other n m ks h))
+]
+
+pub mark_of-same : {V : Type 0} (n : Node) (ks : List (Slot V)) (is : List Input)
+    → option_map (λ m. m.inputs) (memo_of n (as_memos ks)) ≡ Some is
+    → mark_of (with_mark_at n ks) n ≡ true
+mark_of-same n [] is h = cc
+mark_of-same {V} n (k ∷ ks) is h = elim (cases_Bool (same_node n k.0)) [
+  | inl t ↦ rw t (rw t refl)
+  | inr f ↦ rw f (rw f (mark_of-same n ks is (rw f at h)))
+]
+
+pub unmarked_count-less : {V : Type 0} (n : Node) (ks : List (Slot V)) (is : List Input)
+    → option_map (λ m. m.inputs) (memo_of n (as_memos ks)) ≡ Some is → mark_of ks n ≡ false
+    → unmarked_count (with_mark_at n ks) < unmarked_count ks
+unmarked_count-less n [] is h f = cc
+unmarked_count-less {V} n (k ∷ ks) is h not_yet = elim (cases_Bool (same_node n k.0)) [
+  | inl t ↦ (let e : k.1.settled ≡ false = rw t at not_yet in rw t (rw e (omega arith)))
+  | inr f ↦ (let less = unmarked_count-less n ks is (rw f at h) (rw f at not_yet) in
+      rw f (omega arith))
+]
+
+has_left : {X : Type 0} (xs ys : List X) (x : X) → Has xs x → Has (xs ++ ys) x
+has_left [] ys x h = absurd h
+has_left (z ∷ xs) ys x h = elim h [ inl e ↦ inl e | inr r ↦ inr (has_left xs ys x r) ]
+
+has_right : {X : Type 0} (xs ys : List X) (x : X) → Has ys x → Has (xs ++ ys) x
+has_right [] ys x h = h
+has_right (z ∷ xs) ys x h = inr (has_right xs ys x h)
+
+ready_parts : (a b c : Bool) → (not a && b && c) ≡ true → (a ≡ false) × (b ≡ true) × (c ≡ true)
+ready_parts true b c h = cc
+ready_parts false false c h = cc
+ready_parts false true false h = cc
+ready_parts false true true h = (refl, refl, refl)
+
+ready_whole : (a b c : Bool) → a ≡ false → b ≡ true → c ≡ true → (not a && b && c) ≡ true
+ready_whole a b c p q r = rw (p, q, r) refl
+
+module _ {V G : Type 0} (net : Net G) (ks : List (Slot V)) (n : Node) where
+  pub ready_there : is_ready net ks n ≡ true
+      → (mark_of ks n ≡ false) × (Matches net (as_memos ks) n)
+      × Each (λ m. mark_of ks m ≡ true) (input_nodes (net.inputs n))
+  ready_there h =
+      let p = ready_parts (mark_of ks n) (is_match net (as_memos ks) n) (all_nodes (mark_of ks) (net.inputs n)) h in (
+        p.0,
+        (match_is net (as_memos ks) n).0 p.1,
+        all_to (mark_of ks) (λ m. mark_of ks m ≡ true) (λ m t. t) (net.inputs n) p.2,
+      )
+
+  is_ready_now : mark_of ks n ≡ false → Matches net (as_memos ks) n
+      → Each (λ m. mark_of ks m ≡ true) (input_nodes (net.inputs n)) → is_ready net ks n ≡ true
+  is_ready_now f m e =
+      ready_whole (mark_of ks n) (is_match net (as_memos ks) n)
+      (all_nodes (mark_of ks) (net.inputs n)) f ((match_is net (as_memos ks) n).1 m)
+      (all_from (mark_of ks) (λ m. mark_of ks m ≡ true) (λ m t. t) (net.inputs n) e)
+
+  -- what cannot be marked now leaves the pending
+  pub passed : is_ready net ks n ≡ false → (rest : List Node) → IsMarkedTo net ks (n ∷ rest)
+      → IsMarkedTo net ks rest
+  passed not_now rest p = record {
+    sound = p.sound;
+    left = λ u has f m e. elim (p.left u has f m e) [
+      | inl q ↦ absurd (true_false _
+          (is_ready_now (rw (sym q) at f) (subst (Matches net (as_memos ks)) (sym q) m)
+          (subst
+          (λ (x : Node). Each (λ m. mark_of ks m ≡ true) (input_nodes (net.inputs x)))
+          (sym q) e)) not_now)
+      | inr r ↦ r
+    ];
+  }
+
+  module _ (users : Node → List Node)
+      (covers : (u : Node) → Has net.used u → Has (input_nodes (net.inputs u)) n → Has (users n) u)
+      (now : is_ready net ks n ≡ true) (rest : List Node) (p : IsMarkedTo net ks (n ∷ rest)) where
+    each_sound : (ns : List Node) → Each (λ m. mark_of ks m ≡ true) ns
+        → Each (IsSettled net (as_memos ks)) ns
+    each_sound [] e = tt
+    each_sound (m ∷ ns) e = (p.sound m e.0, each_sound ns e.1)
+
+    now_settled : IsSettled net (as_memos ks) n
+    now_settled =
+        let r = ready_there now in
+        let deep = one_depth net (as_memos ks) (input_nodes (net.inputs n)) (each_sound (input_nodes (net.inputs n)) r.2) in
+        (suc deep.0, (r.1, deep.1))
+
+    is_marked_now : mark_of (with_mark_at n ks) n ≡ true
+    is_marked_now =
+        mark_of-same n ks (present_inputs net (as_memos ks) (net.inputs n)) (ready_there now).1
+
+    -- the new mark is the only one
+    split : (ns : List Node) → Each (λ m. mark_of (with_mark_at n ks) m ≡ true) ns
+        → Each (λ m. mark_of ks m ≡ true) ns ⊎ Has ns n
+    split [] e = inl tt
+    split (m ∷ ns) e = elim (cases_Bool (same_node m n)) [
+      | inl t ↦ inr (inl (same_node_exact m n t))
+      | inr f ↦ elim (split ns e.1) [
+        | inl all ↦ inl (sym (mark_of-other n m ks f) ∙ e.0, all)
+        | inr has ↦ inr (inr has)
+      ]
+    ]
+
+    -- once a node is marked, what stands on it is pending
+    pub marked_on : IsMarkedTo net (with_mark_at n ks) (users n ++ rest)
+    marked_on = record {
+      sound = λ m h. rw (as_memos-with_mark_at n ks) (elim (cases_Bool (same_node m n)) [
+        | inl t ↦ subst (IsSettled net (as_memos ks)) (sym (same_node_exact m n t)) now_settled
+        | inr f ↦ p.sound m (sym (mark_of-other n m ks f) ∙ h)
+      ]);
+      left = λ u has f m e. elim (cases_Bool (same_node u n)) [
+        | inl t ↦ absurd (true_false _ is_marked_now (subst
+            (λ (x : Node). mark_of (with_mark_at n ks) x ≡ false) (same_node_exact u n t)
+            f))
+        | inr g ↦ elim (split (input_nodes (net.inputs u)) e) [
+          | inl all ↦ elim
+              (p.left u has (sym (mark_of-other n u ks g) ∙ f)
+              (rw (as_memos-with_mark_at n ks) at m) all) [
+                | inl q ↦ absurd (true_false _ (same_node_refl u)
+                    (subst (λ (x : Node). same_node u x ≡ false) q g))
+                | inr r ↦ has_right (users n) rest u r
+              ]
+          | inr on ↦ has_left (users n) rest u (covers u has on)
+        ]
+      ];
+    }
+
+-- where nothing is pending, the marks are what is settled
+module _ {V G : Type 0} (net : Net G) (ks : List (Slot V))
+    (without_claim : (n : Node) → Has net.used n → Each (Has net.used) (input_nodes (net.inputs n)))
+    (p : IsMarkedTo net ks []) where
+  pub settled_marked : (d : ℕ) (n : Node) → Has net.used n → IsSettledBy d net (as_memos ks) n
+      → mark_of ks n ≡ true
+  settled_marked zero n has s = absurd s
+  settled_marked (suc d) n has s = elim (cases_Bool (mark_of ks n)) [
+    | inl t ↦ t
+    | inr f ↦ absurd (p.left n has f s.0 (all (λ m h t. settled_marked d m h t)
+        (input_nodes (net.inputs n)) (without_claim n has) s.1))
+  ]
+    where
+      all : ((m : Node) → Has net.used m → IsSettledBy d net (as_memos ks) m → mark_of ks m ≡ true)
+          → (ns : List Node) → Each (Has net.used) ns → Each (IsSettledBy d net (as_memos ks)) ns
+          → Each (λ m. mark_of ks m ≡ true) ns
+      all go [] h t = tt
+      all go (m ∷ ns) h t = (go m h.0 t.0, all go ns h.1 t.1)
+
+pub cleared_marked : {V G : Type 0} (net : Net G) (ks : List (Slot V))
+    → ((n : Node) → mark_of ks n ≡ false) → IsMarkedTo net ks net.used
+cleared_marked net ks none =
+    record { sound = λ n h. absurd (true_false _ h (none n)); left = λ n has f m e. has }
+
+-- an accepted return leaves its node pending, and nothing else
+pub put_pending : {V G : Type 0} (net : Net G) (ks next : List (Slot V)) (m : Memo V)
+    → IsMarkedTo net ks [] → as_memos next ≡ put_memo m (as_memos ks)
+    → ((n : Node) → mark_of next n ≡ (if same_node n m.node then false else mark_of ks n))
+    → (IsSettled net (as_memos ks) m.node → ⊥) → IsMarkedTo net next (m.node ∷ [])
+put_pending {V} net ks next m p is flags unsettled = record {
+  sound = λ n h. elim (cases_Bool (same_node n m.node)) [
+    | inl t ↦ absurd (true_false _ h (flags n ∙ rw t refl))
+    | inr f ↦ (let s = p.sound n (sym (other n f) ∙ h) in
+        rw is (s.0, settled_stays net (as_memos ks) m unsettled s.0 n s.1))
+  ];
+  left = λ n has f match e. elim (cases_Bool (same_node n m.node)) [
+    | inl t ↦ inl (sym (same_node_exact n m.node t))
+    | inr g ↦ absurd (p.left n has (sym (other n g) ∙ f) (matched n g (rw is at match) e)
+        (each_old (input_nodes (net.inputs n)) e))
+  ];
+}
+  where
+    other : (n : Node) → same_node n m.node ≡ false → mark_of next n ≡ mark_of ks n
+    other n f = flags n ∙ rw f refl
+
+    not_it : (n : Node) → mark_of next n ≡ true → same_node n m.node ≡ false
+    not_it n h =
+        elim (cases_Bool (same_node n m.node)) [
+          | inl t ↦ absurd
+              (true_false _ h (flags n ∙ rw t refl))
+          | inr g ↦ g
+        ]
+
+    each_old : (ns : List Node) → Each (λ m. mark_of next m ≡ true) ns
+        → Each (λ m. mark_of ks m ≡ true) ns
+    each_old [] e = tt
+    each_old (n ∷ ns) e = (sym (other n (not_it n e.0)) ∙ e.0, each_old ns e.1)
+
+    all_settled : (ns : List Node) → Each (λ m. mark_of next m ≡ true) ns
+        → Each (IsSettled net (as_memos ks)) ns
+    all_settled [] e = tt
+    all_settled (n ∷ ns) e = (p.sound n (sym (other n (not_it n e.0)) ∙ e.0), all_settled ns e.1)
+
+    matched : (n : Node) → same_node n m.node ≡ false → Matches net (put_memo m (as_memos ks)) n
+        → Each (λ m. mark_of next m ≡ true) (input_nodes (net.inputs n))
+        → Matches net (as_memos ks) n
+    matched n g match e =
+        let deep = one_depth net (as_memos ks) (input_nodes (net.inputs n)) (all_settled (input_nodes (net.inputs n)) e) in
+        rw (
+          put_other m n (as_memos ks) g,
+          same_present net (as_memos ks) m unsettled deep.0 (net.inputs n) deep.1,
+        ) at match
+
+-- what has an index is there, and what is there has one
+pub has_at : (ns : List Node) (i : ℕ) (n : Node) → slice_get ns i ≡ Some n → Has ns n
+has_at [] i n h = cc
+has_at (m ∷ ns) zero n h = inl (some_one m n h)
+  where
+    some_one : (m n : Node) → Some m ≡ Some n → m ≡ n
+    some_one m n h = cc
+has_at (m ∷ ns) (suc i) n h = inr (has_at ns i n h)
+
+at_has : (ns : List Node) (n : Node) → Has ns n
+    → (i : ℕ) × (i < length ns) × (slice_get ns i ≡ Some n)
+at_has [] n h = absurd h
+at_has (m ∷ ns) n h = elim h [
+  | inl e ↦ (0, omega arith, ap (λ (n : Node). let o : Option Node = Some n in o) e)
+  | inr r ↦ (let t = at_has ns n r in (suc t.0, omega (arith, t.1), t.2))
+]
+
+-- the used node of an index that has work
+pub work_at : {V G : Type 0} (net : Net G) (ks : List (Slot V)) (cs : List (ℕ × Claim)) (i : ℕ)
+    → IsWorkAt net ks cs i → (n : Node) → slice_get net.used i ≡ Some n
+    → can_work net ks cs n ≡ true
+work_at net ks cs i w n at =
+    subst (λ (n : Node). can_work net ks cs n ≡ true) (some_node w.node n (sym w.found ∙ at)) w.work
+  where
+    some_node : (m n : Node) → Some m ≡ Some n → m ≡ n
+    some_node m n h = cc
+
+-- work by marks is work
+module _ {V G : Type 0} (net : Net G) (ks : List (Slot V))
+    (without_claim : (n : Node) → Has net.used n → Each (Has net.used) (input_nodes (net.inputs n)))
+    (p : IsMarkedTo net ks []) (cs : List (ℕ × Claim)) (taken : ℕ) where
+  to_settled : (ns : List Node) → Each (λ m. mark_of ks m ≡ true) ns
+      → Each (IsSettled net (as_memos ks)) ns
+  to_settled [] e = tt
+  to_settled (m ∷ ns) e = (p.sound m e.0, to_settled ns e.1)
+
+  to_marked : (ns : List Node) → Each (Has net.used) ns → Each (IsSettled net (as_memos ks)) ns
+      → Each (λ m. mark_of ks m ≡ true) ns
+  to_marked [] h e = tt
+  to_marked (m ∷ ns) h e =
+      (settled_marked net ks without_claim p (e.0).0 m h.0 (e.0).1, to_marked ns h.1 e.1)
+
+  work_parts : (a b c : Bool) → (not a && b && not c) ≡ true
+      → (a ≡ false) × (b ≡ true) × (c ≡ false)
+  work_parts true b c h = cc
+  work_parts false false c h = cc
+  work_parts false true true h = cc
+  work_parts false true false h = (refl, refl, refl)
+
+  pub is_work_of : (n : Node) → Has net.used n → can_work net ks cs n ≡ true
+      → IsWork (of_all net (as_memos ks) cs taken) n
+  is_work_of n has h =
+      let q = work_parts (is_match net (as_memos ks) n) (all_nodes (mark_of ks) (net.inputs n)) (is_out n (present_inputs net (as_memos ks) (net.inputs n)) cs) h in
+      record {
+        used = has;
+        unmatched = λ m. true_false _ ((match_is net (as_memos ks) n).1 m) q.0;
+        inputs_settled =
+            to_settled (input_nodes (net.inputs n)) (all_to (mark_of ks) (λ m. mark_of ks m ≡ true)
+            (λ m t. t) (net.inputs n) q.1);
+        not_out = not_out_yes n (present_inputs net (as_memos ks) (net.inputs n)) cs q.2;
+      }
+
+  can_work_of : (n : Node) → IsWork (of_all net (as_memos ks) cs taken) n
+      → can_work net ks cs n ≡ true
+  can_work_of n w =
+      let u : is_match net (as_memos ks) n ≡ false = elim (cases_Bool (is_match net (as_memos ks) n)) [ inl t ↦ absurd (w.unmatched ((match_is net (as_memos ks) n).0 t)) | inr f ↦ f ] in
+      let e : all_nodes (mark_of ks) (net.inputs n) ≡ true = all_from (mark_of ks) (λ m. mark_of ks m ≡ true) (λ m t. t) (net.inputs n) (to_marked (input_nodes (net.inputs n)) (without_claim n w.used) w.inputs_settled) in
+      rw (u, e, not_out_is n (present_inputs net (as_memos ks) (net.inputs n)) cs w.not_out) refl
+
+  pub marked_none : IsIdle net ks cs 0 (length net.used) → (n : Node)
+      → IsWork (of_all net (as_memos ks) cs taken) n → ⊥
+  marked_none idle n w =
+      let there = at_has net.used n w.used in
+      true_false _ (can_work_of n w) (idle there.0 n (omega arith) there.1 there.2)
+
+module _ {V G : Type 0} (net : Net G) (ks : List (Slot V))
+    (without_claim : (n : Node) → Has net.used n → Each (Has net.used) (input_nodes (net.inputs n)))
+    (p : IsMarkedTo net ks []) where
+  pub all_marked : AreMarked net ks (length net.used) → (n : Node) → Has net.used n
+      → IsSettled net (as_memos ks) n
+  all_marked all n has =
+      let there = at_has net.used n has in p.sound n (all there.0 n there.1 there.2)
+
+  pub some_unmarked : HasUnmarked net ks
+      → (n : Node) × Has net.used n × (IsSettled net (as_memos ks) n → ⊥)
+  some_unmarked u =
+      let has = has_at net.used u.index u.node u.found in (
+        u.node,
+        has,
+        λ s. true_false _ (settled_marked net ks without_claim p s.0 u.node has s.1)
+            u.unmarked,
+      )
+
+-- a marked node has no work
+pub marked_idle : {V G : Type 0} (net : Net G) (ks : List (Slot V)) (cs : List (ℕ × Claim))
+    (n : Node) → IsMarkedTo net ks [] → mark_of ks n ≡ true → can_work net ks cs n ≡ false
+marked_idle {V} net ks cs n p h = let s = p.sound n h in go s.0 s.1
+  where
+    go : (d : ℕ) → IsSettledBy d net (as_memos ks) n → can_work net ks cs n ≡ false
+    go zero s = absurd s
+    go (suc d) s = rw ((match_is net (as_memos ks) n).1 s.0) refl

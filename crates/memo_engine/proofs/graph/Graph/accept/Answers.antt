@@ -1,0 +1,70 @@
+use Rattle.memo_core.specs.declared.keys.Key.{Key}
+use Rattle.std.proofs.Common.{◌∙◌, ◌+◌, List, [], subst, sym, ap, ◌≡◌, Some, None, option_map}
+use Rattle.memo_core.specs.Graph.{Memo, named_values}
+use Rattle.memo_core.specs.Views.{as_memos, shown_outputs, shown_values}
+use Rattle.memo_core.specs.Step.{open_claim, open_claims, return_of, state}
+use Rattle.memo_core.proofs.ClaimLemmas.{closed, found, numbered_later, numbered_closed}
+use Rattle.memo_core.proofs.Progress.{accepts_fresh, accept_unsettled}
+use Rattle.memo_engine.proofs.MarkLemmas.{put_pending}
+use Rattle.memo_core.specs.Right.{IsCounted}
+use Rattle.memo_core.proofs.Counted.{counted_now}
+use Rattle.memo_engine.proofs.AcceptLemmas.{accepted, finishes}
+use Rattle.memo_engine.proofs.graph.Graph.accept.Goals as goal
+
+pub unreachable-requires : goal.unreachable-requires
+unreachable-requires g c =
+    let s = c.args.self.now in
+    clash (sym c.requires.due.1.found ∙ sym (found c.args.done.claim s.claims.entries)
+    ∙ ap (option_map (λ k. open_claim (c.args.done.claim, k)))
+    (sym c.remove.ensures.value ∙ c.in-None.is))
+  where
+    clash : {X : Type 0} {x : X} → Some x ≡ None → ⊥
+    clash e = cc
+
+pub returns-clause-taken : goal.returns-clause-taken
+returns-clause-taken g c =
+    let s = c.args.self.now in
+    let d = c.args.done in
+    let t = g.T.Texts in
+    let net = t.net s.texts in
+    let values = shown_values d.values.items in
+    let outputs = shown_outputs d.outputs.items in
+    let r = return_of d.claim d.node d.given d.keys.items values outputs in
+    let present = c.requires.due.3 in
+    let a = accepted t.same g.met.T.Texts.same_exact (IsCounted t.since t.net t.makes s.texts) net (as_memos s.memos.entries) s.claims.entries s.taken d.claim d.node d.given d.keys.items values outputs
+    c.in-Some.claim (sym c.in-Some.is ∙ c.remove.ensures.value) c.requires.due c.requires.right.1 (λ
+    is a. counted_now t.is_valid t.since t.net t.makes s.texts
+    (g.met.T.Texts.since_same s.texts c.requires.right.0) d.node is values
+    (named_values outputs) a
+    (record {
+      given = d.given;
+      gives = present.given;
+      made =
+          subst
+          (λ (ks : List Key). t.makes d.node d.given ks values (named_values outputs))
+          present.keys c.requires.computed;
+    })) (as_memos c.settle.new.memos.entries)
+    c.remove.new.self.entries
+    (c.settle.ensures.memos
+    ∙ rw (c.restamp_all.ensures.outputs, c.into_results-outputs.ensures.outputs) at
+    c.store_memo.ensures.memos) c.remove.ensures.entries in
+    let old = state net s.memos.entries s.claims.entries s.taken in
+    let new = state net c.settle.new.memos.entries c.remove.new.self.entries (s.taken + 1) in
+    let m : Memo g.row.T-Value.Denot = record { node = d.node; inputs = c.in-Some.claim.inputs.items; outputs = shown_outputs c.restamp_all.new.outputs.items } in
+    record {
+      right = (c.requires.right.0, a.0);
+      fresh = (
+        accepts_fresh old new r c.requires.fresh.0 a.1,
+        rw (c.remove.ensures.entries, closed d.claim s.claims.entries) (numbered_later s.taken _
+            (numbered_closed s.taken d.claim (open_claims s.claims.entries)
+            c.requires.fresh.1)),
+      );
+      marks =
+          c.settle.ensures.marks c.requires.right.0 [] (put_pending net s.memos.entries
+          c.store_memo.new.memos.entries m c.requires.marks c.store_memo.ensures.memos
+          (λ n. c.store_memo.ensures.flags n)
+          (accept_unsettled old new r c.requires.fresh.0 a.1));
+      step =
+          finishes old new r c.restamp_all.new.names.items c.finish_of.result c.finish_of.ensures
+          a.1 ((rw c.into_results-outputs.ensures.outputs at c.restamp_all.ensures.names) ∙ a.2);
+    }

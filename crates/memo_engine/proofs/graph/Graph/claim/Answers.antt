@@ -1,0 +1,91 @@
+use Rattle.std.proofs.Common.{◌+◌, refl, sym}
+use Rattle.memo_core.specs.Graph.{at}
+use Rattle.memo_core.specs.Right.{IsCounted}
+use Rattle.memo_core.proofs.Counted.{counted_made}
+use Rattle.memo_core.specs.Views.{as_memos, shown_values}
+use Rattle.memo_engine.proofs.WorkLemmas.{values_there, values_present, has_there}
+use Rattle.memo_core.proofs.ClaimLemmas.{opened, numbered_opened}
+use Rattle.memo_engine.proofs.MarkLemmas.{is_work_of, marked_none}
+use Rattle.memo_core.proofs.Progress.{gives_fresh}
+use Rattle.memo_core.specs.Step.{open_claims, state}
+use Rattle.memo_core.proofs.Runs.{right_later}
+use Rattle.memo_engine.proofs.graph.Graph.claim.Goals as goal
+
+pub returns-in-None-clause-none : goal.returns-in-None-clause-none
+returns-in-None-clause-none g c =
+    let s = c.args.self.now in
+    let t = g.T.Texts in
+    marked_none (t.net s.texts) s.memos.entries
+    (g.met.T.Texts.used_closed s.texts c.requires.right.0) c.requires.marks s.claims.entries
+    s.taken
+    c.in-None.ensures.none
+
+pub job_of-requires : goal.job_of-requires
+job_of-requires g c =
+    let s = c.args.self.now in
+    let t = g.T.Texts in
+    let laws = g.met.T.Texts in
+    let w = is_work_of (t.net s.texts) s.memos.entries (laws.used_closed s.texts c.requires.right.0) c.requires.marks s.claims.entries s.taken c.in-Some.node c.in-Some.ensures.used c.in-Some.ensures.work in
+    let there = has_there (t.is_there s.texts) (t.net s.texts).used c.in-Some.node (laws.used_there s.texts c.requires.right.0) w.used in
+    record {
+      there = there;
+      values =
+          values_there (IsCounted t.since t.net t.makes s.texts) t.makes (t.net s.texts)
+          (as_memos s.memos.entries) s.taken (t.is_there s.texts)
+          (λ m is vs os k a. counted_made t.is_valid t.since t.net t.makes laws.given_stays s.texts
+          c.requires.right.0 m is vs os k a) c.requires.right.1
+          (laws.sound s.texts c.requires.right.0) c.in-Some.node there w.inputs_settled;
+    }
+
+pub returns-clause-given : goal.returns-clause-given
+returns-clause-given g c =
+    let s = c.args.self.now in
+    let t = g.T.Texts in
+    let w = is_work_of (t.net s.texts) s.memos.entries (g.met.T.Texts.used_closed s.texts c.requires.right.0) c.requires.marks s.claims.entries s.taken c.in-Some.node c.in-Some.ensures.used c.in-Some.ensures.work in
+    let made = c.in_ok-job.ensures in
+    record {
+      work = rw made.claim.1 w;
+      number_is = made.claim.0;
+      given_is = rw made.claim.1 made.given;
+      keys_are = rw made.claim.1 made.keys;
+      values_are =
+          rw made.keys (values_present (at (as_memos s.memos.entries))
+          ((t.net s.texts).inputs c.in-Some.node) (shown_values c.in_ok-job.job.values.items)
+          (sym made.values));
+      after =
+          rw (
+            c.in_ok-open_claim.ensures.memos,
+            c.in_ok-open_claim.ensures.opened,
+            opened s.taken (record { node = c.in-Some.node; inputs = c.in_ok-inputs.inputs })
+                s.claims.entries c.requires.fresh.1,
+            c.in_ok-inputs.ensures,
+            made.claim.0,
+            made.claim.1,
+          ) refl;
+    }
+
+pub returns-clause-right : goal.returns-clause-right
+returns-clause-right g c =
+    let s = c.args.self.now in (
+      c.requires.right.0,
+      rw c.in_ok-open_claim.ensures.memos (right_later
+          (IsCounted g.T.Texts.since g.T.Texts.net g.T.Texts.makes s.texts)
+          (g.T.Texts.net s.texts) (as_memos s.memos.entries) s.taken c.requires.right.1),
+    )
+
+pub returns-clause-fresh : goal.returns-clause-fresh
+returns-clause-fresh g c =
+    let s = c.args.self.now in
+    let net = g.T.Texts.net s.texts in
+    let job = c.in_ok-job.job in (
+      gives_fresh (state net s.memos.entries s.claims.entries s.taken)
+          (state net c.open_claim.new.memos.entries c.open_claim.new.claims.entries (s.taken + 1))
+          job.claim job.node job.given job.keys.items (shown_values job.values.items)
+          c.requires.fresh.0 (returns-clause-given g c),
+      rw (
+        c.in_ok-open_claim.ensures.opened,
+        opened s.taken (record { node = c.in-Some.node; inputs = c.in_ok-inputs.inputs })
+            s.claims.entries c.requires.fresh.1,
+      )
+          (numbered_opened s.taken _ (open_claims s.claims.entries) refl c.requires.fresh.1),
+    )

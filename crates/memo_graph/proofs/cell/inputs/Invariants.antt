@@ -1,6 +1,0 @@
-use Rattle.std.proofs.Common.{take}
-use Rattle.memo_graph.specs.Known.{AreFound}
-use Rattle.memo_graph.proofs.cell.inputs.Given as goal
-
-abbrev pub invariant-loop-input : goal.invariant-loop-input
-invariant-loop-input l = AreFound l.columns (take l.input-index l.item.inputs.items) l.found.items

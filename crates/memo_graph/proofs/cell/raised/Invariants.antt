@@ -1,7 +1,0 @@
-use Rattle.std.proofs.Common.{◌≡◌, take}
-use Rattle.verdict.specs.Kept.{of_raised}
-use Rattle.memo_graph.specs.Known.{of_flags}
-use Rattle.memo_graph.proofs.cell.raised.Given as goal
-
-abbrev pub invariant-loop-flag : goal.invariant-loop-flag
-invariant-loop-flag l = of_raised l.raised.items ≡ of_flags (take l.flag-index l.flags)

@@ -1,6 +1,0 @@
-use Rattle.std.proofs.Common.{take, Contains}
-use Rattle.memo_graph.specs.Keeping.{Notes}
-use Rattle.memo_graph.proofs.keeping.LastUsers.note_all.Given as goal
-
-abbrev pub invariant-loop-name : goal.invariant-loop-name
-invariant-loop-name l = Notes l.user (Contains (take l.name-index l.names)) l.fn.self l.self

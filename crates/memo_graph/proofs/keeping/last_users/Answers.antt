@@ -1,6 +1,0 @@
-use Rattle.memo_graph.proofs.Letting.{last_keeps}
-use Rattle.memo_graph.proofs.keeping.last_users.Goals as goal
-
-pub returns-in-All-clause-last : goal.returns-in-All-clause-last
-returns-in-All-clause-last c =
-    last_keeps c.args.items.now c.args.indexes.now c.none.result c.none.ensures

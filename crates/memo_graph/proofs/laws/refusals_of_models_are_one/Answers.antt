@@ -1,5 +1,0 @@
-use Rattle.memo_graph.proofs.Sole.{one_refusal}
-use Rattle.memo_graph.proofs.laws.refusals_of_models_are_one.Goals as goal
-
-pub returns : goal.returns
-returns c = one_refusal c.args.test.now c.args.model.now

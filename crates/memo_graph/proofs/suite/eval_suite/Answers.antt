@@ -1,5 +1,0 @@
-use Rattle.memo_graph.proofs.suite.eval_suite.Goals as goal
-
-pub returns : goal.returns
-returns c =
-    c.each_test.ensures c.args.models.now (rw c.deref.ensures.value c.in_ok-resolved.ensures)

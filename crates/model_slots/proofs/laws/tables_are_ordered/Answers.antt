@@ -1,5 +1,0 @@
-use Rattle.model_slots.proofs.Ordered.{table_ordered}
-use Rattle.model_slots.proofs.laws.tables_are_ordered.Goals as goal
-
-pub returns : goal.returns
-returns c = table_ordered

@@ -1,8 +1,0 @@
-use Rattle.std.proofs.Common.{◌≡◌, ◌++◌, drop}
-use Rattle.model_slots.specs.Slots.{flag_key, keys_by}
-use Rattle.model_slots.proofs.model.put_flags.Given as goal
-
-abbrev pub invariant-loop-index : goal.invariant-loop-index
-invariant-loop-index l =
-    l.keys.items ++ keys_by flag_key l.numbers l.items (drop l.index-index l.used)
-    ≡ l.initial.keys.items ++ keys_by flag_key l.numbers l.items l.used

@@ -1,5 +1,0 @@
-use Rattle.node_values.proofs.PartTests.{of_each}
-use Rattle.node_values.proofs.laws.space_is_of_each_test.Goals as goal
-
-pub returns : goal.returns
-returns c = of_each

@@ -1,6 +1,0 @@
-use Rattle.std.proofs.Common.{◌≡◌, map}
-use Rattle.node_values.specs.Values.{OfColumn}
-use Rattle.node_values.proofs.run.column_values.Given as goal
-
-abbrev pub invariant-loop-column : goal.invariant-loop-column
-invariant-loop-column l = l.values.items ≡ map OfColumn l.yielded

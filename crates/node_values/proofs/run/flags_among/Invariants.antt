@@ -1,5 +1,0 @@
-use Rattle.node_values.proofs.Making.{AreFlagsTo}
-use Rattle.node_values.proofs.run.flags_among.Given as goal
-
-abbrev pub invariant-loop-at : goal.invariant-loop-at
-invariant-loop-at l = AreFlagsTo l.flags l.answers l.at l.raised.items

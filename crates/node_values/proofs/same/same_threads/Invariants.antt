@@ -1,6 +1,0 @@
-use Rattle.text_values.specs.TestValue.{steps_of}
-use Rattle.node_values.proofs.Compared.{AreSameTo}
-use Rattle.node_values.proofs.same.same_threads.Given as goal
-
-abbrev pub invariant-loop-index : goal.invariant-loop-index
-invariant-loop-index l = AreSameTo steps_of l.these l.those l.index

@@ -1,5 +1,0 @@
-use Rattle.orderly_texts.proofs.Order.{go_on_same, go_on_further}
-use Rattle.orderly_texts.proofs.laws.order_lasts_over_edits.Goals as goal
-
-pub returns : goal.returns
-returns c = record { without_edits = go_on_same; over_both = go_on_further }

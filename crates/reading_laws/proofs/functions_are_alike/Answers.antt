@@ -1,5 +1,0 @@
-use Rattle.reading_laws.proofs.Applied.{alike_functions}
-use Rattle.reading_laws.proofs.functions_are_alike.Goals as goal
-
-pub returns : goal.returns
-returns c = alike_functions

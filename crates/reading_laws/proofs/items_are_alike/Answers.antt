@@ -1,5 +1,0 @@
-use Rattle.reading_laws.proofs.AlikeModels.{alike_in_models}
-use Rattle.reading_laws.proofs.items_are_alike.Goals as goal
-
-pub returns : goal.returns
-returns c = alike_in_models c.args.model.now c.args.other.now

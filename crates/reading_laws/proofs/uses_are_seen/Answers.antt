@@ -1,5 +1,0 @@
-use Rattle.reading_laws.proofs.Visible.{uses_seen}
-use Rattle.reading_laws.proofs.uses_are_seen.Goals as goal
-
-pub returns : goal.returns
-returns c = uses_seen

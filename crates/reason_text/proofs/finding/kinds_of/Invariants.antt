@@ -1,7 +1,0 @@
-use Rattle.std.proofs.Common.{◌≡◌, map, take}
-use Rattle.reason_text.specs.Findings.{kind_of, texts_in}
-use Rattle.reason_text.proofs.finding.kinds_of.Given as goal
-
-abbrev pub invariant-loop-reason : goal.invariant-loop-reason
-invariant-loop-reason l =
-    texts_in l.kinds.items ≡ map (kind_of l.locations) (take l.reason-index l.reasons)

@@ -1,5 +1,0 @@
-use Rattle.reason_text.proofs.Names.{names_apart}
-use Rattle.reason_text.proofs.laws.names_are_apart.Goals as goal
-
-pub returns : goal.returns
-returns c = names_apart

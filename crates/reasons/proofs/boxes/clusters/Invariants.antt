@@ -1,7 +1,0 @@
-use Rattle.bit_relations.specs.Relation.{IsMember}
-use Rattle.reasons.specs.Drawings.{AreClusters}
-use Rattle.reasons.specs.Views.{scene_of}
-use Rattle.reasons.proofs.boxes.clusters.Given as goal
-
-abbrev pub invariant-loop-thread : goal.invariant-loop-thread
-invariant-loop-thread l = AreClusters (scene_of l.told) (IsMember l.drawn) l.thread l.clusters.items

@@ -1,5 +1,0 @@
-use Rattle.reasons.specs.Checked.{AcceptBelow}
-use Rattle.reasons.proofs.checks.first_refusal.Given as goal
-
-abbrev pub invariant-loop-index : goal.invariant-loop-index
-invariant-loop-index l = AcceptBelow l.checks l.candidate l.index

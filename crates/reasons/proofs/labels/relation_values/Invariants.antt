@@ -1,9 +1,0 @@
-use Rattle.std.proofs.Common.{◌≡◌, take}
-use Rattle.std.specs.List.{All}
-use Rattle.reasons.specs.Language.{IsOfLanguage, names_in, relation_names}
-use Rattle.reasons.proofs.labels.relation_values.Given as goal
-
-abbrev pub invariant-loop-index : goal.invariant-loop-index
-invariant-loop-index l =
-    All (IsOfLanguage l.space) l.values.items
-    × (names_in l.values.items ≡ relation_names (take l.index l.names))

@@ -1,7 +1,0 @@
-use Rattle.reasons.proofs.Pairing.{named_pairs}
-use Rattle.reasons.proofs.lines.relation_of.Goals as goal
-
-pub returns : goal.returns
-returns c =
-    λ one is. named_pairs c.args.space.now c.args.value.now c.args.candidate one
-    c.relation_at.result c.requires is c.relation_at.ensures

@@ -1,7 +1,0 @@
-use Rattle.std.proofs.Common.{take}
-use Rattle.std.specs.List.{AllZip}
-use Rattle.reasons.specs.Drawable.{AreValuesOf}
-use Rattle.reasons.proofs.lines.relation_values.Given as goal
-
-abbrev pub invariant-loop-index : goal.invariant-loop-index
-invariant-loop-index l = AllZip (AreValuesOf l.space) (take l.index l.relations) l.found.items

@@ -1,9 +1,0 @@
-use Rattle.std.proofs.Common.{◌≡◌, ◌++◌, map, drop}
-use Rattle.reasons.specs.Steps.{legs_to}
-use Rattle.reasons.specs.Views.{leg_of, start_of}
-use Rattle.reasons.proofs.telling.legs_to.Given as goal
-
-abbrev pub invariant-loop-index : goal.invariant-loop-index
-invariant-loop-index l =
-    map leg_of l.legs.items ++ legs_to (map start_of (drop l.index l.starts)) l.end
-    ≡ legs_to (map start_of l.starts) l.end

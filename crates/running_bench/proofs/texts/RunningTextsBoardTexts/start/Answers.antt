@@ -1,5 +1,0 @@
-use Rattle.running_bench.proofs.Indexes.{after_nothing}
-use Rattle.running_bench.proofs.texts.RunningTextsBoardTexts.start.Goals as goal
-
-pub returns-clause-after : goal.returns-clause-after
-returns-clause-after c = after_nothing c.new.result c.new.ensures.texts

@@ -1,5 +1,0 @@
-use Rattle.running_bench.proofs.Contents.{history_is_within}
-use Rattle.running_bench.proofs.view_laws.histories_are_within_limits.Goals as goal
-
-pub returns : goal.returns
-returns c = history_is_within

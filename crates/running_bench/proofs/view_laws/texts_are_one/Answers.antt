@@ -1,5 +1,0 @@
-use Rattle.running_bench.proofs.Contents as proof
-use Rattle.running_bench.proofs.view_laws.texts_are_one.Goals as goal
-
-pub returns : goal.returns
-returns c = proof.texts_are_one

@@ -1,0 +1,46 @@
+-- An edit of own texts, by whether it is refused.
+use Rattle.std.proofs.Common.{◌≡◌, ℕ, ◌<◌, ◌-◌, ◌+◌, ◌^◌, arith, List, [], true, false, ap, sym, subst, ◌∙◌}
+use Rattle.bench_texts.specs.BenchTexts.{BenchTexts}
+use Rattle.bench_texts.specs.declared.edit.Edit as code
+use Rattle.bench_texts.specs.Edits.{Edit, Applies, edit_of}
+use Rattle.session_edits.specs.Answer.{Said}
+use Rattle.session_edits.specs.Edits.{IsEdited, IsAccepted, IsRefused}
+use Rattle.board.specs.declared.operation.BoardOp.{BoardOp}
+use Rattle.board.specs.Histories.{no_contents}
+use Rattle.session_views.specs.Knowing.{KnowsOwn, HasOwnEdit}
+use Rattle.session_run.specs.Ready.{IsReady}
+
+-- an edit that is accepted makes them
+pub accepted_applies : (t after : BenchTexts) (e : Edit) (said : Said) → IsEdited t e said after
+    → said.refused ≡ false → Applies t false e after
+accepted_applies t after e said (IsAccepted applies is) accepted = applies
+accepted_applies t after e said (IsRefused fault answer refuses is same) accepted =
+    let wrong : true ≡ false = sym (ap (λ (s : Said). s.refused) is) ∙ accepted in absurd cc
+
+-- ---- who knows its texts
+
+abbrev pub HasOwnEdits : code.Edit → (seen later : List BoardOp) → Type 0
+HasOwnEdits e seen later = (number : ℕ) × HasOwnEdit e number seen later
+
+-- the law of own edits
+abbrev pub EditsAreKnown : BenchTexts → Type 0
+EditsAreKnown t =
+    (e : code.Edit) (number : ℕ) (seen later : List BoardOp) (made : ℕ) (new : BenchTexts)
+    → KnowsOwn seen made t → HasOwnEdit e number seen later → Applies t false (edit_of e) new
+    → KnowsOwn later (made + 1) new
+
+pub knows_texts : (seen : List BoardOp) (t : BenchTexts) → KnowsOwn [] 0 no_contents → seen ≡ []
+    → t ≡ no_contents → KnowsOwn seen 0 t
+knows_texts seen t k nothing none =
+    subst (λ (l : List BoardOp). KnowsOwn l 0 t) (sym nothing)
+    (subst (λ (x : BenchTexts). KnowsOwn [] 0 x) (sym none) k)
+
+pub accepted_ready : (e : code.Edit) (seen later : List BoardOp) (made : ℕ) (t after : BenchTexts)
+    (said : Said) → EditsAreKnown t → IsReady seen made t → HasOwnEdits e seen later
+    → IsEdited t (edit_of e) said after → said.refused ≡ false → made < 2 ^ 64 - 2
+    → IsReady later (made + 1) after
+accepted_ready e seen later made t after said law ready has edited accepted few = (
+  omega (arith, few),
+  law e has.0 seen later made after ready.1 has.1
+      (accepted_applies t after (edit_of e) said edited accepted),
+)

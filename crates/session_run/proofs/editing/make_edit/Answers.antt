@@ -1,0 +1,12 @@
+use Rattle.std.proofs.Common.{rules}
+use Rattle.bench_texts.specs.Held.{texts_of}
+use Rattle.session_run.proofs.Edits.{accepted_ready}
+use Rattle.session_run.proofs.editing.make_edit.Goals as goal
+
+pub returns-clause-ready : goal.returns-clause-ready
+returns-clause-ready g c =
+    accepted_ready c.args.edit c.args.session.now.viewer c.tell_desk.new.viewer
+    c.args.session.now.made (texts_of c.args.session.now.texts)
+    (texts_of c.answer_edit.new.texts) c.in-Ok.answer
+    c.own_edits_are_known.ensures c.requires.ready
+    c.in_ok-tell_desk.ensures.told c.in-Ok.ensures.edited (search rules) (search rules)

@@ -1,0 +1,212 @@
+//! Questions of a session.
+
+ghost use Rattle.std.specs.Prelude.{◌≡◌, IfOk, IfErr, IfSome, OnOk};
+ghost use mathlib.Core.List.{IsPrefix};
+ghost use Rattle.bench_texts.specs.Held.{texts_of};
+ghost use Rattle.board.specs.Legal.{IsLegal};
+ghost use Rattle.session_answers.specs.Questions.{IsReply};
+ghost use Rattle.session_run.specs.Faults.{IsOwnFault};
+ghost use Rattle.session_run.specs.Ready.{IsReady};
+
+use crate::fault::fault_of;
+use crate::jobs::run_some;
+use crate::state::Session;
+use bench_instance::{RunningDesk, RunningTexts, edit_count_in, newest_view};
+use bench_texts::Texts;
+use command_answers::{ProgressListener, SessionFault};
+use core::mem::replace_with;
+use desk::{Refusals, Settling};
+use desk_history::{Naming, View, Viewer};
+use session_edits::{Answer, Question};
+use session_views::laws::{later_is_known, own_texts_are_shown};
+use session_views::{answer_from_board, board_progress};
+use std::alloc::Global;
+use std::sync::Wait;
+use value_store::StoreName;
+
+// Has the desk show what is settled.
+#[tactic(auto, using(crate::proofs::Viewers::told_begins))]
+fn settle_turn<J: Naming + StoreName, R: Wait + Drop, W: Wait>(
+    rt: &W,
+    desk: &RunningDesk<J, R>,
+    session: &mut Session<J>,
+) -> Result<Settling, SessionFault>
+    requires ready { IsReady session.old.viewer session.old.made (texts_of session.old.texts) }
+    ensures texts { session.new.texts ≡ session.old.texts }
+    ensures ready { OnOk result (IsReady session.new.viewer session.new.made
+        (texts_of session.new.texts)) }
+    ensures fault { IfErr result IsOwnFault }
+{
+    later_is_known();
+    match desk.settle_turn(rt, &mut session.viewer) {
+        Ok(settling) => Ok(settling),
+        Err(fault) => Err(fault_of(&fault)),
+    }
+}
+
+// The answer to a question from a view, if its cells are settled. It shows the session's texts
+// unless it counts other edits.
+fn answer_in<J: Naming>(
+    alloc: Global,
+    view: &View<J, RunningTexts>,
+    texts: &Texts,
+    made: u64,
+    question: &Question,
+) -> Result<Option<Answer>, SessionFault>
+    requires legal { IsLegal view.now }
+    requires ready { IsReady view.now made (texts_of texts.now) }
+    ensures reply { IfOk result (λ r. IfSome r (IsReply (texts_of texts.now) question.now)) }
+    ensures fault { IfErr result IsOwnFault }
+{
+    own_texts_are_shown();
+    if edit_count_in(view) != made {
+        return Err(SessionFault::Shared);
+    }
+    match answer_from_board(alloc, texts, view.board(), question) {
+        Ok(answer) => Ok(answer),
+        Err(_) => Err(SessionFault::Memory),
+    }
+}
+
+// Tells a listener how far a table is, where it is due and there is no answer.
+fn tell_progress<J: Naming, L: ProgressListener>(
+    answer: &Result<Option<Answer>, SessionFault>,
+    view: &View<J, RunningTexts>,
+    texts: &Texts,
+    question: &Question,
+    listener: &mut L,
+) {
+    if let Ok(None) = answer {
+        if listener.is_due() {
+            if let Some(progress) = board_progress(texts, view.board(), question) {
+                listener.hear_progress(progress);
+            }
+        }
+    }
+}
+
+// What is to be read of the board: the answer to a question about these texts, after so many edits.
+// The listener hears how far a table is.
+struct Looking<'q, L> {
+    alloc: Global,
+    texts: &'q Texts,
+    made: u64,
+    question: &'q Question,
+    listener: &'q mut L,
+}
+
+// Looks at the board that was published last. The viewer comes back, and has seen the operations of
+// that board.
+fn look_at<'q, J: Naming, L: ProgressListener>(
+    viewer: Viewer<J, RunningTexts>,
+    looking: Looking<'q, L>,
+) -> (
+    Viewer<J, RunningTexts>,
+    Result<Option<Answer>, SessionFault>,
+)
+    requires { IsReady viewer looking.made (texts_of looking.texts.now) }
+    ensures begins { IsPrefix viewer result.0 }
+    ensures reply { IfOk result.1 (λ r.
+        IfSome r (IsReply (texts_of looking.entry.texts.now) looking.entry.question.now)) }
+    ensures fault { IfErr result.1 IsOwnFault }
+{
+    let Looking {
+        alloc,
+        texts,
+        made,
+        question,
+        listener,
+    } = looking;
+    later_is_known();
+    match newest_view(viewer) {
+        Ok(view) => {
+            let answer = answer_in(alloc, &view, texts, made, question);
+            tell_progress(&answer, &view, texts, question, listener);
+            (view.leave(), answer)
+        }
+        Err(viewer) => (viewer, Err(SessionFault::Memory)),
+    }
+}
+
+// The answer to a question from the board that was published last, if its cells are settled there.
+fn look<J: Naming, L: ProgressListener>(
+    alloc: Global,
+    session: &mut Session<J>,
+    question: &Question,
+    listener: &mut L,
+) -> Result<Option<Answer>, SessionFault>
+    requires ready { IsReady session.old.viewer session.old.made (texts_of session.old.texts) }
+    ensures texts { session.new.texts ≡ session.old.texts }
+    ensures ready { IsReady session.new.viewer session.new.made (texts_of session.new.texts) }
+    ensures reply { IfOk result (λ r.
+        IfSome r (IsReply (texts_of session.old.texts) question.now)) }
+    ensures fault { IfErr result IsOwnFault }
+{
+    later_is_known();
+    let looking = Looking {
+        alloc,
+        texts: &session.texts,
+        made: session.made,
+        question,
+        listener,
+    };
+    replace_with(&mut session.viewer, looking, look_at)
+}
+
+// Goes on where a cell was open: runs jobs, or waits for a change where workers run them. A board
+// of which each cell is settled shows the answer.
+fn go_on<J: Naming + StoreName, R: Wait + Drop, W: Wait>(
+    rt: &W,
+    alloc: Global,
+    desk: &RunningDesk<J, R>,
+    has_workers: bool,
+    settling: Settling,
+    refusals: &mut Refusals,
+) -> Result<(), SessionFault>
+    ensures { IfErr result IsOwnFault }
+{
+    let is_refused = match settling {
+        Settling::Done => return Err(SessionFault::Shared),
+        Settling::Waits(changes) => {
+            if !has_workers {
+                return run_some(rt, alloc, desk);
+            }
+            desk.wait_past(rt, changes);
+            false
+        }
+        Settling::Refused => true,
+    };
+    if refusals.note(is_refused) {
+        return Err(SessionFault::Memory);
+    }
+    Ok(())
+}
+
+/// The answer to a question, once the cells are settled that it asks for. A listener hears how far
+/// a table is.
+pub(crate) fn ask<J: Naming + StoreName, R: Wait + Drop, W: Wait, L: ProgressListener>(
+    rt: &W,
+    alloc: Global,
+    desk: &RunningDesk<J, R>,
+    session: &mut Session<J>,
+    has_workers: bool,
+    question: &Question,
+    listener: &mut L,
+) -> Result<Answer, SessionFault>
+    requires ready { IsReady session.old.viewer session.old.made (texts_of session.old.texts) }
+    ensures texts { session.new.texts ≡ session.old.texts }
+    ensures ready { OnOk result (IsReady session.new.viewer session.new.made
+        (texts_of session.new.texts)) }
+    ensures reply { IfOk result (IsReply (texts_of session.old.texts) question.now) }
+    ensures fault { IfErr result IsOwnFault }
+{
+    let mut refusals = Refusals::new();
+    for _ in rt.forever() {
+        let settling = settle_turn(rt, desk, session)?;
+        if let Some(answer) = look(alloc, session, question, listener)? {
+            return Ok(answer);
+        }
+        go_on(rt, alloc, desk, has_workers, settling, &mut refusals)?;
+    }
+    unreachable!()
+}

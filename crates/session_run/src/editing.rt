@@ -1,0 +1,77 @@
+//! Edits of a session.
+
+ghost use Rattle.std.specs.Prelude.{◌≡◌, ℕ, IfOk, IfErr, OnOk, OnErr};
+ghost use Rattle.bench_texts.specs.Edits.{edit_of};
+ghost use Rattle.bench_texts.specs.Held.{texts_of};
+ghost use Rattle.session_edits.specs.Edits.{IsEdited};
+ghost use Rattle.session_views.specs.Knowing.{HasOwnEdit};
+ghost use Rattle.session_run.specs.Faults.{IsOwnFault};
+ghost use Rattle.session_run.specs.Ready.{IsReady};
+ghost use Rattle.session_run.specs.Untold.{IsUntold};
+
+use crate::fault::fault_of;
+use crate::state::Session;
+use bench_instance::{RunningDesk, RunningTexts};
+use bench_texts::Edit;
+use command_answers::SessionFault;
+use desk::Accepted;
+use desk_history::{Naming, Viewer};
+use session_edits::{Answer, answer_edit};
+use session_views::laws::own_edits_are_known;
+use std::alloc::Global;
+use std::sync::Wait;
+use value_store::StoreName;
+
+// The numbers of edits that a board counts, below the greatest.
+const MOST_EDITS: u64 = u64::MAX - 1;
+
+// Gives an edit to the desk, which tells the viewer. A viewer that is not told knows what it knew.
+fn tell_desk<J: Naming + StoreName, R: Wait + Drop, W: Wait>(
+    rt: &W,
+    desk: &RunningDesk<J, R>,
+    viewer: &mut Viewer<J, RunningTexts>,
+    edit: Edit,
+) -> Result<(), SessionFault>
+    ensures told { OnOk result ((number : ℕ) × HasOwnEdit edit number viewer.old viewer.new) }
+    ensures same { OnErr result (viewer.new ≡ viewer.old) }
+    ensures untold { IfErr result (IsUntold edit viewer.old) }
+    ensures fault { IfErr result IsOwnFault }
+{
+    match desk.edit(rt, viewer, edit) {
+        Ok(Accepted::Now(_)) => Ok(()),
+        Ok(Accepted::Later(_)) => Err(SessionFault::Memory),
+        Err(fault) => Err(fault_of(&fault)),
+    }
+}
+
+/// Makes an edit of the session's own texts, and an accepted one at the desk. The answer is that of
+/// the own texts.
+pub(crate) fn make_edit<J: Naming + StoreName, R: Wait + Drop, W: Wait>(
+    rt: &W,
+    alloc: Global,
+    desk: &RunningDesk<J, R>,
+    session: &mut Session<J>,
+    edit: Edit,
+) -> Result<Answer, SessionFault>
+    requires ready { IsReady session.old.viewer session.old.made (texts_of session.old.texts) }
+    ensures edited { IfOk result (λ said. IsEdited (texts_of session.old.texts) (edit_of edit) said
+        (texts_of session.new.texts)) }
+    ensures ready { OnOk result (IsReady session.new.viewer session.new.made
+        (texts_of session.new.texts)) }
+    ensures fault { IfErr result IsOwnFault }
+{
+    own_edits_are_known(&session.texts);
+    let answer = match answer_edit(alloc, &mut session.texts, &edit) {
+        Ok(answer) => answer,
+        Err(_) => return Err(SessionFault::Memory),
+    };
+    if answer.is_refused() {
+        return Ok(answer);
+    }
+    if session.made >= MOST_EDITS {
+        return Err(SessionFault::Shared);
+    }
+    tell_desk(rt, desk, &mut session.viewer, edit)?;
+    session.made += 1;
+    Ok(answer)
+}

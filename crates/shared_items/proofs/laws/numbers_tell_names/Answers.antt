@@ -1,5 +1,0 @@
-use Rattle.shared_items.proofs.Naming.{number_tells}
-use Rattle.shared_items.proofs.laws.numbers_tell_names.Goals as goal
-
-pub returns : goal.returns
-returns c = number_tells

@@ -1,7 +1,0 @@
-use Rattle.std.proofs.Common.{◌≡◌, map, take}
-use Rattle.shared_items.specs.Naming.{body_names, number_of}
-use Rattle.shared_items.proofs.names.numbers_of.Given as goal
-
-abbrev pub invariant-loop-body : goal.invariant-loop-body
-invariant-loop-body l =
-    l.numbers.items ≡ map (number_of l.history) (body_names (take l.body-index l.bodies))

@@ -1,7 +1,0 @@
-use Rattle.std.proofs.Common.{◌≡◌, take}
-use Rattle.std.specs.Prelude.{filter}
-use Rattle.shown_relations.specs.Shown.{is_other}
-use Rattle.shown_relations.proofs.names.others.Given as goal
-
-abbrev pub invariant-loop-one : goal.invariant-loop-one
-invariant-loop-one l = l.kept.items ≡ filter (is_other l.name) (take l.one-index l.shown)

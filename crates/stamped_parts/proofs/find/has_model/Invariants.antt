@@ -1,6 +1,0 @@
-use Rattle.std.proofs.Common.{◌≡◌, drop}
-use Rattle.stamped_parts.specs.States.{has_model}
-use Rattle.stamped_parts.proofs.find.has_model.Given as goal
-
-abbrev pub invariant-loop-model : goal.invariant-loop-model
-invariant-loop-model l = has_model (drop l.model-index l.models) l.id ≡ has_model l.models l.id

@@ -1,9 +1,0 @@
-use Rattle.std.proofs.Common.{◌≡◌, drop}
-use Rattle.stamped_parts.specs.Contents.{state_of}
-use Rattle.stamped_parts.proofs.Among.{flags_of}
-use Rattle.stamped_parts.proofs.flags.first_flag.Given as goal
-
-abbrev pub invariant-loop-index : goal.invariant-loop-index
-invariant-loop-index l =
-    flags_of (state_of l.parts l.tests) l.test l.keys (drop l.index l.rest)
-    ≡ flags_of (state_of l.parts l.tests) l.test l.keys l.rest

@@ -1,5 +1,0 @@
-use Rattle.stamped_parts.proofs.ItemKinds.{have_kinds}
-use Rattle.stamped_parts.proofs.item_laws.items_have_their_kinds.Goals as goal
-
-pub returns : goal.returns
-returns c = have_kinds

@@ -1,5 +1,0 @@
-use Rattle.stamped_parts.proofs.ItemRows.{items_in_order}
-use Rattle.stamped_parts.proofs.item_laws.items_stay_in_order.Goals as goal
-
-pub returns : goal.returns
-returns c = items_in_order

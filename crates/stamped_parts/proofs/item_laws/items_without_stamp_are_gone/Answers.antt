@@ -1,5 +1,0 @@
-use Rattle.stamped_parts.proofs.ItemRows.{items_gone}
-use Rattle.stamped_parts.proofs.item_laws.items_without_stamp_are_gone.Goals as goal
-
-pub returns : goal.returns
-returns c = items_gone

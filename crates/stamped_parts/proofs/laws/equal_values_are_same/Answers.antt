@@ -1,5 +1,0 @@
-use Rattle.stamped_parts.proofs.Equality.{value_exact}
-use Rattle.stamped_parts.proofs.laws.equal_values_are_same.Goals as goal
-
-pub returns : goal.returns
-returns c = value_exact

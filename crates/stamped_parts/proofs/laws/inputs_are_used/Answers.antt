@@ -1,6 +1,0 @@
-use Rattle.bench_nodes.proofs.Laws.{used_is_closed}
-use Rattle.stamped_parts.specs.States.{given, is_given}
-use Rattle.stamped_parts.proofs.laws.inputs_are_used.Goals as goal
-
-pub returns : goal.returns
-returns c = λ s valid. used_is_closed s.parts.table (λ n g. is_given (given s n) g) valid.ordered

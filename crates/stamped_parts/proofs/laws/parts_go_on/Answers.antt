@@ -1,5 +1,0 @@
-use Rattle.stamped_parts.proofs.Since.{parts_go_on}
-use Rattle.stamped_parts.proofs.laws.parts_go_on.Goals as goal
-
-pub returns : goal.returns
-returns c = parts_go_on

@@ -1,5 +1,0 @@
-use Rattle.stamped_parts.proofs.Same.{net_is}
-use Rattle.stamped_parts.proofs.laws.same_states_say_the_same.Goals as goal
-
-pub returns : goal.returns
-returns c = λ s t same. net_is s t same

@@ -1,5 +1,0 @@
-use Rattle.stamped_parts.proofs.Since.{since_itself}
-use Rattle.stamped_parts.proofs.laws.since_is_reflexive.Goals as goal
-
-pub returns : goal.returns
-returns c = since_itself

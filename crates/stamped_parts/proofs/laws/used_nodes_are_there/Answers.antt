@@ -1,5 +1,0 @@
-use Rattle.stamped_parts.proofs.Keeping.{used_are_there}
-use Rattle.stamped_parts.proofs.laws.used_nodes_are_there.Goals as goal
-
-pub returns : goal.returns
-returns c = used_are_there

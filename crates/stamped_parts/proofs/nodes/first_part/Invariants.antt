@@ -1,6 +1,0 @@
-use Rattle.std.proofs.Common.{◌≡◌, drop}
-use Rattle.stamped_parts.specs.Views.{first_part}
-use Rattle.stamped_parts.proofs.nodes.first_part.Given as goal
-
-abbrev pub invariant-loop-index : goal.invariant-loop-index
-invariant-loop-index l = first_part l.test (drop l.index l.keys) ≡ first_part l.test l.keys

@@ -1,5 +1,0 @@
-use Rattle.stamped_parts.proofs.TestRows.{test_stamped}
-use Rattle.stamped_parts.proofs.table_laws.test_rows_are_stamped.Goals as goal
-
-pub returns : goal.returns
-returns c = test_stamped

@@ -1,9 +1,0 @@
-use Rattle.std.proofs.Common.{arith, option_map}
-use Rattle.stamped_parts.specs.Tests.{entry_of}
-use Rattle.stamped_parts.proofs.TestRows.{thread_stamps}
-use Rattle.stamped_parts.proofs.test_rows.thread_stamps.Goals as goal
-
-pub returns-clause-each : goal.returns-clause-each
-returns-clause-each c =
-    thread_stamps c.args.fresh (option_map (λ h. entry_of h.now) c.args.before) c.args.threads.now
-    c.loop-k.stamps.items (omega arith) (λ k lt. c.loop-k.invariant.1 k (omega arith))

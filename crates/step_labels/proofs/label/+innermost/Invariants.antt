@@ -1,4 +1,0 @@
-use Rattle.step_labels.proofs.label.+innermost.Given as goal
-
-abbrev pub decreases-innermost : goal.decreases-innermost
-decreases-innermost l = l.item

@@ -1,6 +1,0 @@
-use Rattle.std.proofs.Common.{◌≡◌, ◌↔◌, length, drop}
-use Rattle.test_parts.proofs.places.are_same_entries.Given as goal
-
-abbrev pub invariant-loop-this : goal.invariant-loop-this
-invariant-loop-this l =
-    (l.first ≡ l.second) ↔ (drop (length l.yielded) l.first ≡ drop (length l.yielded) l.second)

@@ -1,0 +1,193 @@
+//! One cell of `from_scratch`, and the words of the command line.
+
+use crate::outcomes::put_counts;
+use cat_syntax::{ModelText, read_model};
+use command_answers::{Drawn, Form, form_of};
+use from_scratch::{eval_cell, eval_suite};
+use litmus_ppc::{Quantifier, Test, read_test};
+use std::alloc::{AllocError, Global};
+use text_values::{put_bytes, put_decimal};
+use verdict::{Outcome, OutcomeResult};
+
+/// Appends an outcome: its kind, its condition, its states and counts.
+pub fn put_outcome(answer: &mut Vec<u8>, outcome: &Outcome) -> Result<(), AllocError> {
+    let kind = match outcome.kind {
+        Quantifier::Exists => b"Exists ".as_slice(),
+        Quantifier::NotExists => b"NotExists ",
+        Quantifier::Forall => b"Forall ",
+    };
+    put_bytes(answer, kind)?;
+    put_bytes(answer, &outcome.condition)?;
+    put_bytes(answer, b"\n")?;
+    match &outcome.result {
+        OutcomeResult::Evaluated(found) => {
+            put_decimal(answer, found.states.len() as u64)?;
+            put_bytes(answer, b" states, ")?;
+            put_counts(answer, found)
+        }
+        OutcomeResult::Refused(_) => put_bytes(answer, b"refused"),
+    }
+}
+
+/// Appends the outcome of a test under a model.
+pub fn put_cell(
+    alloc: Global,
+    answer: &mut Vec<u8>,
+    model: &[u8],
+    test: &[u8],
+) -> Result<(), AllocError> {
+    match (read_model(alloc, model), read_test(alloc, test)) {
+        (Ok(model), Ok(test)) => put_both(alloc, answer, &test, &model),
+        _ => put_bytes(answer, b"refused"),
+    }
+}
+
+/// Appends the outcome of a test under a model. Where a suite of the test under the model twice has
+/// another one, it says so.
+fn put_both(
+    alloc: Global,
+    answer: &mut Vec<u8>,
+    test: &Test,
+    model: &ModelText,
+) -> Result<(), AllocError> {
+    let outcome = eval_cell(alloc, test, model)?;
+    put_outcome(answer, &outcome)?;
+    let rows = eval_suite(alloc, std::slice::from_ref(test), &[model, model])?;
+    for row in &rows {
+        put_differences(answer, &outcome, row)?;
+    }
+    Ok(())
+}
+
+/// Appends a word for each outcome that is another one.
+fn put_differences(
+    answer: &mut Vec<u8>,
+    outcome: &Outcome,
+    others: &[Outcome],
+) -> Result<(), AllocError> {
+    for other in others {
+        if !outcome.is_same(other) {
+            put_bytes(answer, b"; a suite differs")?;
+        }
+    }
+    Ok(())
+}
+
+/// The words of a text, which single blanks part: between two of them is the empty word.
+fn words_of(alloc: Global, text: &str) -> Result<Vec<&str>, AllocError> {
+    let mut words = Vec::new(alloc);
+    for word in text.split(' ') {
+        words.push(word)?;
+    }
+    Ok(words)
+}
+
+fn put_words(answer: &mut Vec<u8>, words: &[&str]) -> Result<(), AllocError> {
+    for word in words {
+        put_bytes(answer, b" ")?;
+        put_bytes(answer, word.as_bytes())?;
+    }
+    Ok(())
+}
+
+fn put_files(
+    answer: &mut Vec<u8>,
+    command: &[u8],
+    models: &[&str],
+    tests: &[&str],
+) -> Result<(), AllocError> {
+    put_bytes(answer, command)?;
+    put_words(answer, models)?;
+    put_bytes(answer, b" over")?;
+    put_words(answer, tests)
+}
+
+fn put_script(answer: &mut Vec<u8>, script: Option<&str>) -> Result<(), AllocError> {
+    match script {
+        Some(path) => {
+            put_bytes(answer, b"of ")?;
+            put_bytes(answer, path.as_bytes())?;
+            put_bytes(answer, b" ")
+        }
+        None => Ok(()),
+    }
+}
+
+fn put_flag(answer: &mut Vec<u8>, is_given: bool, name: &[u8]) -> Result<(), AllocError> {
+    if is_given {
+        put_bytes(answer, name)?;
+    }
+    Ok(())
+}
+
+fn put_drawn(answer: &mut Vec<u8>, drawn: Drawn) -> Result<(), AllocError> {
+    match drawn {
+        Drawn::Shown => put_bytes(answer, b", shown, "),
+        Drawn::Forbidden => put_bytes(answer, b", forbidden, "),
+        Drawn::All => put_bytes(answer, b", all, "),
+    }
+}
+
+fn put_form_of(alloc: Global, answer: &mut Vec<u8>, words: &[&str]) -> Result<(), AllocError> {
+    match form_of(alloc, words) {
+        Ok(Form::Stream) => put_bytes(answer, b"stream"),
+        Ok(Form::Eval { model, test }) => {
+            put_bytes(answer, b"eval ")?;
+            put_bytes(answer, model.as_bytes())?;
+            put_bytes(answer, b" ")?;
+            put_bytes(answer, test.as_bytes())
+        }
+        Ok(Form::Table { models, tests }) => put_files(answer, b"table", models, tests),
+        Ok(Form::Diff { models, tests }) => put_files(answer, b"diff", models, tests),
+        Ok(Form::Session { script, workers }) => {
+            put_bytes(answer, b"session ")?;
+            put_script(answer, script)?;
+            put_bytes(answer, b"with ")?;
+            put_decimal(answer, workers)
+        }
+        Ok(
+            Form::Why {
+                model,
+                test,
+                is_forbidden,
+                is_deep,
+            },
+        ) => {
+            put_files(answer, b"why", &[model], &[test])?;
+            put_flag(answer, is_forbidden, b", forbidden")?;
+            put_flag(answer, is_deep, b", deep")
+        }
+        Ok(
+            Form::Watch {
+                model,
+                tests,
+                workers,
+            },
+        ) => {
+            put_files(answer, b"watch", &[model], tests)?;
+            put_bytes(answer, b" with ")?;
+            put_decimal(answer, workers)
+        }
+        Ok(
+            Form::Draw {
+                model,
+                test,
+                drawn,
+                most,
+            },
+        ) => {
+            put_files(answer, b"draw", &[model], &[test])?;
+            put_drawn(answer, drawn)?;
+            put_decimal(answer, most)
+        }
+        Err(_) => put_bytes(answer, b"usage"),
+    }
+}
+
+/// Appends what the words of a text ask for.
+pub fn put_form(alloc: Global, answer: &mut Vec<u8>, text: &[u8]) -> Result<(), AllocError> {
+    match str::from_utf8(text) {
+        Ok(text) => put_form_of(alloc, answer, &words_of(alloc, text)?),
+        Err(_) => put_bytes(answer, b"no text"),
+    }
+}

@@ -1,0 +1,269 @@
+-- What was written before a fault.
+use Rattle.std.proofs.Common.{◌≡◌, ℕ, zero, suc, ◌+◌, ◌<◌, List, [], ◌∷◌, ◌++◌, length, take, drop, get_or, Option, Some, None, Result, Ok, true, refl, sym, ap, subst, ◌∙◌, append_assoc, arith}
+use Rattle.std.specs.Prelude.{Err, OnErr}
+use Rattle.std.specs.Io.KnownBytes.{Appends, Consumes}
+use Rattle.std.proofs.KnownBytes.{Appends-nil, Appends-trans}
+use Rattle.std.proofs.Math.Seq.{take-append-add}
+use Rattle.std.proofs.lemmas.List.{take_all, length-append}
+use Rattle.std.proofs.lemmas.Option.{same_Some}
+use Rattle.session_script.specs.Written.{WritesFront}
+use Rattle.watch_run.specs.Readings.{Reading, AreRead, HasReadAtMost}
+use Rattle.watch_run.specs.Holding.{file_at, all_files}
+use Rattle.watch_run.specs.Runs.{Standing, NoAnswer, OneMore, HasAnswers, HasBegunRun, IsAnswered, line_before, lines_from, IsLine, AreIn, AreOfTurn, NothingYet, FirstLines, IsCut, HasFront, IsFrontLine, AreFrontIn, AreFrontOf}
+use Rattle.watch_run.proofs.Gaining.{answers_joined, line_first, append_none, read_more}
+
+-- what holds in any case holds where the answer is a fault
+pub on_err : {A B : Type 0} (r : Result A B) (P : Type 0) → P → OnErr r P
+on_err (Ok v) P p = tt
+on_err (Err e) P p = p
+
+-- ---- bytes
+
+nothing_written : (a : Option (List ℕ)) → WritesFront a a []
+nothing_written a = (0, omega arith, Appends-nil a)
+
+front_joined : (a b c : Option (List ℕ)) (x y : List ℕ) → Appends a b x → WritesFront b c y
+    → WritesFront a c (x ++ y)
+front_joined a b c x y first then =
+    let (n, within, more) = then in (
+      length x + n,
+      omega (arith, within, length-append x y),
+      subst (λ (l : List ℕ). Appends a c l) (sym (take-append-add x y n))
+          (Appends-trans a b c x (take n y) first more),
+    )
+
+front_whole : (a b : Option (List ℕ)) (x : List ℕ) → Appends a b x → WritesFront a b x
+front_whole a b x gained = (
+  length x,
+  omega arith,
+  subst (λ (l : List ℕ). Appends a b l) (sym (take_all (length x) x (omega arith))) gained,
+)
+
+-- ---- readings
+
+-- others behind them, and more
+read_behind : (a b c : Option (List Reading)) (xs ys zs : List Reading) → AreRead a b xs
+    → AreRead b c (ys ++ zs) → AreRead a c ((xs ++ ys) ++ zs)
+read_behind a b c xs ys zs first more =
+    subst (λ (l : List Reading). AreRead a c l) (sym (append_assoc xs ys zs))
+    (read_more a b c xs (ys ++ zs) first more)
+
+and_none : (a b : Option (List Reading)) (xs : List Reading) → AreRead a b xs
+    → AreRead a b (xs ++ [])
+and_none a b xs are = subst (λ (l : List Reading). AreRead a b l) (sym (append_none xs)) are
+
+-- ---- answers
+
+-- nothing was answered
+pub front_none : (model : List ℕ) (tests : List (List ℕ)) (asks : List (List ℕ) → Type 0)
+    (old : Standing) (r s : Option (List Reading)) (a : Option (List ℕ))
+    → asks [] → HasReadAtMost 1 r s → HasFront model tests asks old r s a a
+front_none model tests asks old r s a asked one = record {
+  lines = [];
+  asked = asked;
+  new = old;
+  read = [];
+  more = one.read;
+  text = [];
+  answers = NoAnswer old;
+  few = one.few;
+  reads = one.are;
+  front = nothing_written a;
+}
+
+-- one line was, and a front of it is written
+pub front_one : (model : List ℕ) (tests : List (List ℕ)) (asks : List (List ℕ) → Type 0)
+    (line : List ℕ) (old new : Standing) (r s : Option (List Reading)) (said : List ℕ)
+    (a b : Option (List ℕ))
+    → asks (line ∷ []) → IsAnswered line (file_at model tests line) old new r s said
+    → WritesFront a b said → HasFront model tests asks old r s a b
+front_one model tests asks line old new r s said a b asked answered written = record {
+  lines = [] ++ line ∷ [];
+  asked = asked;
+  new = new;
+  read = [] ++ answered.read;
+  more = [];
+  text = [] ++ said;
+  answers = OneMore [] line old old new [] answered.read [] said (NoAnswer old) answered.answer;
+  few = omega arith;
+  reads = and_none r s answered.read answered.reads;
+  front = written;
+}
+
+-- the same, asked in another way
+pub front_so : (model : List ℕ) (tests : List (List ℕ)) (asks so : List (List ℕ) → Type 0)
+    (old : Standing) (r s : Option (List Reading)) (a b : Option (List ℕ))
+    → ((lines : List (List ℕ)) → asks lines → so lines) → HasFront model tests asks old r s a b
+    → HasFront model tests so old r s a b
+front_so model tests asks so old r s a b law x = record {
+  lines = x.lines;
+  asked = law x.lines x.asked;
+  new = x.new;
+  read = x.read;
+  more = x.more;
+  text = x.text;
+  answers = x.answers;
+  few = x.few;
+  reads = x.reads;
+  front = x.front;
+}
+
+-- behind others that are written
+pub front_behind : (model : List ℕ) (tests : List (List ℕ)) (one two all : List (List ℕ) → Type 0)
+    (old middle : Standing) (r s t : Option (List Reading)) (a b c : Option (List ℕ))
+    → ((x y : List (List ℕ)) → one x → two y → all (x ++ y))
+    → HasAnswers model tests one old middle r s a b → HasFront model tests two middle s t b c
+    → HasFront model tests all old r t a c
+front_behind model tests one two all old middle r s t a b c law x y = record {
+  lines = x.lines ++ y.lines;
+  asked = law x.lines y.lines x.asked y.asked;
+  new = y.new;
+  read = x.read ++ y.read;
+  more = y.more;
+  text = x.text ++ y.text;
+  answers =
+      answers_joined model tests x.lines y.lines old middle y.new x.read y.read x.text y.text
+      x.answers y.answers;
+  few = y.few;
+  reads = read_behind r s t x.read y.read y.more x.reads y.reads;
+  front = front_joined a b c x.text y.text x.gains y.front;
+}
+
+-- all of some that are written
+pub front_of_all : (model : List ℕ) (tests : List (List ℕ)) (one all : List (List ℕ) → Type 0)
+    (old new : Standing) (r s : Option (List Reading)) (a b : Option (List ℕ))
+    → ((x : List (List ℕ)) → one x → all x) → HasAnswers model tests one old new r s a b
+    → HasFront model tests all old r s a b
+front_of_all model tests one all old new r s a b law x = record {
+  lines = x.lines;
+  asked = law x.lines x.asked;
+  new = new;
+  read = x.read;
+  more = [];
+  text = x.text;
+  answers = x.answers;
+  few = omega arith;
+  reads = and_none r s x.read x.reads;
+  front = front_whole a b x.text x.gains;
+}
+
+-- ---- which lines
+
+pub none_of_line : (line : List ℕ) → IsFrontLine line []
+none_of_line line = (line_before line [], refl)
+
+pub whole_line : (line : List ℕ) (lines : List (List ℕ)) → IsLine line lines
+    → IsFrontLine line lines
+whole_line line lines is = ([], sym is ∙ sym (append_none lines))
+
+pub none_in : (front bytes : List ℕ) → AreFrontIn front bytes []
+none_in front bytes = λ rest. (lines_from front (bytes ++ rest), refl)
+
+pub none_of : (front : List ℕ) (source : Option (List ℕ)) → AreFrontOf front source []
+none_of front source = λ bytes is. (lines_from front bytes, refl)
+
+-- a line feed ends the line
+pub line_in : (front : List ℕ) (byte : ℕ) → byte ≡ 10 → (x : List (List ℕ)) → IsFrontLine front x
+    → AreFrontIn front (byte ∷ []) x
+line_in front byte feed x (more, is) = λ rest.
+    let at : lines_from front (10 ∷ rest) ≡ line_before front (lines_from [] rest) = refl in (
+      more ++ lines_from [] rest,
+      ap (λ (b : ℕ). lines_from front (b ∷ rest)) feed ∙ at ∙ line_first front (lines_from [] rest)
+          ∙ ap (λ (ls : List (List ℕ)). ls ++ lines_from [] rest) is
+          ∙ append_assoc x more (lines_from [] rest),
+    )
+
+split_at : (xs : List ℕ) (i d : ℕ) → i < length xs
+    → xs ≡ take i xs ++ get_or xs i d ∷ drop (suc i) xs
+split_at [] i d lt = absurd (omega (arith, lt))
+split_at (x ∷ xs) zero d lt = refl
+split_at (x ∷ xs) (suc i) d lt = ap (λ (l : List ℕ). x ∷ l) (split_at xs i d (omega (arith, lt)))
+
+-- behind the lines that end in the bytes so far
+pub next_in : (front middle bytes : List ℕ) (i d : ℕ) (x y : List (List ℕ)) → i < length bytes
+    → AreIn front (take i bytes) middle x → AreFrontIn middle (get_or bytes i d ∷ []) y
+    → AreFrontIn front bytes (x ++ y)
+next_in front middle bytes i d x y lt first then = λ rest.
+    let behind = drop (suc i) bytes ++ rest in
+    let at = then behind in
+    let whole : bytes ++ rest ≡ take i bytes ++ (get_or bytes i d ∷ behind) =
+    ap (λ (l : List ℕ). l ++ rest) (split_at bytes i d lt)
+    ∙ append_assoc (take i bytes) (get_or bytes i d ∷ drop (suc i) bytes) rest in (
+      at.0,
+      ap (λ (l : List ℕ). lines_from front l) whole ∙ first (get_or bytes i d ∷ behind)
+          ∙ ap (λ (ls : List (List ℕ)). x ++ ls) at.1 ∙ sym (append_assoc x y at.0),
+    )
+
+-- what a turn takes of the source
+pub front_on : (front taken : List ℕ) (before after : Option (List ℕ)) (x : List (List ℕ))
+    → Consumes before after taken → AreFrontIn front taken x → AreFrontOf front before x
+front_on front taken None after x consumes lines = λ bytes is. absurd cc
+front_on front taken (Some xs) None x consumes lines = absurd consumes
+front_on front taken (Some xs) (Some ys) x consumes lines = λ bytes is.
+    let same : xs ≡ bytes = same_Some xs bytes is in
+    let at = lines ys in
+    (at.0, ap (λ (l : List ℕ). lines_from front l) (sym same ∙ consumes) ∙ at.1)
+
+-- behind the turns so far
+pub front_after : (front middle : List ℕ) (a b : Option (List ℕ)) (x y : List (List ℕ))
+    → AreOfTurn true front middle a b x → AreFrontOf middle b y → AreFrontOf front a (x ++ y)
+front_after front middle a b x y first then = λ bytes is.
+    let one = first bytes is in
+    let two = then one.0 one.1 in
+    (two.0, one.2 ∙ ap (λ (ls : List (List ℕ)). x ++ ls) two.1 ∙ sym (append_assoc x y two.0))
+
+pub front_turns : (front middle : List ℕ) (a b : Option (List ℕ)) (x : List (List ℕ))
+    → AreOfTurn true front middle a b x → AreFrontOf front a x
+front_turns front middle a b x first =
+    λ bytes is. let one = first bytes is in (lines_from middle one.0, one.2)
+
+-- ---- a whole run
+
+pub cut_none : (model : List ℕ) (tests lasts : List (List ℕ)) (source : Option (List ℕ))
+    (r s : Option (List Reading)) (a : Option (List ℕ))
+    → HasReadAtMost (length (all_files model tests)) r s → IsCut model tests lasts source r s a a
+cut_none model tests lasts source r s a few = record {
+  read = [];
+  more = few.read;
+  most = length (all_files model tests);
+  text = [];
+  is = NothingYet;
+  few = few.few;
+  reads = few.are;
+  front = nothing_written a;
+}
+
+pub cut_first : (model : List ℕ) (tests lasts : List (List ℕ)) (source : Option (List ℕ))
+    (begins : Standing) (r s : Option (List Reading)) (first : List ℕ) (a b : Option (List ℕ))
+    → HasBegunRun model tests lasts begins r s first → WritesFront a b first
+    → IsCut model tests lasts source r s a b
+cut_first model tests lasts source begins r s first a b begun written = record {
+  read = begun.read ++ [];
+  more = [];
+  most = 1;
+  text = first ++ [];
+  is =
+      FirstLines begins begins begun.read [] first [] [] begun.begun (NoAnswer begins)
+      (none_of [] source);
+  few = omega arith;
+  reads = and_none r s (begun.read ++ []) (and_none r s begun.read begun.reads);
+  front = subst (λ (l : List ℕ). WritesFront a b l) (sym (append_none first)) written;
+}
+
+pub cut_later : (model : List ℕ) (tests lasts : List (List ℕ)) (source : Option (List ℕ))
+    (begins : Standing) (r s t : Option (List Reading)) (first : List ℕ) (a b c : Option (List ℕ))
+    → HasBegunRun model tests lasts begins r s first → Appends a b first
+    → HasFront model tests (AreFrontOf [] source) begins s t b c
+    → IsCut model tests lasts source r t a c
+cut_later model tests lasts source begins r s t first a b c begun gained more = record {
+  read = begun.read ++ more.read;
+  more = more.more;
+  most = 1;
+  text = first ++ more.text;
+  is =
+      FirstLines begins more.new begun.read more.read first more.text more.lines begun.begun
+      more.answers more.asked;
+  few = more.few;
+  reads = read_behind r s t begun.read more.read more.more begun.reads more.reads;
+  front = front_joined a b c first more.text gained more.front;
+}

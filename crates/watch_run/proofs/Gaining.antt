@@ -1,0 +1,531 @@
+-- Answers that a sink gained, one after another, and what was read for them.
+use Rattle.std.proofs.Common.{◌≡◌, Bool, true, false, inl, inr, ℕ, zero, suc, ◌+◌, ◌<◌, ◌≤◌, List, [], ◌∷◌, ◌++◌, length, map, take, get_or, true, false, Option, Some, None, Result, Ok, refl, sym, ap, subst, ◌∙◌, append_assoc, arith}
+use Rattle.std.specs.Prelude.{Vec, codes, Err, IfOk, ◌==◌}
+use Rattle.std.specs.Borrow.{Bor}
+use Rattle.std.specs.declared.alloc.Global.{Global}
+use Rattle.std.proofs.KnownBytes.{Appends-nil, Appends-trans}
+use Rattle.std.specs.Io.KnownBytes.{Appends}
+use Rattle.std.proofs.lemmas.List.{length-append, length-take-le}
+use Rattle.std.proofs.lemmas.Bool.{cases_Bool, false≢true}
+use Rattle.std.proofs.lemmas.Bool.Decides.{Decides-eqb}
+use Rattle.command_line.specs.declared.fault.SessionFault.{SessionFault}
+use Rattle.bench_texts.specs.declared.fault.EditFault.{EditFault}
+use Rattle.watch_run.specs.declared.versions.Version.{Version}
+use Rattle.watch_run.specs.declared.versions.Version.TheVariants.{Text, Unread}
+use Rattle.watch_run.specs.Readings.{Reading, AreRead, HasReadAtMost}
+use Rattle.watch_run.specs.Holding.{Holding, IsTaken, IsVersionRefused, File, TestFile, ModelFile, FilePath, file_at, test_files, all_files}
+use Rattle.watch_run.specs.Boards.{lists_of}
+use Rattle.watch_run.specs.Runs.{Standing, IsSettled, IsNoted, refusal_of, AreAnswers, NoAnswer, OneMore, AreBegun, NoFile, Begun, NotBegun, IsRun, HasAnswers, line_before, lines_from, IsLine, AreIn, AreOfTurn, AreAll, IsAnswered, HasBegun, BeginsFile, HasBegunRun, NotedTaken, NotedRefused, IsTextAnswer, TextAccepted, TextRefused, IsAnswer, Unwatched, NotRead, Refused, Accepted}
+
+pub append_none : {A : Type 0} (xs : List A) → xs ++ [] ≡ xs
+append_none [] = refl
+append_none (x ∷ xs) = ap (λ ys. x ∷ ys) (append_none xs)
+
+-- ---- readings
+
+pub read_none : (a : Option (List Reading)) → AreRead a a []
+read_none None = refl
+read_none (Some xs) = ap (λ (l : List Reading). Some l) (sym (append_none xs))
+
+pub read_more : (a b c : Option (List Reading)) (xs ys : List Reading) → AreRead a b xs
+    → AreRead b c ys → AreRead a c (xs ++ ys)
+read_more None b c xs ys first more =
+    subst (λ (o : Option (List Reading)). AreRead o c ys) first more
+read_more (Some rs) b c xs ys first more =
+    let then : AreRead (Some (rs ++ xs)) c ys = subst (λ (o : Option (List Reading)). AreRead o c ys) first more in
+    then ∙ ap (λ (l : List Reading). Some l) (append_assoc rs xs ys)
+
+-- no reading, one, and as many as may be
+pub none_read : (r : Option (List Reading)) → HasReadAtMost 1 r r
+none_read r = record { read = []; few = omega arith; are = read_none r }
+
+pub one_read : (r s : Option (List Reading)) (reading : Reading) → AreRead r s (reading ∷ [])
+    → HasReadAtMost 1 r s
+one_read r s reading are = record { read = reading ∷ []; few = omega arith; are = are }
+
+pub few_read : (n m : ℕ) (r s : Option (List Reading)) → n ≤ m → HasReadAtMost n r s
+    → HasReadAtMost m r s
+few_read n m r s within h =
+    record { read = h.read; few = omega (arith, within, h.few); are = h.are }
+
+-- ---- answers
+
+-- nothing was answered
+pub gains_none : (model : List ℕ) (tests : List (List ℕ)) (asks : List (List ℕ) → Type 0)
+    (standing : Standing) (r : Option (List Reading)) (a : Option (List ℕ))
+    → asks [] → HasAnswers model tests asks standing standing r r a a
+gains_none model tests asks standing r a asked =
+    record { lines = []; asked = asked; read = []; text = []; answers = NoAnswer standing; reads = read_none r; gains = Appends-nil a }
+
+-- one line was
+pub gains_one : (model : List ℕ) (tests : List (List ℕ)) (asks : List (List ℕ) → Type 0)
+    (line : List ℕ) (old new : Standing) (r s : Option (List Reading)) (said : List ℕ)
+    (a b : Option (List ℕ))
+    → asks (line ∷ []) → IsAnswered line (file_at model tests line) old new r s said
+    → Appends a b said → HasAnswers model tests asks old new r s a b
+gains_one model tests asks line old new r s said a b asked answered gained = record {
+  lines = [] ++ line ∷ [];
+  asked = asked;
+  read = [] ++ answered.read;
+  text = [] ++ said;
+  answers = OneMore [] line old old new [] answered.read [] said (NoAnswer old) answered.answer;
+  reads = answered.reads;
+  gains = gained;
+}
+
+pub answers_joined : (model : List ℕ) (tests : List (List ℕ)) (before after : List (List ℕ))
+    (old middle new : Standing) (read more : List Reading) (x y : List ℕ)
+    → AreAnswers model tests before old middle read x
+    → AreAnswers model tests after middle new more y
+    → AreAnswers model tests (before ++ after) old new (read ++ more) (x ++ y)
+answers_joined model tests before after old middle new read more x y first (NoAnswer standing) =
+    subst (λ (ls : List (List ℕ)). AreAnswers model tests ls old standing (read ++ []) (x ++ []))
+    (sym (append_none before))
+    (subst (λ (r : List Reading). AreAnswers model tests before old standing r (x ++ []))
+    (sym (append_none read))
+    (subst (λ (text : List ℕ). AreAnswers model tests before old standing read text)
+    (sym (append_none x)) first))
+answers_joined model tests before after old middle new read more x y first
+    (OneMore lines line from through to readings others text said answered answer) =
+    subst
+    (λ (ls : List (List ℕ)).
+    AreAnswers model tests ls old new (read ++ (readings ++ others)) (x ++ (text ++ said)))
+    (append_assoc before lines (line ∷ []))
+    (subst
+    (λ (r : List Reading).
+    AreAnswers model tests ((before ++ lines) ++ line ∷ []) old new r (x ++ (text ++ said)))
+    (append_assoc read readings others)
+    (subst
+    (λ (all : List ℕ). AreAnswers model tests ((before ++ lines) ++ line ∷ []) old new
+    ((read ++ readings) ++ others) all)
+    (append_assoc x text said)
+    (OneMore (before ++ lines) line old through new (read ++ readings) others (x ++ text) said
+    (answers_joined model tests before lines old middle through read readings x text first answered)
+    answer)))
+
+pub gains_joined : (model : List ℕ) (tests : List (List ℕ)) (one two all : List (List ℕ) → Type 0)
+    (old middle new : Standing) (r s t : Option (List Reading)) (a b c : Option (List ℕ))
+    → ((x y : List (List ℕ)) → one x → two y → all (x ++ y))
+    → HasAnswers model tests one old middle r s a b → HasAnswers model tests two middle new s t b c
+    → HasAnswers model tests all old new r t a c
+gains_joined model tests one two all old middle new r s t a b c law x y = record {
+  lines = x.lines ++ y.lines;
+  asked = law x.lines y.lines x.asked y.asked;
+  read = x.read ++ y.read;
+  text = x.text ++ y.text;
+  answers =
+      answers_joined model tests x.lines y.lines old middle new x.read y.read x.text y.text
+      x.answers y.answers;
+  reads = read_more r s t x.read y.read x.reads y.reads;
+  gains = Appends-trans a b c x.text y.text x.gains y.gains;
+}
+
+-- ---- which lines
+
+not_zero : (n : ℕ) → (suc n == 0) ≡ true → ⊥
+not_zero n e = absurd (omega (arith, (Decides-eqb (suc n) 0).0 e))
+
+true_not : true ≡ false → ⊥
+true_not e = false≢true (sym e)
+
+take_more : (xs : List ℕ) (i d : ℕ) → i < length xs
+    → take (suc i) xs ≡ take i xs ++ get_or xs i d ∷ []
+take_more [] i d lt = absurd (omega (arith, lt))
+take_more (x ∷ xs) zero d lt = refl
+take_more (x ∷ xs) (suc i) d lt = ap (λ (l : List ℕ). x ∷ l) (take_more xs i d (omega (arith, lt)))
+
+-- no byte, and one line after another
+pub in_none : (front : List ℕ) → AreIn front [] front []
+in_none front = λ rest. refl
+
+pub in_both : (front middle left one two : List ℕ) (x y : List (List ℕ)) → AreIn front one middle x
+    → AreIn middle two left y → AreIn front (one ++ two) left (x ++ y)
+in_both front middle left one two x y first then = λ rest.
+    ap (λ (l : List ℕ). lines_from front l) (append_assoc one two rest) ∙ first (two ++ rest)
+    ∙ ap (λ (ls : List (List ℕ)). x ++ ls) (then rest)
+    ∙ sym (append_assoc x y (lines_from left rest))
+
+pub line_first : (line : List ℕ) (lines : List (List ℕ))
+    → line_before line lines ≡ line_before line [] ++ lines
+line_first [] lines = refl
+line_first (b ∷ line) lines = refl
+
+-- any other byte is kept
+pub in_byte : (front left : List ℕ) (byte : ℕ) → (byte ≡ 10 → ⊥) → left ≡ front ++ byte ∷ []
+    → AreIn front (byte ∷ []) left []
+in_byte front left byte other kept = λ rest. elim (cases_Bool (byte == 10)) [
+  | inl t ↦ absurd (other ((Decides-eqb byte 10).0 t))
+  | inr f ↦ rw f (ap (λ (l : List ℕ). lines_from l rest) (sym kept))
+]
+
+-- an empty line is none, and another is one
+pub empty_line : (line : List ℕ) (is : Bool) → is ≡ (length line == 0) → is ≡ true → IsLine line []
+empty_line [] is e t = refl
+empty_line (b ∷ line) is e t = absurd (not_zero (length line) (sym e ∙ t))
+
+pub full_line : (line : List ℕ) (is : Bool) → is ≡ (length line == 0) → is ≡ false
+    → IsLine line (line ∷ [])
+full_line [] is e f = absurd (true_not (sym e ∙ f))
+full_line (b ∷ line) is e f = refl
+
+-- one byte more
+pub in_next : (front middle left bytes : List ℕ) (i d : ℕ) (x y : List (List ℕ)) → i < length bytes
+    → AreIn front (take i bytes) middle x → AreIn middle (get_or bytes i d ∷ []) left y
+    → AreIn front (take (i + 1) bytes) left (x ++ y)
+in_next front middle left bytes i d x y lt first then =
+    let one : suc i ≡ i + 1 = omega arith in
+    let more : take (i + 1) bytes ≡ take i bytes ++ get_or bytes i d ∷ [] = ap (λ (n : ℕ). take n bytes) (sym one) ∙ take_more bytes i d lt in
+    subst (λ (l : List ℕ). AreIn front l left (x ++ y)) (sym more) (in_both front middle left
+    (take i bytes) (get_or bytes i d ∷ []) x y first then)
+
+-- ---- turns
+
+pub turns_on : (front middle left : List ℕ) (a b c : Option (List ℕ)) (x y : List (List ℕ))
+    → AreOfTurn true front middle a b x → AreOfTurn true middle left b c y
+    → AreOfTurn true front left a c (x ++ y)
+turns_on front middle left a b c x y first then = λ bytes is.
+    let one = first bytes is in
+    let two = then one.0 one.1 in (
+      two.0,
+      two.1,
+      one.2 ∙ ap (λ (ls : List (List ℕ)). x ++ ls) two.2
+          ∙ sym (append_assoc x y (lines_from left two.0)),
+    )
+
+pub turns_end : (front middle left : List ℕ) (a b c : Option (List ℕ)) (x y : List (List ℕ))
+    → AreOfTurn true front middle a b x → AreOfTurn false middle left b c y
+    → AreOfTurn false front left a c (x ++ y)
+turns_end front middle left a b c x y first then = λ bytes is.
+    let one = first bytes is in
+    ap (λ (ls : List (List ℕ)). x ++ ls) (then one.0 one.1) ∙ sym one.2
+
+pub no_turn : (front : List ℕ) (a : Option (List ℕ)) → AreOfTurn true front front a a []
+no_turn front a = λ bytes is. (bytes, is, refl)
+
+pub turns_on_if : (b : Bool) → b ≡ true
+    → (front middle left : List ℕ) (r s t : Option (List ℕ)) (x y : List (List ℕ))
+    → AreOfTurn true front middle r s x → AreOfTurn b middle left s t y
+    → AreOfTurn true front left r t (x ++ y)
+turns_on_if true on front middle left r s t x y first then =
+    turns_on front middle left r s t x y first then
+turns_on_if false on front middle left r s t x y first then = absurd cc
+
+pub turns_end_if : (b : Bool) → b ≡ false
+    → (front middle left : List ℕ) (r s t : Option (List ℕ)) (x y : List (List ℕ))
+    → AreOfTurn true front middle r s x → AreOfTurn b middle left s t y
+    → AreOfTurn false front left r t (x ++ y)
+turns_end_if true off front middle left r s t x y first then = absurd cc
+turns_end_if false off front middle left r s t x y first then =
+    turns_end front middle left r s t x y first then
+
+pub start_turn : (line : List ℕ) (a : Option (List ℕ)) → line ≡ [] → AreOfTurn true [] line a a []
+start_turn line a none =
+    subst (λ (l : List ℕ). AreOfTurn true [] l a a []) (sym none) (no_turn [] a)
+
+-- ---- the beginning
+
+pub begun_none : (standing : Standing) (r : Option (List Reading))
+    → HasBegun [] standing standing r r []
+begun_none standing r = record { read = []; begun = NoFile standing; reads = read_none r }
+
+-- with one file more
+pub begun_more : (files : List FilePath) (file : FilePath) (old middle new : Standing)
+    (r s t : Option (List Reading)) (before after : List ℕ)
+    → HasBegun files old middle r s before → BeginsFile file middle new s t before after
+    → HasBegun (files ++ file ∷ []) old new r t after
+begun_more files file old middle new r s t before after h
+    (text, reads, true, NotedTaken held taken same is) = record {
+      read = h.read ++ record { path = file.path; version = Text text } ∷ [];
+      begun =
+          subst
+          (λ (told : List ℕ). AreBegun (files ++ file ∷ []) old new
+          (h.read ++ record { path = file.path; version = Text text } ∷ []) told)
+          (sym is)
+          (subst
+          (λ (n : Standing). AreBegun (files ++ file ∷ []) old n
+          (h.read ++ record { path = file.path; version = Text text } ∷ []) before)
+          (sym same)
+          (Begun files file text old middle held h.read before h.begun taken));
+      reads =
+          read_more r s t h.read (record { path = file.path; version = Text text } ∷ []) h.reads
+          reads;
+    }
+begun_more files file old middle new r s t before after h
+    (text, reads, false, NotedRefused fault refused same is) = record {
+      read = h.read ++ record { path = file.path; version = Text text } ∷ [];
+      begun =
+          subst
+          (λ (told : List ℕ). AreBegun (files ++ file ∷ []) old new
+          (h.read ++ record { path = file.path; version = Text text } ∷ []) told)
+          (sym is)
+          (subst
+          (λ (n : Standing). AreBegun (files ++ file ∷ []) old n
+          (h.read ++ record { path = file.path; version = Text text } ∷ [])
+          (before ++ refusal_of file.path fault))
+          (sym same)
+          (NotBegun files file text old middle h.read before fault h.begun refused));
+      reads =
+          read_more r s t h.read (record { path = file.path; version = Text text } ∷ []) h.reads
+          reads;
+    }
+
+-- the files of tests up to one more
+pub one_file : (n i : ℕ) (tests : List (Bor (List ℕ))) (d : Bor (List ℕ)) → i < length tests
+    → take (suc i) (test_files n (map (λ t. t.now) tests))
+    ≡ take i (test_files n (map (λ t. t.now) tests))
+    ++ record { file = TestFile (n + i); path = (get_or tests i d).now } ∷ []
+one_file n i [] d lt = absurd (omega (arith, lt))
+one_file n zero (x ∷ xs) d lt =
+    let same : n ≡ n + 0 = omega arith in
+    ap (λ (k : ℕ). record { file = TestFile k; path = x.now } ∷ []) same
+one_file n (suc i) (x ∷ xs) d lt =
+    let same : (n + 1) + i ≡ n + suc i = omega arith in
+    ap (λ (l : List FilePath). record { file = TestFile n; path = x.now } ∷ l)
+    (one_file (n + 1) i xs d (omega (arith, lt))
+    ∙ ap
+    (λ (k : ℕ). take i (test_files (n + 1) (map (λ t. t.now) xs))
+    ++ record { file = TestFile k; path = (get_or xs i d).now } ∷ []) same)
+
+-- the file of the model is begun
+pub begun_first : (model : List ℕ) (tests : List (Bor (List ℕ))) (old new : Standing)
+    (r s : Option (List Reading)) (after : List ℕ)
+    → BeginsFile (record { file = ModelFile; path = model }) old new r s [] after
+    → HasBegun
+    (record { file = ModelFile; path = model } ∷ take 0 (test_files 0 (map (λ t. t.now) tests)))
+    old new r s after
+begun_first model tests old new r s after begins =
+    begun_more [] (record { file = ModelFile; path = model }) old old new r r s [] after
+    (begun_none old r) begins
+
+-- and the file of one test more
+pub begun_next : (model : List ℕ) (tests : List (Bor (List ℕ))) (i : ℕ) (d : Bor (List ℕ))
+    (old middle new : Standing) (r s t : Option (List Reading)) (before after : List ℕ)
+    → i < length tests
+    → HasBegun
+    (record { file = ModelFile; path = model } ∷ take i (test_files 0 (map (λ t. t.now) tests)))
+    old middle r s before
+    → BeginsFile (record { file = TestFile i; path = (get_or tests i d).now }) middle new s t before
+    after
+    → HasBegun
+    (record { file = ModelFile; path = model }
+    ∷ take (i + 1) (test_files 0 (map (λ t. t.now) tests))) old new r t after
+begun_next model tests i d old middle new r s t before after lt begun begins =
+    let first : FilePath = record { file = ModelFile; path = model } in
+    let files = test_files 0 (map (λ t. t.now) tests) in
+    let path = (get_or tests i d).now in
+    let one : suc i ≡ i + 1 = omega arith in
+    let none : 0 + i ≡ i = omega arith in
+    let more : take (suc i) files ≡ take i files ++ record { file = TestFile i; path = path } ∷ [] =
+    one_file 0 i tests d lt
+    ∙ ap (λ (k : ℕ). take i files ++ record { file = TestFile k; path = path } ∷ []) none in
+    let all : (first ∷ take i files) ++ record { file = TestFile i; path = path } ∷ [] ≡ first ∷ take (i + 1) files =
+    ap (λ (l : List FilePath). first ∷ l) (sym more ∙ ap (λ (n : ℕ). take n files) one) in
+    subst (λ (l : List FilePath). HasBegun l old new r t after) all
+    (begun_more (first ∷ take i files) (record { file = TestFile i; path = path }) old middle new r
+    s t before after begun begins)
+
+files_long : (n : ℕ) (tests : List (Bor (List ℕ)))
+    → length (test_files n (map (λ t. t.now) tests)) ≡ length tests
+files_long n [] = refl
+files_long n (x ∷ xs) = ap suc (files_long (n + 1) xs)
+
+taken_all : (i : ℕ) (files : List FilePath) → length files ≤ i → take i files ≡ files
+taken_all zero [] le = refl
+taken_all (suc i) [] le = refl
+taken_all zero (x ∷ xs) le = absurd (omega (arith, le))
+taken_all (suc i) (x ∷ xs) le = ap (λ l. x ∷ l) (taken_all i xs (omega (arith, le)))
+
+-- all files were begun
+pub begun_all : (model : List ℕ) (tests : List (Bor (List ℕ))) (i : ℕ) (old new : Standing)
+    (r s : Option (List Reading)) (told : List ℕ) → length tests ≤ i
+    → HasBegun
+    (record { file = ModelFile; path = model } ∷ take i (test_files 0 (map (λ t. t.now) tests)))
+    old new r s told
+    → HasBegun (all_files model (map (λ t. t.now) tests)) old new r s told
+begun_all model tests i old new r s told end begun =
+    let files = test_files 0 (map (λ t. t.now) tests) in
+    subst
+    (λ (l : List FilePath).
+    HasBegun (record { file = ModelFile; path = model } ∷ l) old new r s told)
+    (taken_all i files (omega (arith, end, files_long 0 tests))) begun
+
+-- for each file that was begun one was read
+begun_long : (files : List FilePath) (old new : Standing) (read : List Reading) (told : List ℕ)
+    → AreBegun files old new read told → length read ≡ length files
+begun_long files old new read told (NoFile standing) = refl
+begun_long files old new read told
+    (Begun before file text from middle held readings said begun taken) =
+    let reading : Reading = record { path = file.path; version = Text text } in
+    length-append readings (reading ∷ [])
+    ∙ ap (λ (n : ℕ). n + 1) (begun_long before from middle readings said begun)
+    ∙ sym (length-append before (file ∷ []))
+begun_long files old new read told
+    (NotBegun before file text from middle readings said fault begun refused) =
+    let reading : Reading = record { path = file.path; version = Text text } in
+    length-append readings (reading ∷ [])
+    ∙ ap (λ (n : ℕ). n + 1) (begun_long before from middle readings said begun)
+    ∙ sym (length-append before (file ∷ []))
+
+pub begun_few : (files : List FilePath) (old new : Standing) (r s : Option (List Reading))
+    (told : List ℕ) → HasBegun files old new r s told → HasReadAtMost (length files) r s
+begun_few files old new r s told begun = record {
+  read = begun.read;
+  few = omega (arith, begun_long files old new begun.read told begun.begun);
+  are = begun.reads;
+}
+
+-- the files of the model and of tests so far, and one more
+pub begun_and_one : (model : List ℕ) (tests : List (Bor (List ℕ))) (i : ℕ) (old new : Standing)
+    (r s t : Option (List Reading)) (told : List ℕ) → i < length tests
+    → HasBegun
+    (record { file = ModelFile; path = model }
+    ∷ take i (test_files 0 (map (λ t. t.now) tests))) old new r s told
+    → HasReadAtMost 1 s t
+    → HasReadAtMost (length (all_files model (map (λ t. t.now) tests))) r t
+begun_and_one model tests i old new r s t told lt begun one =
+    let files = test_files 0 (map (λ t. t.now) tests) in
+    let long : length files ≡ length tests = files_long 0 tests in
+    let taken : length (take i files) ≡ i = length-take-le i files (omega (arith, lt, long)) in
+    let first : length begun.read ≡ suc (length (take i files)) = begun_long (record { file = ModelFile; path = model } ∷ take i files) old new begun.read told begun.begun in
+    let whole : length (all_files model (map (λ t. t.now) tests)) ≡ suc (length files) = refl in
+    record {
+      read = begun.read ++ one.read;
+      few =
+          omega (arith, length-append begun.read one.read, first, taken, long, whole, lt, one.few);
+      are = read_more r s t begun.read one.read begun.reads one.are;
+    }
+
+-- a text is taken
+pub noted_taken : (file : File) (path text : List ℕ) (old new : Holding)
+    (lines others : Vec (Vec ℕ Global) Global) (was is : Bool) (before after : List ℕ)
+    → IsTaken file text old new → others ≡ lines → is ≡ was → after ≡ before
+    → IsNoted file path text (record { held = old; lines = lists_of lines.items; refused = was })
+    (record { held = new; lines = lists_of others.items; refused = is }) before after true
+noted_taken file path text old new lines others was is before after taken same refused told =
+    NotedTaken new taken
+    (ap
+    (λ (v : Vec (Vec ℕ Global) Global).
+    record { held = new; lines = lists_of v.items; refused = is }) same
+    ∙ ap (λ (b : Bool). record { held = new; lines = lists_of lines.items; refused = b }) refused)
+    told
+
+-- or refused
+pub noted_refused : (file : File) (path text : List ℕ) (old new : Holding)
+    (lines others : Vec (Vec ℕ Global) Global) (fault : EditFault) (was : Bool)
+    (before after : List ℕ)
+    → IsVersionRefused file text old.texts fault → new ≡ old → others ≡ lines
+    → after ≡ before ++ refusal_of path fault
+    → IsNoted file path text (record { held = old; lines = lists_of lines.items; refused = was })
+    (record { held = new; lines = lists_of others.items; refused = true }) before after false
+noted_refused file path text old new lines others fault was before after refused same kept told =
+    NotedRefused fault refused
+    (ap (λ (h : Holding). record { held = h; lines = lists_of others.items; refused = true }) same
+    ∙ ap
+    (λ (v : Vec (Vec ℕ Global) Global).
+    record { held = old; lines = lists_of v.items; refused = true }) kept)
+    told
+
+-- ---- one answer
+
+-- of a text that is accepted, after which the lines are written
+pub text_accepted : (file : File) (path text : List ℕ) (old middle new : Standing)
+    (before mid said : List ℕ) (accepted : Bool) → before ≡ [] → accepted ≡ true
+    → IsNoted file path text old middle before mid accepted → IsSettled middle new mid said
+    → IsTextAnswer file path text old new said
+text_accepted file path text old middle new before mid said true none is
+    (NotedTaken held taken same told) settled =
+    TextAccepted (record {
+      held = held;
+      taken = taken;
+      settled =
+          subst (λ (x : Standing). IsSettled x new [] said) same (subst
+          (λ (l : List ℕ). IsSettled middle new l said) (told ∙ none) settled);
+    })
+text_accepted file path text old middle new before mid said false none is noted settled =
+    absurd (true_not (sym is))
+
+-- and of one that is refused
+pub text_refused : (file : File) (path text : List ℕ) (old new : Standing) (before said : List ℕ)
+    (accepted : Bool) → before ≡ [] → accepted ≡ false
+    → IsNoted file path text old new before said accepted → IsTextAnswer file path text old new said
+text_refused file path text old new before said false none is
+    (NotedRefused fault refused stands told) =
+    TextRefused (record {
+      fault = fault;
+      refused = refused;
+      stands = stands;
+      is = told ∙ ap (λ (l : List ℕ). l ++ refusal_of path fault) none;
+    })
+text_refused file path text old new before said true none is noted = absurd (true_not is)
+
+answered_text : (path : List ℕ) (old new : Standing) (file : File) (text : Vec ℕ Global)
+    (said : List ℕ)
+    → IsTextAnswer file path text.items old new said
+    → IsAnswer path old new (Some file) (record { path = path; version = Text text } ∷ []) said
+answered_text path old new file text said (TextAccepted accepted) = Accepted file text said accepted
+answered_text path old new file text said (TextRefused refused) = Refused file text said refused
+
+-- of a text that was read
+pub text_answered : (path : List ℕ) (old new : Standing) (file : File) (version : Version)
+    (text : Vec ℕ Global) → version ≡ Text text
+    → (r : Result (Vec ℕ Global) SessionFault)
+    → IfOk r (λ t. IsTextAnswer file path text.items old new t.items)
+    → IfOk r (λ t. IsAnswer path old new (Some file)
+    (record { path = path; version = version } ∷ []) t.items)
+text_answered path old new file version text is (Ok t) answer =
+    subst
+    (λ (v : Version).
+    IsAnswer path old new (Some file) (record { path = path; version = v } ∷ []) t.items)
+    (sym is)
+    (answered_text path old new file text t.items answer)
+text_answered path old new file version text is (Err fault) answer = tt
+
+-- of a file that cannot be read
+pub unread_answered : (path : List ℕ) (standing : Standing) (file : File) (said : List ℕ)
+    (version : Version) → version ≡ Unread
+    → said ≡ path ++ (codes ": not read" ++ 10 ∷ [])
+    → IsAnswer path standing standing (Some file)
+    (record { path = path; version = version } ∷ []) said
+unread_answered path standing file said version is told =
+    subst
+    (λ (v : Version). IsAnswer path standing standing (Some file)
+    (record { path = path; version = v } ∷ []) said)
+    (sym is)
+    (NotRead file said refl told)
+
+-- of a path that is no file's
+pub unwatched_answered : (path : List ℕ) (file : Option File) (standing : Standing)
+    (r : Option (List Reading)) (said : List ℕ) → None ≡ file
+    → said ≡ path ++ (codes ": not watched" ++ 10 ∷ [])
+    → IsAnswered path file standing standing r r said
+unwatched_answered path file standing r said is told = record {
+  read = [];
+  answer =
+      subst (λ (f : Option File). IsAnswer path standing standing f [] said) is
+      (Unwatched said refl told);
+  reads = read_none r;
+}
+
+-- ---- a whole run
+
+pub run_of : (model : List ℕ) (tests lasts : List (List ℕ)) (source : Option (List ℕ))
+    (begins ends : Standing) (r s t : Option (List Reading)) (first : List ℕ)
+    (a b c : Option (List ℕ))
+    → HasBegunRun model tests lasts begins r s first → Appends a b first
+    → HasAnswers model tests (AreAll source) begins ends s t b c
+    → IsRun model tests lasts ends.refused source r t a c
+run_of model tests lasts source begins ends r s t first a b c begun gained more = record {
+  begins = begins;
+  ends = ends;
+  first_read = begun.read;
+  read = more.read;
+  first = first;
+  text = more.text;
+  lines = more.lines;
+  begun = begun.begun;
+  answers = more.answers;
+  told = refl;
+  asked = more.asked;
+  reads = read_more r s t begun.read more.read begun.reads more.reads;
+  gains = Appends-trans a b c first more.text gained more.gains;
+}

@@ -1,0 +1,16 @@
+use Rattle.text_values.specs.TestValue.{content_of}
+use Rattle.bench_texts.specs.Held.{texts_of}
+use Rattle.watch_run.proofs.Taking.{put_held, put_whole}
+use Rattle.watch_run.proofs.watched.Watched.put_test.Goals as goal
+
+pub returns-then-branch-clause-tests : goal.returns-then-branch-clause-tests
+returns-then-branch-clause-tests g c =
+    put_held c.args.new.now.name _ _ (content_of c.args.new.now) c.in_ok-change_parts.ensures.tests
+    (c.in_ok-holds_test.ensures c.if-branch.true)
+
+pub returns-in-None-clause-tests : goal.returns-in-None-clause-tests
+returns-in-None-clause-tests g c =
+    put_whole (texts_of c.args.self.now.texts) (texts_of c.change_parts.new.self.texts)
+    (texts_of c.make.new.self.texts) c.args.text.items (content_of c.args.new.now)
+    c.requires.only c.in_ok-change_parts.ensures.tests
+    (rw c.in-None.is at c.in_ok-make.ensures.made)

@@ -1,0 +1,75 @@
+-- What edits make of the texts of the bench. Read after Holding.
+use Rattle.std.specs.Prelude.{◌≡◌, ◌⊎◌, ◌<◌, false, ℕ, List, length, map, Option, Some, None, Vec}
+use Rattle.std.specs.declared.alloc.Global.{Global}
+use Rattle.text_values.specs.ModelValue.{Clause}
+use Rattle.text_values.specs.TestValue.{Content}
+use Rattle.bench_texts.specs.BenchTexts.{BenchTexts, PlainModel, test_index, put_at}
+use Rattle.bench_texts.specs.Edits.{Edit, PutModel, SetItem, InsertItem, RemoveItem, Applies, Refuses}
+use Rattle.bench_texts.specs.Held.{texts_of}
+use Rattle.bench_texts.specs.declared.texts.Texts.{Texts}
+use Rattle.bench_texts.specs.declared.fault.EditFault.{EditFault}
+use Rattle.session_answers.specs.Cells.{test_named, model_named}
+use Rattle.session_edits.specs.Faults.{IsAnswer}
+use Rattle.watch_edits.specs.Changes.{all_applied}
+use Rattle.watch_edits.specs.Parts.{all_put}
+use Rattle.watch_edits.specs.declared.items.ItemChange.{ItemChange}
+use Rattle.watch_edits.specs.declared.parts.TestPart.{TestPart}
+use Rattle.watch_run.specs.declared.watched.Paths.{Paths}
+use Rattle.watch_run.specs.declared.watched.WatchedFile.{WatchedFile}
+use Rattle.watch_run.specs.declared.watched.WatchedFile.TheVariants as files
+use Rattle.watch_run.specs.Holding.{Holding, File, ModelFile, TestFile, model_name, IsTaken, IsVersionRefused}
+
+-- the file that a value of the code names
+abbrev pub file_of : WatchedFile → File
+file_of files.Model = ModelFile
+file_of (files.Test index) = TestFile index
+
+-- the paths of the files
+abbrev pub model_path : Paths → List ℕ
+model_path paths = paths.model.now
+
+abbrev pub test_paths : Paths → List (List ℕ)
+test_paths paths = map (λ t. t.now) paths.tests.now
+
+-- what these texts and names hold
+abbrev pub held_of : Texts → Vec (Option (List ℕ)) Global → Holding
+held_of texts names = record { texts = texts_of texts; names = names.items }
+
+-- an edit was made of the texts, or is refused for that fault, and then they stay
+abbrev pub IsMade : BenchTexts → Edit → Option EditFault → BenchTexts → Type 0
+IsMade t e None new = Applies t false e new
+IsMade t e (Some fault) new = IsAnswer fault × Refuses t false e fault × (new ≡ t)
+
+-- a version of a file is taken, or refused for that fault, and then what is held stays
+abbrev pub IsVersionTaken : File → (text : List ℕ) → Holding → Option EditFault → Holding → Type 0
+IsVersionTaken file text old None new = IsTaken file text old new
+IsVersionTaken file text old (Some fault) new =
+    IsVersionRefused file text old.texts fault × (new ≡ old)
+
+-- the edit is of a model
+abbrev pub IsOfModel : Edit → Type 0
+IsOfModel (PutModel model text) = Unit {0}
+IsOfModel (SetItem model item text) = Unit {0}
+IsOfModel (InsertItem model before text) = Unit {0}
+IsOfModel (RemoveItem model item) = Unit {0}
+IsOfModel _ = ⊥
+
+-- these changes make the new items of those of the model
+pub record AreChanges (t : BenchTexts) (new : List Clause) (changes : List ItemChange)
+    : Type 0 where
+  pub model : PlainModel
+  pub there : model_named t model_name ≡ Some model
+  pub applied : all_applied new changes (map (λ i. i.clause) model.items) ≡ new
+
+-- these parts make the new test of the one of its name
+pub record AreParts (t : BenchTexts) (new : Content) (parts : List TestPart) : Type 0 where
+  pub test : Content
+  pub there : test_named t new.name ≡ Some test
+  pub put : all_put new parts test ≡ new
+
+-- the tests are the same, or another one of that name stands in the place of the first of it
+abbrev pub AreSameBut : (name : List ℕ) → (old new : List Content) → Type 0
+AreSameBut name old new =
+    (new ≡ old)
+    ⊎ ((test : Content) × (test.name ≡ name) × (test_index name old < length old)
+    × (new ≡ put_at (test_index name old) test old))

@@ -1,0 +1,514 @@
+//! A later version of a file: the edits that make it of what the bench holds.
+
+ghost use Rattle.std.specs.Prelude.{◌≡◌, Some, false, option_map, IfOk, OnOk, IfSome, IsSome, IsTrue};
+ghost use Rattle.std.specs.List.{list_any};
+ghost use Rattle.text_values.specs.ModelValues.{clauses_of};
+ghost use Rattle.text_values.specs.TestValue.{Content, content_of};
+ghost use Rattle.litmus_grammar.specs.Texts.{ReadsTest};
+ghost use Rattle.bench_texts.specs.BenchTexts.{test_index, put_at, changed_at};
+ghost use Rattle.bench_texts.specs.Edits.{edit_of, Refuses};
+ghost use Rattle.bench_texts.specs.Held.{model_of, texts_of};
+ghost use Rattle.session_answers.specs.Cells.{test_named, model_named};
+ghost use Rattle.session_edits.specs.Faults.{IsAnswer};
+ghost use Rattle.watch_run.specs.Holding.{model_name, is_name, without_unheld, name_at, HoldsItems, IsTestTaken, ModelFile, TestFile};
+ghost use Rattle.watch_run.specs.Edits.{IsMade, IsVersionTaken, IsOfModel, AreChanges, AreParts, AreSameBut};
+ghost use Rattle.watch_run.specs.Boards.{KnowsItsTexts, holding};
+
+use crate::author::Author;
+use crate::lines::model_name;
+use crate::watched::Watched;
+use bench_texts::{Edit, EditFault, NamedModel, Texts};
+use cat_syntax::{CatFault, ModelText, read_model};
+use litmus_ppc::{LitmusFault, Name, Test, read_test};
+use session_views::laws::own_edits_are_known;
+use std::alloc::{AllocError, Global};
+use std::mem::replace;
+use std::sync::Wait;
+use watch_edits::{ItemChange, TestPart, changed_parts, item_changes, item_edit, part_edit};
+
+// The numbers of edits that a board counts, below the greatest.
+const MOST_EDITS: u64 = u64::MAX - 1;
+
+// A fault that is told. Errors: out of memory, where that is the fault.
+fn told_fault(fault: EditFault) -> Result<EditFault, AllocError>
+    ensures same { IfOk result (λ f. f ≡ fault) }
+    ensures answer { IfOk result IsAnswer }
+{
+    match fault {
+        EditFault::OutOfMemory(error) => Err(error),
+        EditFault::Test(LitmusFault::OutOfMemory(error)) => Err(error),
+        EditFault::Model(CatFault::OutOfMemory(error)) => Err(error),
+        fault => Ok(fault),
+    }
+}
+
+// Why a text is refused that cannot be read. Errors: out of memory, where that is why.
+fn unread(refusal: Option<EditFault>) -> Result<Option<EditFault>, AllocError>
+    ensures same { IfOk result (λ o. o ≡ refusal) }
+    ensures some { IfOk result IsSome }
+{
+    match refusal {
+        Some(fault) => Ok(Some(fault)),
+        None => Err(AllocError),
+    }
+}
+
+// Whether the bench is full.
+fn is_full(fault: &EditFault) -> bool {
+    match fault {
+        EditFault::Full => true,
+        _ => false,
+    }
+}
+
+// The model, if it is there.
+fn held_model<'t>(texts: &'t Texts) -> Option<&'t NamedModel>
+    ensures { option_map (λ m. model_of m.now) result
+        ≡ model_named (texts_of texts.now) model_name }
+{
+    let index = texts.model_index(model_name());
+    texts.models().get(index)
+}
+
+// The test of this name, if it is there.
+fn held_test<'t>(texts: &'t Texts, name: &[u8]) -> Option<&'t Test>
+    ensures { option_map (λ t. content_of t.now) result ≡ test_named (texts_of texts.now) name.now }
+{
+    texts.tests().get(texts.test_index(name))
+}
+
+// The changes that make this of the model, or none where there is no model.
+#[tactic(auto, using(crate::proofs::Taking::changes_of))]
+fn changes_to(
+    alloc: Global,
+    texts: &Texts,
+    new: &ModelText,
+) -> Result<Option<Vec<ItemChange>>, AllocError>
+    ensures { IfOk result (λ o. IfSome o (λ cs.
+        AreChanges (texts_of texts.now) (clauses_of new.now.items.items) cs.items)) }
+{
+    match held_model(texts) {
+        Some(model) => Ok(Some(item_changes(alloc, &model.text().items, &new.items)?)),
+        None => Ok(None),
+    }
+}
+
+// Whether the model has just the items of this one.
+fn holds_items(alloc: Global, texts: &Texts, new: &ModelText) -> Result<bool, AllocError>
+    ensures { IfOk result (λ is. IsTrue is
+        → HoldsItems (clauses_of new.now.items.items) (texts_of texts.now)) }
+{
+    match changes_to(alloc, texts, new)? {
+        Some(changes) => Ok(changes.is_empty()),
+        None => Ok(false),
+    }
+}
+
+// The edit that makes a change of the model, where there is a model.
+#[tactic(auto, using(crate::proofs::Taking::change_of_model))]
+fn edit_to(
+    alloc: Global,
+    texts: &Texts,
+    new: &ModelText,
+    change: ItemChange,
+) -> Result<Option<Edit>, AllocError>
+    ensures { IfOk result (λ o. IfSome o (λ e. IsOfModel (edit_of e))) }
+{
+    match held_model(texts) {
+        Some(model) => Ok(Some(item_edit(alloc, model, &new.items, change)?)),
+        None => Ok(None),
+    }
+}
+
+// The parts that differ from the test of this name, or none where there is no such test or it has
+// another shape.
+#[tactic(auto, using(crate::proofs::Taking::parts_of))]
+fn parts_to(alloc: Global, texts: &Texts, new: &Test) -> Result<Option<Vec<TestPart>>, AllocError>
+    ensures { IfOk result (λ o.
+        IfSome o (λ ps. AreParts (texts_of texts.now) (content_of new.now) ps.items)) }
+{
+    let old = match held_test(texts, new.name.as_bytes()) {
+        Some(old) => old,
+        None => return Ok(None),
+    };
+    match changed_parts(alloc, old, new)? {
+        Some(parts) => Ok(Some(parts)),
+        None => Ok(None),
+    }
+}
+
+// Whether the first test of this name is this one.
+fn holds_test(alloc: Global, texts: &Texts, new: &Test) -> Result<bool, AllocError>
+    ensures { IfOk result (λ is. IsTrue is
+        → test_named (texts_of texts.now) new.now.name ≡ Some (content_of new.now)) }
+{
+    match parts_to(alloc, texts, new)? {
+        Some(parts) => Ok(parts.is_empty()),
+        None => Ok(false),
+    }
+}
+
+// Whether this is the name of the test that a file holds.
+fn is_of(held: &Option<Name>, name: &Name) -> bool
+    ensures { result ≡ is_name name.now held.now }
+{
+    match held {
+        Some(held) => held.as_bytes() == name.as_bytes(),
+        None => false,
+    }
+}
+
+// Whether some file holds the test of this name.
+fn is_held(names: &[Option<Name>], name: &Name) -> bool
+    ensures { result ≡ list_any (is_name name.now) names.now }
+{
+    for held in names {
+        if is_of(held, name) {
+            return true;
+        }
+    }
+    false
+}
+
+// Whether no file but that of this index holds the test of this name.
+fn is_alone(names: &[Option<Name>], index: usize, name: &Name) -> bool {
+    for other in 0..names.len() {
+        if other != index && is_of(&names[other], name) {
+            return false;
+        }
+    }
+    true
+}
+
+// Whether the test that the file of that index holds goes where it holds the one of this name from
+// now on.
+fn is_leaving(names: &[Option<Name>], index: usize, new: &Name) -> bool {
+    match names.get(index) {
+        Some(Some(old)) => !old.is_same(new) && is_alone(names, index, old),
+        _ => false,
+    }
+}
+
+// The file of that index holds the test of this name from now on. What it held before.
+#[tactic(auto, using(crate::proofs::Lists::changed_set, crate::proofs::Lists::got_set, crate::proofs::Lists::got_past))]
+fn put_name(names: &mut Vec<Option<Name>>, index: usize, name: Name) -> Option<Name>
+    ensures names { names.new.items ≡ changed_at index (λ old. Some name) names.old.items }
+    ensures old { result ≡ name_at index names.old.items }
+{
+    if index < names.len() {
+        replace(&mut names[index], Some(name))
+    } else {
+        None
+    }
+}
+
+impl<A: Author> Watched<A> {
+    // Makes an edit of the texts, and has the author make it. Why it is refused, if it is. Errors:
+    // out of memory, also where a worker gave up.
+    fn make<W: Wait>(
+        &mut self,
+        rt: &W,
+        alloc: Global,
+        edit: Edit,
+    ) -> Result<Option<EditFault>, AllocError>
+        requires ready { KnowsItsTexts A.seen self.old }
+        ensures ready { OnOk result (KnowsItsTexts A.seen self.new) }
+        ensures made { IfOk result (λ o.
+            IsMade (texts_of self.old.texts) (edit_of edit) o (texts_of self.new.texts)) }
+        ensures names { self.new.names ≡ self.old.names }
+    {
+        own_edits_are_known(&self.texts);
+        let prepared = match self.texts.prepare(alloc, &edit, false) {
+            Ok(prepared) => prepared,
+            Err(fault) => return Ok(Some(told_fault(fault)?)),
+        };
+        if self.made >= MOST_EDITS {
+            return Err(AllocError);
+        }
+        self.last = self.author.give(rt, edit)?;
+        self.texts.commit(prepared);
+        self.made += 1;
+        Ok(None)
+    }
+
+    // Why an edit would be refused, if it would. Nothing is changed.
+    fn refusal(&mut self, alloc: Global, edit: &Edit) -> Result<Option<EditFault>, AllocError>
+        requires ready { KnowsItsTexts A.seen self.old }
+        ensures ready { KnowsItsTexts A.seen self.new }
+        ensures fault { IfOk result (λ o. IfSome o (λ fault. IsAnswer fault
+            × Refuses (texts_of self.old.texts) false (edit_of edit.now) fault)) }
+        ensures texts { texts_of self.new.texts ≡ texts_of self.old.texts }
+        ensures names { self.new.names ≡ self.old.names }
+    {
+        match self.texts.prepare(alloc, edit, false) {
+            Ok(_prepared) => Ok(None),
+            Err(fault) => Ok(Some(told_fault(fault)?)),
+        }
+    }
+
+    // Makes a change of the model. Whether it is accepted.
+    #[tactic(auto, using(crate::proofs::Taking::model_keeps_tests))]
+    fn change_item<W: Wait>(
+        &mut self,
+        rt: &W,
+        alloc: Global,
+        new: &ModelText,
+        change: ItemChange,
+    ) -> Result<bool, AllocError>
+        requires ready { KnowsItsTexts A.seen self.old }
+        ensures ready { OnOk result (KnowsItsTexts A.seen self.new) }
+        ensures tests { OnOk result ((texts_of self.new.texts).tests
+            ≡ (texts_of self.old.texts).tests) }
+        ensures names { self.new.names ≡ self.old.names }
+    {
+        match edit_to(alloc, &self.texts, new, change)? {
+            Some(edit) => {
+                let fault = self.make(rt, alloc, edit)?;
+                Ok(fault.is_none())
+            }
+            None => Ok(false),
+        }
+    }
+
+    // Makes the changes that lead to this model, item by item, as far as they are accepted.
+    fn change_items<W: Wait>(
+        &mut self,
+        rt: &W,
+        alloc: Global,
+        new: &ModelText,
+    ) -> Result<(), AllocError>
+        requires ready { KnowsItsTexts A.seen self.old }
+        ensures ready { OnOk result (KnowsItsTexts A.seen self.new) }
+        ensures tests { OnOk result ((texts_of self.new.texts).tests
+            ≡ (texts_of self.old.texts).tests) }
+        ensures names { self.new.names ≡ self.old.names }
+    {
+        let changes = match changes_to(alloc, &self.texts, new)? {
+            Some(changes) => changes,
+            None => return Ok(()),
+        };
+        for change in &changes {
+            let accepted = self.change_item(rt, alloc, new, *change)?;
+            if !accepted {
+                return Ok(());
+            }
+        }
+        Ok(())
+    }
+
+    // Makes the model this one, item by item or as a whole, where the bench accepts the whole.
+    // Errors: out of memory, also where the edits end otherwise, which they do not.
+    fn put_items<W: Wait>(
+        &mut self,
+        rt: &W,
+        alloc: Global,
+        new: &ModelText,
+        whole: Edit,
+    ) -> Result<(), AllocError>
+        requires ready { KnowsItsTexts A.seen self.old }
+        requires whole { IsOfModel (edit_of whole) }
+        ensures ready { OnOk result (KnowsItsTexts A.seen self.new) }
+        ensures items { OnOk result (HoldsItems (clauses_of new.now.items.items)
+            (texts_of self.new.texts)) }
+        ensures tests { OnOk result ((texts_of self.new.texts).tests
+            ≡ (texts_of self.old.texts).tests) }
+        ensures names { self.new.names ≡ self.old.names }
+    {
+        self.change_items(rt, alloc, new)?;
+        if holds_items(alloc, &self.texts, new)? {
+            return Ok(());
+        }
+        drop(self.make(rt, alloc, whole)?);
+        if holds_items(alloc, &self.texts, new)? {
+            Ok(())
+        } else {
+            Err(AllocError)
+        }
+    }
+
+    /// Takes a version of the model's file. Why it is refused, if it is. Errors: out of memory.
+    pub fn take_model<W: Wait>(
+        &mut self,
+        rt: &W,
+        alloc: Global,
+        text: Vec<u8>,
+    ) -> Result<Option<EditFault>, AllocError>
+        requires ready { KnowsItsTexts A.seen self.old }
+        ensures ready { OnOk result (KnowsItsTexts A.seen self.new) }
+        ensures taken { IfOk result (λ o.
+            IsVersionTaken ModelFile text.items (holding self.old) o (holding self.new)) }
+    {
+        let whole = Edit::PutModel {
+            model: Vec::from_slice(alloc, model_name())?,
+            text: Vec::from_slice(alloc, &text)?,
+        };
+        if let Some(fault) = self.refusal(alloc, &whole)? {
+            return Ok(Some(fault));
+        }
+        let new = match read_model(alloc, &text) {
+            Ok(new) => new,
+            Err(_) => return Err(AllocError),
+        };
+        self.put_items(rt, alloc, &new, whole)?;
+        Ok(None)
+    }
+
+    // Puts a part of a test. Whether it is accepted.
+    #[tactic(auto, using(crate::proofs::Taking::part_tests, crate::proofs::Taking::part_models))]
+    fn put_part<W: Wait>(
+        &mut self,
+        rt: &W,
+        alloc: Global,
+        new: &Test,
+        part: TestPart,
+    ) -> Result<bool, AllocError>
+        requires ready { KnowsItsTexts A.seen self.old }
+        ensures ready { OnOk result (KnowsItsTexts A.seen self.new) }
+        ensures tests { OnOk result (AreSameBut new.now.name (texts_of self.old.texts).tests
+            (texts_of self.new.texts).tests) }
+        ensures models { OnOk result ((texts_of self.new.texts).models
+            ≡ (texts_of self.old.texts).models) }
+        ensures names { self.new.names ≡ self.old.names }
+    {
+        let edit = part_edit(alloc, new, part)?;
+        let fault = self.make(rt, alloc, edit)?;
+        Ok(fault.is_none())
+    }
+
+    // Makes the test of this name this one, part by part, as far as the parts are accepted.
+    fn change_parts<W: Wait>(&mut self, rt: &W, alloc: Global, new: &Test) -> Result<(), AllocError>
+        requires ready { KnowsItsTexts A.seen self.old }
+        ensures ready { OnOk result (KnowsItsTexts A.seen self.new) }
+        ensures tests { OnOk result (AreSameBut new.now.name (texts_of self.old.texts).tests
+            (texts_of self.new.texts).tests) }
+        ensures models { OnOk result ((texts_of self.new.texts).models
+            ≡ (texts_of self.old.texts).models) }
+        ensures names { self.new.names ≡ self.old.names }
+    {
+        let parts = match parts_to(alloc, &self.texts, new)? {
+            Some(parts) => parts,
+            None => return Ok(()),
+        };
+        for part in &parts {
+            let accepted = self.put_part(rt, alloc, new, *part)?;
+            if !accepted {
+                return Ok(());
+            }
+        }
+        Ok(())
+    }
+
+    // Makes the test of this name this one, part by part or as a whole, where the bench accepts the
+    // whole. Errors: out of memory, also where it does not accept it.
+    fn put_test<W: Wait>(
+        &mut self,
+        rt: &W,
+        alloc: Global,
+        new: &Test,
+        text: Vec<u8>,
+    ) -> Result<(), AllocError>
+        requires ready { KnowsItsTexts A.seen self.old }
+        requires only { (c : Content) → ReadsTest text.items c → content_of new.now ≡ c }
+        ensures ready { OnOk result (KnowsItsTexts A.seen self.new) }
+        ensures tests { OnOk result ((texts_of self.new.texts).tests
+            ≡ put_at (test_index new.now.name (texts_of self.old.texts).tests)
+            (content_of new.now) (texts_of self.old.texts).tests) }
+        ensures models { OnOk result ((texts_of self.new.texts).models
+            ≡ (texts_of self.old.texts).models) }
+        ensures names { self.new.names ≡ self.old.names }
+    {
+        self.change_parts(rt, alloc, new)?;
+        if holds_test(alloc, &self.texts, new)? {
+            return Ok(());
+        }
+        match self.make(rt, alloc, Edit::PutTest { text })? {
+            None => Ok(()),
+            Some(_) => Err(AllocError),
+        }
+    }
+
+    // Drops the test of this name, unless a file holds one of it.
+    fn drop_unheld<W: Wait>(
+        &mut self,
+        rt: &W,
+        alloc: Global,
+        name: Option<Name>,
+    ) -> Result<(), AllocError>
+        requires ready { KnowsItsTexts A.seen self.old }
+        ensures ready { OnOk result (KnowsItsTexts A.seen self.new) }
+        ensures tests { OnOk result ((texts_of self.new.texts).tests
+            ≡ without_unheld name self.old.names.items (texts_of self.old.texts).tests) }
+        ensures models { OnOk result ((texts_of self.new.texts).models
+            ≡ (texts_of self.old.texts).models) }
+        ensures names { self.new.names ≡ self.old.names }
+    {
+        let name = match name {
+            Some(name) => name,
+            None => return Ok(()),
+        };
+        if is_held(&self.names, &name) {
+            return Ok(());
+        }
+        let test = Vec::from_slice(alloc, name.as_bytes())?;
+        match self.make(rt, alloc, Edit::DropTest { test })? {
+            None => Ok(()),
+            Some(EditFault::NoTest) => Ok(()),
+            Some(_) => Err(AllocError),
+        }
+    }
+
+    // The file of that index holds this test from now on, which the bench accepts once the test
+    // that leaves is dropped.
+    fn hold_test<W: Wait>(
+        &mut self,
+        rt: &W,
+        alloc: Global,
+        index: usize,
+        new: &Test,
+        text: Vec<u8>,
+    ) -> Result<(), AllocError>
+        requires ready { KnowsItsTexts A.seen self.old }
+        requires reads { ReadsTest text.items (content_of new.now) }
+        requires only { (c : Content) → ReadsTest text.items c → content_of new.now ≡ c }
+        ensures ready { OnOk result (KnowsItsTexts A.seen self.new) }
+        ensures taken { OnOk result (IsTestTaken index text.items (holding self.old)
+            (holding self.new)) }
+    {
+        let name = new.name.copied(alloc)?;
+        let old = put_name(&mut self.names, index, name);
+        self.drop_unheld(rt, alloc, old)?;
+        self.put_test(rt, alloc, new, text)?;
+        Ok(())
+    }
+
+    /// Takes a version of the file of that index. Why it is refused, if it is. Errors: out of
+    /// memory.
+    pub fn take_test<W: Wait>(
+        &mut self,
+        rt: &W,
+        alloc: Global,
+        index: usize,
+        text: Vec<u8>,
+    ) -> Result<Option<EditFault>, AllocError>
+        requires ready { KnowsItsTexts A.seen self.old }
+        ensures ready { OnOk result (KnowsItsTexts A.seen self.new) }
+        ensures taken { IfOk result (λ o. IsVersionTaken (TestFile index) text.items
+            (holding self.old) o (holding self.new)) }
+    {
+        let whole = Edit::PutTest {
+            text: Vec::from_slice(alloc, &text)?,
+        };
+        let refusal = self.refusal(alloc, &whole)?;
+        let new = match read_test(alloc, &text) {
+            Ok(new) => new,
+            Err(_) => return unread(refusal),
+        };
+        if let Some(fault) = refusal {
+            if !is_full(&fault) || !is_leaving(&self.names, index, &new.name) {
+                return Ok(Some(fault));
+            }
+        }
+        self.hold_test(rt, alloc, index, &new, text)?;
+        Ok(None)
+    }
+}
