@@ -26,9 +26,9 @@ use Rattle.board.specs.Operations.{board_after}
 use Rattle.desk.specs.Boards.{HoldsAbove}
 use Rattle.bench_instance.specs.declared.stamped_texts.StampedTexts.{StampedTexts}
 use Rattle.bench_instance.specs.StampedTexts.{IsSound, net_of, verdict_of}
-use Rattle.bench_instance.specs.CellProofs.{cell_in}
+use Rattle.bench_instance.specs.Lemmas.CellProofs.{cell_in}
 use Rattle.bench_instance.specs.Cells.{board_cells, IsRowRange}
-use Rattle.bench_instance.specs.Laws.{cells_are_in_rows, is_below}
+use Rattle.bench_instance.specs.Lemmas.Laws.{cells_are_in_rows, is_below}
 use Rattle.bench_instance.specs.Texts.{AreAfter}
 
 -- ---- a node and what it stands on are of one test

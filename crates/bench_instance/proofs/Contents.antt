@@ -17,7 +17,7 @@ use Rattle.bench_instance.specs.declared.stamped_texts.StampedTexts.{StampedText
 use Rattle.bench_instance.specs.StampedCells.{from_scratch, scratch_by, test_of as test_in, model_of as model_in}
 use Rattle.board.specs.Histories.{no_contents, contents_with, contents_after, IsEditOf, IsMadeOn, AreMadeFrom, IsHistory}
 use Rattle.bench_instance.specs.Texts.{AreAfter}
-use Rattle.bench_instance.specs.Laws.{made_few}
+use Rattle.bench_instance.specs.Lemmas.Laws.{made_few}
 use Rattle.board.proofs.Histories.{contents_are_those}
 use Rattle.bench_instance.specs.Contents.{IsApplied, IsWithinLimits, SayTheSame}
 

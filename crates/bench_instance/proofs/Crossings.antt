@@ -19,7 +19,6 @@ use Rattle.bench_texts.specs.contracts.texts.Texts as Texts
 use Rattle.bench_values.specs.contracts.given.Given as Given
 use Rattle.bench_instance.specs.contracts.stamped_texts.PreparedEdit as PreparedEdit
 use Rattle.bench_instance.specs.contracts.stamped_texts.StampedTexts as StampedTexts
-use Rattle.bench_instance.specs.contracts.texts.RunningTexts as RunningTexts
 use Rattle.bench_values.proofs.value.NodeValue.TheSendSync as value
 use Rattle.board.specs.contracts.operation.BoardOp as BoardOp
 use Rattle.board.proofs.board.Board.TheSendSync as board
@@ -112,19 +111,13 @@ pub edit_sync : IsSync PreparedEdit.the_row
 edit_sync =
     search (prepared_field_sync, edited.the_field_sync, crosses, sendable) depth 100 fits 20000
 
-stamped_field_send : IsSend (StampedTexts.the_field).row
-stamped_field_send =
+pub stamped_send : IsSend StampedTexts.the_row
+stamped_send =
     search (texts_field_send, parts.the_field_send, crosses, sendable) depth 100 fits 20000
 
-stamped_field_sync : IsSync (StampedTexts.the_field).row
-stamped_field_sync =
+pub stamped_sync : IsSync StampedTexts.the_row
+stamped_sync =
     search (texts_field_sync, parts.the_field_sync, crosses, sendable) depth 100 fits 20000
-
-pub running_send : IsSend RunningTexts.the_row
-running_send = search (stamped_field_send, crosses, sendable) depth 100 fits 20000
-
-pub running_sync : IsSync RunningTexts.the_row
-running_sync = search (stamped_field_sync, crosses, sendable) depth 100 fits 20000
 
 pub operation_send : IsSend BoardOp.the_row
 operation_send = search (crosses, sendable) depth 100 fits 20000
@@ -138,8 +131,8 @@ pub ruleset bench_crosses = (
   given_sync,
   edit_send,
   edit_sync,
-  running_send,
-  running_sync,
+  stamped_send,
+  stamped_sync,
   operation_send,
   operation_sync,
   value.the_send,

@@ -27,7 +27,7 @@ use Rattle.board.specs.Contents.{RowContent, ColumnContent, BoardContent, cell_a
 use Rattle.bench_instance.specs.declared.stamped_texts.PreparedEdit.{PreparedEdit}
 use Rattle.bench_instance.specs.declared.stamped_texts.StampedTexts.{StampedTexts}
 use Rattle.bench_instance.specs.Cells.{cell_with, all_cells, IsCountable, board_cells, IsIndexOf, IsNamedAt, HasNoNames}
-use Rattle.bench_instance.specs.Listing.{are_all, all_length, all_get, cell_of_row, row_cell, outcome_at}
+use Rattle.bench_instance.specs.Lemmas.Listing.{are_all, all_length, all_get, cell_of_row, row_cell, outcome_at}
 use Rattle.board.specs.Histories.{no_contents}
 use Rattle.bench_instance.specs.Texts.{AreAfter, MayFollowBelow, Announced}
 

@@ -21,9 +21,9 @@ use Rattle.board.proofs.Names.{IsNamed, as_many, names_from}
 use Rattle.bench_instance.specs.declared.stamped_texts.StampedTexts.{StampedTexts}
 use Rattle.bench_instance.specs.StampedTexts.{IsSound}
 use Rattle.bench_instance.specs.StampedCells.{from_scratch, scratch_by, test_of, model_of as model_in}
-use Rattle.bench_instance.specs.CellProofs.{stands_there, tests_apart, models_apart}
+use Rattle.bench_instance.specs.Lemmas.CellProofs.{stands_there, tests_apart, models_apart}
 use Rattle.bench_instance.specs.Cells.{cell_with, row_cells, all_cells, IsCountable, board_cells}
-use Rattle.bench_instance.specs.Listing.{are_all, all_get, outcome_at, row_cell, cell_of_row}
+use Rattle.bench_instance.specs.Lemmas.Listing.{are_all, all_get, outcome_at, row_cell, cell_of_row}
 use Rattle.board.specs.Histories.{IsHistory}
 use Rattle.bench_instance.specs.Texts.{AreAfter}
 use Rattle.board.specs.Results.{test_named, model_named, IsResultIn, IsRightCell}

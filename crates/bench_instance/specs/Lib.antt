@@ -1,14 +1,9 @@
 pub mod StampedTexts
 pub mod Edited
-pub mod Commits
-pub mod StampedLaws
 pub mod StampedCells
-pub mod CellProofs
-pub mod LeftCells
 pub mod Cells
 pub mod Texts
-pub mod Listing
-pub mod Laws
 pub mod Posted
 pub mod Outputs
 pub mod Contents
+pub mod Lemmas

@@ -83,8 +83,8 @@ impl CellTexts for StampedTexts {
     ghost use Rattle.bench_values.specs.Values.{outcome_in};
     ghost use Rattle.bench_instance.specs.StampedTexts.{verdict_of};
     ghost use Rattle.bench_instance.specs.StampedCells.{from_scratch, Reaches};
-    ghost use Rattle.bench_instance.specs.CellProofs.{edited_alike, refused_alike, verdicts_used, all_needed, cells_solved};
-    ghost use Rattle.bench_instance.specs.LeftCells.{cells_left};
+    ghost use Rattle.bench_instance.specs.Lemmas.CellProofs.{edited_alike, refused_alike, verdicts_used, all_needed, cells_solved};
+    ghost use Rattle.bench_instance.specs.Lemmas.LeftCells.{cells_left};
 
     ghost verdict_of = { verdict_of };
 

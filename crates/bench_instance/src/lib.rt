@@ -10,17 +10,16 @@
 //!   `view_laws` has the laws of lists of operations, and `newest_view` says all of it of a view.
 #![tactic(auto)]
 
+mod board_texts;
 mod cell_texts;
 mod copies;
 mod outputs;
 mod seed;
 pub mod stamped_laws;
 mod stamped_texts;
-mod texts;
 mod view;
 pub mod view_laws;
 
 pub use seed::{DeskSeed, RunningDesk};
 pub use stamped_texts::{PreparedEdit, StampedTexts};
-pub use texts::RunningTexts;
 pub use view::{edit_count_in, newest_view, result_in};

@@ -4,7 +4,7 @@ ghost use Rattle.std.specs.Prelude.{◌≡◌, [], IfOk, min};
 ghost use Rattle.bench_instance.specs.StampedTexts.{IsSound};
 ghost use Rattle.bench_instance.specs.Texts.{AreAfter};
 
-use crate::texts::RunningTexts;
+use crate::stamped_texts::StampedTexts;
 use bench_values::NodeValue;
 use board::BoardOp;
 use cells::bench::Bench;
@@ -16,7 +16,7 @@ use std::sync::Wait;
 use value_store::{MAX_VALUES, Opened as OpenedStore, Store, StoreName};
 
 /// A desk of litmus tests and models.
-pub type RunningDesk<J, R> = Desk<J, RunningTexts, R>;
+pub type RunningDesk<J, R> = Desk<J, StampedTexts, R>;
 
 /// An empty history and an empty store, which have no name yet. The caller picks a name that stands
 /// for both.
@@ -62,7 +62,7 @@ impl DeskSeed {
         requires values { self.values.values ≡ J.shelves }
     {
         let DeskSeed { book, values } = self;
-        let opening: Opening<J, RunningTexts> = open::<J, RunningTexts, W>(rt, alloc, book)?;
+        let opening: Opening<J, StampedTexts> = open::<J, StampedTexts, W>(rt, alloc, book)?;
         match parts(alloc, values.named::<J>(), held) {
             Ok((bench, held)) => Ok(Desk::new(DeskState::new(alloc, bench, opening, held))),
             Err(_) => {
@@ -79,11 +79,11 @@ fn parts<J: Naming + StoreName, R: Wait + Drop>(
     alloc: Global,
     store: Store<J, NodeValue>,
     held: R,
-) -> Result<(Bench<J, RunningTexts>, Box<R>), AllocError>
+) -> Result<(Bench<J, StampedTexts>, Box<R>), AllocError>
     ensures valid { IfOk result (λ made. IsSound made.0.texts) }
     ensures after { IfOk result (λ made. AreAfter made.0.texts []) }
 {
     let held = Box::new(alloc, held)?;
-    let texts = <RunningTexts as BoardTexts>::start(alloc);
+    let texts = <StampedTexts as BoardTexts>::start(alloc);
     Ok((Bench::over(alloc, texts, store)?, held))
 }

@@ -167,8 +167,8 @@ impl Texts for StampedTexts {
     ghost use Rattle.bench_parts.proofs.Equality.{value_exact};
     ghost use Rattle.bench_instance.specs.StampedTexts.{IsSound, IsSince, IsThere, net_of};
     ghost use Rattle.bench_instance.specs.Edited.{IsEdited, IsPrepared, IsReady, IsCommitted};
-    ghost use Rattle.bench_instance.specs.Commits.{commits_edit};
-    ghost use Rattle.bench_instance.specs.StampedLaws.{texts_are_sound, since_itself, since_edited, given_stays, valid_edited, used_there, used_closed, users_listed, ranks_fall, goes_on};
+    ghost use Rattle.bench_instance.specs.Lemmas.Commits.{commits_edit};
+    ghost use Rattle.bench_instance.specs.Lemmas.StampedLaws.{texts_are_sound, since_itself, since_edited, given_stays, valid_edited, used_there, used_closed, users_listed, ranks_fall, goes_on};
 
     ghost is_valid = { IsSound };
 

@@ -11,7 +11,7 @@ ghost use Rattle.board.specs.Edits.{edit_count};
 ghost use Rattle.board.specs.Items.{ShowsRightItems};
 ghost use Rattle.board.specs.Histories.{AreEditsMade};
 
-use crate::texts::RunningTexts;
+use crate::stamped_texts::StampedTexts;
 use board::view_laws::{cells_are_right, edits_are_counted, items_are_right};
 use desk_history::{Naming, View, Viewer};
 use outcome_texts::Shown;
@@ -22,8 +22,8 @@ use outcome_texts::Shown;
 /// edits, which are no more than the number of the last. It takes no memory and waits for nobody.
 /// The viewer comes back where there is no view.
 pub fn newest_view<J: Naming>(
-    viewer: Viewer<J, RunningTexts>,
-) -> Result<View<J, RunningTexts>, Viewer<J, RunningTexts>>
+    viewer: Viewer<J, StampedTexts>,
+) -> Result<View<J, StampedTexts>, Viewer<J, StampedTexts>>
     ensures begins { IfOk result (λ view. IsPrefix viewer view) }
     ensures legal { IfOk result (λ view. IsLegal view) }
     ensures edits { IfOk result (λ view. AreEditsMade view) }
@@ -43,7 +43,7 @@ pub fn newest_view<J: Naming>(
 /// under the other from nothing gives, for the texts after the operations of the view. It takes no
 /// memory. The operations of each view are legal: `Viewer::read` and `newest_view` say so.
 pub fn result_in<'v, J: Naming>(
-    view: &'v View<J, RunningTexts>,
+    view: &'v View<J, StampedTexts>,
     test: &[u8],
     model: &[u8],
 ) -> Shown<'v>
@@ -56,7 +56,7 @@ pub fn result_in<'v, J: Naming>(
 }
 
 /// How many edits there are among the operations of a view: no more than the number of the last.
-pub fn edit_count_in<J: Naming>(view: &View<J, RunningTexts>) -> u64
+pub fn edit_count_in<J: Naming>(view: &View<J, StampedTexts>) -> u64
     requires legal { IsLegal view.now }
     ensures counted { result ≡ edit_count view.now }
     ensures numbered { result ≤ last_number view.now }

@@ -17,8 +17,8 @@ use Rattle.bench_texts.specs.declared.edit.Edit.{Edit as Code}
 use Rattle.bench_parts.specs.States.{keeps}
 use Rattle.cells.proofs.Listed.{runs_on}
 use Rattle.bench_instance.specs.StampedTexts.{IsSound, net_of, verdict_of}
-use Rattle.bench_instance.specs.StampedLaws.{since_itself}
-use Rattle.bench_instance.specs.LeftCells.{cells_left}
+use Rattle.bench_instance.specs.Lemmas.StampedLaws.{since_itself}
+use Rattle.bench_instance.specs.Lemmas.LeftCells.{cells_left}
 use Rattle.bench_laws.specs.Live.{live_meaning, live_last}
 use Rattle.bench_laws.specs.There.{LiveState}
 use Rattle.bench_laws.specs.OnlyReached.{IsUnreachedCell, IsUnderCell, IsUnderUnreached, OnlyReachedIsGiven, ReachedBoundsGiven}

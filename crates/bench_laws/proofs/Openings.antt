@@ -5,7 +5,7 @@ use Rattle.std.specs.Prelude.{slice_get, fold, IsTrue, ◌&&◌}
 use Rattle.std.proofs.lemmas.Option.{none-some}
 use Rattle.text_values.specs.declared.test.Test.{Test}
 use Rattle.outcome_texts.specs.Cells.{Cell, NoCell, Open, Settled}
-use Rattle.memo_core.specs.Equality.{and_true}
+use Rattle.memo_core.specs.Lemmas.Equality.{and_true}
 use Rattle.bench_texts.specs.declared.model.NamedModel.{NamedModel}
 use Rattle.bench_texts.specs.declared.replacement.Replacement.{Replacement}
 use Rattle.bench_texts.specs.BenchTexts.{BenchTexts}

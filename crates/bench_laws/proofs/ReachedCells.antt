@@ -5,7 +5,7 @@ use Rattle.std.specs.Arc.{arc_value}
 use Rattle.std.proofs.lemmas.Bool.{eqb-true}
 use Rattle.text_values.specs.declared.test.Test.{Test}
 use Rattle.verdict.specs.declared.answer.Outcome.{Outcome}
-use Rattle.memo_core.specs.Equality.{and_true}
+use Rattle.memo_core.specs.Lemmas.Equality.{and_true}
 use Rattle.bench_texts.specs.declared.model.NamedModel.{NamedModel}
 use Rattle.bench_texts.specs.declared.replacement.Replacement.{Replacement}
 use Rattle.bench_texts.specs.declared.replacement.Replacement.TheVariants as made

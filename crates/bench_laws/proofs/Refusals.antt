@@ -9,7 +9,7 @@ use Rattle.cells.specs.declared.shown.Shown.{Shown}
 use Rattle.cells.specs.declared.shown.Shown.TheVariants.{Settled, Open, NoCell}
 use Rattle.cells.specs.Cells.{Carries, IsSettledCell, IsOpenCell, IsShown}
 use Rattle.bench_instance.specs.StampedTexts.{net_of, verdict_of}
-use Rattle.bench_instance.specs.StampedLaws.{since_itself}
+use Rattle.bench_instance.specs.Lemmas.StampedLaws.{since_itself}
 use Rattle.bench_laws.specs.Live.{live_cells}
 use Rattle.bench_laws.specs.There.{LiveState}
 use Rattle.bench_laws.specs.Refusals.{RefusedChangesNothing, RefusedEditChangesNothing}

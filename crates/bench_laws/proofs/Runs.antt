@@ -9,9 +9,9 @@ use Rattle.bench_nodes.specs.Nodes.{rank}
 use Rattle.bench_texts.specs.declared.edit.Edit.{Edit}
 use Rattle.cells.specs.CellLaws.{SettledCellIsFromScratch}
 use Rattle.cells.proofs.CellRuns.{from_scratch_after}
-use Rattle.bench_instance.specs.CellProofs.{cells_solved}
+use Rattle.bench_instance.specs.Lemmas.CellProofs.{cells_solved}
 use Rattle.bench_instance.specs.StampedTexts.{IsSound, IsThere, net_of}
-use Rattle.bench_instance.specs.StampedLaws.{since_itself, since_edited, valid_edited, given_stays, texts_are_sound, used_there, used_closed, ranks_fall}
+use Rattle.bench_instance.specs.Lemmas.StampedLaws.{since_itself, since_edited, valid_edited, given_stays, texts_are_sound, used_there, used_closed, ranks_fall}
 use Rattle.bench_laws.specs.Live.{live_meaning, live_cells}
 use Rattle.bench_laws.specs.There.{LiveState}
 

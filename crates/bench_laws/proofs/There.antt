@@ -16,7 +16,7 @@ use Rattle.board.proofs.ShownNames.{found_alike}
 use Rattle.bench_instance.specs.declared.stamped_texts.StampedTexts.{StampedTexts}
 use Rattle.bench_instance.specs.StampedTexts.{IsSound, net_of, verdict_by, verdict_of}
 use Rattle.bench_instance.specs.StampedCells.{scratch_by, from_scratch, test_of, model_of as model_in}
-use Rattle.bench_instance.specs.CellProofs.{cell_in, row_there, model_row_there}
+use Rattle.bench_instance.specs.Lemmas.CellProofs.{cell_in, row_there, model_row_there}
 use Rattle.cells.specs.declared.shown.Shown.{Shown}
 use Rattle.cells.specs.declared.shown.Shown.TheVariants.{Settled, Open, NoCell}
 use Rattle.cells.specs.Cells.{IsSettledCell, IsShown}

@@ -20,8 +20,8 @@ use Rattle.cells.specs.Cells.{AllAreSettled, StandsOnBy}
 use Rattle.bench_instance.specs.declared.stamped_texts.StampedTexts.{StampedTexts}
 use Rattle.bench_instance.specs.StampedTexts.{IsSound, net_of, verdict_by, verdict_of}
 use Rattle.bench_instance.specs.StampedCells.{test_of, model_of}
-use Rattle.bench_instance.specs.CellProofs.{cell_in, row_there, model_row_there, all_needed, verdicts_used}
-use Rattle.bench_instance.specs.LeftCells.{cells_left}
+use Rattle.bench_instance.specs.Lemmas.CellProofs.{cell_in, row_there, model_row_there, all_needed, verdicts_used}
+use Rattle.bench_instance.specs.Lemmas.LeftCells.{cells_left}
 use Rattle.bench_laws.specs.Live.{live_meaning}
 use Rattle.bench_laws.specs.There.{LiveState}
 use Rattle.bench_laws.specs.Unreached.{HaveSameSlices, HasNoWork, UnreachedNeedsNoJob}

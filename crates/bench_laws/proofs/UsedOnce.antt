@@ -28,7 +28,7 @@ use Rattle.bench_text_laws.specs.Orderly.{AreApart}
 use Rattle.bench_text_laws.proofs.Lists.{has_append, apart_append}
 use Rattle.bench_instance.specs.declared.stamped_texts.StampedTexts.{StampedTexts}
 use Rattle.bench_instance.specs.StampedTexts.{IsSound, state_of}
-use Rattle.bench_instance.specs.CellProofs.{orderly_parts}
+use Rattle.bench_instance.specs.Lemmas.CellProofs.{orderly_parts}
 use Rattle.bench_laws.specs.There.{HoldsAfterEvents}
 use Rattle.bench_laws.specs.UsedOnce.{ListsEachNodeOnce, HasEachNodeOnce}
 use Rattle.bench_laws.proofs.Runs.{sound_after}

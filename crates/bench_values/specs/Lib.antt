@@ -1,4 +1,3 @@
-pub mod Codes
 pub mod Givens
 pub mod Laws
 pub mod Makes
@@ -6,3 +5,4 @@ pub mod Parts
 pub mod Spaces
 pub mod Values
 pub mod Views
+pub mod Lemmas

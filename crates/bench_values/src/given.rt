@@ -77,7 +77,7 @@ impl Drop for Given {
 impl Model for Given {
     ghost use Rattle.std.specs.Coded.{codes};
     ghost use Rattle.std.specs.Arc.{arc_value};
-    ghost use Rattle.bench_values.specs.Codes.{formula_code};
+    ghost use Rattle.bench_values.specs.Lemmas.Codes.{formula_code};
     ghost use Rattle.bench_values.specs.Givens.{GivenContent};
 
     ghost Value = { GivenContent };

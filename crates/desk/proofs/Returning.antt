@@ -12,7 +12,7 @@ use Rattle.memo_core.specs.declared.keys.Input.{Input}
 use Rattle.memo_core.specs.declared.claims.Finish.{Finish}
 use Rattle.memo_core.specs.declared.claims.Finish.TheVariants.{Unknown, Stale, Same, Stored}
 use Rattle.memo_core.specs.Names.{same_node}
-use Rattle.memo_core.specs.Equality.{same_node_exact}
+use Rattle.memo_core.specs.Lemmas.Equality.{same_node_exact}
 use Rattle.memo_core.specs.Graph.{Memo, Net, memo_of, at, stored_at, stamp_in, present_inputs, put_memo, input_nodes, IsSettledBy, IsSettled}
 use Rattle.memo_core.specs.Step.{Has, State, Return, Accepts, Finishes}
 use Rattle.memo_core.specs.Run.{Bench, Meaning, Claim, NoClaim, Returned, Refused, Step, state_in}

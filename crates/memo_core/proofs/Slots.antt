@@ -8,7 +8,7 @@ use Rattle.value_store.specs.Tokens.{Shown}
 use Rattle.memo_core.specs.declared.keys.Node.{Node}
 use Rattle.memo_core.specs.declared.table.Kept.{Kept}
 use Rattle.memo_core.specs.Names.{same_node}
-use Rattle.memo_core.specs.Equality.{same_node_exact, same_node_refl}
+use Rattle.memo_core.specs.Lemmas.Equality.{same_node_exact, same_node_refl}
 use Rattle.memo_core.specs.Graph.{Memo, memo_of, put_memo}
 use Rattle.memo_core.specs.Views.{Slot, as_memo, as_memos, tokens_of}
 use Rattle.memo_core.specs.Marks.{mark_in, mark_of, with_mark_at, without_mark}

@@ -11,7 +11,7 @@ ghost use Rattle.session_run.specs.Ready.{IsReady};
 use crate::fault::fault_of;
 use crate::jobs::run_some;
 use crate::state::Session;
-use bench_instance::{RunningDesk, RunningTexts, edit_count_in, newest_view};
+use bench_instance::{RunningDesk, StampedTexts, edit_count_in, newest_view};
 use bench_texts::Texts;
 use command_answers::{ProgressListener, SessionFault};
 use core::mem::replace_with;
@@ -48,7 +48,7 @@ fn settle_turn<J: Naming + StoreName, R: Wait + Drop, W: Wait>(
 // unless it counts other edits.
 fn answer_in<J: Naming>(
     alloc: Global,
-    view: &View<J, RunningTexts>,
+    view: &View<J, StampedTexts>,
     texts: &Texts,
     made: u64,
     question: &Question,
@@ -71,7 +71,7 @@ fn answer_in<J: Naming>(
 // Tells a listener how far a table is, where it is due and there is no answer.
 fn tell_progress<J: Naming, L: ProgressListener>(
     answer: &Result<Option<Answer>, SessionFault>,
-    view: &View<J, RunningTexts>,
+    view: &View<J, StampedTexts>,
     texts: &Texts,
     question: &Question,
     listener: &mut L,
@@ -98,10 +98,10 @@ struct Looking<'q, L> {
 // Looks at the board that was published last. The viewer comes back, and has seen the operations of
 // that board.
 fn look_at<'q, J: Naming, L: ProgressListener>(
-    viewer: Viewer<J, RunningTexts>,
+    viewer: Viewer<J, StampedTexts>,
     looking: Looking<'q, L>,
 ) -> (
-    Viewer<J, RunningTexts>,
+    Viewer<J, StampedTexts>,
     Result<Option<Answer>, SessionFault>,
 )
     requires { IsReady viewer looking.made (texts_of looking.texts.now) }

@@ -11,7 +11,7 @@ ghost use Rattle.session_run.specs.Untold.{IsUntold};
 
 use crate::fault::fault_of;
 use crate::state::Session;
-use bench_instance::{RunningDesk, RunningTexts};
+use bench_instance::{RunningDesk, StampedTexts};
 use bench_texts::Edit;
 use command_answers::SessionFault;
 use desk::Accepted;
@@ -29,7 +29,7 @@ const MOST_EDITS: u64 = u64::MAX - 1;
 fn tell_desk<J: Naming + StoreName, R: Wait + Drop, W: Wait>(
     rt: &W,
     desk: &RunningDesk<J, R>,
-    viewer: &mut Viewer<J, RunningTexts>,
+    viewer: &mut Viewer<J, StampedTexts>,
     edit: Edit,
 ) -> Result<(), SessionFault>
     ensures told { OnOk result ((number : ℕ) × HasOwnEdit edit number viewer.old viewer.new) }

@@ -4,7 +4,7 @@ ghost use Rattle.std.specs.Prelude.{IfErr};
 ghost use Rattle.session_run.specs.Faults.{IsOwnFault};
 
 use crate::fault::fault_of;
-use bench_instance::{RunningDesk, RunningTexts};
+use bench_instance::{RunningDesk, StampedTexts};
 use cells::job::Job;
 use command_answers::SessionFault;
 use desk_history::Naming;
@@ -19,7 +19,7 @@ fn run_job<J: Naming + StoreName, R: Wait + Drop, W: Wait>(
     rt: &W,
     alloc: Global,
     desk: &RunningDesk<J, R>,
-    job: Job<J, RunningTexts>,
+    job: Job<J, StampedTexts>,
 ) -> Result<(), SessionFault>
     ensures { IfErr result IsOwnFault }
 {

@@ -5,7 +5,7 @@ ghost use Rattle.bench_texts.specs.Held.{texts_of};
 ghost use Rattle.session_answers.specs.Sessions.{no_texts};
 ghost use Rattle.session_run.specs.Ready.{IsReady};
 
-use bench_instance::RunningTexts;
+use bench_instance::StampedTexts;
 use bench_texts::Texts;
 use desk_history::{Naming, Viewer};
 use session_views::laws::nothing_is_known;
@@ -14,7 +14,7 @@ use std::alloc::Global;
 /// A session's viewer, its own texts, and how many edits it made of them.
 #[derive(Drop)]
 pub(crate) struct Session<J: Naming> {
-    pub(crate) viewer: Viewer<J, RunningTexts>,
+    pub(crate) viewer: Viewer<J, StampedTexts>,
     pub(crate) texts: Texts,
     pub(crate) made: u64,
 }
@@ -22,7 +22,7 @@ pub(crate) struct Session<J: Naming> {
 impl<J: Naming> Session<J> {
     /// A session without texts, by a viewer that has seen nothing.
     #[tactic(auto, using(crate::proofs::Edits::knows_texts))]
-    pub(crate) fn new(alloc: Global, viewer: Viewer<J, RunningTexts>) -> Session<J>
+    pub(crate) fn new(alloc: Global, viewer: Viewer<J, StampedTexts>) -> Session<J>
         requires { viewer ≡ [] }
         ensures texts { texts_of result.texts ≡ no_texts }
         ensures ready { IsReady result.viewer result.made (texts_of result.texts) }

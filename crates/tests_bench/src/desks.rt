@@ -7,7 +7,7 @@ use crate::meeting::{self, Puts, Setting};
 use crate::played::PlayedDesk;
 use crate::rows;
 use crate::stress::{self, Plan};
-use bench_instance::{DeskSeed, RunningTexts};
+use bench_instance::{DeskSeed, StampedTexts};
 use bench_texts::{Edit, EditFault};
 use bench_workers::{Gate, NoGate, Worked, with_workers};
 use board::Board;
@@ -136,7 +136,7 @@ where
     requires values { seed.values.values ≡ J.shelves }
 {
     match seed.desk::<J, R, R>(rt, rt.alloc(), *rt) {
-        Ok(desk) => play_at::<R, J, RunningTexts>(rt, &desk, example),
+        Ok(desk) => play_at::<R, J, StampedTexts>(rt, &desk, example),
         Err(_) => println!(rt; "no desk"),
     }
 }

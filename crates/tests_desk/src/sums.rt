@@ -24,7 +24,7 @@ impl Operations for Sums {
     type Board = Sum;
 
     ghost use Rattle.tests_desk.specs.Sums.{no_sum, sum_after, AreSmall, IsSmall};
-    ghost use Rattle.tests_desk.specs.SumLaws.{small_more};
+    ghost use Rattle.tests_desk.specs.Lemmas.SumLaws.{small_more};
 
     ghost is_legal = { AreSmall };
 

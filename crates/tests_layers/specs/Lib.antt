@@ -1,5 +1,4 @@
 pub mod Rows
 pub mod Sheet
-pub mod Laws
 pub mod SheetCells
-pub mod CellProofs
+pub mod Lemmas

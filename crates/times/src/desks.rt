@@ -5,7 +5,7 @@ ghost use Rattle.std.specs.Prelude.{◌≡◌};
 
 use crate::player::edits_of;
 use crate::tables::{Size, each};
-use bench_instance::{DeskSeed, RunningTexts};
+use bench_instance::{DeskSeed, StampedTexts};
 use bench_texts::Edit;
 use bench_workers::{NoGate, with_workers};
 use desk::{Accepted, BoardTexts, Desk, Settling};
@@ -273,7 +273,7 @@ where
     let Ok(desk) = seed.desk::<J, R, R>(rt, rt.alloc(), *rt) else {
         return println!(rt; "no desk");
     };
-    match measure::<J, RunningTexts, R>(rt, &desk, edits, form)? {
+    match measure::<J, StampedTexts, R>(rt, &desk, edits, form)? {
         Some(times) => print_times(rt, form, times),
         None => println!(rt; "no viewer, or no worker"),
     }

@@ -1,7 +1,6 @@
 -- What a clause sees of a token of a store, cited by each call of `Store` and `Token`; the numbers
 -- of refusals.
 use Rattle.std.specs.Prelude.{ℕ, Option, Some, None}
-use base.Stored.{Coded, coded×, coded_ℕ, coded_via}
 use Rattle.value_store.specs.declared.fault.StoreFault.{StoreFault}
 use Rattle.value_store.specs.declared.fault.StoreFault.TheVariants.{Full, OutOfMemory}
 
@@ -9,11 +8,6 @@ use Rattle.value_store.specs.declared.fault.StoreFault.TheVariants.{Full, OutOfM
 pub record Shown (V : Type 0) : Type 0 where
   pub index : ℕ
   pub value : V
-
-abbrev pub shown_coded : {V : Type 0} → Coded V → Coded (Shown V)
-shown_coded {V} c =
-    coded_via (coded× coded_ℕ c) (λ (s : Shown V). (s.index, s.value))
-    (λ x y e i. record { index = (e i).0; value = (e i).1 })
 
 -- the number that a refusal is printed with, if it has one
 abbrev pub number_of : StoreFault → Option ℕ

@@ -2,7 +2,8 @@
 
 ghost use Rattle.std.specs.Prelude.{◌≡◌, []};
 ghost use Rattle.boxcar.specs.Table.{Shelves, Shows};
-ghost use Rattle.value_store.specs.Tokens.{Shown, shown_coded};
+ghost use Rattle.value_store.specs.Lemmas.Codes.{shown_coded};
+ghost use Rattle.value_store.specs.Tokens.{Shown};
 
 use boxcar::Pushed;
 use std::marker::{Brand, Model, PhantomData};

@@ -7,7 +7,7 @@ ghost use Rattle.session_views.specs.Knowing.{HasOwnEdit};
 use crate::author::Author;
 use crate::lines::{Asked, read_board};
 use crate::turnstile::RunningTurnstile;
-use bench_instance::{RunningDesk, RunningTexts};
+use bench_instance::{RunningDesk, StampedTexts};
 use bench_texts::Edit;
 use cells::job::Job;
 use command_answers::SessionFault;
@@ -33,7 +33,7 @@ pub enum Hands<'d, J: Naming + StoreName, R: Wait + Drop> {
 fn give_edit<J: Naming + StoreName, R: Wait + Drop, W: Wait>(
     rt: &W,
     desk: &RunningDesk<J, R>,
-    viewer: &mut Viewer<J, RunningTexts>,
+    viewer: &mut Viewer<J, StampedTexts>,
     edit: Edit,
 ) -> Result<u64, AllocError>
     ensures { IfOk result (λ number. HasOwnEdit edit number viewer.old viewer.new) }
@@ -49,7 +49,7 @@ fn run_job<J: Naming + StoreName, R: Wait + Drop, W: Wait>(
     rt: &W,
     alloc: Global,
     desk: &RunningDesk<J, R>,
-    job: Job<J, RunningTexts>,
+    job: Job<J, StampedTexts>,
 ) -> Result<(), SessionFault>
     ensures fault { OnErr result (result ≡ Err SessionFault.Memory) }
 {
@@ -103,7 +103,7 @@ fn take_jobs<J: Naming + StoreName, R: Wait + Drop, W: Wait>(
 fn wait_settled<J: Naming + StoreName, R: Wait + Drop, W: Wait>(
     rt: &W,
     desk: &RunningDesk<J, R>,
-    viewer: &mut Viewer<J, RunningTexts>,
+    viewer: &mut Viewer<J, StampedTexts>,
 ) -> Result<(), SessionFault>
     ensures begins { OnOk result (IsPrefix viewer.old viewer.new) }
     ensures fault { OnErr result (result ≡ Err SessionFault.Memory) }
@@ -120,7 +120,7 @@ pub struct DeskAuthor<'d, J: Naming + StoreName, R: Wait + Drop> {
     /// Where the edits are made.
     pub desk: &'d RunningDesk<J, R>,
     /// Who sees the board.
-    pub viewer: Viewer<J, RunningTexts>,
+    pub viewer: Viewer<J, StampedTexts>,
     /// Who runs the jobs.
     pub hands: Hands<'d, J, R>,
 }

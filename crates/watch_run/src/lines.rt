@@ -12,7 +12,7 @@ ghost use Rattle.watch_run.specs.Boards.{lists_of, shown_line, IsClosed, shown_b
 
 use crate::author::Author;
 use crate::watched::Watched;
-use bench_instance::{RunningTexts, edit_count_in, newest_view, result_in};
+use bench_instance::{StampedTexts, edit_count_in, newest_view, result_in};
 use desk_history::{Naming, View, Viewer};
 use litmus_ppc::Name;
 use outcome_texts::{Shown as Cell, TestRow, table_text};
@@ -56,7 +56,7 @@ fn behind_line(text: &[u8]) -> &[u8]
 /// memory.
 pub fn test_line<J: Naming>(
     alloc: Global,
-    view: &View<J, RunningTexts>,
+    view: &View<J, StampedTexts>,
     name: &[u8],
 ) -> Result<Option<Vec<u8>>, AllocError>
     requires { IsLegal view.now }
@@ -76,7 +76,7 @@ pub fn test_line<J: Naming>(
 // where its cell is open.
 fn line_now<J: Naming>(
     alloc: Global,
-    view: &View<J, RunningTexts>,
+    view: &View<J, StampedTexts>,
     name: &Option<Name>,
 ) -> Result<Option<Vec<u8>>, AllocError>
     requires { IsLegal view.now }
@@ -92,7 +92,7 @@ fn line_now<J: Naming>(
 // The line of each of these files, or none where a cell is open.
 fn lines_now<J: Naming>(
     alloc: Global,
-    view: &View<J, RunningTexts>,
+    view: &View<J, StampedTexts>,
     names: &[Option<Name>],
 ) -> Result<Option<Vec<Vec<u8>>>, AllocError>
     requires { IsLegal view.now }
@@ -126,10 +126,10 @@ pub struct Asked<'p> {
 /// comes back, and has seen the operations of that board. Errors: out of memory, also where there
 /// are edits of someone else.
 pub fn read_board<'p, J: Naming>(
-    viewer: Viewer<J, RunningTexts>,
+    viewer: Viewer<J, StampedTexts>,
     asked: Asked<'p>,
 ) -> (
-    Viewer<J, RunningTexts>,
+    Viewer<J, StampedTexts>,
     Result<Option<Vec<Vec<u8>>>, AllocError>,
 )
     ensures begins { IsPrefix viewer result.0 }

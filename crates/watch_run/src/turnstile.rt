@@ -2,7 +2,7 @@
 
 ghost use Rattle.std.specs.Prelude.{IfOk};
 
-use bench_instance::RunningTexts;
+use bench_instance::StampedTexts;
 use bench_workers::{Gate, Worked, WorkersFault, with_workers};
 use desk::{BoardTexts, Desk};
 use desk_history::{Entry, Naming, Plate};
@@ -38,7 +38,7 @@ where
 }
 
 /// The turnstile of a desk of tests and models.
-pub type RunningTurnstile<'d, J, R> = Turnstile<'d, J, RunningTexts, R>;
+pub type RunningTurnstile<'d, J, R> = Turnstile<'d, J, StampedTexts, R>;
 
 impl<'d, J: Naming + StoreName, X: BoardTexts, R: Wait + Drop> Turnstile<'d, J, X, R> {
     /// It is closed.

@@ -57,7 +57,7 @@ impl Texts for Sheet {
 
     ghost use Rattle.std.specs.Prelude.{◌≡◌, ◌==◌, ◌<◌, ◌+◌, length, vec_len, vec_capacity};
     ghost use Rattle.tests_layers.specs.Sheet.{net_of, makes, is_there, users_of, rank_of, keeps_memo, IsValid, IsSince, IsChanged, IsRefused, IsPrepared};
-    ghost use Rattle.tests_layers.specs.Laws.{numbers_exact, sheet_sound, since_same, since_changed, given_again, changes_valid, prepared_changes, all_there, inputs_used, users_listed, ranks_fall, changes_go_on};
+    ghost use Rattle.tests_layers.specs.Lemmas.Laws.{numbers_exact, sheet_sound, since_same, since_changed, given_again, changes_valid, prepared_changes, all_there, inputs_used, users_listed, ranks_fall, changes_go_on};
 
     ghost is_valid = { IsValid };
 

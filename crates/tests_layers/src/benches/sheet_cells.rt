@@ -13,7 +13,7 @@ impl CellTexts for Sheet {
 
     ghost use Rattle.std.specs.Prelude.{◌≡◌, true, [], Some};
     ghost use Rattle.tests_layers.specs.SheetCells.{verdict_at, from_scratch, reaches};
-    ghost use Rattle.tests_layers.specs.CellProofs.{edited_alike, refused_alike, verdicts_used, all_needed, cells_solved, cells_left};
+    ghost use Rattle.tests_layers.specs.Lemmas.CellProofs.{edited_alike, refused_alike, verdicts_used, all_needed, cells_solved, cells_left};
 
     ghost verdict_of = { λ s test model. verdict_at s.rows.items test model };
 

@@ -43,7 +43,7 @@ use Rattle.bench_edits.proofs.Kept.{id_of, parts_are_kept}
 use Rattle.bench_instance.specs.declared.stamped_texts.StampedTexts.{StampedTexts}
 use Rattle.bench_instance.specs.StampedTexts.{state_of, net_of, verdict_by, verdict_of, IsSound}
 use Rattle.bench_instance.specs.Edited.{IsEdited}
-use Rattle.bench_instance.specs.Commits.{all_are}
+use Rattle.bench_instance.specs.Lemmas.Commits.{all_are}
 use Rattle.bench_instance.specs.StampedCells.{scratch_by, from_scratch, test_of, model_of as model_named}
 
 -- ---- the same edit

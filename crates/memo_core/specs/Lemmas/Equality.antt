@@ -6,7 +6,7 @@ use Rattle.std.specs.Hash.{u8, u64}
 use Rattle.memo_core.specs.declared.keys.Kind.{Kind}
 use Rattle.memo_core.specs.declared.keys.Kind.TheVariants.{Space, Group, Check, Verdict}
 use Rattle.memo_core.specs.declared.keys.Node.{Node}
-use Rattle.memo_core.specs.Names.{kind_number, same_node}
+use Rattle.memo_core.specs.Names.{kind_number, same_node, node_writes}
 
 pub and_true : (a b : Bool) → (a && b) ≡ true → (a ≡ true) × (b ≡ true)
 and_true true b h = (refl, h)
@@ -61,10 +61,6 @@ same_node_equiv = record {
   symm = λ a b. both (same_node a b) (same_node b a) (turned a b) (turned b a);
   congr = λ a b c h. ap (λ (n : Node). same_node n c) (same_node_exact a b h);
 }
-
--- what hashing a node writes
-abbrev pub node_writes : Node → List (List ℕ)
-node_writes n = u8 (kind_number n.kind) ++ u64 n.test ++ u64 n.of
 
 pub one_writing : (a b : Node) → IsTrue (same_node a b) → node_writes a ≡ node_writes b
 one_writing a b h = ap node_writes (same_node_exact a b h)

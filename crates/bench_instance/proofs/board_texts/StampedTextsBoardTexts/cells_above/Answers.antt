@@ -1,20 +1,17 @@
-use Rattle.std.proofs.Common.{◌==◌, ap, sym, subst, ◌∙◌}
-use Rattle.std.specs.List.{position_or_len}
-use Rattle.bench_nodes.specs.declared.table.TestRow.{TestRow}
+use Rattle.std.proofs.Common.{sym, subst}
 use Rattle.board.specs.Contents.{BoardContent}
 use Rattle.desk.specs.Boards.{HoldsAbove}
-use Rattle.bench_instance.specs.declared.stamped_texts.StampedTexts.{StampedTexts}
 use Rattle.bench_instance.specs.StampedTexts.{net_of, verdict_of}
 use Rattle.bench_instance.specs.Cells.{board_cells}
 use Rattle.bench_instance.proofs.Above.{holds_above}
-use Rattle.bench_instance.proofs.texts.RunningTextsBoardTexts.cells_above.Goals as goal
+use Rattle.bench_instance.proofs.board_texts.StampedTextsBoardTexts.cells_above.Goals as goal
 
 pub returns-clause-holds : goal.returns-clause-holds
 returns-clause-holds c =
     let t = c.args.self.now in
     let after = c.requires.after in
     let range = rw (c.cell_count-count.ensures, c.model_count-models.ensures, after.2) at c.row_range.ensures in
-    let row_is = c.test_row-row.ensures ∙ ap (λ (u : StampedTexts). position_or_len (λ (r : TestRow). r.id == c.args.node.test) u.parts.table.tests.items) c.self.view_is in
+    let row_is = c.test_row-row.ensures in
     let holds = holds_above t after.0 c.args.node c.test_row-row.result c.row_range.result.first c.row_range.result.end c.requires.valid after.1 row_is range in
     subst
     (λ (b : BoardContent). HoldsAbove (net_of t) (verdict_of t) c.args.node (board_cells b)

@@ -36,7 +36,7 @@ use Rattle.bench_instance.specs.declared.stamped_texts.StampedTexts.{StampedText
 use Rattle.bench_instance.specs.StampedTexts.{written_of, net_of, verdict_by, verdict_of, IsSound}
 use Rattle.bench_instance.specs.Edited.{IsEdited, IsPartsEdit}
 use Rattle.bench_instance.specs.StampedCells.{test_of, model_of, slice_of, Reaches}
-use Rattle.bench_instance.specs.CellProofs.{IsCellIn, cell_in, orderly_parts, is_named, read_at, row_there, model_row_there}
+use Rattle.bench_instance.specs.Lemmas.CellProofs.{IsCellIn, cell_in, orderly_parts, is_named, read_at, row_there, model_row_there}
 
 none_is : {A : Type 0} {P : Type 0} {a : A} → None ≡ Some a → P
 none_is e = cc

@@ -40,12 +40,12 @@ use Rattle.bench_instance.specs.declared.stamped_texts.PreparedEdit.{PreparedEdi
 use Rattle.bench_instance.specs.StampedTexts.{IsSound, IsSince, verdict_of}
 use Rattle.bench_instance.specs.Edited.{IsPrepared, IsCommitted}
 use Rattle.bench_instance.specs.StampedCells.{from_scratch, scratch_by, test_of, model_of}
-use Rattle.bench_instance.specs.CellProofs.{cell_in, is_named, stands_there, tests_apart, models_apart}
+use Rattle.bench_instance.specs.Lemmas.CellProofs.{cell_in, is_named, stands_there, tests_apart, models_apart}
 use Rattle.bench_instance.specs.Cells.{cell_with, all_cells, IsCountable, board_cells}
 use Rattle.board.specs.Histories.{no_contents, contents_with, contents_after, IsMadeOn, AreMadeFrom, IsHistory, MayComeNext, IsEditAfter, IsSettle}
 use Rattle.bench_instance.specs.Texts.{AreAfter}
 use Rattle.bench_instance.specs.Texts.{Announced, Settles}
-use Rattle.bench_instance.specs.Listing.{are_all, all_get, all_put, cell_of_row, row_cell, outcome_at}
+use Rattle.bench_instance.specs.Lemmas.Listing.{are_all, all_get, all_put, cell_of_row, row_cell, outcome_at}
 
 -- ---- names
 

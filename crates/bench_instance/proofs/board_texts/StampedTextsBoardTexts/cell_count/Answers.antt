@@ -1,5 +1,5 @@
 use Rattle.bench_instance.proofs.Indexes.{count_is_all}
-use Rattle.bench_instance.proofs.texts.RunningTextsBoardTexts.cell_count.Goals as goal
+use Rattle.bench_instance.proofs.board_texts.StampedTextsBoardTexts.cell_count.Goals as goal
 
 pub returns-in-Some : goal.returns-in-Some
 returns-in-Some c =

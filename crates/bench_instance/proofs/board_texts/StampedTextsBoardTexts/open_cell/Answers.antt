@@ -2,7 +2,7 @@ use Rattle.std.proofs.Common.{ap, sym, ◌∙◌}
 use Rattle.board.specs.Contents.{cell_at}
 use Rattle.outcome_texts.specs.Cells.{cell_of}
 use Rattle.bench_instance.proofs.Indexes.{has_models, settled_here, none_shown, open_shown, open_names, settled_names}
-use Rattle.bench_instance.proofs.texts.RunningTextsBoardTexts.open_cell.Goals as goal
+use Rattle.bench_instance.proofs.board_texts.StampedTextsBoardTexts.open_cell.Goals as goal
 
 pub cell_index-at-requires : goal.cell_index-at-requires
 cell_index-at-requires c = has_models c.args.board.now c.args.index c.requires

@@ -1,11 +1,9 @@
-use Rattle.std.proofs.Common.{ap, ◌∙◌}
-use Rattle.bench_instance.specs.declared.stamped_texts.StampedTexts.{StampedTexts}
 use Rattle.bench_instance.proofs.Indexes.{is_announced}
-use Rattle.bench_instance.proofs.texts.RunningTextsBoardTexts.announce.Goals as goal
+use Rattle.bench_instance.proofs.board_texts.StampedTextsBoardTexts.announce.Goals as goal
 
 pub returns : goal.returns
 returns c =
-    let here = c.texts.ensures ∙ ap (λ (t : StampedTexts). t.texts) c.self.view_is in
+    let here = c.texts.ensures in
     let edit = c.in_ok-new.field-0 in
     let made = c.in_ok-new.ensures in
     is_announced c.args.self.now c.args.prepared.now c.args.number edit c.texts.result.now

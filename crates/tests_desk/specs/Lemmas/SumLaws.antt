@@ -1,4 +1,4 @@
--- A number more.
+-- Small numbers and one more are small numbers.
 use Rattle.std.proofs.Common.{List, [], ◌∷◌, ◌++◌}
 use Rattle.tests_desk.specs.declared.sums.Addend.{Addend}
 use Rattle.tests_desk.specs.Sums.{IsSmall, AreSmall}

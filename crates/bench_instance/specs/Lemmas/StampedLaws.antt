@@ -16,7 +16,7 @@ use Rattle.bench_instance.specs.declared.stamped_texts.StampedTexts.{StampedText
 use Rattle.bench_edits.specs.Readings.{readings_of}
 use Rattle.bench_edits.proofs.Wholes.{parts_whole}
 use Rattle.bench_instance.specs.StampedTexts.{state_of, written_of, IsSound, IsSince, net_of, IsThere}
-use Rattle.bench_instance.specs.Commits.{are_written}
+use Rattle.bench_instance.specs.Lemmas.Commits.{are_written}
 use Rattle.bench_instance.specs.Edited.{IsEdited}
 use Rattle.bench_texts.specs.declared.edit.Edit.{Edit}
 

@@ -1,0 +1,3 @@
+-- Lemmas that the impls of src/ cite. No contract cites what is defined here.
+pub mod CellProofs
+pub mod Laws

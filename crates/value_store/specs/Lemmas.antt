@@ -1,0 +1,2 @@
+-- Lemmas that the impls of src/ cite. No contract cites what is defined here.
+pub mod Codes
