@@ -6,7 +6,7 @@ use Rattle.run_combinations.specs.declared.combination.Combination.{Combination}
 use Rattle.run_combinations.specs.declared.combination.Event.{Event}
 use Rattle.base_names.specs.Candidate.{IsEntered, SetIn, SharedIn}
 use Rattle.dataflow.specs.DependencyLists.{DependencyLists, dependency_lists}
-use Rattle.base_names.specs.Events.{At, Listed}
+use Rattle.base_names.specs.Events.{At, ListedPairs}
 use Rattle.base_names.specs.Known.{Known}
 use Rattle.base_names.specs.Names.{IsIn, Fixed}
 
@@ -34,13 +34,13 @@ fixed_same names.ProgramOrderSameLocation n c d same a b h = rw (← same.events
 fixed_same names.Internal n c d same a b h = rw (← same.events) h
 fixed_same names.External n c d same a b h = rw (← same.events) h
 fixed_same names.AddressDependency n c d same a b h =
-    subst (λ (x : DependencyLists). Listed x.addr_pairs a b) same.dependencies h
+    subst (λ (x : DependencyLists). ListedPairs x.addr_pairs a b) same.dependencies h
 fixed_same names.DataDependency n c d same a b h =
-    subst (λ (x : DependencyLists). Listed x.data_pairs a b) same.dependencies h
+    subst (λ (x : DependencyLists). ListedPairs x.data_pairs a b) same.dependencies h
 fixed_same names.ControlDependency n c d same a b h =
-    subst (λ (x : DependencyLists). Listed x.ctrl_pairs a b) same.dependencies h
+    subst (λ (x : DependencyLists). ListedPairs x.ctrl_pairs a b) same.dependencies h
 fixed_same names.ControlIsyncDependency n c d same a b h =
-    subst (λ (x : DependencyLists). Listed x.ctrlisync_pairs a b) same.dependencies h
+    subst (λ (x : DependencyLists). ListedPairs x.ctrlisync_pairs a b) same.dependencies h
 fixed_same names.SyncOrder n c d same a b h = rw (← same.events) h
 fixed_same names.LwsyncOrder n c d same a b h = rw (← same.events) h
 fixed_same names.EieioOrder n c d same a b h = rw (← same.events) h

@@ -3,9 +3,9 @@
 ghost use Rattle.std.specs.Prelude.{◌≡◌, List, ℕ, length, IfOk, IsTrue, Contains, false};
 ghost use Rattle.bit_relations.specs.Relation.{IsRelation};
 ghost use Rattle.text_values.specs.PredefinedNames.{is_set};
-ghost use Rattle.candidates.specs.Space.{IsExecution};
+ghost use Rattle.candidates.specs.Space.{IsCandidateOf};
 ghost use Rattle.base_names.specs.Known.{set_names};
-ghost use Rattle.base_names.specs.Candidate.{IsEntered, IsReading, IsOrdered, Gives, RelationIn};
+ghost use Rattle.base_names.specs.Candidate.{IsEntered, HasReadsFrom, HasCoherence, Gives, RelationIn};
 ghost use Rattle.base_env.specs.Environment.{HasFacts, IsEnvironment};
 
 use base_names::Base;
@@ -90,8 +90,8 @@ pub struct BaseEnv {
 
 /// The relation of a name in the present candidate.
 fn relation(base: &Base, name: Predefined) -> Rel
-    ensures { (c : _) (sources order : _) → IsEntered base.now c → IsReading base.now c sources
-        → IsOrdered base.now c order → Gives base.now name
+    ensures { (c : _) (sources order : _) → IsEntered base.now c → HasReadsFrom base.now c sources
+        → HasCoherence base.now c order → Gives base.now name
         → IsRelation result base.now.count (RelationIn name base.now.count c sources order) }
 {
     let mut made = Rel::empty(base.count());
@@ -114,8 +114,9 @@ fn combination(alloc: Global, execution: &Execution) -> Result<Combination, Allo
 
 /// All predefined names of the present candidate.
 fn env_of(base: &Base) -> BaseEnv
-    ensures { (c : _) (sources order : List ℕ) → IsEntered base.now c → IsReading base.now c sources
-        → IsOrdered base.now c order
+    ensures { (c : _) (sources order : List ℕ) → IsEntered base.now c
+        → HasReadsFrom base.now c sources
+        → HasCoherence base.now c order
         → ((name : _) → IsTrue (is_set name) → Contains (set_names base.now.sets) name)
         → ((name : _) → is_set name ≡ false → Gives base.now name)
         → IsEnvironment result base.now.count c sources order }
@@ -161,7 +162,7 @@ fn env_of(base: &Base) -> BaseEnv
 /// All predefined names of a candidate, over its events. Errors: want of memory.
 pub fn base(alloc: Global, execution: &Execution) -> Result<Box<BaseEnv>, AllocError>
     ensures { IfOk result (λ env. (threads : _) (c : _) (t : _)
-        → IsExecution threads c t execution.now
+        → IsCandidateOf threads c t execution.now
         → IsEnvironment env.value (length c.events.items) c t.0 t.1) }
 {
     let combination = combination(alloc, execution)?;

@@ -6,23 +6,23 @@ use Rattle.text_values.specs.declared.predefined.Predefined.{Predefined}
 use Rattle.text_values.specs.PredefinedNames.{is_set}
 use Rattle.base_names.specs.declared.names.Shared.{Shared}
 use Rattle.base_names.specs.Known.{shared_names}
-use Rattle.base_names.specs.Candidate.{IsThere, AreCovered, shared_for}
+use Rattle.base_names.specs.Candidate.{HoldsName, AreCovered, shared_for}
 
 -- what is there stays there
 pub there_still : (names more : List Predefined) (needed : Option Predefined)
-    → ((other : Predefined) → Contains names other → Contains more other) → IsThere names needed
-    → IsThere more needed
+    → ((other : Predefined) → Contains names other → Contains more other) → HoldsName names needed
+    → HoldsName more needed
 there_still names more None kept there = there
 there_still names more (Some name) kept there = kept name there
 
 -- one name more is covered
 pub covered_more : (names more : List Predefined) (ns : List Predefined) (n : Predefined)
     → AreCovered names ns → ((other : Predefined) → Contains names other → Contains more other)
-    → (is_set n ≡ false → IsThere more (shared_for n)) → AreCovered more (ns ++ n ∷ [])
+    → (is_set n ≡ false → HoldsName more (shared_for n)) → AreCovered more (ns ++ n ∷ [])
 covered_more names more ns n covered kept there name inside relation =
     elim (Contains-push_cases ns n name inside) [
       | inl h ↦ there_still names more (shared_for name) kept (covered name h relation)
-      | inr e ↦ subst (λ (m : Predefined). is_set m ≡ false → IsThere more (shared_for m)) e there
+      | inr e ↦ subst (λ (m : Predefined). is_set m ≡ false → HoldsName more (shared_for m)) e there
           relation
     ]
 

@@ -7,7 +7,7 @@ use Rattle.bit_relations.specs.Pairs.{Union}
 use Rattle.run_combinations.specs.declared.combination.Event.{Event}
 use Rattle.run_combinations.specs.declared.combination.Action.{Action}
 use Rattle.run_combinations.specs.declared.combination.Action.TheVariants.{Read, Write, Fence}
-use Rattle.base_names.specs.Events.{Below, IsRead, reads_in, added_read, ReadsTo, Source, CoherenceFrom, CoherenceTo}
+use Rattle.base_names.specs.Events.{Below, IsLoad, loads_in, loads_with, ReadsFromBelow, ReadsFromAt, CoherenceFrom, CoherenceTo}
 use Rattle.base_names.proofs.Linking.{with_pairs}
 use Rattle.base_names.proofs.Linked.{at_number}
 
@@ -55,11 +55,11 @@ order_more {n = n} events order i before step =
 -- ---- reads-from
 
 pub reads_more : (xs : List Event) (e : Event)
-    → reads_in (xs ++ e ∷ []) ≡ added_read e.action (reads_in xs)
+    → loads_in (xs ++ e ∷ []) ≡ loads_with e.action (loads_in xs)
 reads_more [] e = refl
-reads_more (x ∷ xs) e = rw (reads_more xs e) (both x.action e.action (reads_in xs))
+reads_more (x ∷ xs) e = rw (reads_more xs e) (both x.action e.action (loads_in xs))
   where
-    both : (f g : Action) (n : ℕ) → added_read f (added_read g n) ≡ added_read g (added_read f n)
+    both : (f g : Action) (n : ℕ) → loads_with f (loads_with g n) ≡ loads_with g (loads_with f n)
     both (Read l v) (Read m w) n = refl
     both (Read l v) (Write m w) n = refl
     both (Read l v) (Fence k) n = refl
@@ -72,30 +72,30 @@ reads_more (x ∷ xs) e = rw (reads_more xs e) (both x.action e.action (reads_in
 
 -- one more load, and none
 pub next_load : (events : List Event) (i : ℕ) (d : Event) → i < length events
-    → IsRead (get_or events i d) → reads_in (take (i + 1) events) ≡ reads_in (take i events) + 1
+    → IsLoad (get_or events i d) → loads_in (take (i + 1) events) ≡ loads_in (take i events) + 1
 next_load events i d inside read =
-    ap reads_in (take_more events i d inside) ∙ reads_more (take i events) (get_or events i d)
+    ap loads_in (take_more events i d inside) ∙ reads_more (take i events) (get_or events i d)
     ∙ rw read.2 refl
 
 pub no_load : (events : List Event) (i : ℕ) (d : Event) → i < length events
-    → (IsRead (get_or events i d) → ⊥) → reads_in (take (i + 1) events) ≡ reads_in (take i events)
+    → (IsLoad (get_or events i d) → ⊥) → loads_in (take (i + 1) events) ≡ loads_in (take i events)
 no_load events i d inside none =
-    ap reads_in (take_more events i d inside) ∙ reads_more (take i events) (get_or events i d)
+    ap loads_in (take_more events i d inside) ∙ reads_more (take i events) (get_or events i d)
     ∙ same (get_or events i d).action none
   where
-    same : (f : Action) → (((l : ℕ) × (v : _) × (f ≡ Read l v)) → ⊥) → {n : ℕ} → added_read f n ≡ n
+    same : (f : Action) → (((l : ℕ) × (v : _) × (f ≡ Read l v)) → ⊥) → {n : ℕ} → loads_with f n ≡ n
     same (Read l v) none = absurd (none (l, v, refl))
     same (Write l v) none = refl
     same (Fence k) none = refl
 
 pub reads_step : {now new : Relation} {n : ℕ} (events : List Event) (sources : List ℕ) (i next : ℕ)
-    (d : Event) → i < length events → IsRead (get_or events i d)
-    → next ≡ reads_in (take i events) → IsRelation now n (Below n (ReadsTo events sources i))
-    → IsRelation new now.count (Union (Has now) (Below now.count (Source sources next i)))
-    → IsRelation new n (Below n (ReadsTo events sources (i + 1)))
+    (d : Event) → i < length events → IsLoad (get_or events i d)
+    → next ≡ loads_in (take i events) → IsRelation now n (Below n (ReadsFromBelow events sources i))
+    → IsRelation new now.count (Union (Has now) (Below now.count (ReadsFromAt sources next i)))
+    → IsRelation new n (Below n (ReadsFromBelow events sources (i + 1)))
 reads_step {n = n} events sources i next d inside read count before step =
-    grown (Below n (ReadsTo events sources i)) (Below n (ReadsTo events sources (i + 1)))
-    (Source sources next i) before step (λ a b. (
+    grown (Below n (ReadsFromBelow events sources i)) (Below n (ReadsFromBelow events sources (i + 1)))
+    (ReadsFromAt sources next i) before step (λ a b. (
       (λ h.
           let k = h.2 in
           elim (cases_eq b i) [
@@ -110,7 +110,7 @@ reads_step {n = n} events sources i next d inside read count before step =
           (
             omega (arith, t.2.0),
             (
-              rw t.2.0 ((at_number events IsRead i d inside).1 read),
+              rw t.2.0 ((at_number events IsLoad i d inside).1 read),
               rw t.2.0 (rw count at t.2.1),
             ),
           ),
@@ -119,15 +119,15 @@ reads_step {n = n} events sources i next d inside read count before step =
     ))
 
 pub reads_skip : {now : Relation} {n : ℕ} (events : List Event) (sources : List ℕ) (i : ℕ)
-    (d : Event) → i < length events → (IsRead (get_or events i d) → ⊥)
-    → IsRelation now n (Below n (ReadsTo events sources i))
-    → IsRelation now n (Below n (ReadsTo events sources (i + 1)))
+    (d : Event) → i < length events → (IsLoad (get_or events i d) → ⊥)
+    → IsRelation now n (Below n (ReadsFromBelow events sources i))
+    → IsRelation now n (Below n (ReadsFromBelow events sources (i + 1)))
 reads_skip events sources i d inside none before = with_pairs before (λ a b. (
   (λ r. (r.0, r.1, (omega (arith, r.2.0), r.2.1))),
   (λ h.
       let k = h.2 in
       elim (cases_eq b i) [
-        | inl here ↦ absurd (none ((at_number events IsRead i d inside).0 (rw here at k.1.0)))
+        | inl here ↦ absurd (none ((at_number events IsLoad i d inside).0 (rw here at k.1.0)))
         | inr other ↦ (h.0, h.1, (below other k.0, k.1))
       ]),
 ))

@@ -4,8 +4,8 @@ use Rattle.std.proofs.lemmas.List.{take_more}
 use Rattle.std.proofs.lemmas.List.Elements.{Contains-append_left, Contains-append_right, Contains-append_cases}
 use Rattle.std.proofs.lemmas.Bool.{cases_eq}
 use Rattle.bit_relations.specs.Relation.{Relation, Has, IsRegular, IsRelation}
-use Rattle.bit_relations.specs.Pairs.{Union, Added}
-use Rattle.base_names.specs.Events.{Below, Before, Listed, RowTo, RowsTo}
+use Rattle.bit_relations.specs.Pairs.{Union, WithPair}
+use Rattle.base_names.specs.Events.{Below, Before, ListedPairs, RowTo, RowsTo}
 
 pub with_pairs : {r : Relation} {n : ℕ} {P Q : ℕ → ℕ → Type 0} → IsRelation r n P
     → ((a b : ℕ) → P a b ↔ Q a b) → IsRelation r n Q
@@ -59,7 +59,7 @@ row_nothing R from a b h = omega (arith, h.1)
 -- the next column is in the row
 pub row_more : {now new : Relation} {n : ℕ} (O R : ℕ → ℕ → Type 0) (from to : ℕ)
     → IsRelation now n (Union O (RowTo R from to)) → R from to
-    → IsRelation new now.count (Added (Has now) from to)
+    → IsRelation new now.count (WithPair (Has now) from to)
     → IsRelation new n (Union O (RowTo R from (to + 1)))
 row_more O R from to before here step =
     more_added O (RowTo R from to) (RowTo R from (to + 1)) (λ a b. (a ≡ from) × (b ≡ to)) before
@@ -133,7 +133,7 @@ rows_done {n = n} O R end last before = same_added O (Below n R) before (λ a b.
 -- ---- the pairs of a list
 
 pub listed_more : (pairs : List (ℕ × ℕ)) (i : ℕ) (d : ℕ × ℕ) (a b : ℕ) → i < length pairs
-    → Listed (take (i + 1) pairs) a b ↔ (Listed (take i pairs) a b ⊎ ((a, b) ≡ get_or pairs i d))
+    → ListedPairs (take (i + 1) pairs) a b ↔ (ListedPairs (take i pairs) a b ⊎ ((a, b) ≡ get_or pairs i d))
 listed_more pairs i d a b inside = rw (take_more pairs i d inside) (
   (λ h. elim (Contains-append_cases (take i pairs) (get_or pairs i d ∷ []) (a, b) h)
       [ inl x ↦ inl x | inr y ↦ inr (only (a, b) (get_or pairs i d) y) ]),
@@ -152,12 +152,12 @@ listed_more pairs i d a b inside = rw (take_more pairs i d inside) (
 -- one pair of the list is added
 pub list_more : {now new : Relation} {n : ℕ} (O : ℕ → ℕ → Type 0) (pairs : List (ℕ × ℕ)) (i : ℕ)
     (d : ℕ × ℕ) → i < length pairs
-    → IsRelation now n (Union O (Below n (Listed (take i pairs)))) → (get_or pairs i d).0 < n
+    → IsRelation now n (Union O (Below n (ListedPairs (take i pairs)))) → (get_or pairs i d).0 < n
     → (get_or pairs i d).1 < n
-    → IsRelation new now.count (Added (Has now) (get_or pairs i d).0 (get_or pairs i d).1)
-    → IsRelation new n (Union O (Below n (Listed (take (i + 1) pairs))))
+    → IsRelation new now.count (WithPair (Has now) (get_or pairs i d).0 (get_or pairs i d).1)
+    → IsRelation new n (Union O (Below n (ListedPairs (take (i + 1) pairs))))
 list_more {n = n} O pairs i d inside before first second step =
-    more_added O (Below n (Listed (take i pairs))) (Below n (Listed (take (i + 1) pairs)))
+    more_added O (Below n (ListedPairs (take i pairs))) (Below n (ListedPairs (take (i + 1) pairs)))
     (λ a b. (a ≡ (get_or pairs i d).0) × (b ≡ (get_or pairs i d).1)) before step (λ a b. (
       (λ h. elim ((listed_more pairs i d a b inside).0 h.2) [
         | inl x ↦ inl (h.0, h.1, x)
@@ -177,11 +177,11 @@ list_more {n = n} O pairs i d inside before first second step =
 -- the next pair of the list lies outside
 pub list_less : {now : Relation} {n : ℕ} (O : ℕ → ℕ → Type 0) (pairs : List (ℕ × ℕ)) (i : ℕ)
     (d : ℕ × ℕ) → i < length pairs
-    → IsRelation now n (Union O (Below n (Listed (take i pairs))))
+    → IsRelation now n (Union O (Below n (ListedPairs (take i pairs))))
     → ((get_or pairs i d).0 < n → (get_or pairs i d).1 < n → ⊥)
-    → IsRelation now n (Union O (Below n (Listed (take (i + 1) pairs))))
+    → IsRelation now n (Union O (Below n (ListedPairs (take (i + 1) pairs))))
 list_less {n = n} O pairs i d inside before out =
-    same_added O (Below n (Listed (take (i + 1) pairs))) before (λ a b. (
+    same_added O (Below n (ListedPairs (take (i + 1) pairs))) before (λ a b. (
       (λ h. elim ((listed_more pairs i d a b inside).0 h.2) [
         | inl x ↦ (h.0, h.1, x)
         | inr e ↦ absurd

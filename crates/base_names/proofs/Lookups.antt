@@ -7,7 +7,7 @@ use Rattle.run_combinations.specs.declared.combination.Combination.{Combination}
 use Rattle.base_names.specs.declared.names.Named.{Named}
 use Rattle.base_names.specs.declared.names.Shared.{Shared}
 use Rattle.base_names.specs.Known.{EventsUnder, PairsUnder, set_names, shared_names}
-use Rattle.base_names.specs.Candidate.{AreSets, AreShared, SetIn, SharedIn}
+use Rattle.base_names.specs.Candidate.{AreNamedSets, AreNamedRelations, SetIn, SharedIn}
 use Rattle.base_names.proofs.Same.{same_or_not}
 use Rattle.std.proofs.lemmas.List.{get_or_default}
 
@@ -71,7 +71,7 @@ shared_more xs k n c d d' r inside before now i lt e = elim (cases_eq i k) [
 
 -- ---- what is found under a name that is held
 
-pub under_set : (xs : List Named) (n : ℕ) (c : Combination) (name : Predefined) → AreSets xs n c
+pub under_set : (xs : List Named) (n : ℕ) (c : Combination) (name : Predefined) → AreNamedSets xs n c
     → Contains (set_names xs) name → (a : ℕ) → EventsUnder xs name n a ↔ SetIn c n name a
 under_set [] n c name right held a = absurd (omega (arith, held.1))
 under_set (x ∷ xs) n c name right held a =
@@ -94,7 +94,7 @@ under_set (x ∷ xs) n c name right held a =
     later (suc k, lt, e) ne = (k, omega (arith, lt), e)
 
 pub under_shared : (xs : List Shared) (n : ℕ) (c : Combination) (name : Predefined)
-    → AreShared xs n c → Contains (shared_names xs) name → (a b : ℕ)
+    → AreNamedRelations xs n c → Contains (shared_names xs) name → (a b : ℕ)
     → PairsUnder xs name n a b ↔ SharedIn c n name a b
 under_shared [] n c name right held a b = absurd (omega (arith, held.1))
 under_shared (x ∷ xs) n c name right held a b =

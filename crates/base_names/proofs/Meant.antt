@@ -4,8 +4,8 @@ use Rattle.bit_relations.specs.Relation.{Has}
 use Rattle.text_values.specs.declared.predefined.Predefined.{Predefined}
 use Rattle.text_values.specs.declared.predefined.Predefined.TheVariants as names
 use Rattle.run_combinations.specs.declared.combination.Combination.{Combination}
-use Rattle.base_names.specs.Known.{Known, AreKnown, PairsOf}
-use Rattle.base_names.specs.Candidate.{IsEntered, IsReading, IsOrdered, Gives, RelationIn, FromReadsIn}
+use Rattle.base_names.specs.Known.{Known, AreMatching, KnownPairs}
+use Rattle.base_names.specs.Candidate.{IsEntered, HasReadsFrom, HasCoherence, Gives, RelationIn, FromReadsIn}
 
 pub both : {A B C D : Type 0} → (A ↔ C) → (B ↔ D) → (A × B) ↔ (C × D)
 both p q = ((λ h. (p.0 h.0, q.0 h.1)), (λ h. (p.1 h.0, q.1 h.1)))
@@ -17,8 +17,8 @@ either p q = (
 )
 
 pub from_reads_meant : (known : Known) (c : Combination) (sources order : List ℕ)
-    → AreKnown known.count known.reads_from known.read_by known.coherence known.from_reads
-    → IsReading known c sources → IsOrdered known c order → (a b : ℕ)
+    → AreMatching known.count known.reads_from known.read_by known.coherence known.from_reads
+    → HasReadsFrom known c sources → HasCoherence known c order → (a b : ℕ)
     → Has known.from_reads a b ↔ FromReadsIn c known.count sources order a b
 from_reads_meant known c sources order are reads ordered a b = (
   (λ h.
@@ -32,10 +32,10 @@ from_reads_meant known c sources order are reads ordered a b = (
 )
 
 pub relation_meant : (known : Known) (c : Combination) (sources order : List ℕ)
-    → AreKnown known.count known.reads_from known.read_by known.coherence known.from_reads
-    → IsEntered known c → IsReading known c sources → IsOrdered known c order → (name : Predefined)
+    → AreMatching known.count known.reads_from known.read_by known.coherence known.from_reads
+    → IsEntered known c → HasReadsFrom known c sources → HasCoherence known c order → (name : Predefined)
     → Gives known name → (a b : ℕ)
-    → PairsOf known name a b ↔ RelationIn name known.count c sources order a b
+    → KnownPairs known name a b ↔ RelationIn name known.count c sources order a b
 relation_meant known c sources order are entered reads ordered names.Loads given a b =
     entered.shared names.Loads given a b
 relation_meant known c sources order are entered reads ordered names.Stores given a b =

@@ -6,7 +6,7 @@ use Rattle.std.proofs.lemmas.Option.{slice_get-get_or, get_or_from_slice_get, sl
 use Rattle.bit_relations.specs.Relation.{Relation, Has, IsRegular, IsRelation}
 use Rattle.bit_relations.specs.Pairs.{Union}
 use Rattle.run_combinations.specs.declared.combination.Event.{Event}
-use Rattle.base_names.specs.Events.{Below, SameLocation, StandsAt, AreRising, CoherenceFrom, CoherenceFromTo, location_of}
+use Rattle.base_names.specs.Events.{Below, SameLocation, IsAccessAt, AreLocationsRising, CoherenceFrom, CoherenceFromTo, location_of}
 use Rattle.base_names.proofs.Linking.{none_added, more_added, same_added}
 
 or_zero : Option ℕ → ℕ
@@ -27,7 +27,7 @@ none_stands e = false≢true (ap is_number e)
 
 -- what stands at the index of a store is its event
 of_store : (events : List Event) (order : List ℕ) (i l s : ℕ) → slice_get order i ≡ Some s
-    → StandsAt events order i l
+    → IsAccessAt events order i l
     → (e : Event) × (slice_get events s ≡ Some e) × (location_of e.action ≡ Some l)
 of_store events order i l s at h = (
   h.2.0,
@@ -38,8 +38,8 @@ of_store events order i l s at h = (
 
 -- a store of one location with another stands where that does
 pub carried : (events : List Event) (order : List ℕ) (i j l s t : ℕ) → slice_get order i ≡ Some s
-    → slice_get order j ≡ Some t → StandsAt events order i l → SameLocation events s t
-    → StandsAt events order j l
+    → slice_get order j ≡ Some t → IsAccessAt events order i l → SameLocation events s t
+    → IsAccessAt events order j l
 carried events order i j l s t at_i at_j h same =
     let own = of_store events order i l s at_i h in
     let one : same.0 ≡ own.0 = sym (get_or_from_slice_get events s same.0 own.0 same.2) ∙ get_or_from_slice_get events s own.0 own.0 own.1 in (
@@ -53,7 +53,7 @@ carried events order i j l s t at_i at_j h same =
     )
 
 pub alike : (events : List Event) (order : List ℕ) (i j l s t : ℕ) → slice_get order i ≡ Some s
-    → slice_get order j ≡ Some t → StandsAt events order i l → StandsAt events order j l
+    → slice_get order j ≡ Some t → IsAccessAt events order i l → IsAccessAt events order j l
     → SameLocation events s t
 alike events order i j l s t at_i at_j h k =
     let own = of_store events order i l s at_i h in
@@ -61,8 +61,8 @@ alike events order i j l s t at_i at_j h k =
     (own.0, other.0, own.1, other.1, (l, own.2, other.2))
 
 -- what stands at one index is of one location
-pub one_location : (events : List Event) (order : List ℕ) (i l m : ℕ) → StandsAt events order i l
-    → StandsAt events order i m → l ≡ m
+pub one_location : (events : List Event) (order : List ℕ) (i l m : ℕ) → IsAccessAt events order i l
+    → IsAccessAt events order i m → l ≡ m
 one_location events order i l m h k =
     let own = of_store events order i l k.0 k.1 h in
     let one : own.0 ≡ k.2.0 = sym (get_or_from_slice_get events k.0 own.0 own.0 own.1) ∙ get_or_from_slice_get events k.0 k.2.0 own.0 k.2.1 in
@@ -70,9 +70,9 @@ one_location events order i l m h k =
 
 -- one more index
 pub rising_more : (events : List Event) (order : List ℕ) (i greatest l : ℕ)
-    → StandsAt events order i l → greatest ≤ l
-    → AreRising events order i × ((k m : ℕ) → k < i → StandsAt events order k m → m ≤ greatest)
-    → AreRising events order (i + 1) × ((k m : ℕ) → k < i + 1 → StandsAt events order k m → m ≤ l)
+    → IsAccessAt events order i l → greatest ≤ l
+    → AreLocationsRising events order i × ((k m : ℕ) → k < i → IsAccessAt events order k m → m ≤ greatest)
+    → AreLocationsRising events order (i + 1) × ((k m : ℕ) → k < i + 1 → IsAccessAt events order k m → m ≤ l)
 rising_more events order i greatest l here most before = (
   (
     (λ k lt. elim (cases_eq k i) [ inl e ↦ (l, rw e here) | inr ne ↦ before.0.0 k (omega arith) ]),
@@ -93,7 +93,7 @@ rising_more events order i greatest l here most before = (
 
 -- an index that no access of a location stands at adds nothing
 pub nothing_stands : (r : Relation) (events : List Event) (order : List ℕ) (i : ℕ) → IsRegular r
-    → ((l : ℕ) → StandsAt events order i l → ⊥)
+    → ((l : ℕ) → IsAccessAt events order i l → ⊥)
     → IsRelation r r.count (Union (Has r) (Below r.count (CoherenceFrom events order i)))
 nothing_stands r events order i regular none =
     none_added r (Below r.count (CoherenceFrom events order i)) regular (λ a b h.
@@ -103,8 +103,8 @@ nothing_stands r events order i regular none =
 -- a store behind one that is of its location
 pub later_more : {now new : Relation} {n : ℕ} (O : ℕ → ℕ → Type 0) (events : List Event)
     (order : List ℕ) (i j l s t : ℕ) → s ≡ get_or order i 0 → t ≡ get_or order j 0
-    → i < length order → j < length order → i < j → StandsAt events order i l
-    → StandsAt events order j l
+    → i < length order → j < length order → i < j → IsAccessAt events order i l
+    → IsAccessAt events order j l
     → IsRelation now n (Union O (Below n (CoherenceFromTo events order i j)))
     → IsRelation new now.count (Union (Has now) (Below now.count (λ a b. (a ≡ s) × (b ≡ t))))
     → IsRelation new n (Union O (Below n (CoherenceFromTo events order i (j + 1))))
@@ -146,7 +146,7 @@ later_more {now} {n = n} O events order i j l s t at_i at_j in_i in_j lt here th
 
 -- a store behind one that is not
 pub later_other : {now : Relation} {n : ℕ} (O : ℕ → ℕ → Type 0) (events : List Event)
-    (order : List ℕ) (i j l : ℕ) → StandsAt events order i l → (StandsAt events order j l → ⊥)
+    (order : List ℕ) (i j l : ℕ) → IsAccessAt events order i l → (IsAccessAt events order j l → ⊥)
     → IsRelation now n (Union O (Below n (CoherenceFromTo events order i j)))
     → IsRelation now n (Union O (Below n (CoherenceFromTo events order i (j + 1))))
 later_other {n = n} O events order i j l here none before =
@@ -162,8 +162,8 @@ later_other {n = n} O events order i j l here none before =
 
 -- where locations rise, none of its location stands behind one that is not
 pub no_more : {now : Relation} {n : ℕ} (O : ℕ → ℕ → Type 0) (events : List Event) (order : List ℕ)
-    (i j l : ℕ) → i < j → j < length order → AreRising events order (length order)
-    → StandsAt events order i l → (StandsAt events order j l → ⊥)
+    (i j l : ℕ) → i < j → j < length order → AreLocationsRising events order (length order)
+    → IsAccessAt events order i l → (IsAccessAt events order j l → ⊥)
     → IsRelation now n (Union O (Below n (CoherenceFromTo events order i j)))
     → IsRelation now n (Union O (Below n (CoherenceFrom events order i)))
 no_more {n = n} O events order i j l lt inside rising here none before =
@@ -185,7 +185,7 @@ no_more {n = n} O events order i j l lt inside rising here none before =
       (λ r. let k = r.2 in (r.0, r.1, (k.0, k.2, k.3, k.4, k.5))),
     ))
   where
-    nearer : (k : ℕ) → k < length order → StandsAt events order k l → k < j
+    nearer : (k : ℕ) → k < length order → IsAccessAt events order k l → k < j
     nearer k small there = elim (cases_lt k j) [
       | inl less ↦ less
       | inr more ↦

@@ -5,12 +5,12 @@ use Rattle.run_combinations.specs.declared.combination.Combination.{Combination}
 use Rattle.bit_relations.specs.Relation.{IsRelation, IsEvents}
 use Rattle.base_names.specs.declared.names.Named.{Named}
 use Rattle.base_names.specs.declared.names.Shared.{Shared}
-use Rattle.base_names.specs.Events.{At, Below, ReadsFrom, Coherence}
+use Rattle.base_names.specs.Events.{At, Below, ReadsFromBy, Coherence}
 use Rattle.base_names.specs.Names.{IsIn, Fixed}
-use Rattle.bit_relations.specs.Pairs.{Inter, Union, Inverse, Composed}
+use Rattle.bit_relations.specs.Pairs.{Inter, Union, Inverse, Composite}
 use Rattle.text_values.specs.declared.predefined.Predefined.TheVariants as names
 use Rattle.text_values.specs.PredefinedNames.{is_set}
-use Rattle.base_names.specs.Known.{Known, EventsOf, SharedPairs, set_names, shared_names}
+use Rattle.base_names.specs.Known.{Known, KnownEvents, SharedPairs, set_names, shared_names}
 
 -- the events of a set among the first n events of a combination
 abbrev pub SetIn : Combination → ℕ → Predefined → ℕ → Type 0
@@ -21,14 +21,14 @@ abbrev pub SharedIn : Combination → ℕ → Predefined → ℕ → ℕ → Typ
 SharedIn c n name = Below n (Fixed name n c)
 
 -- each set is that of its name
-abbrev pub AreSets : List Named → ℕ → Combination → Type 0
-AreSets xs n c =
+abbrev pub AreNamedSets : List Named → ℕ → Combination → Type 0
+AreNamedSets xs n c =
     (i : ℕ) → i < length xs → (d : Named)
     → IsEvents (get_or xs i d).set n (SetIn c n (get_or xs i d).name)
 
 -- each relation is that of its name
-abbrev pub AreShared : List Shared → ℕ → Combination → Type 0
-AreShared xs n c =
+abbrev pub AreNamedRelations : List Shared → ℕ → Combination → Type 0
+AreNamedRelations xs n c =
     (i : ℕ) → i < length xs → (d : Shared)
     → IsRelation (get_or xs i d).relation n (SharedIn c n (get_or xs i d).name)
 
@@ -36,50 +36,51 @@ AreShared xs n c =
 pub record IsEntered (known : Known) (c : Combination) : Type 0 where
   pub count : known.count ≡ length c.events.items
   pub sets : (name : Predefined) → Contains (set_names known.sets) name → (a : ℕ)
-      → EventsOf known name a ↔ SetIn c known.count name a
+      → KnownEvents known name a ↔ SetIn c known.count name a
   pub shared : (name : Predefined) → Contains (shared_names known.shared) name → (a b : ℕ)
       → SharedPairs known name a b ↔ SharedIn c known.count name a b
 
 -- the loads read so
-abbrev pub IsReading : Known → Combination → List ℕ → Type 0
-IsReading known c sources =
-    IsRelation known.reads_from known.count (Below known.count (ReadsFrom c.events.items sources))
+abbrev pub HasReadsFrom : Known → Combination → List ℕ → Type 0
+HasReadsFrom known c sources =
+    IsRelation known.reads_from known.count (Below known.count (ReadsFromBy c.events.items sources))
 
 -- the stores are ordered so
-abbrev pub IsOrdered : Known → Combination → List ℕ → Type 0
-IsOrdered known c order =
+abbrev pub HasCoherence : Known → Combination → List ℕ → Type 0
+HasCoherence known c order =
     IsRelation known.coherence known.count (Below known.count (Coherence c.events.items order))
 
 -- ---- the relations of one candidate, in which the loads read and the stores are ordered so
 
-abbrev pub ReadsIn : Combination → ℕ → List ℕ → ℕ → ℕ → Type 0
-ReadsIn c n sources = Below n (ReadsFrom c.events.items sources)
+abbrev pub ReadsFromIn : Combination → ℕ → List ℕ → ℕ → ℕ → Type 0
+ReadsFromIn c n sources = Below n (ReadsFromBy c.events.items sources)
 
-abbrev pub OrderIn : Combination → ℕ → List ℕ → ℕ → ℕ → Type 0
-OrderIn c n order = Below n (Coherence c.events.items order)
+abbrev pub CoherenceIn : Combination → ℕ → List ℕ → ℕ → ℕ → Type 0
+CoherenceIn c n order = Below n (Coherence c.events.items order)
 
 -- a load is before the stores that come after the one that it reads
 abbrev pub FromReadsIn : Combination → ℕ → List ℕ → List ℕ → ℕ → ℕ → Type 0
-FromReadsIn c n sources order = Composed (Inverse (ReadsIn c n sources)) (OrderIn c n order)
+FromReadsIn c n sources order =
+    Composite (Inverse (ReadsFromIn c n sources)) (CoherenceIn c n order)
 
 abbrev pub RelationIn : Predefined → ℕ → Combination → List ℕ → List ℕ → ℕ → ℕ → Type 0
-RelationIn names.ReadsFrom n c sources order = ReadsIn c n sources
-RelationIn names.Coherence n c sources order = OrderIn c n order
+RelationIn names.ReadsFrom n c sources order = ReadsFromIn c n sources
+RelationIn names.Coherence n c sources order = CoherenceIn c n order
 RelationIn names.FromReads n c sources order = FromReadsIn c n sources order
 RelationIn names.ReadsFromExternal n c sources order =
-    Inter (SharedIn c n names.External) (ReadsIn c n sources)
+    Inter (SharedIn c n names.External) (ReadsFromIn c n sources)
 RelationIn names.ReadsFromInternal n c sources order =
-    Inter (SharedIn c n names.Internal) (ReadsIn c n sources)
+    Inter (SharedIn c n names.Internal) (ReadsFromIn c n sources)
 RelationIn names.CoherenceExternal n c sources order =
-    Inter (SharedIn c n names.External) (OrderIn c n order)
+    Inter (SharedIn c n names.External) (CoherenceIn c n order)
 RelationIn names.CoherenceInternal n c sources order =
-    Inter (SharedIn c n names.Internal) (OrderIn c n order)
+    Inter (SharedIn c n names.Internal) (CoherenceIn c n order)
 RelationIn names.FromReadsExternal n c sources order =
     Inter (SharedIn c n names.External) (FromReadsIn c n sources order)
 RelationIn names.FromReadsInternal n c sources order =
     Inter (SharedIn c n names.Internal) (FromReadsIn c n sources order)
 RelationIn names.Communication n c sources order =
-    Union (Union (ReadsIn c n sources) (OrderIn c n order)) (FromReadsIn c n sources order)
+    Union (Union (ReadsFromIn c n sources) (CoherenceIn c n order)) (FromReadsIn c n sources order)
 RelationIn name n c sources order = SharedIn c n name
 
 -- the relation, of those that all candidates of a combination share, that a relation is made of
@@ -98,15 +99,15 @@ shared_for names.FromReadsInternal = Some names.Internal
 shared_for name = Some name
 
 -- it is held, if there is one
-abbrev pub IsThere : List Predefined → Option Predefined → Type 0
-IsThere names None = Unit {0}
-IsThere names (Some name) = Contains names name
+abbrev pub HoldsName : List Predefined → Option Predefined → Type 0
+HoldsName names None = Unit {0}
+HoldsName names (Some name) = Contains names name
 
 -- what a relation needs of those that are held
 abbrev pub Gives : Known → Predefined → Type 0
-Gives known name = IsThere (shared_names known.shared) (shared_for name)
+Gives known name = HoldsName (shared_names known.shared) (shared_for name)
 
 -- what the relations among these names need is held
 abbrev pub AreCovered : List Predefined → List Predefined → Type 0
 AreCovered names ns =
-    (name : Predefined) → Contains ns name → is_set name ≡ false → IsThere names (shared_for name)
+    (name : Predefined) → Contains ns name → is_set name ≡ false → HoldsName names (shared_for name)

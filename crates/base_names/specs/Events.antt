@@ -15,17 +15,17 @@ location_of (Write l v) = Some l
 location_of (Fence f) = None
 
 -- one more where the event is a load
-abbrev pub added_read : Action → ℕ → ℕ
-added_read (Read l v) n = n + 1
-added_read _ n = n
+abbrev pub loads_with : Action → ℕ → ℕ
+loads_with (Read l v) n = n + 1
+loads_with _ n = n
 
 -- ---- one event
 
-abbrev pub IsRead : Event → Type 0
-IsRead e = (l : ℕ) × (v : _) × (e.action ≡ Read l v)
+abbrev pub IsLoad : Event → Type 0
+IsLoad e = (l : ℕ) × (v : _) × (e.action ≡ Read l v)
 
-abbrev pub IsWrite : Event → Type 0
-IsWrite e = (l : ℕ) × (v : _) × (e.action ≡ Write l v)
+abbrev pub IsStore : Event → Type 0
+IsStore e = (l : ℕ) × (v : _) × (e.action ≡ Write l v)
 
 abbrev pub IsAccess : Event → Type 0
 IsAccess e = (l : ℕ) × (location_of e.action ≡ Some l)
@@ -76,8 +76,8 @@ Fenced events kind a b =
     × ((c : ℕ) × ProgramOrder events a c × At events (IsFence kind) c × ProgramOrder events c b)
 
 -- the pair stands in the list
-abbrev pub Listed : List (ℕ × ℕ) → ℕ → ℕ → Type 0
-Listed pairs a b = Contains pairs (a, b)
+abbrev pub ListedPairs : List (ℕ × ℕ) → ℕ → ℕ → Type 0
+ListedPairs pairs a b = Contains pairs (a, b)
 
 -- the pairs of numbers below n
 abbrev pub Below : ℕ → (ℕ → ℕ → Type 0) → ℕ → ℕ → Type 0
@@ -108,18 +108,18 @@ abbrev pub RowsTo : (ℕ → ℕ → Type 0) → ℕ → ℕ → ℕ → Type 0
 RowsTo R end a b = (a < end) × R a b
 
 -- how many of the events are loads
-abbrev pub reads_in : List Event → ℕ
-reads_in [] = 0
-reads_in (e ∷ es) = added_read e.action (reads_in es)
+abbrev pub loads_in : List Event → ℕ
+loads_in [] = 0
+loads_in (e ∷ es) = loads_with e.action (loads_in es)
 
 -- the load reads the store, by a list that has for each load in event order the number of its store
-abbrev pub ReadsFrom : List Event → List ℕ → ℕ → ℕ → Type 0
-ReadsFrom events sources a b =
-    At events IsRead b × (slice_get sources (reads_in (take b events)) ≡ Some a)
+abbrev pub ReadsFromBy : List Event → List ℕ → ℕ → ℕ → Type 0
+ReadsFromBy events sources a b =
+    At events IsLoad b × (slice_get sources (loads_in (take b events)) ≡ Some a)
 
 -- the pair of the load and the store at an index of the list
-abbrev pub Source : List ℕ → ℕ → ℕ → ℕ → ℕ → Type 0
-Source sources next load a b = (b ≡ load) × (slice_get sources next ≡ Some a)
+abbrev pub ReadsFromAt : List ℕ → ℕ → ℕ → ℕ → ℕ → Type 0
+ReadsFromAt sources next load a b = (b ≡ load) × (slice_get sources next ≡ Some a)
 
 -- the two stores are of one location and stand in the list in this order, the first at this index
 abbrev pub CoherenceFrom : List Event → List ℕ → ℕ → ℕ → ℕ → Type 0
@@ -136,8 +136,8 @@ FenceBelow events kind from end =
     (c : ℕ) × (c < end) × ProgramOrder events from c × At events (IsFence kind) c
 
 -- the pairs with loads below an end
-abbrev pub ReadsTo : List Event → List ℕ → ℕ → ℕ → ℕ → Type 0
-ReadsTo events sources end a b = (b < end) × ReadsFrom events sources a b
+abbrev pub ReadsFromBelow : List Event → List ℕ → ℕ → ℕ → ℕ → Type 0
+ReadsFromBelow events sources end a b = (b < end) × ReadsFromBy events sources a b
 
 -- the pairs with a first store at an index below an end of the list
 abbrev pub CoherenceTo : List Event → List ℕ → ℕ → ℕ → ℕ → Type 0
@@ -150,13 +150,13 @@ CoherenceFromTo events order i end a b =
     × SameLocation events a b
 
 -- the event at this index of the list is an access of the location
-abbrev pub StandsAt : List Event → List ℕ → ℕ → ℕ → Type 0
-StandsAt events order i l =
+abbrev pub IsAccessAt : List Event → List ℕ → ℕ → ℕ → Type 0
+IsAccessAt events order i l =
     (s : ℕ) × (slice_get order i ≡ Some s) × At events (λ e. location_of e.action ≡ Some l) s
 
 -- at each index below an end stands an access, none of a lower location than an earlier one
-abbrev pub AreRising : List Event → List ℕ → ℕ → Type 0
-AreRising events order end =
-    ((i : ℕ) → i < end → (l : ℕ) × StandsAt events order i l)
-    × ((i j l m : ℕ) → i < j → j < end → StandsAt events order i l → StandsAt events order j m
+abbrev pub AreLocationsRising : List Event → List ℕ → ℕ → Type 0
+AreLocationsRising events order end =
+    ((i : ℕ) → i < end → (l : ℕ) × IsAccessAt events order i l)
+    × ((i j l m : ℕ) → i < j → j < end → IsAccessAt events order i l → IsAccessAt events order j m
     → l ≤ m)

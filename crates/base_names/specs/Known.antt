@@ -1,6 +1,6 @@
 -- What contracts see of the predefined names over a combination.
 use Rattle.std.specs.Prelude.{ℕ, ◌≡◌, ◌≤◌, ◌⊎◌, List, [], ◌∷◌, map, Option, Some, None}
-use Rattle.bit_relations.specs.Pairs.{Identity, Inter, Union, Inverse, Composed}
+use Rattle.bit_relations.specs.Pairs.{Identity, Inter, Union, Inverse, Composite}
 use Rattle.bit_relations.specs.Relation.{Relation, Has, IsRegular, IsRelation, Events, IsMember}
 use Rattle.text_values.specs.declared.predefined.Predefined.{Predefined}
 use Rattle.text_values.specs.declared.predefined.Predefined.TheVariants as names
@@ -38,55 +38,55 @@ EventsFound None n a = ⊥
 EventsFound (Some s) n a = (s.count ≡ n) × IsMember s a
 
 -- the events of a name
-abbrev pub EventsOf : Known → Predefined → ℕ → Type 0
-EventsOf known name = EventsUnder known.sets name known.count
+abbrev pub KnownEvents : Known → Predefined → ℕ → Type 0
+KnownEvents known name = EventsUnder known.sets name known.count
 
 -- the pairs of a name that all candidates of the combination share
 abbrev pub SharedPairs : Known → Predefined → ℕ → ℕ → Type 0
 SharedPairs known name = PairsUnder known.shared name known.count
 
 -- the pairs of a name in the present candidate
-abbrev pub PairsOf : Known → Predefined → ℕ → ℕ → Type 0
-PairsOf known names.Identity = Identity known.count
-PairsOf known names.ReadsFrom = Has known.reads_from
-PairsOf known names.Coherence = Has known.coherence
-PairsOf known names.FromReads = Has known.from_reads
-PairsOf known names.ReadsFromExternal =
+abbrev pub KnownPairs : Known → Predefined → ℕ → ℕ → Type 0
+KnownPairs known names.Identity = Identity known.count
+KnownPairs known names.ReadsFrom = Has known.reads_from
+KnownPairs known names.Coherence = Has known.coherence
+KnownPairs known names.FromReads = Has known.from_reads
+KnownPairs known names.ReadsFromExternal =
     Inter (SharedPairs known names.External) (Has known.reads_from)
-PairsOf known names.ReadsFromInternal =
+KnownPairs known names.ReadsFromInternal =
     Inter (SharedPairs known names.Internal) (Has known.reads_from)
-PairsOf known names.CoherenceExternal =
+KnownPairs known names.CoherenceExternal =
     Inter (SharedPairs known names.External) (Has known.coherence)
-PairsOf known names.CoherenceInternal =
+KnownPairs known names.CoherenceInternal =
     Inter (SharedPairs known names.Internal) (Has known.coherence)
-PairsOf known names.FromReadsExternal =
+KnownPairs known names.FromReadsExternal =
     Inter (SharedPairs known names.External) (Has known.from_reads)
-PairsOf known names.FromReadsInternal =
+KnownPairs known names.FromReadsInternal =
     Inter (SharedPairs known names.Internal) (Has known.from_reads)
-PairsOf known names.Communication =
+KnownPairs known names.Communication =
     Union (Union (Has known.reads_from) (Has known.coherence)) (Has known.from_reads)
-PairsOf known names.Loads = SharedPairs known names.Loads
-PairsOf known names.Stores = SharedPairs known names.Stores
-PairsOf known names.Accesses = SharedPairs known names.Accesses
-PairsOf known names.Fences = SharedPairs known names.Fences
-PairsOf known names.InitialStores = SharedPairs known names.InitialStores
-PairsOf known names.SyncFences = SharedPairs known names.SyncFences
-PairsOf known names.LwsyncFences = SharedPairs known names.LwsyncFences
-PairsOf known names.EieioFences = SharedPairs known names.EieioFences
-PairsOf known names.IsyncFences = SharedPairs known names.IsyncFences
-PairsOf known names.ProgramOrder = SharedPairs known names.ProgramOrder
-PairsOf known names.SameLocation = SharedPairs known names.SameLocation
-PairsOf known names.ProgramOrderSameLocation = SharedPairs known names.ProgramOrderSameLocation
-PairsOf known names.Internal = SharedPairs known names.Internal
-PairsOf known names.External = SharedPairs known names.External
-PairsOf known names.AddressDependency = SharedPairs known names.AddressDependency
-PairsOf known names.DataDependency = SharedPairs known names.DataDependency
-PairsOf known names.ControlDependency = SharedPairs known names.ControlDependency
-PairsOf known names.ControlIsyncDependency = SharedPairs known names.ControlIsyncDependency
-PairsOf known names.SyncOrder = SharedPairs known names.SyncOrder
-PairsOf known names.LwsyncOrder = SharedPairs known names.LwsyncOrder
-PairsOf known names.EieioOrder = SharedPairs known names.EieioOrder
-PairsOf known names.IsyncOrder = SharedPairs known names.IsyncOrder
+KnownPairs known names.Loads = SharedPairs known names.Loads
+KnownPairs known names.Stores = SharedPairs known names.Stores
+KnownPairs known names.Accesses = SharedPairs known names.Accesses
+KnownPairs known names.Fences = SharedPairs known names.Fences
+KnownPairs known names.InitialStores = SharedPairs known names.InitialStores
+KnownPairs known names.SyncFences = SharedPairs known names.SyncFences
+KnownPairs known names.LwsyncFences = SharedPairs known names.LwsyncFences
+KnownPairs known names.EieioFences = SharedPairs known names.EieioFences
+KnownPairs known names.IsyncFences = SharedPairs known names.IsyncFences
+KnownPairs known names.ProgramOrder = SharedPairs known names.ProgramOrder
+KnownPairs known names.SameLocation = SharedPairs known names.SameLocation
+KnownPairs known names.ProgramOrderSameLocation = SharedPairs known names.ProgramOrderSameLocation
+KnownPairs known names.Internal = SharedPairs known names.Internal
+KnownPairs known names.External = SharedPairs known names.External
+KnownPairs known names.AddressDependency = SharedPairs known names.AddressDependency
+KnownPairs known names.DataDependency = SharedPairs known names.DataDependency
+KnownPairs known names.ControlDependency = SharedPairs known names.ControlDependency
+KnownPairs known names.ControlIsyncDependency = SharedPairs known names.ControlIsyncDependency
+KnownPairs known names.SyncOrder = SharedPairs known names.SyncOrder
+KnownPairs known names.LwsyncOrder = SharedPairs known names.LwsyncOrder
+KnownPairs known names.EieioOrder = SharedPairs known names.EieioOrder
+KnownPairs known names.IsyncOrder = SharedPairs known names.IsyncOrder
 
 -- the names of the sets and of the relations that are held
 abbrev pub set_names : List Named → List Predefined
@@ -95,18 +95,18 @@ set_names xs = map (λ x. x.name) xs
 abbrev pub shared_names : List Shared → List Predefined
 shared_names xs = map (λ x. x.name) xs
 
--- the four relations are over n events; the second is the first turned round, and the last follows
--- from them
-pub record AreKnown (n : ℕ) (reads_from read_by coherence from_reads : Relation) : Type 0 where
+-- the four relations are over n events; the second is the inverse of the first, and the last
+-- follows from them
+pub record AreMatching (n : ℕ) (reads_from read_by coherence from_reads : Relation) : Type 0 where
   pub few : n ≤ 128
   pub reads : reads_from.count ≡ n
   pub reads_regular : IsRegular reads_from
   pub turned : IsRelation read_by n (Inverse (Has reads_from))
   pub order : coherence.count ≡ n
   pub order_regular : IsRegular coherence
-  pub made : IsRelation from_reads n (Composed (Has read_by) (Has coherence))
+  pub made : IsRelation from_reads n (Composite (Has read_by) (Has coherence))
 
 -- the four relations of what is known are so
 abbrev pub IsConsistent : Known → Type 0
 IsConsistent known =
-    AreKnown known.count known.reads_from known.read_by known.coherence known.from_reads
+    AreMatching known.count known.reads_from known.read_by known.coherence known.from_reads

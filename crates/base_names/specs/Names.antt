@@ -7,12 +7,12 @@ use Rattle.run_combinations.specs.declared.combination.Event.{Event}
 use Rattle.run_combinations.specs.declared.combination.Combination.{Combination}
 use Rattle.bit_relations.specs.Pairs.{Identity, Complement, Inter}
 use Rattle.base_names.specs.Events as of
-use Rattle.base_names.specs.Events.{IsRead, IsWrite, IsAccess, IsFence, IsSomeFence, IsInitial, Fenced, Listed}
+use Rattle.base_names.specs.Events.{IsLoad, IsStore, IsAccess, IsFence, IsSomeFence, IsInitial, Fenced, ListedPairs}
 
 -- the events of a set
 abbrev pub IsIn : Predefined → Event → Type 0
-IsIn names.Loads e = IsRead e
-IsIn names.Stores e = IsWrite e
+IsIn names.Loads e = IsLoad e
+IsIn names.Stores e = IsStore e
 IsIn names.Accesses e = IsAccess e
 IsIn names.Fences e = IsSomeFence e
 IsIn names.InitialStores e = IsInitial e
@@ -32,10 +32,10 @@ Fixed names.ProgramOrderSameLocation n c =
     Inter (of.ProgramOrder c.events.items) (of.SameLocation c.events.items)
 Fixed names.Internal n c = of.Internal c.events.items
 Fixed names.External n c = Complement n (of.Internal c.events.items)
-Fixed names.AddressDependency n c = Listed c.dependencies.addr_pairs.items
-Fixed names.DataDependency n c = Listed c.dependencies.data_pairs.items
-Fixed names.ControlDependency n c = Listed c.dependencies.ctrl_pairs.items
-Fixed names.ControlIsyncDependency n c = Listed c.dependencies.ctrlisync_pairs.items
+Fixed names.AddressDependency n c = ListedPairs c.dependencies.addr_pairs.items
+Fixed names.DataDependency n c = ListedPairs c.dependencies.data_pairs.items
+Fixed names.ControlDependency n c = ListedPairs c.dependencies.ctrl_pairs.items
+Fixed names.ControlIsyncDependency n c = ListedPairs c.dependencies.ctrlisync_pairs.items
 Fixed names.SyncOrder n c = Fenced c.events.items Sync
 Fixed names.LwsyncOrder n c = Fenced c.events.items LightweightSync
 Fixed names.EieioOrder n c = Fenced c.events.items Eieio

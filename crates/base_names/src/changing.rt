@@ -2,7 +2,7 @@
 ghost use Rattle.std.specs.Prelude.{◌≡◌, ℕ, ◌≤◌, ◌<◌, ◌↔◌, IsTrue, Some, length};
 ghost use Rattle.bit_relations.specs.Relation.{Has, IsRelation};
 ghost use Rattle.bit_relations.specs.Pairs.{Union};
-ghost use Rattle.base_names.specs.Events.{Below, ReadsFrom, Source, Coherence, CoherenceFrom, StandsAt, AreRising};
+ghost use Rattle.base_names.specs.Events.{Below, ReadsFromBy, ReadsFromAt, Coherence, CoherenceFrom, IsAccessAt, AreLocationsRising};
 
 use crate::fixed::{is_read, location_of, put};
 use bit_relations::Rel;
@@ -11,7 +11,7 @@ use run_combinations::Event;
 /// Adds the pair of the load and the store at an index of the list of stores that are read.
 fn put_source(target: &mut Rel, sources: &[u8], next: usize, load: usize)
     ensures { IsRelation target.new target.old.count (Union (Has target.old)
-        (Below target.old.count (Source sources.now next load))) }
+        (Below target.old.count (ReadsFromAt sources.now next load))) }
 {
     let count = target.count();
     if next < sources.len() {
@@ -26,7 +26,7 @@ fn put_source(target: &mut Rel, sources: &[u8], next: usize, load: usize)
 /// event order the number of its store.
 pub fn write_reads(target: &mut Rel, count: usize, events: &[Event], sources: &[u8])
     requires { count ≤ 128 }
-    ensures { IsRelation target.new count (Below count (ReadsFrom events.now sources.now)) }
+    ensures { IsRelation target.new count (Below count (ReadsFromBy events.now sources.now)) }
 {
     target.clear(count);
     let mut next = 0;
@@ -41,7 +41,7 @@ pub fn write_reads(target: &mut Rel, count: usize, events: &[Event], sources: &[
 /// The location of the event at an index of the order, if it is an access.
 fn location_at(events: &[Event], order: &[u8], index: usize) -> Option<usize>
     requires { index < length order.now }
-    ensures { (l : ℕ) → (result ≡ Some l) ↔ StandsAt events.now order.now index l }
+    ensures { (l : ℕ) → (result ≡ Some l) ↔ IsAccessAt events.now order.now index l }
 {
     match events.get(usize::from(order[index])) {
         Some(event) => location_of(event),
@@ -52,7 +52,7 @@ fn location_at(events: &[Event], order: &[u8], index: usize) -> Option<usize>
 /// Whether an access of this location stands at an index of the order.
 fn stands_at(events: &[Event], order: &[u8], index: usize, location: usize) -> bool
     requires { index < length order.now }
-    ensures { IsTrue result ↔ StandsAt events.now order.now index location }
+    ensures { IsTrue result ↔ IsAccessAt events.now order.now index location }
 {
     match location_at(events, order, index) {
         Some(found) => found == location,
@@ -62,7 +62,7 @@ fn stands_at(events: &[Event], order: &[u8], index: usize, location: usize) -> b
 
 /// Whether each index of the order has an access, none of a lower location than an earlier one.
 fn is_rising(events: &[Event], order: &[u8]) -> bool
-    ensures { IsTrue result → AreRising events.now order.now (length order.now) }
+    ensures { IsTrue result → AreLocationsRising events.now order.now (length order.now) }
 {
     let mut greatest = 0;
     for index in 0..order.len() {
@@ -78,7 +78,7 @@ fn is_rising(events: &[Event], order: &[u8]) -> bool
 /// Where locations rise along the order, those of one location stand together.
 pub fn put_later(coherence: &mut Rel, events: &[Event], order: &[u8], index: usize, rising: bool)
     requires inside { index < length order.now }
-    requires rising { IsTrue rising → AreRising events.now order.now (length order.now) }
+    requires rising { IsTrue rising → AreLocationsRising events.now order.now (length order.now) }
     ensures { IsRelation coherence.new coherence.old.count (Union (Has coherence.old)
         (Below coherence.old.count (CoherenceFrom events.now order.now index))) }
 {

@@ -2,7 +2,7 @@
 ghost use Rattle.std.specs.Prelude.{◌≡◌, ◌<◌, ◌≤◌, ◌↔◌, ◌⊎◌, IsTrue, length};
 ghost use Rattle.bit_relations.specs.Relation.{Has, IsRelation};
 ghost use Rattle.bit_relations.specs.Pairs.{Union};
-ghost use Rattle.base_names.specs.Events.{location_of, IsSameLocation, IsSameThread, IsRead, IsAccess, IsFence, Linked, Links, Listed, Fenced, Below, RowTo};
+ghost use Rattle.base_names.specs.Events.{location_of, IsSameLocation, IsSameThread, IsLoad, IsAccess, IsFence, Linked, Links, ListedPairs, Fenced, Below, RowTo};
 ghost use Rattle.base_names.specs.Names.{Fixed};
 
 use bit_relations::Rel;
@@ -23,7 +23,7 @@ pub fn put(target: &mut Rel, from: usize, to: usize)
 /// Adds pairs of events, as far as the relation can have them.
 fn put_pairs(target: &mut Rel, pairs: &[(usize, usize)])
     ensures { IsRelation target.new target.old.count (Union (Has target.old)
-        (Below target.old.count (Listed pairs.now))) }
+        (Below target.old.count (ListedPairs pairs.now))) }
 {
     let count = target.count();
     for (from, to) in pairs {
@@ -114,7 +114,7 @@ fn put_linked(target: &mut Rel, name: Predefined, events: &[Event])
 
 /// Whether the event is a load.
 pub fn is_read(event: &Event) -> bool
-    ensures { IsTrue result ↔ IsRead event.now }
+    ensures { IsTrue result ↔ IsLoad event.now }
 {
     matches!(event.action, Action::Read { .. })
 }

@@ -5,8 +5,8 @@ ghost use Rattle.text_values.specs.PredefinedNames.{is_set};
 ghost use Rattle.bit_relations.specs.Relation.{Has, IsRelation, IsEvents};
 ghost use Rattle.bit_relations.specs.Pairs.{Inter};
 ghost use Rattle.text_values.specs.declared.predefined.Predefined.TheVariants as names;
-ghost use Rattle.base_names.specs.Known.{AreKnown, IsConsistent, EventsUnder, PairsUnder, EventsOf, PairsOf, SharedPairs, EventsFound, set_names, shared_names};
-ghost use Rattle.base_names.specs.Candidate.{AreSets, AreShared, IsEntered, IsReading, IsOrdered, Gives, AreCovered, shared_for, SetIn, RelationIn};
+ghost use Rattle.base_names.specs.Known.{AreMatching, IsConsistent, EventsUnder, PairsUnder, KnownEvents, KnownPairs, SharedPairs, EventsFound, set_names, shared_names};
+ghost use Rattle.base_names.specs.Candidate.{AreNamedSets, AreNamedRelations, IsEntered, HasReadsFrom, HasCoherence, Gives, AreCovered, shared_for, SetIn, RelationIn};
 
 use crate::changing::{write_order, write_reads};
 use crate::fixed::write_fixed;
@@ -47,7 +47,7 @@ pub struct Base {
 }
 
 impl Model for Base {
-    ghost use Rattle.base_names.specs.Known.{Known, AreKnown};
+    ghost use Rattle.base_names.specs.Known.{Known, AreMatching};
 
     ghost Value = { Known };
 
@@ -61,7 +61,7 @@ impl Model for Base {
       from_reads = b.from_reads;
     } };
 
-    ghost invariant = { λ b. AreKnown b.count b.reads_from b.read_by b.coherence b.from_reads };
+    ghost invariant = { λ b. AreMatching b.count b.reads_from b.read_by b.coherence b.from_reads };
 }
 
 /// The relation, of those that all candidates of a combination share, that a relation is made of,
@@ -150,7 +150,7 @@ fn shared_of(alloc: Global, names: &[Predefined]) -> Result<Vec<Shared>, AllocEr
 fn put_sets(sets: &mut [Named], count: usize, combination: &Combination)
     requires few { count ≤ 128 }
     requires all { count ≤ length combination.now.events.items }
-    ensures right { AreSets sets.new count combination.now }
+    ensures right { AreNamedSets sets.new count combination.now }
     ensures names { set_names sets.new ≡ set_names sets.old }
     ensures long { length sets.new ≡ length sets.old }
 {
@@ -164,7 +164,7 @@ fn put_sets(sets: &mut [Named], count: usize, combination: &Combination)
 fn put_shared(shared: &mut [Shared], count: usize, combination: &Combination)
     requires few { count ≤ 128 }
     requires all { count ≤ length combination.now.events.items }
-    ensures right { AreShared shared.new count combination.now }
+    ensures right { AreNamedRelations shared.new count combination.now }
     ensures names { shared_names shared.new ≡ shared_names shared.old }
     ensures long { length shared.new ≡ length shared.old }
 {
@@ -293,7 +293,7 @@ impl Base {
     /// in event order the number of its store.
     pub fn read_from(&mut self, combination: &Combination, sources: &[u8])
         ensures known { IsConsistent self.new }
-        ensures reading { IsReading self.new combination.now sources.now }
+        ensures reading { HasReadsFrom self.new combination.now sources.now }
         ensures count { self.new.count ≡ self.old.count }
         ensures sets { self.new.sets ≡ self.old.sets }
         ensures shared { self.new.shared ≡ self.old.shared }
@@ -312,7 +312,7 @@ impl Base {
     /// Goes over to the candidates of the combination with this order of the stores.
     pub fn order(&mut self, combination: &Combination, order: &[u8])
         ensures known { IsConsistent self.new }
-        ensures ordered { IsOrdered self.new combination.now order.now }
+        ensures ordered { HasCoherence self.new combination.now order.now }
         ensures count { self.new.count ≡ self.old.count }
         ensures sets { self.new.sets ≡ self.old.sets }
         ensures shared { self.new.shared ≡ self.old.shared }
@@ -326,8 +326,8 @@ impl Base {
     /// with a previous one: only what differs is written.
     pub fn order_after(&mut self, combination: &Combination, previous: &[u8], order: &[u8])
         ensures known { IsConsistent self.new }
-        ensures ordered { IsOrdered self.old combination.now previous.now
-            → IsOrdered self.new combination.now order.now }
+        ensures ordered { HasCoherence self.old combination.now previous.now
+            → HasCoherence self.new combination.now order.now }
         ensures count { self.new.count ≡ self.old.count }
         ensures sets { self.new.sets ≡ self.old.sets }
         ensures shared { self.new.shared ≡ self.old.shared }
@@ -346,7 +346,7 @@ impl Base {
 
     /// What stands under the name of a set.
     fn set_named(&self, name: Predefined) -> EventSet
-        ensures { IsEvents result self.now.count (EventsOf self.now name) }
+        ensures { IsEvents result self.now.count (KnownEvents self.now name) }
     {
         match find_set(&self.sets, name) {
             Some(set) if set.count() == self.count => set,
@@ -356,7 +356,7 @@ impl Base {
 
     /// The set of a name; a name that is no set gives the empty one.
     pub fn set(&self, name: Predefined) -> EventSet
-        ensures held { IsEvents result self.now.count (EventsOf self.now name) }
+        ensures held { IsEvents result self.now.count (KnownEvents self.now name) }
         ensures meant { (c : _) → IsEntered self.now c → Contains (set_names self.now.sets) name
             → IsEvents result self.now.count (SetIn c self.now.count name) }
     {
@@ -385,7 +385,7 @@ impl Base {
 
     /// Makes `target` the union of reads-from, coherence and from-reads.
     fn write_communication(&self, target: &mut Rel)
-        ensures { IsRelation target.new self.now.count (PairsOf self.now names.Communication) }
+        ensures { IsRelation target.new self.now.count (KnownPairs self.now names.Communication) }
     {
         target.copy_from(&self.reads_from);
         target.union_with(&self.coherence);
@@ -395,7 +395,7 @@ impl Base {
     /// Makes `target` what stands under a name.
     fn write_named(&self, name: Predefined, count: usize, target: &mut Rel)
         requires { count ≡ self.now.count }
-        ensures { IsRelation target.new self.now.count (PairsOf self.now name) }
+        ensures { IsRelation target.new self.now.count (KnownPairs self.now name) }
     {
         let inside = Predefined::Internal;
         let outside = Predefined::External;
@@ -421,9 +421,9 @@ impl Base {
     /// Makes `target` the relation of a name in the present candidate; a name that is a set makes
     /// it the empty one.
     pub fn write_relation(&self, name: Predefined, target: &mut Rel)
-        ensures held { IsRelation target.new self.now.count (PairsOf self.now name) }
+        ensures held { IsRelation target.new self.now.count (KnownPairs self.now name) }
         ensures meant { (c : _) → (sources order : _) → IsEntered self.now c
-            → IsReading self.now c sources → IsOrdered self.now c order → Gives self.now name
+            → HasReadsFrom self.now c sources → HasCoherence self.now c order → Gives self.now name
             → IsRelation target.new self.now.count
             (RelationIn name self.now.count c sources order) }
     {

@@ -6,7 +6,7 @@ use Rattle.text_values.specs.declared.model.ModelText.{ModelText}
 use Rattle.text_values.specs.declared.predefined.TheConstants.{PREDEFINED}
 use Rattle.candidates.specs.declared.candidate.Space.{Space}
 use Rattle.candidates.specs.declared.fault.EvalRefusal.{EvalRefusal}
-use Rattle.candidates.specs.Listed.{ListsExecutions, IsRefusal}
+use Rattle.candidates.specs.Listed.{ListsExecutions, IsSpaceRefusal}
 use Rattle.binding_graph.specs.declared.resolved.ResolvedItem.{ResolvedItem}
 use Rattle.verdict.specs.declared.answer.Outcome.{Outcome}
 use Rattle.verdict.specs.declared.answer.OutcomeResult.{OutcomeResult}
@@ -102,7 +102,7 @@ module _ (test : Test) (model : ModelText) (cell : Cell) (solved : IsSolved test
             made.0.result solved.no_fault solved.of_model lists said.said h.result;
       })
 
-  by_refusal : (r : EvalRefusal) → IsRefusal test r → cell.table.space ≡ OfRefusal r
+  by_refusal : (r : EvalRefusal) → IsSpaceRefusal test r → cell.table.space ≡ OfRefusal r
       → IsFromScratch test model cell.outcome
   by_refusal r refusal is_refusal =
       let made : Makes (ForVerdict (asked test.condition test.observed.items (flag_names cell.items))) (OfRefusal r ∷ answers_in cell.table 0 cell.items) (OfOutcome cell.outcome ∷ []) =

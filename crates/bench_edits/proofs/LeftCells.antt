@@ -3,7 +3,7 @@ use Rattle.std.proofs.Common.{◌≡◌, ◌≢◌, ℕ, zero, suc, ◌<◌, inl
 use Rattle.std.proofs.lemmas.List.{length-map}
 use Rattle.text_values.specs.declared.test.Test.{Test}
 use Rattle.text_values.specs.declared.test.Quantifier.{Quantifier}
-use Rattle.text_values.specs.TestValue.{Content, Formula, content_of, formula_of, steps_of}
+use Rattle.text_values.specs.TestValue.{Content, Formula, content_of, formula_of, thread_steps}
 use Rattle.memo_core.specs.Step.{Has}
 use Rattle.bench_texts.specs.Replacements.{tests_with, models_with}
 use Rattle.bench_texts.specs.declared.model.NamedModel.{NamedModel}
@@ -124,9 +124,9 @@ module _ (p q : Parts) (tests : List Test) (models : List NamedModel) (r : Repla
 
     threads : length there.entry.row.threads.items ≡ length here.entry.row.threads.items
     threads =
-        let each : length (map steps_of there.entry.test.threads.items) ≡ length (map steps_of here.entry.test.threads.items) = ap (λ (c : Content). length c.threads) content in
-        let x : length (map steps_of there.entry.test.threads.items) ≡ length there.entry.test.threads.items = length-map there.entry.test.threads.items steps_of in
-        let y : length (map steps_of here.entry.test.threads.items) ≡ length here.entry.test.threads.items = length-map here.entry.test.threads.items steps_of in
+        let each : length (map thread_steps there.entry.test.threads.items) ≡ length (map thread_steps here.entry.test.threads.items) = ap (λ (c : Content). length c.threads) content in
+        let x : length (map thread_steps there.entry.test.threads.items) ≡ length there.entry.test.threads.items = length-map there.entry.test.threads.items thread_steps in
+        let y : length (map thread_steps here.entry.test.threads.items) ≡ length here.entry.test.threads.items = length-map here.entry.test.threads.items thread_steps in
         there.stamps.each_thread ∙ (sym x ∙ (each ∙ (y ∙ sym here.stamps.each_thread)))
 
     parts_alike : space_parts there.entry.row ≡ space_parts here.entry.row

@@ -6,7 +6,7 @@ use Rattle.std.proofs.lemmas.List.Elements.{Contains-append_left}
 use Rattle.std.proofs.lemmas.Option.{none-some, same_Some}
 use Rattle.text_values.specs.declared.test.Test.{Test}
 use Rattle.text_values.specs.TestValue.{formula_of}
-use Rattle.ppc_semantics.specs.Lowering.{AreNames, place_names, entry_names, formula_names, test_names}
+use Rattle.ppc_semantics.specs.Lowering.{AreNamesOf, place_names, entry_names, formula_names, test_names}
 use Rattle.memo_core.specs.Step.{Has}
 use Rattle.bench_nodes.specs.declared.table.TestRow.{TestRow}
 use Rattle.bench_nodes.specs.Nodes.{has_test}
@@ -22,7 +22,7 @@ pub record IsFound (last : ℕ) (rs : List TestRow) (ts : List Test) (ls : List 
   pub found : view_of rs ts ls row.id
       ≡ Some (record { row = row; test = test; locations = locations })
   pub row_is : IsTestRow last row test
-  pub names : AreNames (test_names test) locations
+  pub names : AreNamesOf (test_names test) locations
   pub there : has_test rs row.id ≡ true
 
 abbrev IsOther : TestRow → TestRow → Type 0
@@ -38,7 +38,7 @@ has_at (r ∷ rs) (suc i) row e = inr (has_at rs i row e)
 
 pub find_test : (last : ℕ) (rs : List TestRow) (ts : List Test) (ls : List (Vec (List ℕ) Global))
     (i : ℕ) (row : TestRow) (test : Test) → AreTestRows last rs ts ls → AllPairs IsOther rs
-    → AllZip (λ t l. AreNames (test_names t) l.items) ts ls → slice_get rs i ≡ Some row
+    → AllZip (λ t l. AreNamesOf (test_names t) l.items) ts ls → slice_get rs i ≡ Some row
     → slice_get ts i ≡ Some test → IsFound last rs ts ls row test
 find_test last [] ts ls i row test h apart names a b = absurd (none-some row a)
 find_test last (r ∷ rs) [] ls i row test h apart names a b = absurd h
@@ -71,7 +71,7 @@ find_test last (r ∷ rs) (t ∷ ts) (l ∷ ls) (suc i) row test h apart names a
     or_right false b h = h
 
 -- the test has the parts that its space is given
-pub parts_had : (test : Test) (locations : List (List ℕ)) → AreNames (test_names test) locations
+pub parts_had : (test : Test) (locations : List (List ℕ)) → AreNamesOf (test_names test) locations
     → HasParts (parts_of test.init.items test.threads.items locations) test
 parts_had test locations names = record {
   init = refl;

@@ -3,7 +3,7 @@ use Rattle.std.proofs.Common.{ℕ, ◌<◌, ◌≤◌, ◌≡◌, ◌^◌, inl, 
 use Rattle.std.specs.List.{AllZip, AllByRecursion as Each, remove}
 use Rattle.std.proofs.lemmas.Bool.Decides.{eqb_tells}
 use Rattle.text_values.specs.declared.test.Test.{Test}
-use Rattle.ppc_semantics.specs.Lowering.{AreNames, test_names}
+use Rattle.ppc_semantics.specs.Lowering.{AreNamesOf, test_names}
 use Rattle.binding_kinds.specs.declared.fault.ModelFault.{ModelFault}
 use Rattle.bench_items.specs.declared.items.SharedItem.{SharedItem}
 use Rattle.bench_texts.proofs.Lists.{map-remove}
@@ -182,7 +182,7 @@ module _ (p q : Parts) (same : AreModelsSame p q) where
       → AreTestRows number q.table.tests.items after q.locations.items
       → AreApart (map (λ r. r.id) q.table.tests.items)
       → Each (λ r. r.id ≤ number) q.table.tests.items
-      → AllZip (λ c l. AreNames (test_names c) l.items) after q.locations.items
+      → AllZip (λ c l. AreNamesOf (test_names c) l.items) after q.locations.items
       → ArePartsOf q after models
   owed_after tests after models number le last owed rows apart low names = record {
     built = built_after tests after models number le last owed.built rows;
@@ -254,9 +254,9 @@ module _ (p q : Parts) (tests : List Test) (models : List NamedModel) (number at
       owed.numbered.tests_low))
       (subst
       (λ (l : List (Vec (List ℕ) Global)).
-      AllZip (λ c n. AreNames (test_names c) n.items) (put_at at test tests) l)
+      AllZip (λ c n. AreNamesOf (test_names c) n.items) (put_at at test tests) l)
       (sym puts.locations_are)
-      (zip_put (λ (c : Test) (n : Vec (List ℕ) Global). AreNames (test_names c) n.items) at
+      (zip_put (λ (c : Test) (n : Vec (List ℕ) Global). AreNamesOf (test_names c) n.items) at
       tests p.locations.items test names owed.locations one.names))
     where
       id_most : puts.new.id ≤ number
@@ -327,9 +327,9 @@ module _ (p q : Parts) (tests : List Test) (models : List NamedModel) (number at
       (low_removed number p.last at p.table.tests.items le_drop owed.numbered.tests_low))
       (subst
       (λ (l : List (Vec (List ℕ) Global)).
-      AllZip (λ c n. AreNames (test_names c) n.items) (remove tests at) l)
+      AllZip (λ c n. AreNamesOf (test_names c) n.items) (remove tests at) l)
       (sym drops.locations)
-      (zip_removed (λ (c : Test) (n : Vec (List ℕ) Global). AreNames (test_names c) n.items)
+      (zip_removed (λ (c : Test) (n : Vec (List ℕ) Global). AreNamesOf (test_names c) n.items)
       at tests p.locations.items owed.locations))
 
   pub drop_goes_on : (next next_now part of : ℕ)

@@ -2,8 +2,8 @@
 use Rattle.std.proofs.Common.{◌≡◌, ◌≢◌, ℕ, zero, suc, inl, inr, true, List, [], ◌∷◌, map, Some, None, Vec, Global, slice_get, refl, sym, ap, subst, eq-eqb, ne_eqb}
 use Rattle.std.specs.List.{AllZip, remove}
 use Rattle.text_values.specs.declared.test.Test.{Test}
-use Rattle.text_values.specs.TestValue.{Content, content_of, formula_of, steps_of}
-use Rattle.ppc_semantics.specs.Lowering.{AreNames, test_names}
+use Rattle.text_values.specs.TestValue.{Content, content_of, formula_of, thread_steps}
+use Rattle.ppc_semantics.specs.Lowering.{AreNamesOf, test_names}
 use Rattle.candidates.proofs.OneProgram.{names_one}
 use Rattle.memo_core.specs.Step.{Has}
 use Rattle.bench_texts.specs.BenchTexts.{put_at}
@@ -94,11 +94,11 @@ pub record IsEntry (last : ℕ) (rs : List TestRow) (ts : List Test) (ls : List 
   pub row_is : entry.row ≡ row
   pub test_is : entry.test ≡ test
   pub stamps : IsTestRow last entry.row entry.test
-  pub names : AreNames (test_names entry.test) entry.locations
+  pub names : AreNamesOf (test_names entry.test) entry.locations
 
 pub find_entry : (last i : ℕ) (rs : List TestRow) (ts : List Test) (ls : List Names) (row : TestRow)
     (test : Test) → AreTestRows last rs ts ls
-    → AllZip (λ t l. AreNames (test_names t) l.items) ts ls
+    → AllZip (λ t l. AreNamesOf (test_names t) l.items) ts ls
     → slice_get rs i ≡ Some row → slice_get ts i ≡ Some test → IsEntry last rs ts ls row test
 find_entry last i [] ts ls row test h n e f = absurd (none_is e)
 find_entry last i (r ∷ rs) [] ls row test h n e f = absurd h
@@ -153,14 +153,14 @@ found_by_number (r ∷ rs) (t ∷ ts) (l ∷ ls) e apart (inr h) =
 
 -- tests that say the same have the same parts
 pub part_alike : (a b : Test) (ls ms : List (List ℕ)) → content_of a ≡ content_of b
-    → AreNames (test_names a) ls → AreNames (test_names b) ms → (part : ℕ)
+    → AreNamesOf (test_names a) ls → AreNamesOf (test_names b) ms → (part : ℕ)
     → test_part a ls part ≡ test_part b ms part
 part_alike a b ls ms e f g part =
     let init : a.init.items ≡ b.init.items = ap (λ (c : Content). c.init) e in
-    let threads : map steps_of a.threads.items ≡ map steps_of b.threads.items = ap (λ (c : Content). c.threads) e in
+    let threads : map thread_steps a.threads.items ≡ map thread_steps b.threads.items = ap (λ (c : Content). c.threads) e in
     let observed : a.observed.items ≡ b.observed.items = ap (λ (c : Content). c.observed) e in
     let quantifier : a.condition.quantifier ≡ b.condition.quantifier = ap (λ (c : Content). c.quantifier) e in
     let condition : formula_of a.condition.proposition ≡ formula_of b.condition.proposition = ap (λ (c : Content). c.condition) e in
     let names : test_names a ≡ test_names b = rw (init, condition, observed) refl in
-    let locations : ls ≡ ms = names_one (test_names b) ls ms (subst (λ (n : List (List ℕ)). AreNames n ls) names f) g in
+    let locations : ls ≡ ms = names_one (test_names b) ls ms (subst (λ (n : List (List ℕ)). AreNamesOf n ls) names f) g in
     rw (init, threads, observed, quantifier, condition, locations) refl

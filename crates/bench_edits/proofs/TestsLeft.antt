@@ -4,7 +4,7 @@ use Rattle.std.specs.List.{AllByRecursion as Each, remove}
 use Rattle.std.proofs.lemmas.Bool.Decides.{eqb_tells}
 use Rattle.text_values.specs.declared.test.Test.{Test}
 use Rattle.text_values.specs.declared.test.Thread.{Thread}
-use Rattle.text_values.specs.TestValue.{steps_of}
+use Rattle.text_values.specs.TestValue.{thread_steps}
 use Rattle.memo_core.specs.Step.{Has}
 use Rattle.memo_core.specs.declared.keys.Key.{Key}
 use Rattle.memo_core.specs.declared.keys.Key.TheVariants.{Part}
@@ -37,7 +37,7 @@ none_is e = cc
 
 -- a part that is not there has the stamp 0
 threads_none : (ns : List ℕ) (ts : List Thread) (k : ℕ) → length ns ≡ length ts
-    → option_map OfThread (slice_get (map steps_of ts) k) ≡ None → get_or ns k 0 ≡ 0
+    → option_map OfThread (slice_get (map thread_steps ts) k) ≡ None → get_or ns k 0 ≡ 0
 threads_none [] ts zero l e = refl
 threads_none [] ts (suc k) l e = refl
 threads_none (n ∷ ns) [] k l e = absurd (omega arith)

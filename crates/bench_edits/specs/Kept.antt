@@ -3,7 +3,7 @@
 use Rattle.std.specs.Prelude.{◌≡◌, ⊤, ℕ, List, [], length, Option, Some, None, slice_get, AllPairs}
 use Rattle.std.specs.List.{AllZip, AllByRecursion as Each}
 use Rattle.text_values.specs.declared.test.Test.{Test}
-use Rattle.ppc_semantics.specs.Lowering.{AreNames, test_names}
+use Rattle.ppc_semantics.specs.Lowering.{AreNamesOf, test_names}
 use Rattle.memo_core.specs.declared.keys.Kind.{Kind}
 use Rattle.memo_core.specs.declared.keys.Kind.TheVariants as kinds
 use Rattle.memo_core.specs.declared.keys.Node.{Node}
@@ -68,7 +68,7 @@ pub record IsKept (s : State) (models : List ModelReading) : Type 0 where
   pub read : Each IsRead models
   pub models_apart : AllPairs AreOther models
   pub tests_apart : AllPairs (λ a b. a.id ≡ b.id → ⊥) s.parts.table.tests.items
-  pub locations : AllZip (λ t l. AreNames (test_names t) l.items) s.tests s.parts.locations.items
+  pub locations : AllZip (λ t l. AreNamesOf (test_names t) l.items) s.tests s.parts.locations.items
 
 -- the test stands at that index, with that row
 pub record IsTestAt (s : State) (index : ℕ) (row : TestRow) (test : Test) : Type 0 where

@@ -3,7 +3,7 @@
 use Rattle.std.specs.Prelude.{◌≡◌, ⊤, ℕ, ◌≤◌, List, [], ◌∷◌, length, map}
 use Rattle.std.specs.List.{AllZip, AllByRecursion as Each, flat_map}
 use Rattle.text_values.specs.declared.test.Test.{Test}
-use Rattle.ppc_semantics.specs.Lowering.{AreNames, test_names}
+use Rattle.ppc_semantics.specs.Lowering.{AreNamesOf, test_names}
 use Rattle.memo_core.specs.Step.{Has}
 use Rattle.bench_texts.specs.declared.model.NamedModel.{NamedModel}
 use Rattle.bench_nodes.specs.declared.table.ModelRow.{ModelRow}
@@ -36,4 +36,4 @@ pub record ArePartsOf (p : Parts) (tests : List Test) (models : List NamedModel)
   pub each_model : length p.table.models.items ≡ length models
   pub each_item : map (λ i. i.number) p.table.items.items ≡ item_numbers models
   pub numbered : AreNumbered p.last p.table.tests.items p.table.models.items
-  pub locations : AllZip (λ c l. AreNames (test_names c) l.items) tests p.locations.items
+  pub locations : AllZip (λ c l. AreNamesOf (test_names c) l.items) tests p.locations.items

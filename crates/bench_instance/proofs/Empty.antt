@@ -4,7 +4,7 @@ use Rattle.std.specs.declared.alloc.Global.{Global}
 use Rattle.std.specs.List.{AllZip}
 use Rattle.text_values.specs.TestValue.{content_of}
 use Rattle.text_values.specs.declared.test.Test.{Test}
-use Rattle.ppc_semantics.specs.Lowering.{AreNames, test_names}
+use Rattle.ppc_semantics.specs.Lowering.{AreNamesOf, test_names}
 use Rattle.bench_texts.specs.declared.model.NamedModel.{NamedModel}
 use Rattle.bench_texts.specs.BenchTexts.{BenchTexts}
 use Rattle.bench_texts.specs.Held.{model_of, texts_of, AreRead}
@@ -71,7 +71,7 @@ module _ (p : Parts) (built : IsBuilt (contents.state_of p []) [])
     each_item = ap (map (λ i. i.number)) items;
     numbered = numbered_none;
     locations =
-        subst (λ ls. AllZip (λ c l. AreNames (test_names c) l.items) [] ls) (sym locations_none) tt;
+        subst (λ ls. AllZip (λ c l. AreNamesOf (test_names c) l.items) [] ls) (sym locations_none) tt;
   }
 
 -- texts without tests and models

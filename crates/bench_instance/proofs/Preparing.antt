@@ -2,7 +2,7 @@
 use Rattle.std.proofs.Common.{◌≡◌, ℕ, Bool, true, false, ◌||◌, if◌then◌else◌, Option, Some, None, List, length, map, refl, subst, sym, ap, ◌∙◌}
 use Rattle.std.specs.List.{AllZip, AllByRecursion as Each}
 use Rattle.text_values.specs.declared.test.Test.{Test}
-use Rattle.ppc_semantics.specs.Lowering.{AreNames, test_names}
+use Rattle.ppc_semantics.specs.Lowering.{AreNamesOf, test_names}
 use Rattle.bench_texts.specs.BenchTexts.{BenchTexts}
 use Rattle.bench_texts.specs.declared.model.NamedModel.{NamedModel}
 use Rattle.bench_texts.specs.declared.fault.EditFault.TheVariants as faults
@@ -85,10 +85,10 @@ module _ (p q : Parts) (ts us : List Test) (ms : List NamedModel)
     each_item = ap (map (λ i. i.number)) same.item_rows ∙ h.each_item;
     numbered = numbered_is h.numbered;
     locations =
-        subst (λ ls. AllZip (λ c l. AreNames (test_names c) l.items) us ls) (sym same.locations)
+        subst (λ ls. AllZip (λ c l. AreNamesOf (test_names c) l.items) us ls) (sym same.locations)
         (subst
         (λ (cs : List Test).
-        AllZip (λ c l. AreNames (test_names c) l.items) cs p.locations.items)
+        AllZip (λ c l. AreNamesOf (test_names c) l.items) cs p.locations.items)
         (sym same.tests) h.locations);
   }
 

@@ -6,7 +6,7 @@ use Rattle.std.proofs.lemmas.Bool.{cases_Bool}
 use Rattle.std.proofs.lemmas.List.{length-map}
 use Rattle.text_values.specs.declared.test.Step.{Step}
 use Rattle.text_values.specs.declared.test.Test.{Test}
-use Rattle.text_values.specs.TestValue.{steps_of}
+use Rattle.text_values.specs.TestValue.{thread_steps}
 use Rattle.binding_kinds.specs.declared.fault.ModelFault.{ModelFault}
 use Rattle.bench_nodes.specs.declared.table.ItemRow.{ItemRow}
 use Rattle.bench_nodes.specs.declared.table.ModelRow.{ModelRow}
@@ -117,8 +117,8 @@ module _ (last : ℕ) where
         | inl c ↦ no_stamp row.locations h.locations (rw (a, b, c) at e)
         | inr c ↦ elim (cases_Bool (part == 5)) [
           | inl d ↦ no_stamp row.init h.init (rw (a, b, c, d) at e)
-          | inr d ↦ rw (a, b, c, d) (stamps_empty row.threads.items (map steps_of t.threads.items)
-              (part - 6) h.threads (h.each_thread ∙ sym (length-map t.threads.items steps_of))
+          | inr d ↦ rw (a, b, c, d) (stamps_empty row.threads.items (map thread_steps t.threads.items)
+              (part - 6) h.threads (h.each_thread ∙ sym (length-map t.threads.items thread_steps))
               (rw (a, b, c, d) at e))
         ]
       ]

@@ -5,7 +5,7 @@ use Rattle.std.proofs.lemmas.Option.{slice_get_cases}
 use Rattle.text_values.specs.declared.test.InitEntry.{InitEntry}
 use Rattle.text_values.specs.declared.test.Step.{Step}
 use Rattle.text_values.specs.declared.test.Test.{Test}
-use Rattle.text_values.specs.TestValue.{steps_of}
+use Rattle.text_values.specs.TestValue.{thread_steps}
 use Rattle.memo_core.specs.declared.keys.Key.{Key}
 use Rattle.memo_core.specs.declared.keys.Key.TheVariants.{Part}
 use Rattle.memo_core.proofs.Inputs.{drop_get}
@@ -31,7 +31,7 @@ content_of_test s part id h =
 
 thread_of_test : (t : Test) (locations : List (List ℕ)) (k : ℕ)
     → test_part t locations (6 + k)
-    ≡ option_map OfThread (slice_get (map steps_of t.threads.items) k)
+    ≡ option_map OfThread (slice_get (map thread_steps t.threads.items) k)
 thread_of_test t locations k =
     let a : 6 + k ≢ 2 = λ e. omega (arith, e) in
     let b : 6 + k ≢ 3 = λ e. omega (arith, e) in
@@ -121,7 +121,7 @@ module _ (s : State) (id : ℕ) (v : FoundTest)
       ∙ ap (part_in part) found
 
   threads_are : (k : ℕ)
-      → content s (6 + k) id ≡ option_map OfThread (slice_get (map steps_of v.test.threads.items) k)
+      → content s (6 + k) id ≡ option_map OfThread (slice_get (map thread_steps v.test.threads.items) k)
   threads_are k = part_is (6 + k) (omega arith) ∙ thread_of_test v.test v.locations k
 
   -- the initial values come first
@@ -145,9 +145,9 @@ module _ (s : State) (id : ℕ) (v : FoundTest)
       ≡ Some (ForSpace (parts_of v.test.init.items
       (take (length v.row.threads.items) v.test.threads.items) v.locations))
   space_is h =
-      let many = length-map v.test.threads.items steps_of in
+      let many = length-map v.test.threads.items thread_steps in
       begins
-      ∙ enough s id v.test.init.items v.locations (map steps_of v.test.threads.items) threads_are
+      ∙ enough s id v.test.init.items v.locations (map thread_steps v.test.threads.items) threads_are
       (part_is 4 (omega arith)) v.row.threads.items 0 [] (omega (arith, h, many))
       ∙ ap
       (λ (l : List (List Step)). Some (ForSpace (record {
@@ -155,13 +155,13 @@ module _ (s : State) (id : ℕ) (v : FoundTest)
         threads = l;
         locations = v.locations;
       })))
-      (take-map steps_of (length v.row.threads.items) v.test.threads.items)
+      (take-map thread_steps (length v.row.threads.items) v.test.threads.items)
 
   pub threads_lack : length v.test.threads.items < length v.row.threads.items
       → given_space (contents s (space_keys s.parts.table.tests.items id)) ≡ None
   threads_lack h =
-      let many = length-map v.test.threads.items steps_of in
+      let many = length-map v.test.threads.items thread_steps in
       begins
-      ∙ few s id v.test.init.items v.locations (map steps_of v.test.threads.items) threads_are
+      ∙ few s id v.test.init.items v.locations (map thread_steps v.test.threads.items) threads_are
       (part_is 4 (omega arith)) v.row.threads.items 0 [] (omega arith)
       (omega (arith, h, many))

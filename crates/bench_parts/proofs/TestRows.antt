@@ -5,7 +5,7 @@ use Rattle.std.proofs.lemmas.Bool.Decides.{leb_tells}
 use Rattle.std.proofs.lemmas.List.{length-map, get_or-map}
 use Rattle.text_values.specs.declared.test.Test.{Test}
 use Rattle.text_values.specs.declared.test.Thread.{Thread}
-use Rattle.text_values.specs.TestValue.{formula_of, steps_of}
+use Rattle.text_values.specs.TestValue.{formula_of, thread_steps}
 use Rattle.bench_nodes.specs.declared.table.TestRow.{TestRow}
 use Rattle.bench_nodes.specs.Nodes.{stamp_in}
 use Rattle.bench_parts.specs.Built.{IsStamp, IsTestRow}
@@ -106,7 +106,7 @@ thread_there (t ∷ ts) (suc k) c e = let lt = thread_there ts k c e in omega (a
 there_thread : (ts : List Thread) (k : ℕ) → k < length ts
     → (c : PartContent) × (thread_at ts k ≡ Some c)
 there_thread [] k lt = absurd (omega arith)
-there_thread (t ∷ ts) zero lt = (OfThread (steps_of t), refl)
+there_thread (t ∷ ts) zero lt = (OfThread (thread_steps t), refl)
 there_thread (t ∷ ts) (suc k) lt = there_thread ts k (omega arith)
 
 no_thread : (ts : List Thread) (k : ℕ) → length ts ≤ k → thread_at ts k ≡ None

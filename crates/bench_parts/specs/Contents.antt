@@ -7,7 +7,7 @@ use Rattle.text_values.specs.declared.test.Quantifier.{Quantifier}
 use Rattle.text_values.specs.declared.test.Step.{Step}
 use Rattle.text_values.specs.declared.test.Test.{Test}
 use Rattle.text_values.specs.ModelValue.{Clause}
-use Rattle.text_values.specs.TestValue.{Formula, formula_of, steps_of}
+use Rattle.text_values.specs.TestValue.{Formula, formula_of, thread_steps}
 use Rattle.binding_kinds.specs.declared.fault.ModelFault.{ModelFault}
 use Rattle.bench_items.specs.declared.items.SharedItem.{SharedItem}
 use Rattle.bench_items.specs.Items.{RoleContent, shared_role, shared_history}
@@ -64,7 +64,7 @@ test_part t locations part =
     else (if part == 3 then Some (OfObserved t.observed.items)
     else (if part == 4 then Some (OfLocations locations)
     else (if part == 5 then Some (OfInit t.init.items)
-    else option_map OfThread (slice_get (map steps_of t.threads.items) (part - 6)))))
+    else option_map OfThread (slice_get (map thread_steps t.threads.items) (part - 6)))))
 
 -- of the test of that number
 abbrev pub test_content : List TestRow → List Test → List (Vec (List ℕ) Global) → ℕ → ℕ

@@ -2,7 +2,7 @@
 use Rattle.std.specs.Prelude.{◌≡◌, ℕ, List, length, map, get_or, slice_get, option_map, Option, Some, None}
 use Rattle.text_values.specs.declared.test.Test.{Test}
 use Rattle.text_values.specs.declared.test.Thread.{Thread}
-use Rattle.text_values.specs.TestValue.{steps_of}
+use Rattle.text_values.specs.TestValue.{thread_steps}
 use Rattle.bench_nodes.specs.declared.table.TestRow.{TestRow}
 use Rattle.bench_nodes.specs.Nodes.{stamp_in}
 use Rattle.bench_parts.specs.Contents.{PartContent, OfThread, test_part}
@@ -29,7 +29,7 @@ stamp_by (Some e) part = stamp_in e.row part
 
 -- the thread of that number from 0 on
 abbrev pub thread_at : List Thread → ℕ → Option PartContent
-thread_at threads k = option_map OfThread (slice_get (map steps_of threads) k)
+thread_at threads k = option_map OfThread (slice_get (map thread_steps threads) k)
 
 -- what it held, and its stamp
 abbrev pub thread_by : Option TestEntry → ℕ → Option PartContent

@@ -3,7 +3,7 @@ use Rattle.std.specs.Prelude.{ℕ, ◌==◌, List, [], ◌∷◌, Vec, Option, S
 use Rattle.std.specs.Option.{option_or}
 use Rattle.std.specs.declared.alloc.Global.{Global}
 use Rattle.text_values.specs.declared.test.Test.{Test}
-use Rattle.text_values.specs.TestValue.{formula_of, steps_of}
+use Rattle.text_values.specs.TestValue.{formula_of, thread_steps}
 use Rattle.memo_core.specs.declared.keys.Key.{Key}
 use Rattle.bench_nodes.specs.declared.table.SlotKey.{SlotKey}
 use Rattle.bench_nodes.specs.declared.table.SlotKey.TheVariants as slots
@@ -31,7 +31,7 @@ content_of (held.Condition condition) =
 content_of (held.Observed observed) = OfObserved observed.now
 content_of (held.Locations locations) = OfLocations locations.now
 content_of (held.Init init) = OfInit init.now
-content_of (held.Thread thread) = OfThread (steps_of thread.now)
+content_of (held.Thread thread) = OfThread (thread_steps thread.now)
 
 -- ---- a test with its row and its locations
 

@@ -1,7 +1,7 @@
 //! What jobs are given of a part, where it lies.
 
 ghost use Rattle.std.specs.Prelude.{◌≡◌, map, option_map, slice_get};
-ghost use Rattle.text_values.specs.TestValue.{steps_of};
+ghost use Rattle.text_values.specs.TestValue.{thread_steps};
 ghost use Rattle.bench_parts.specs.Contents.{OfThread, item_content, fault_content, test_part, test_content, content, state_of};
 ghost use Rattle.bench_parts.specs.Views.{content_of};
 
@@ -62,7 +62,7 @@ fn fault_content<'p>(
 
 fn thread_part(threads: &[Thread], index: u64) -> Option<Content<'_>>
     ensures { option_map content_of result
-        ≡ option_map OfThread (slice_get (map steps_of threads.now) index) }
+        ≡ option_map OfThread (slice_get (map thread_steps threads.now) index) }
 {
     if index < threads.len() as u64 {
         Some(Content::Thread(&threads[index as usize]))

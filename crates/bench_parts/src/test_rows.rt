@@ -1,7 +1,7 @@
 //! The rows of tests.
 
 ghost use Rattle.std.specs.Prelude.{◌≡◌, ℕ, Some, IfOk, option_map, length, get_or};
-ghost use Rattle.text_values.specs.TestValue.{formula_of, steps_of};
+ghost use Rattle.text_values.specs.TestValue.{formula_of, thread_steps};
 ghost use Rattle.bench_parts.specs.Contents.{OfCondition, OfObserved, OfLocations, OfInit, OfThread};
 ghost use Rattle.bench_parts.specs.Stamps.{IsStampOf, next_number};
 ghost use Rattle.bench_parts.specs.Tests.{entry_of, held_by, stamp_by, thread_at, thread_by, thread_stamp_by, IsRowOf};
@@ -104,7 +104,7 @@ fn stamp_at(stamps: &[u64], k: usize) -> u64
 fn held_stamp(fresh: u64, held: &HeldTest, k: usize, thread: &Thread) -> u64
     ensures { let was = Some (entry_of held.now) in
         IsStampOf fresh (thread_by was k) (thread_stamp_by was k)
-        (Some (OfThread (steps_of thread.now))) result }
+        (Some (OfThread (thread_steps thread.now))) result }
 {
     match held.test.threads.get(k) {
         Some(earlier) => {
@@ -121,7 +121,7 @@ fn held_stamp(fresh: u64, held: &HeldTest, k: usize, thread: &Thread) -> u64
 fn thread_stamp(fresh: u64, before: Option<&HeldTest>, k: usize, thread: &Thread) -> u64
     ensures { let held = option_map (λ h. entry_of h.now) before.entry in
         IsStampOf fresh (thread_by held k) (thread_stamp_by held k)
-        (Some (OfThread (steps_of thread.now))) result }
+        (Some (OfThread (thread_steps thread.now))) result }
 {
     match before {
         Some(held) => held_stamp(fresh, held, k, thread),

@@ -1,7 +1,7 @@
 //! Cells with one slice.
 
 ghost use Rattle.std.specs.Prelude.{◌≡◌, ◌↔◌, IsTrue, map};
-ghost use Rattle.text_values.specs.TestValue.{content_of, steps_of};
+ghost use Rattle.text_values.specs.TestValue.{content_of, thread_steps};
 ghost use Rattle.bench_slices.specs.Slices.{slice, slice_of};
 
 use crate::lists::{are_same_items, are_same_numbers};
@@ -11,7 +11,7 @@ use text_equality::{are_same_entries, are_same_places, are_same_steps, is_same_c
 use text_values::{Test, Thread};
 
 fn are_same_threads(first: &[Thread], second: &[Thread]) -> bool
-    ensures { IsTrue result ↔ (map steps_of first.now ≡ map steps_of second.now) }
+    ensures { IsTrue result ↔ (map thread_steps first.now ≡ map thread_steps second.now) }
 {
     if first.len() != second.len() {
         return false;

@@ -18,7 +18,7 @@ use Rattle.text_values.specs.TestValue.{Content, Formula}
 use Rattle.litmus_tokens.specs.Texts as litmus
 use Rattle.litmus_grammar.specs.declared.parts.TextKind.TheVariants as kinds
 use Rattle.litmus_grammar.specs.TextMachine as machine
-use Rattle.litmus_grammar.specs.TextMachine.{Ran, first_stage}
+use Rattle.litmus_grammar.specs.TextMachine.{TextResult, first_stage}
 use Rattle.litmus_grammar.specs.Texts.{ReadsTest, ReadsInit, ReadsThread, ReadsCondition, ReadsLocations}
 use Rattle.litmus_ppc.specs.declared.fault.LitmusFault.TheVariants.{Refused}
 use Rattle.litmus_ppc.proofs.TestReader.{test_only, test_only_memory}
@@ -32,16 +32,16 @@ use Rattle.litmus_ppc.proofs.Readers.{condition_only, condition_only_memory}
 pub clauses_one : (form : Form) (bytes : List ℕ) (v w : List Clause) → Reads form bytes v
     → Reads form bytes w → v ≡ w
 clauses_one form bytes v w a b =
-    by_run (items_of (run limits form 0 (start form) (cat.lexed bytes))) refl
+    by_run (items_of (run limits form 0 (start form) (cat.lexing bytes))) refl
   where
     by_run : (r : Result (List Clause) (CatRule × ℕ))
-        → items_of (run limits form 0 (start form) (cat.lexed bytes)) ≡ r → v ≡ w
+        → items_of (run limits form 0 (start form) (cat.lexing bytes)) ≡ r → v ≡ w
     by_run (Ok cs) e =
-        sym (items_only form (cat.lexed bytes) cs v e a.means)
-        ∙ items_only form (cat.lexed bytes) cs w e b.means
+        sym (items_only form (cat.lexing bytes) cs v e a.means)
+        ∙ items_only form (cat.lexing bytes) cs w e b.means
     by_run (Err f) e =
-        absurd (no_fault form (cat.lexed bytes) v f.0 f.1 a.means
-        (fault_found form (cat.lexed bytes) f.0 f.1 e))
+        absurd (no_fault form (cat.lexing bytes) v f.0 f.1 a.means
+        (fault_found form (cat.lexing bytes) f.0 f.1 e))
 
 abbrev first : Clause → List Clause → Clause
 first d [] = d
@@ -55,11 +55,11 @@ item_one bytes c d a b = ap (first c) (clauses_one forms.Item bytes (c ∷ []) (
 
 pub test_one : (bytes : List ℕ) (v w : Content) → ReadsTest bytes v → ReadsTest bytes w → v ≡ w
 test_one bytes v w a b =
-    by_run (machine.run (machine.start kinds.Test 0) (litmus.lexed (first_stage kinds.Test) bytes))
+    by_run (machine.run (machine.start kinds.Test 0) (litmus.lexing (first_stage kinds.Test) bytes))
     refl
   where
-    by_run : (r : Ran)
-        → machine.run (machine.start kinds.Test 0) (litmus.lexed (first_stage kinds.Test) bytes) ≡ r
+    by_run : (r : TextResult)
+        → machine.run (machine.start kinds.Test 0) (litmus.lexing (first_stage kinds.Test) bytes) ≡ r
         → v ≡ w
     by_run (Ok s) e = sym (test_only bytes s (λ le. e) v a) ∙ test_only bytes s (λ le. e) w b
     by_run (Err f) e = absurd (test_only_memory bytes (Refused f.0 f.1) (λ le. e) v a)
@@ -68,11 +68,11 @@ pub thread_one : (bytes : List ℕ) (v w : List Step) → ReadsThread bytes v �
     → v ≡ w
 thread_one bytes v w a b =
     by_run
-    (machine.run (machine.start kinds.Thread 1) (litmus.lexed (first_stage kinds.Thread) bytes))
+    (machine.run (machine.start kinds.Thread 1) (litmus.lexing (first_stage kinds.Thread) bytes))
     refl
   where
-    by_run : (r : Ran)
-        → machine.run (machine.start kinds.Thread 1) (litmus.lexed (first_stage kinds.Thread) bytes)
+    by_run : (r : TextResult)
+        → machine.run (machine.start kinds.Thread 1) (litmus.lexing (first_stage kinds.Thread) bytes)
         ≡ r → v ≡ w
     by_run (Ok s) e = sym (thread_only bytes s (λ le. e) v a) ∙ thread_only bytes s (λ le. e) w b
     by_run (Err f) e = absurd (thread_only_memory bytes (Refused f.0 f.1) (λ le. e) v a)
@@ -82,12 +82,12 @@ module _ (threads : ℕ) (few : threads < 18446744073709551616) (bytes : List �
       → v ≡ w
   init_one v w a b =
       by_run
-      (machine.run (machine.start kinds.Init threads) (litmus.lexed (first_stage kinds.Init) bytes))
+      (machine.run (machine.start kinds.Init threads) (litmus.lexing (first_stage kinds.Init) bytes))
       refl
     where
-      by_run : (r : Ran)
+      by_run : (r : TextResult)
           → machine.run (machine.start kinds.Init threads)
-          (litmus.lexed (first_stage kinds.Init) bytes) ≡ r → v ≡ w
+          (litmus.lexing (first_stage kinds.Init) bytes) ≡ r → v ≡ w
       by_run (Ok s) e =
           sym (init_only threads few bytes s (λ le. e) v a)
           ∙ init_only threads few bytes s (λ le. e) w b
@@ -98,11 +98,11 @@ module _ (threads : ℕ) (few : threads < 18446744073709551616) (bytes : List �
   locations_one v w a b =
       by_run
       (machine.run (machine.start kinds.Locations threads)
-      (litmus.lexed (first_stage kinds.Locations) bytes)) refl
+      (litmus.lexing (first_stage kinds.Locations) bytes)) refl
     where
-      by_run : (r : Ran)
+      by_run : (r : TextResult)
           → machine.run (machine.start kinds.Locations threads)
-          (litmus.lexed (first_stage kinds.Locations) bytes) ≡ r → v ≡ w
+          (litmus.lexing (first_stage kinds.Locations) bytes) ≡ r → v ≡ w
       by_run (Ok s) e =
           sym (locations_only threads few bytes s (λ le. e) v a)
           ∙ locations_only threads few bytes s (λ le. e) w b
@@ -114,11 +114,11 @@ module _ (threads : ℕ) (few : threads < 18446744073709551616) (bytes : List �
   condition_one v w a b =
       by_run
       (machine.run (machine.start kinds.Condition threads)
-      (litmus.lexed (first_stage kinds.Condition) bytes)) refl
+      (litmus.lexing (first_stage kinds.Condition) bytes)) refl
     where
-      by_run : (r : Ran)
+      by_run : (r : TextResult)
           → machine.run (machine.start kinds.Condition threads)
-          (litmus.lexed (first_stage kinds.Condition) bytes) ≡ r → v ≡ w
+          (litmus.lexing (first_stage kinds.Condition) bytes) ≡ r → v ≡ w
       by_run (Ok s) e =
           sym (condition_only threads few bytes s (λ le. e) v a)
           ∙ condition_only threads few bytes s (λ le. e) w b

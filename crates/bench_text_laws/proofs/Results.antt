@@ -7,7 +7,7 @@ use Rattle.text_values.specs.declared.test.Place.{Place}
 use Rattle.text_values.specs.declared.test.Step.{Step}
 use Rattle.text_values.specs.declared.test.Quantifier.{Quantifier}
 use Rattle.text_values.specs.declared.test.Test.{Test}
-use Rattle.text_values.specs.TestValue.{Content, Formula, content_of, steps_of}
+use Rattle.text_values.specs.TestValue.{Content, Formula, content_of, thread_steps}
 use Rattle.text_values.specs.ModelValue.{Clause}
 use Rattle.cat_grammar.specs.declared.form.Form.TheVariants as forms
 use Rattle.bench_texts.specs.BenchTexts.{BenchTexts, test_index, model_index, put_at, changed_at, with_init, with_thread, with_condition, with_observed, with_items, with_tests, with_models, numbered_items}
@@ -21,7 +21,7 @@ use Rattle.bench_text_laws.proofs.Readings.{clauses_one, item_one, test_one, thr
 
 few_in : (t : Test) → length (content_of t).threads < 18446744073709551616
 few_in t =
-    let many : length (content_of t).threads ≡ length t.threads.items = length-map t.threads.items steps_of in
+    let many : length (content_of t).threads ≡ length t.threads.items = length-map t.threads.items thread_steps in
     let small : length t.threads.items < 2 ^ 63 = omega (arith, t.threads.ok.0, t.threads.small) in
     omega (arith, many, small)
 

@@ -1,7 +1,7 @@
 -- What an edit changes, by the indexes of what it changes.
 use Rattle.std.specs.Prelude.{◌≡◌, ◌+◌, ◌<◌, ◌≤◌, ◌^◌, length, insert, remove, vec_len, vec_capacity}
 use Rattle.std.specs.List.{HoldsAt}
-use Rattle.text_values.specs.TestValue.{content_of, steps_of, formula_of}
+use Rattle.text_values.specs.TestValue.{content_of, thread_steps, formula_of}
 use Rattle.text_values.specs.ModelValues.{clause_of}
 use Rattle.bench_texts.specs.declared.change.Change.{Change}
 use Rattle.bench_texts.specs.declared.change.Change.TheVariants as changes
@@ -18,7 +18,7 @@ texts_after (changes.PutTest at test) t = with_tests (put_at at (content_of test
 texts_after (changes.DropTest at) t = with_tests (λ ts. remove ts at) t
 texts_after (changes.SetInit at init) t = with_tests (changed_at at (with_init init.items)) t
 texts_after (changes.SetThread at thread other) t =
-    with_tests (changed_at at (with_thread thread (steps_of other))) t
+    with_tests (changed_at at (with_thread thread (thread_steps other))) t
 texts_after (changes.SetCond at c) t =
     with_tests (changed_at at (with_condition (c.quantifier, formula_of c.proposition))) t
 texts_after (changes.SetObserved at observed) t =

@@ -1,7 +1,7 @@
 //! Copies of tests with one part changed.
 
 ghost use Rattle.std.specs.Prelude.{◌≡◌, ◌<◌, IfOk, length, vec_len};
-ghost use Rattle.text_values.specs.TestValue.{content_of, steps_of, formula_of};
+ghost use Rattle.text_values.specs.TestValue.{content_of, thread_steps, formula_of};
 ghost use Rattle.bench_texts.specs.BenchTexts.{with_init, with_thread, with_condition, with_observed};
 
 use std::alloc::{AllocError, Global};
@@ -26,7 +26,7 @@ pub(crate) fn test_with_init(
 #[tactic(auto, using(crate::proofs::Lists::list_lemmas))]
 fn replace_thread(test: &mut Test, thread: usize, other: Thread)
     requires { thread < vec_len test.old.threads }
-    ensures { content_of test.new ≡ with_thread thread (steps_of other) (content_of test.old) }
+    ensures { content_of test.new ≡ with_thread thread (thread_steps other) (content_of test.old) }
 {
     drop(replace(&mut test.threads[thread], other));
 }
@@ -40,7 +40,7 @@ pub(crate) fn test_with_thread(
 ) -> Result<Test, AllocError>
     requires { thread < length (content_of test.now).threads }
     ensures { IfOk result (λ t. content_of t
-        ≡ with_thread thread (steps_of other) (content_of test.now)) }
+        ≡ with_thread thread (thread_steps other) (content_of test.now)) }
 {
     let mut copy = copied_test(alloc, test)?;
     replace_thread(&mut copy, thread, other);

@@ -6,17 +6,17 @@ use Rattle.text_values.specs.declared.test.InitEntry.{InitEntry}
 use Rattle.text_values.specs.declared.test.Step.{Step}
 use Rattle.text_values.specs.declared.test.Test.{Test}
 use Rattle.text_values.specs.declared.test.Thread.{Thread}
-use Rattle.text_values.specs.TestValue.{steps_of}
+use Rattle.text_values.specs.TestValue.{thread_steps}
 use Rattle.thread_runs.specs.declared.instruction.Program.{Program}
 use Rattle.thread_runs.specs.declared.value.Value.{Value}
-use Rattle.ppc_semantics.specs.Lowering.{IsProgram, AreNames, AreInitial, AreFiles, AreLines, test_names}
+use Rattle.ppc_semantics.specs.Lowering.{IsProgram, AreNamesOf, AreInitial, AreFiles, LowersTo, test_names}
 use Rattle.candidates.specs.declared.candidate.Space.{Space}
 use Rattle.candidates.specs.declared.fault.EvalRefusal.{EvalRefusal}
 use Rattle.candidates.specs.declared.fault.EvalRefusal.TheVariants.{TooManyEvents, TooManyValues, TooManyRuns, TooManyCandidates, AddressFault, TooManyCombinations}
 use Rattle.ppc_semantics.specs.declared.fault.DomainRefusal.{DomainRefusal}
 use Rattle.ppc_semantics.specs.declared.fault.DomainRefusal.TheVariants as domains
 use Rattle.candidates.specs.Executions.{Execution}
-use Rattle.candidates.specs.Listed.{ListsExecutions, AreTestExecutions, HasNoDomain, IsRefusal}
+use Rattle.candidates.specs.Listed.{ListsExecutions, AreTestExecutions, HasNoDomain, IsSpaceRefusal}
 use Rattle.candidates.proofs.Outcomes.{shown_alike}
 use Rattle.bench_values.specs.Laws.{HasOneSpace, IsOfEachTest}
 use Rattle.bench_values.specs.Parts.{SpacePartsContent, HasParts}
@@ -27,19 +27,19 @@ module _ (parts : SpacePartsContent) (t u : Test) (h : HasParts parts t) (k : Ha
     inits : t.init.items ≡ u.init.items
     inits = h.init ∙ sym k.init
 
-    steps : map steps_of t.threads.items ≡ map steps_of u.threads.items
+    steps : map thread_steps t.threads.items ≡ map thread_steps u.threads.items
     steps = h.threads ∙ sym k.threads
 
     lengths : length t.threads.items ≡ length u.threads.items
     lengths =
-        sym (length-map t.threads.items steps_of) ∙ ap (λ (l : List (List Step)). length l) steps
-        ∙ length-map u.threads.items steps_of
+        sym (length-map t.threads.items thread_steps) ∙ ap (λ (l : List (List Step)). length l) steps
+        ∙ length-map u.threads.items thread_steps
 
     counts : vec_len t.threads ≡ vec_len u.threads
     counts = t.threads.ok.0 ∙ lengths ∙ sym u.threads.ok.0
 
-    same_names : (names : List (List ℕ)) → AreNames (test_names t) names
-        → AreNames (test_names u) names
+    same_names : (names : List (List ℕ)) → AreNamesOf (test_names t) names
+        → AreNamesOf (test_names u) names
     same_names names are = record {
       rising = are.rising;
       exact =
@@ -50,11 +50,11 @@ module _ (parts : SpacePartsContent) (t u : Test) (h : HasParts parts t) (k : Ha
     }
 
     same_lines : (n : ℕ) (thread : Thread)
-        → steps_of (get_or t.threads.items n thread) ≡ steps_of (get_or u.threads.items n thread)
+        → thread_steps (get_or t.threads.items n thread) ≡ thread_steps (get_or u.threads.items n thread)
     same_lines n thread =
-        sym (get_or-map steps_of t.threads.items n thread)
-        ∙ ap (λ (l : List (List Step)). get_or l n (steps_of thread)) steps
-        ∙ get_or-map steps_of u.threads.items n thread
+        sym (get_or-map thread_steps t.threads.items n thread)
+        ∙ ap (λ (l : List (List Step)). get_or l n (thread_steps thread)) steps
+        ∙ get_or-map thread_steps u.threads.items n thread
 
     same_program : (p : Program) → IsProgram t p → IsProgram u p
     same_program p is = record {
@@ -66,7 +66,7 @@ module _ (parts : SpacePartsContent) (t u : Test) (h : HasParts parts t) (k : Ha
         each_one = is.threads.each_one ∙ lengths;
         each =
             λ n thread made lt. subst
-            (λ (l : List Step). AreLines l (get_or p.threads.items n made).items)
+            (λ (l : List Step). LowersTo l (get_or p.threads.items n made).items)
             (same_lines n thread) (is.threads.each n thread made
             (subst (λ (m : ℕ). n < m) (sym lengths) lt));
       };
@@ -103,7 +103,7 @@ module _ (parts : SpacePartsContent) (t u : Test) (h : HasParts parts t) (k : Ha
     no_domain : (r : DomainRefusal) → HasNoDomain t r → HasNoDomain u r
     no_domain r h = (h.0, same_program h.0 h.1, h.2)
 
-    pub same_refusal : (r : EvalRefusal) → IsRefusal t r → IsRefusal u r
+    pub same_refusal : (r : EvalRefusal) → IsSpaceRefusal t r → IsSpaceRefusal u r
     same_refusal TooManyEvents h = no_domain domains.TooManyEvents h
     same_refusal TooManyValues h = no_domain domains.TooManyValues h
     same_refusal TooManyRuns h = no_domain domains.TooManyRuns h

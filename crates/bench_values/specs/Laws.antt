@@ -3,7 +3,7 @@ use Rattle.std.specs.Prelude.{◌≡◌, length, List}
 use Rattle.text_values.specs.declared.test.Test.{Test}
 use Rattle.candidates.specs.declared.candidate.Space.{Space}
 use Rattle.candidates.specs.declared.fault.EvalRefusal.{EvalRefusal}
-use Rattle.candidates.specs.Listed.{ListsExecutions, IsRefusal}
+use Rattle.candidates.specs.Listed.{ListsExecutions, IsSpaceRefusal}
 use Rattle.bench_values.specs.Givens.{VerdictPartsContent, GivenContent, ForVerdict}
 use Rattle.bench_values.specs.Makes.{Makes, output_names}
 use Rattle.bench_values.specs.Parts.{SpacePartsContent, HasParts, IsPartSpace, IsPartRefusal}
@@ -25,7 +25,7 @@ abbrev pub IsOfEachTest : SpacePartsContent → Test → Type 0
 IsOfEachTest parts t =
     HasParts parts t
     → ((s : SpaceContent) → IsPartSpace parts s → IsSpaceOf t s)
-    × ((r : EvalRefusal) → IsPartRefusal parts r → IsRefusal t r)
+    × ((r : EvalRefusal) → IsPartRefusal parts r → IsSpaceRefusal t r)
 
 -- a verdict gives one outcome, from the values of its inputs
 abbrev pub HasOneVerdict : VerdictPartsContent → List NodeContent → Type 0

@@ -5,11 +5,11 @@ use Rattle.text_values.specs.declared.test.InitEntry.{InitEntry}
 use Rattle.text_values.specs.declared.test.Step.{Step}
 use Rattle.text_values.specs.declared.test.Test.{Test}
 use Rattle.text_values.specs.declared.test.Thread.{Thread}
-use Rattle.text_values.specs.TestValue.{steps_of}
+use Rattle.text_values.specs.TestValue.{thread_steps}
 use Rattle.candidates.specs.declared.fault.EvalRefusal.{EvalRefusal}
 use Rattle.ppc_semantics.specs.Lowering.{entry_names, test_names}
 use Rattle.candidates.specs.declared.candidate.Space.{Space}
-use Rattle.candidates.specs.Listed.{ListsExecutions, IsRefusal}
+use Rattle.candidates.specs.Listed.{ListsExecutions, IsSpaceRefusal}
 use Rattle.bench_values.specs.Spaces.{SpaceContent, space_content}
 
 -- the initial values, the threads, and the names of locations
@@ -20,12 +20,12 @@ pub record SpacePartsContent : Type 0 where
 
 abbrev pub parts_of : List InitEntry → List Thread → List (List ℕ) → SpacePartsContent
 parts_of init threads locations =
-    record { init = init; threads = map steps_of threads; locations = locations }
+    record { init = init; threads = map thread_steps threads; locations = locations }
 
 -- the test has these parts: its locations are those of the initial values and the others
 pub record HasParts (parts : SpacePartsContent) (t : Test) : Type 0 where
   pub init : t.init.items ≡ parts.init
-  pub threads : map steps_of t.threads.items ≡ parts.threads
+  pub threads : map thread_steps t.threads.items ≡ parts.threads
   pub locations : (n : List ℕ)
       → Contains (test_names t) n
       ↔ (Contains (flat_map entry_names parts.init) n ⊎ Contains parts.locations n)
@@ -41,4 +41,4 @@ pub record IsPartSpace (parts : SpacePartsContent) (s : SpaceContent) : Type 0 w
 pub record IsPartRefusal (parts : SpacePartsContent) (r : EvalRefusal) : Type 0 where
   pub test : Test
   pub has_parts : HasParts parts test
-  pub of_test : IsRefusal test r
+  pub of_test : IsSpaceRefusal test r

@@ -1,7 +1,7 @@
 //! When two parts of texts say the same.
 
 ghost use Rattle.std.specs.Prelude.{◌≡◌, ◌↔◌, IsTrue, map};
-ghost use Rattle.text_values.specs.TestValue.{steps_of};
+ghost use Rattle.text_values.specs.TestValue.{thread_steps};
 ghost use Rattle.bench_items.specs.Items.{code_content, body_content, role_content};
 
 use binding_graph::{Body, CheckCode, Code, Role, Source, Step as CodeStep};
@@ -24,14 +24,14 @@ pub fn same_flags(these: &[Option<Name>], those: &[Option<Name>]) -> bool
 }
 
 fn same_thread(this: &Thread, that: &Thread) -> bool
-    ensures { IsTrue result ↔ (steps_of this.now ≡ steps_of that.now) }
+    ensures { IsTrue result ↔ (thread_steps this.now ≡ thread_steps that.now) }
 {
     are_same_steps(&this.steps, &that.steps)
 }
 
 /// Whether the threads have the same steps, in order.
 pub fn same_threads(these: &[Thread], those: &[Thread]) -> bool
-    ensures { IsTrue result ↔ (map steps_of these.now ≡ map steps_of those.now) }
+    ensures { IsTrue result ↔ (map thread_steps these.now ≡ map thread_steps those.now) }
 {
     if these.len() != those.len() {
         return false;

@@ -1,7 +1,7 @@
 -- What questions about columns say of a relation.
 use Rattle.std.proofs.Common.{ℕ, ◌≡◌, ◌<◌, ◌+◌, List, get_or, inl, inr, arith, sym, subst, ap, ◌∙◌}
 use Rattle.bit_relations.specs.Pairs.{IsIrreflexive}
-use Rattle.bit_relations.specs.Relation.{Bit, Relation, IsRelation, AreColumns, high_words}
+use Rattle.bit_relations.specs.Relation.{Bit, Relation, IsRelation, AreRelColumns, high_words}
 use Rattle.bit_relations.specs.Rows.{RowsHave}
 use Rattle.bit_relations.proofs.Bits.{Bit-zero, Bit-width, same_word}
 use Rattle.bit_relations.proofs.Columns.{IsColumn, IsMade, of_columns, found, made_relation}
@@ -107,6 +107,6 @@ same_pairs {n} {k} {ls} {hs} {ls'} {hs'} {R} r s same =
     y : IsRelation (of_columns k ls' hs') k R
     y = made_relation s
 
-pub same_high : {n k : ℕ} {ls hs ls' hs' : List ℕ} → AreColumns n ls hs → AreColumns k ls' hs'
+pub same_high : {n k : ℕ} {ls hs ls' hs' : List ℕ} → AreRelColumns n ls hs → AreRelColumns k ls' hs'
     → of_columns n ls hs ≡ of_columns k ls' hs' → hs ≡ hs'
 same_high p q e = sym p.high_kept ∙ ap (λ (r : Relation). high_words r.rows) e ∙ q.high_kept

@@ -3,8 +3,8 @@ use Rattle.std.specs.Prelude.{IsTrue}
 use Rattle.std.proofs.Common.{Bool, ℕ, ◌≡◌, ◌<◌, ◌≤◌, ◌+◌, ◌↔◌, List, [], ◌∷◌, length, get_or, inl, inr, arith, sym, ◌∙◌, subst}
 use Rattle.std.proofs.lemmas.Bool.{cases_lt}
 use Rattle.bit_relations.specs.Pairs.{Path, Plus, PlusBelow, IsAcyclic}
-use Rattle.bit_relations.specs.Relation.{Bit, AreColumns, wide}
-use Rattle.bit_relations.specs.Rows.{RowsHave, AllFit, AreWritten, UnionWhere, Through}
+use Rattle.bit_relations.specs.Relation.{Bit, AreRelColumns, wide}
+use Rattle.bit_relations.specs.Rows.{RowsHave, AllFit, AreRowsFilled, UnionWhere, Through}
 use Rattle.bit_relations.proofs.Bits.{Bit-width, Bit-zero}
 use Rattle.bit_relations.proofs.Columns.{IsColumn, IsMade, Within, taken_apart, column_written, empty_row}
 use Rattle.bit_relations.proofs.Wide.{low_bit}
@@ -18,7 +18,7 @@ Through-within R middle n within a b (inr t) = ((within a middle t.0).0, (within
 through_column : {n end : ℕ} {event : ℕ → ℕ} {old new : List ℕ} {R : ℕ → ℕ → Type 0}
     (select : List ℕ) (middle k : ℕ) → ((a b : ℕ) → a < n → event b < n → a < end)
     → IsColumn old event R → Within R n → ((a : ℕ) → RowsHave select a k ↔ R a middle)
-    → AreWritten old new end (UnionWhere (RowsHave old) (RowsHave select) k (get_or old middle 0))
+    → AreRowsFilled old new end (UnionWhere (RowsHave old) (RowsHave select) k (get_or old middle 0))
     → IsColumn new event (Through middle R)
 through_column {n} {R = R} select middle k covered column within sel written =
     column_written covered column within (Through-within R middle n within)
@@ -31,9 +31,9 @@ through_column {n} {R = R} select middle k covered column within sel written =
 
 -- both columns, up to an end that covers the count
 pub through : (n end middle k : ℕ) (low high low' high' select : List ℕ) → n ≤ end
-    → AreColumns n low high → ((a : ℕ) → RowsHave select a k ↔ RowsHave (wide low high) a middle)
-    → AreWritten low low' end (UnionWhere (RowsHave low) (RowsHave select) k (get_or low middle 0))
-    → AreWritten high high' end (UnionWhere (RowsHave high) (RowsHave select) k
+    → AreRelColumns n low high → ((a : ℕ) → RowsHave select a k ↔ RowsHave (wide low high) a middle)
+    → AreRowsFilled low low' end (UnionWhere (RowsHave low) (RowsHave select) k (get_or low middle 0))
+    → AreRowsFilled high high' end (UnionWhere (RowsHave high) (RowsHave select) k
     (get_or high middle 0))
     → IsMade n low' high' (Through middle (RowsHave (wide low high)))
 through n end middle k low high low' high' select enough columns sel write_low write_high =
@@ -63,7 +63,7 @@ close_step R k Old New are turn a b = (
 )
 
 -- nothing leads through a middle with an empty row
-pub through_nothing : (low high : List ℕ) (n k : ℕ) → AreColumns n low high → get_or low k 0 ≡ 0
+pub through_nothing : (low high : List ℕ) (n k : ℕ) → AreRelColumns n low high → get_or low k 0 ≡ 0
     → get_or high k 0 ≡ 0 → (a b : ℕ)
     → RowsHave (wide low high) a b ↔ Through k (RowsHave (wide low high)) a b
 through_nothing low high n k columns p q a b = (
@@ -89,7 +89,7 @@ Plus-map R S to a b p = (p.0, go a p.0 p.1)
     go x (c ∷ cs) r = (to x c r.0, go c cs r.1)
 
 -- up to 64 events, the low words hold all
-pub one_word : (n : ℕ) (low high : List ℕ) → n ≤ 64 → AreColumns n low high → (a b : ℕ)
+pub one_word : (n : ℕ) (low high : List ℕ) → n ≤ 64 → AreRelColumns n low high → (a b : ℕ)
     → RowsHave low a b ↔ RowsHave (wide low high) a b
 one_word n low high few columns a b =
     elim (cases_lt b 64) [
@@ -112,13 +112,13 @@ one_word n low high few columns a b =
     beyond : b < n → 64 ≤ b → ⊥
     beyond p q = omega (arith, few)
 
-pub low_within : (n : ℕ) (low high : List ℕ) → n ≤ 64 → AreColumns n low high
+pub low_within : (n : ℕ) (low high : List ℕ) → n ≤ 64 → AreRelColumns n low high
     → Within (RowsHave low) n
 low_within n low high few columns a b h =
     columns.within a b ((one_word n low high few columns a b).0 h)
 
 -- closed low words are the closure
-pub closed_low : (n : ℕ) (low high low' : List ℕ) → n ≤ 64 → AreColumns n low high
+pub closed_low : (n : ℕ) (low high low' : List ℕ) → n ≤ 64 → AreRelColumns n low high
     → length low' ≡ 128 → AllFit low' → ((a b : ℕ) → RowsHave low' a b ↔ Plus (RowsHave low) a b)
     → IsMade n low' high (Plus (RowsHave (wide low high)))
 closed_low n low high low' few columns height fits pairs = record {
@@ -157,7 +157,7 @@ closed_low n low high low' few columns height fits pairs = record {
 -- one step on rows of one word
 pub step_low : (R : ℕ → ℕ → Type 0) (n end k : ℕ) (old new : List ℕ) → n ≤ end → Within R n
     → ((a b : ℕ) → RowsHave old a b ↔ PlusBelow R k a b)
-    → AreWritten old new end (UnionWhere (RowsHave old) (RowsHave old) k (get_or old k 0))
+    → AreRowsFilled old new end (UnionWhere (RowsHave old) (RowsHave old) k (get_or old k 0))
     → (a b : ℕ) → RowsHave new a b ↔ PlusBelow R (k + 1) a b
 step_low R n end k old new enough within are written =
     close_step R k (RowsHave old) (RowsHave new) are (λ a b. elim (cases_lt a end) [

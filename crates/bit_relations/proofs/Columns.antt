@@ -1,8 +1,8 @@
 -- A relation as a column of low words and one of high words.
 use Rattle.std.proofs.Common.{ℕ, ◌≡◌, ◌<◌, ◌≤◌, ◌+◌, ◌-◌, ◌↔◌, ◌⊎◌, List, length, get_or, inl, inr, arith, sym, refl, subst, ◌∙◌}
 use Rattle.std.proofs.lemmas.Bool.{cases_lt}
-use Rattle.bit_relations.specs.Relation.{Relation, Has, IsRelation, AreColumns, wide}
-use Rattle.bit_relations.specs.Rows.{RowsHave, AllFit, AreWritten}
+use Rattle.bit_relations.specs.Relation.{Relation, Has, IsRelation, AreRelColumns, wide}
+use Rattle.bit_relations.specs.Rows.{RowsHave, AllFit, AreRowsFilled}
 use Rattle.bit_relations.proofs.Bits.{Bit-width, Bit-zero, word_fits}
 use Rattle.bit_relations.proofs.Wide.{low_again, high_again, low_bit, high_bit, length-wide, low_fits}
 
@@ -34,7 +34,7 @@ abbrev pub of_columns : ℕ → List ℕ → List ℕ → Relation
 of_columns n low high = record { count = n; rows = wide low high }
 
 -- what a `Rel` keeps
-pub taken_apart : (n : ℕ) (low high : List ℕ) → AreColumns n low high
+pub taken_apart : (n : ℕ) (low high : List ℕ) → AreRelColumns n low high
     → IsMade n low high (Has (of_columns n low high))
 taken_apart n low high c = record {
   few = c.few;
@@ -104,7 +104,7 @@ made_pairs n low high R m a b =
 
 -- columns make a `Rel`
 pub put_together : {n : ℕ} {low high : List ℕ} {R : ℕ → ℕ → Type 0} → IsMade n low high R
-    → AreColumns n low high
+    → AreRelColumns n low high
 put_together {n} {low} {high} {R} m = record {
   few = m.few;
   low_height = m.low.height;
@@ -130,7 +130,7 @@ made_relation {n} {low} {high} {R} m = record {
 -- a column is written over up to an end behind which neither relation has pairs
 pub column_written : {n end : ℕ} {event : ℕ → ℕ} {old new : List ℕ} {R P Q : ℕ → ℕ → Type 0}
     → ((a b : ℕ) → a < n → event b < n → a < end) → IsColumn old event R → Within R n → Within P n
-    → AllFit new → AreWritten old new end Q → ((a b : ℕ) → b < 64 → a < end → Q a b ↔ P a (event b))
+    → AllFit new → AreRowsFilled old new end Q → ((a b : ℕ) → b < 64 → a < end → Q a b ↔ P a (event b))
     → IsColumn new event P
 column_written {n} {end} {event} {old} {new} {R} {P} {Q} covered column within_old within_new fits
     written same = record {
@@ -153,7 +153,7 @@ column_written {n} {end} {event} {old} {new} {R} {P} {Q} covered column within_o
     both p q = omega arith
 
 -- a row of two empty words has no pair
-pub empty_row : (low high : List ℕ) (n a b : ℕ) → AreColumns n low high → get_or low a 0 ≡ 0
+pub empty_row : (low high : List ℕ) (n a b : ℕ) → AreRelColumns n low high → get_or low a 0 ≡ 0
     → get_or high a 0 ≡ 0 → RowsHave (wide low high) a b → ⊥
 empty_row low high n a b c p q h =
     elim (cases_lt b 64) [
@@ -187,15 +187,15 @@ emptied k m e none = record {
 }
 
 pub columns_at : {n k : ℕ} {ls hs : List ℕ} {P : ℕ → ℕ → Type 0} → n ≡ k → IsMade k ls hs P
-    → AreColumns n ls hs
-columns_at {n} {k} {ls} {hs} e m = subst (λ (x : ℕ). AreColumns x ls hs) (sym e) (put_together m)
+    → AreRelColumns n ls hs
+columns_at {n} {k} {ls} {hs} e m = subst (λ (x : ℕ). AreRelColumns x ls hs) (sym e) (put_together m)
 
 pub relation_at : {n k : ℕ} {ls hs : List ℕ} {P : ℕ → ℕ → Type 0} → n ≡ k → IsMade k ls hs P
     → IsRelation (of_columns n ls hs) k P
 relation_at {n} {k} {ls} {hs} {P} e m =
     subst (λ (x : ℕ). IsRelation (of_columns x ls hs) k P) (sym e) (made_relation m)
 
-pub columns_relation : {n : ℕ} {ls hs : List ℕ} {P : ℕ → ℕ → Type 0} → AreColumns n ls hs
+pub columns_relation : {n : ℕ} {ls hs : List ℕ} {P : ℕ → ℕ → Type 0} → AreRelColumns n ls hs
     → ((a b : ℕ) → RowsHave (wide ls hs) a b ↔ P a b) → IsRelation (of_columns n ls hs) n P
 columns_relation {n} {ls} {hs} c same = record {
   count = refl;

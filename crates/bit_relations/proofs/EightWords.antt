@@ -12,7 +12,7 @@ use Rattle.std.specs.Int.RustNames.{bit_or, bit_and}
 use Rattle.std.proofs.Common.{subst, ◌*◌, w64, Bool, false, cond, eqb, map}
 use Rattle.bit_relations.proofs.Bits.{Bit-chosen, Bit-width, Bit-zero, word_fits}
 use Rattle.bit_relations.specs.Relation.{Bit}
-use Rattle.bit_relations.specs.Rows.{RowsHave, AllFit, AreWritten, AreLanesJoined, IsStored, JoinedFrom, UnionWhere}
+use Rattle.bit_relations.specs.Rows.{RowsHave, AllFit, AreRowsFilled, AreLanesJoined, AreLanesStored, JoinedFrom, UnionWhere}
 
 -- what is joined to each lane of acc
 abbrev pub joined_lanes : List ℕ → List ℕ → ℕ → ℕ → List ℕ
@@ -82,7 +82,7 @@ lanes_joined acc select k added small long_acc long_select =
 
 pub stored : (rows lanes : List ℕ) (at n : ℕ) → at + n ≡ 128 → 8 ≤ n → length lanes ≡ 8
     → length rows ≡ 128
-    → IsStored rows at lanes (put_mid at n rows (put_chunk 0 (mid_of at n rows) lanes))
+    → AreLanesStored rows at lanes (put_mid at n rows (put_chunk 0 (mid_of at n rows) lanes))
 stored rows lanes at n whole room long height = record {
   inside = λ i lt.
       get_or-append_right (take at rows) (ys ++ post) at (at + i) 0 long_front (omega arith)
@@ -160,9 +160,9 @@ lane_fits acc select joined k added i lt fits_row fits_acc step =
 
 -- eight words more
 pub written_block : (old new next lanes : List ℕ) (i m : ℕ) (P : ℕ → ℕ → Type 0) → m ≡ i + 8
-    → length next ≡ length new → AreWritten old new i P → IsStored new i lanes next
+    → length next ≡ length new → AreRowsFilled old new i P → AreLanesStored new i lanes next
     → (AllFit new → (j : ℕ) → j < 8 → get_or lanes j 0 < 2 ^ 64)
-    → ((j : ℕ) → j < 8 → (b : ℕ) → RowsHave lanes j b ↔ P (i + j) b) → AreWritten old next m P
+    → ((j : ℕ) → j < 8 → (b : ℕ) → RowsHave lanes j b ↔ P (i + j) b) → AreRowsFilled old next m P
 written_block old new next lanes i m P end long before put small each = record {
   height = long ∙ before.height;
   fits = λ f a. elim (cases_lt a i) [
@@ -189,7 +189,7 @@ written_block old new next lanes i m P end long before put small each = record {
         ap (λ (x : ℕ). get_or next x 0) here ∙ put.inside (a - i) (omega arith)
 
 -- lanes of words that are still the old ones
-pub lanes_still : (old new lanes : List ℕ) (i j : ℕ) (P : ℕ → ℕ → Type 0) → AreWritten old new i P
+pub lanes_still : (old new lanes : List ℕ) (i j : ℕ) (P : ℕ → ℕ → Type 0) → AreRowsFilled old new i P
     → get_or lanes j 0 ≡ get_or new (i + j) 0 → get_or lanes j 0 ≡ get_or old (i + j) 0
 lanes_still old new lanes i j P before here = here ∙ before.outside (i + j) (omega arith)
 

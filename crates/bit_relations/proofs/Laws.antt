@@ -4,7 +4,7 @@ use Rattle.std.proofs.Math.Nat.{eq-or-lt_of_le}
 use Rattle.std.specs.Int.RustNames.{bit_or}
 use Rattle.std.proofs.lemmas.Nat.{le_or_l}
 use Rattle.std.proofs.lemmas.List.{ext_get_or}
-use Rattle.bit_relations.specs.Relation.{Relation, IsRegular, Has, Bit, IsWithin, room_in, room_of}
+use Rattle.bit_relations.specs.Relation.{Relation, IsRegular, Has, Bit, IsSubset, room_in, room_of}
 use Rattle.bit_relations.proofs.Bits.{Bit-or, fits_below, same_word}
 
 -- two regular relations on as many events with the same pairs are one
@@ -44,7 +44,7 @@ rows_grow (x ∷ xs) (y ∷ ys) e fits within =
     ]
 
 -- a relation with the pairs of another is it, or has less room left
-pub grows : (r s : Relation) → IsRegular r → IsRegular s → r.count ≡ s.count → IsWithin r s
+pub grows : (r s : Relation) → IsRegular r → IsRegular s → r.count ≡ s.count → IsSubset r s
     → (r ≡ s) ⊎ (room_of s < room_of r)
 grows r s p q count within =
     elim

@@ -1,9 +1,9 @@
 -- What each operation makes of columns.
 use Rattle.std.proofs.Common.{ℕ, ◌≡◌, ◌<◌, ◌≤◌, ◌+◌, ◌-◌, ◌^◌, ◌↔◌, List, length, get_or, inl, inr, arith, sym, subst, refl}
 use Rattle.std.proofs.lemmas.Bool.{cases_lt}
-use Rattle.bit_relations.specs.Pairs.{Added, Union, Inter, Minus, Composed, Complement, Inverse, Opt, Product, Restricted}
-use Rattle.bit_relations.specs.Relation.{Bit, wide, joined}
-use Rattle.bit_relations.specs.Rows.{RowsHave, AllFit, AreWritten, Nothing, WithOwn, Filled, Kept, Turned, JoinedBelow, Inverted, Read, Stored}
+use Rattle.bit_relations.specs.Pairs.{WithPair, Union, Inter, Minus, Composite, Complement, Inverse, Opt, Product, Restriction}
+use Rattle.bit_relations.specs.Relation.{Bit, wide, wide_word}
+use Rattle.bit_relations.specs.Rows.{RowsHave, AllFit, AreRowsFilled, Nothing, WithOwn, WordProduct, Kept, WordComplement, JoinedBelow, InverseFrom, Read, StoredPairs}
 use Rattle.bit_relations.proofs.Bits.{Bit-zero}
 use Rattle.bit_relations.proofs.Columns.{IsMade, Within, far, column_written, made_pairs}
 use Rattle.bit_relations.proofs.Wide.{Bit-low, Bit-high}
@@ -16,8 +16,8 @@ pub record IsEnd (n end : ℕ) : Type 0 where
 
 -- both columns are written over as far as they are in use
 pub changed : {n end : ℕ} {ls hs ls' hs' : List ℕ} {R QL QH : ℕ → ℕ → Type 0} (P : ℕ → ℕ → Type 0)
-    → IsMade n ls hs R → IsEnd n end → Within P n → AreWritten ls ls' n QL
-    → AreWritten hs hs' end QH → ((a b : ℕ) → a < n → b < 64 → QL a b ↔ P a b)
+    → IsMade n ls hs R → IsEnd n end → Within P n → AreRowsFilled ls ls' n QL
+    → AreRowsFilled hs hs' end QH → ((a b : ℕ) → a < n → b < 64 → QL a b ↔ P a b)
     → ((a b : ℕ) → a < n → b < 64 → QH a b ↔ P a (b + 64)) → IsMade n ls' hs' P
 changed {n} {end} P m e within write_low write_high low high = record {
   few = m.few;
@@ -59,7 +59,7 @@ nothing_made n ls hs few p q low high = record {
 }
 
 pub cleared : {n end : ℕ} {ls hs ls' hs' : List ℕ} {R : ℕ → ℕ → Type 0} (k : ℕ) → k ≤ 128
-    → IsMade n ls hs R → IsEnd n end → AreWritten ls ls' n Nothing → AreWritten hs hs' end Nothing
+    → IsMade n ls hs R → IsEnd n end → AreRowsFilled ls ls' n Nothing → AreRowsFilled hs hs' end Nothing
     → IsMade k ls' hs' (λ a b. ⊥)
 cleared k few m e low high =
     let c = changed (λ a b. ⊥) m e (λ a b h. absurd h) low high (λ a b p q. ((λ h. h), (λ h. h))) (λ a b p q. ((λ h. h), (λ h. h))) in
@@ -68,7 +68,7 @@ cleared k few m e low high =
 -- written over by others, as far as either is in use
 pub copied : {n k most end : ℕ} {ls hs ls' hs' ls'' hs'' : List ℕ} {R S : ℕ → ℕ → Type 0}
     → most ≤ 128 → IsMade n ls hs R → IsMade k ls' hs' S → n ≤ most → k ≤ most → IsEnd most end
-    → AreWritten ls ls'' most (RowsHave ls') → AreWritten hs hs'' end (RowsHave hs')
+    → AreRowsFilled ls ls'' most (RowsHave ls') → AreRowsFilled hs hs'' end (RowsHave hs')
     → IsMade k ls'' hs'' S
 copied {n} {k} {most} {R = R} {S = S} few r s n_le k_le e low high =
     let wide_r : Within R most = λ a b h. let w = r.within a b h in (omega (arith, w.0), omega (arith, w.1)) in
@@ -78,8 +78,8 @@ copied {n} {k} {most} {R = R} {S = S} few r s n_le k_le e low high =
 
 pub united : {n k end : ℕ} {ls hs ls' hs' ls'' hs'' : List ℕ} {R S : ℕ → ℕ → Type 0}
     → IsMade n ls hs R → IsMade k ls' hs' S → k ≡ n → IsEnd n end
-    → AreWritten ls ls'' n (Union (RowsHave ls) (RowsHave ls'))
-    → AreWritten hs hs'' end (Union (RowsHave hs) (RowsHave hs')) → IsMade n ls'' hs'' (Union R S)
+    → AreRowsFilled ls ls'' n (Union (RowsHave ls) (RowsHave ls'))
+    → AreRowsFilled hs hs'' end (Union (RowsHave hs) (RowsHave hs')) → IsMade n ls'' hs'' (Union R S)
 united {n} {R = R} {S = S} r s same e low high =
     changed (Union R S) r e
     (λ a b h. elim h [ inl x ↦ r.within a b x | inr y ↦ rw same at (s.within a b y) ]) low high
@@ -97,8 +97,8 @@ united {n} {R = R} {S = S} r s same e low high =
     ))
 
 pub met : {n k end : ℕ} {ls hs ls' hs' ls'' hs'' : List ℕ} {R S : ℕ → ℕ → Type 0} → IsMade n ls hs R
-    → IsMade k ls' hs' S → IsEnd n end → AreWritten ls ls'' n (Inter (RowsHave ls) (RowsHave ls'))
-    → AreWritten hs hs'' end (Inter (RowsHave hs) (RowsHave hs')) → IsMade n ls'' hs'' (Inter R S)
+    → IsMade k ls' hs' S → IsEnd n end → AreRowsFilled ls ls'' n (Inter (RowsHave ls) (RowsHave ls'))
+    → AreRowsFilled hs hs'' end (Inter (RowsHave hs) (RowsHave hs')) → IsMade n ls'' hs'' (Inter R S)
 met {n} {R = R} {S = S} r s e low high =
     changed (Inter R S) r e (λ a b h. r.within a b h.0) low high
     (λ a b p lt.
@@ -110,8 +110,8 @@ met {n} {R = R} {S = S} r s e low high =
 
 pub reduced : {n k end : ℕ} {ls hs ls' hs' ls'' hs'' : List ℕ} {R S : ℕ → ℕ → Type 0}
     → IsMade n ls hs R → IsMade k ls' hs' S → IsEnd n end
-    → AreWritten ls ls'' n (Minus (RowsHave ls) (RowsHave ls'))
-    → AreWritten hs hs'' end (Minus (RowsHave hs) (RowsHave hs')) → IsMade n ls'' hs'' (Minus R S)
+    → AreRowsFilled ls ls'' n (Minus (RowsHave ls) (RowsHave ls'))
+    → AreRowsFilled hs hs'' end (Minus (RowsHave hs) (RowsHave hs')) → IsMade n ls'' hs'' (Minus R S)
 reduced {n} {R = R} {S = S} r s e low high =
     changed (Minus R S) r e (λ a b h. r.within a b h.0) low high
     (λ a b p lt.
@@ -126,8 +126,8 @@ reduced {n} {R = R} {S = S} r s e low high =
 pub turned : {n m k end : ℕ} (all_low all_high : ℕ) {ls hs ls' hs' : List ℕ} {R : ℕ → ℕ → Type 0}
     → IsMade n ls hs R → IsEnd n end → ((b : ℕ) → b < 64 → (b < m ↔ (b < n)))
     → ((b : ℕ) → b < k ↔ (b + 64 < n)) → ((b : ℕ) → Bit all_low b ↔ (b < m))
-    → ((b : ℕ) → Bit all_high b ↔ (b < k)) → AreWritten ls ls' n (Turned all_low (RowsHave ls))
-    → AreWritten hs hs' end (Turned all_high (RowsHave hs)) → IsMade n ls' hs' (Complement n R)
+    → ((b : ℕ) → Bit all_high b ↔ (b < k)) → AreRowsFilled ls ls' n (WordComplement all_low (RowsHave ls))
+    → AreRowsFilled hs hs' end (WordComplement all_high (RowsHave hs)) → IsMade n ls' hs' (Complement n R)
 turned {n} all_low all_high {R = R} r e cut_low cut_high is_low is_high low high =
     changed (Complement n R) r e (λ a b h. (h.0, h.1)) low high
     (λ a b p lt. let x = r.low.bits a b lt in (
@@ -140,8 +140,8 @@ turned {n} all_low all_high {R = R} r e cut_low cut_high is_low is_high low high
     ))
 
 pub with_identity : {n end : ℕ} {ls hs ls' hs' : List ℕ} {R : ℕ → ℕ → Type 0} → IsMade n ls hs R
-    → IsEnd n end → AreWritten ls ls' n (WithOwn 0 (RowsHave ls))
-    → AreWritten hs hs' end (WithOwn 64 (RowsHave hs)) → IsMade n ls' hs' (Opt n R)
+    → IsEnd n end → AreRowsFilled ls ls' n (WithOwn 0 (RowsHave ls))
+    → AreRowsFilled hs hs' end (WithOwn 64 (RowsHave hs)) → IsMade n ls' hs' (Opt n R)
 with_identity {n} {R = R} r e low high =
     changed (Opt n R) r e
     (λ a b h.
@@ -157,25 +157,25 @@ with_identity {n} {R = R} r e low high =
     ))
 
 -- the bits of two words, as those of one
-low_member : (l h word b : ℕ) → joined l h ≡ word → b < 64 → Bit l b ↔ Bit word b
+low_member : (l h word b : ℕ) → wide_word l h ≡ word → b < 64 → Bit l b ↔ Bit word b
 low_member l h word b e lt =
     let w = Bit-low h l b lt in ((λ x. rw e at (w.1 x)), (λ x. w.0 (rw (← e) at x)))
 
-high_member : (l h word b : ℕ) → joined l h ≡ word → l < 2 ^ 64 → Bit h b ↔ Bit word (b + 64)
+high_member : (l h word b : ℕ) → wide_word l h ≡ word → l < 2 ^ 64 → Bit h b ↔ Bit word (b + 64)
 high_member l h word b e fits =
-    let w = subst (λ (x : ℕ). Bit (joined l h) (b + 64) ↔ Bit h x) less (Bit-high h l (b + 64) fits (omega arith)) in
+    let w = subst (λ (x : ℕ). Bit (wide_word l h) (b + 64) ↔ Bit h x) less (Bit-high h l (b + 64) fits (omega arith)) in
     ((λ x. rw e at (w.1 x)), (λ x. w.0 (rw (← e) at x)))
   where
     less : b + 64 - 64 ≡ b
     less = omega arith
 
 pub kept : {n end : ℕ} (l h word : ℕ) {ls hs ls' hs' : List ℕ} {R : ℕ → ℕ → Type 0}
-    → IsMade n ls hs R → IsEnd n end → joined l h ≡ word → l < 2 ^ 64
-    → AreWritten ls ls' n (Kept (joined l h) l (RowsHave ls))
-    → AreWritten hs hs' end (Kept (joined l h) h (RowsHave hs))
-    → IsMade n ls' hs' (Restricted R (Bit word))
+    → IsMade n ls hs R → IsEnd n end → wide_word l h ≡ word → l < 2 ^ 64
+    → AreRowsFilled ls ls' n (Kept (wide_word l h) l (RowsHave ls))
+    → AreRowsFilled hs hs' end (Kept (wide_word l h) h (RowsHave hs))
+    → IsMade n ls' hs' (Restriction R (Bit word))
 kept {n} {end} l h word {R = R} r e same fits low high =
-    changed (Restricted R (Bit word)) r e (λ a b x. r.within a b x.0) low high
+    changed (Restriction R (Bit word)) r e (λ a b x. r.within a b x.0) low high
     (λ a b p lt. let x = r.low.bits a b lt in let y = low_member l h word b same lt in (
       (λ t. (x.0 t.1, rw same at t.0, y.0 t.2)),
       (λ t. (rw (← same) at t.1, x.1 t.0, y.1 t.2)),
@@ -186,9 +186,9 @@ kept {n} {end} l h word {R = R} r e same fits low high =
     ))
 
 pub filled : {n end : ℕ} (l h word l' h' word' : ℕ) {ls hs ls' hs' : List ℕ}
-    → IsMade n ls hs (λ a b. ⊥) → IsEnd n end → joined l h ≡ word → joined l' h' ≡ word'
+    → IsMade n ls hs (λ a b. ⊥) → IsEnd n end → wide_word l h ≡ word → wide_word l' h' ≡ word'
     → l' < 2 ^ 64 → ((a : ℕ) → Bit word a → a < n) → ((a : ℕ) → Bit word' a → a < n)
-    → AreWritten ls ls' n (Filled (joined l h) l') → AreWritten hs hs' end (Filled (joined l h) h')
+    → AreRowsFilled ls ls' n (WordProduct (wide_word l h) l') → AreRowsFilled hs hs' end (WordProduct (wide_word l h) h')
     → IsMade n ls' hs' (Product (Bit word) (Bit word'))
 filled {n} {end} l h word l' h' word' r e same same' fits within within' low high =
     changed (Product (Bit word) (Bit word')) r e (λ a b x. (within a x.0, within' b x.1)) low high
@@ -202,9 +202,9 @@ filled {n} {end} l h word l' h' word' r e same same' fits within within' low hig
 pub composed : {n m k low_end high_end : ℕ} {ls hs ls' hs' rl rh ll lh : List ℕ}
     {R S : ℕ → ℕ → Type 0} → IsMade n ls hs (λ a b. ⊥) → IsMade m ll lh R → IsMade k rl rh S
     → m ≡ n → k ≡ n → n ≤ low_end → (64 < n → n ≤ high_end)
-    → AreWritten ls ls' low_end (JoinedBelow n (RowsHave ls) (RowsHave (wide ll lh)) (RowsHave rl))
-    → AreWritten hs hs' high_end (JoinedBelow n (RowsHave hs) (RowsHave (wide ll lh)) (RowsHave rh))
-    → IsMade n ls' hs' (Composed R S)
+    → AreRowsFilled ls ls' low_end (JoinedBelow n (RowsHave ls) (RowsHave (wide ll lh)) (RowsHave rl))
+    → AreRowsFilled hs hs' high_end (JoinedBelow n (RowsHave hs) (RowsHave (wide ll lh)) (RowsHave rh))
+    → IsMade n ls' hs' (Composite R S)
 composed {n} {m} {k} {low_end} {high_end} {ll = ll} {lh = lh} {R = R} {S = S} none r s same_r same_s
     enough_low enough_high low high = record {
       few = none.few;
@@ -240,7 +240,7 @@ composed {n} {m} {k} {low_end} {high_end} {ll = ll} {lh = lh} {R = R} {S = S} no
       within = within;
     }
   where
-    within : Within (Composed R S) n
+    within : Within (Composite R S) n
     within a b t = ((rw same_r at (r.within a t.0 t.1)).0, (rw same_s at (s.within t.0 b t.2)).1)
 
     covered_low : {a : ℕ} → a < n → a < low_end
@@ -252,8 +252,8 @@ composed {n} {m} {k} {low_end} {high_end} {ll = ll} {lh = lh} {R = R} {S = S} no
 pub inverted : {n m part_low part_high end : ℕ} {ls hs ls' hs' ol oh : List ℕ} {R : ℕ → ℕ → Type 0}
     → IsMade n ls hs (λ a b. ⊥) → IsMade m ol oh R → m ≡ n → IsEnd n end
     → ((b : ℕ) → b < 64 → (b < part_low ↔ (b < n))) → ((b : ℕ) → b < part_high ↔ (b + 64 < n))
-    → AreWritten ls ls' n (Inverted 0 part_low (RowsHave (wide ol oh)))
-    → AreWritten hs hs' end (Inverted 64 part_high (RowsHave (wide ol oh)))
+    → AreRowsFilled ls ls' n (InverseFrom 0 part_low (RowsHave (wide ol oh)))
+    → AreRowsFilled hs hs' end (InverseFrom 64 part_high (RowsHave (wide ol oh)))
     → IsMade n ls' hs' (Inverse R)
 inverted {n} {m} {ol = ol} {oh = oh} {R = R} none r same e cut_low cut_high low high =
     changed (Inverse R) none e (λ a b t. let w = rw same at (r.within b a t) in (w.1, w.0)) low high
@@ -273,15 +273,15 @@ inverted {n} {m} {ol = ol} {oh = oh} {R = R} none r same e cut_low cut_high low 
     zero_more x = omega arith
 
 added_within : (R : ℕ → ℕ → Type 0) (n from to : ℕ) → Within R n → from < n → to < n
-    → Within (Added R from to) n
+    → Within (WithPair R from to) n
 added_within R n from to within p q a b (inl r) = within a b r
 added_within R n from to within p q a b (inr e) = rw (e.0, e.1) (p, q)
 
 -- one pair more, in a low word and in a high one
 pub added_low : {n : ℕ} {ls hs ls' : List ℕ} {R : ℕ → ℕ → Type 0} (from to : ℕ) → IsMade n ls hs R
     → from < n → to < n → to < 64 → length ls' ≡ 128 → AllFit ls'
-    → ((a b : ℕ) → RowsHave ls' a b ↔ Added (RowsHave ls) from to a b)
-    → IsMade n ls' hs (Added R from to)
+    → ((a b : ℕ) → RowsHave ls' a b ↔ WithPair (RowsHave ls) from to a b)
+    → IsMade n ls' hs (WithPair R from to)
 added_low {n} {R = R} from to m below_from below_to lt height fits bits = record {
   few = m.few;
   low = record {
@@ -305,8 +305,8 @@ added_low {n} {R = R} from to m below_from below_to lt height fits bits = record
 
 pub added_high : {n : ℕ} {ls hs hs' : List ℕ} {R : ℕ → ℕ → Type 0} (from to k : ℕ)
     → IsMade n ls hs R → from < n → to < n → 64 ≤ to → k + 64 ≡ to → length hs' ≡ 128 → AllFit hs'
-    → ((a b : ℕ) → RowsHave hs' a b ↔ Added (RowsHave hs) from k a b)
-    → IsMade n ls hs' (Added R from to)
+    → ((a b : ℕ) → RowsHave hs' a b ↔ WithPair (RowsHave hs) from k a b)
+    → IsMade n ls hs' (WithPair R from to)
 added_high {n} {R = R} from to k m below_from below_to ge is height fits bits = record {
   few = m.few;
   low = record {
@@ -341,10 +341,10 @@ pub stored : {n m k end : ℕ} (all_low all_high : ℕ) (list : List ℕ) (at : 
     {ls hs ls' hs' : List ℕ} → IsMade n ls hs (λ a b. ⊥) → IsEnd n end
     → ((b : ℕ) → b < 64 → (b < m ↔ (b < n))) → ((b : ℕ) → b < k ↔ (b + 64 < n))
     → ((b : ℕ) → Bit all_low b ↔ (b < m)) → ((b : ℕ) → Bit all_high b ↔ (b < k))
-    → AreWritten ls ls' n (Read list at all_low)
-    → AreWritten hs hs' end (Read list (at + n) all_high) → IsMade n ls' hs' (Stored list at n)
+    → AreRowsFilled ls ls' n (Read list at all_low)
+    → AreRowsFilled hs hs' end (Read list (at + n) all_high) → IsMade n ls' hs' (StoredPairs list at n)
 stored {n} all_low all_high list at r e cut_low cut_high is_low is_high low high =
-    changed (Stored list at n) r e (λ a b t. (t.0, t.1)) low high
+    changed (StoredPairs list at n) r e (λ a b t. (t.0, t.1)) low high
     (λ a b p lt. (
       (λ h. (p, (cut_low b lt).0 ((is_low b).0 h.1), inl (lt, h.0))),
       (λ t. elim t.2 [

@@ -10,8 +10,8 @@ use Rattle.std.proofs.lemmas.List.{map-append, append_assoc, append-nil, get_or-
 use Rattle.std.proofs.lemmas.List.Folds.{length-flat_map-take}
 use Rattle.std.proofs.Math.Seq.{take-append_seam, drop-append_seam}
 use Rattle.bit_relations.specs.Packing.{high_rows, packed, starts_from, ArePacked, padded, relation_of, unpacked}
-use Rattle.bit_relations.specs.Relation.{Bit, Has, Relation, IsRegular, IsRelation, AreColumns, no_slot, joined, wide, low_words, high_words}
-use Rattle.bit_relations.specs.Rows.{Stored, AreStored}
+use Rattle.bit_relations.specs.Relation.{Bit, Has, Relation, IsRegular, IsRelation, AreRelColumns, no_slot, wide_word, wide, low_words, high_words}
+use Rattle.bit_relations.specs.Rows.{StoredPairs, AreStored}
 use Rattle.bit_relations.proofs.Bits.{Bit-zero, same_word, word_fits}
 use Rattle.bit_relations.proofs.Laws.{same_relation}
 use Rattle.bit_relations.proofs.Wide.{Bit-low, Bit-high}
@@ -52,7 +52,7 @@ get_or-high (w ∷ ws) (suc a) = get_or-high ws a
 wide_again : (ws : List ℕ) → wide (low_words ws) (high_words ws) ≡ ws
 wide_again [] = refl
 wide_again (w ∷ ws) =
-    let e : joined (w % 2 ^ 64) (w / 2 ^ 64) ≡ w = omega arith in
+    let e : wide_word (w % 2 ^ 64) (w / 2 ^ 64) ≡ w = omega arith in
     ap (λ (x : ℕ). x ∷ wide (low_words ws) (high_words ws)) e
     ∙ ap (λ (xs : List ℕ). w ∷ xs) (wide_again ws)
 
@@ -367,7 +367,7 @@ stored_here : (ws : List ℕ) (start : ℕ) (r : Relation) → IsRegular r
     → ((a : ℕ) → a < r.count → get_or ws (start + a) 0 ≡ get_or r.rows a 0 % 2 ^ 64)
     → (64 < r.count → (a : ℕ) → a < r.count
     → get_or ws (start + r.count + a) 0 ≡ get_or r.rows a 0 / 2 ^ 64) → (a b : ℕ)
-    → Stored ws start r.count a b ↔ Has r a b
+    → StoredPairs ws start r.count a b ↔ Has r a b
 stored_here ws start r g low high a b = (
   (λ h. elim h.2 [
     | inl t ↦ (low_half (get_or r.rows a 0) b t.0).0 (subst (λ (x : ℕ). Bit x b) (low a h.0) t.1)
@@ -442,12 +442,12 @@ stored_there {ns} {ss} {ws} {rs} k d p lt = record { low = low; high = high }
 -- what is read is the relation that was kept
 pub read_again : {ns ss ws : List ℕ} {rs : List Relation} (k : ℕ) (d v : Relation)
     → ArePacked ns ss ws rs → k < length rs
-    → IsRelation v (get_or ns k 0) (Stored ws (get_or ss k 0) (get_or ns k 0)) → v ≡ get_or rs k d
+    → IsRelation v (get_or ns k 0) (StoredPairs ws (get_or ss k 0) (get_or ns k 0)) → v ≡ get_or rs k d
 read_again {ns} {ss} {ws} {rs} k d v p lt read =
     same_relation v r read.regular g (read.count ∙ count) (λ a b. (
-      (λ h. (here a b).0 (subst (λ (n : ℕ). Stored ws (get_or ss k 0) n a b) count
+      (λ h. (here a b).0 (subst (λ (n : ℕ). StoredPairs ws (get_or ss k 0) n a b) count
           ((read.pairs a b).0 h))),
-      (λ h. (read.pairs a b).1 (subst (λ (n : ℕ). Stored ws (get_or ss k 0) n a b) (sym count)
+      (λ h. (read.pairs a b).1 (subst (λ (n : ℕ). StoredPairs ws (get_or ss k 0) n a b) (sym count)
           ((here a b).1 h))),
     ))
   where
@@ -463,7 +463,7 @@ read_again {ns} {ss} {ws} {rs} k d v p lt read =
     there : AreStored ws (get_or ss k 0) r
     there = stored_there k d p lt
 
-    here : (a b : ℕ) → Stored ws (get_or ss k 0) r.count a b ↔ Has r a b
+    here : (a b : ℕ) → StoredPairs ws (get_or ss k 0) r.count a b ↔ Has r a b
     here = stored_here ws (get_or ss k 0) r g there.low there.high
 
 -- relations on as many events whose words stand in one part of the list are the same
@@ -472,10 +472,10 @@ stored_once : (ws : List ℕ) (start : ℕ) (r s : Relation) → IsRegular r →
 stored_once ws start r s g h count left right =
     same_relation r s g h count (λ a b. (
       (λ x. (stored_here ws start s h right.low right.high a b).0 (subst
-          (λ (n : ℕ). Stored ws start n a b) count
+          (λ (n : ℕ). StoredPairs ws start n a b) count
           ((stored_here ws start r g left.low left.high a b).1 x))),
       (λ x. (stored_here ws start r g left.low left.high a b).0 (subst
-          (λ (n : ℕ). Stored ws start n a b) (sym count)
+          (λ (n : ℕ). StoredPairs ws start n a b) (sym count)
           ((stored_here ws start s h right.low right.high a b).1 x))),
     ))
 
@@ -491,7 +491,7 @@ high_word low high a kept =
     ap (λ (ws : List ℕ). get_or ws a 0) (sym kept) ∙ get_or-high (wide low high) a
 
 -- the words of a relation stand in a list where its columns of words do
-pub are_stored : (n : ℕ) (low high list : List ℕ) (at end : ℕ) → AreColumns n low high
+pub are_stored : (n : ℕ) (low high list : List ℕ) (at end : ℕ) → AreRelColumns n low high
     → (64 < n → end ≡ n) → ((a : ℕ) → a < n → get_or list (at + a) 0 ≡ get_or low a 0)
     → ((a : ℕ) → a < end → get_or list (at + n + a) 0 ≡ get_or high a 0)
     → AreStored list at (of_words n low high)
@@ -500,12 +500,12 @@ are_stored n low high list at end c all first then = record {
   high = λ over a lt. then a (rw (all over) lt) ∙ high_word low high a c.high_kept;
 }
 
-pub stored_low : (n : ℕ) (low high list : List ℕ) (at : ℕ) → AreColumns n low high
+pub stored_low : (n : ℕ) (low high list : List ℕ) (at : ℕ) → AreRelColumns n low high
     → AreStored list at (of_words n low high) → (a : ℕ) → a < n
     → get_or list (at + a) 0 ≡ get_or low a 0
 stored_low n low high list at c s a lt = s.low a lt ∙ sym (low_word low high a c.low_kept)
 
-pub stored_high : (n : ℕ) (low high list : List ℕ) (at end : ℕ) → AreColumns n low high
+pub stored_high : (n : ℕ) (low high list : List ℕ) (at end : ℕ) → AreRelColumns n low high
     → (n ≤ 64 → end ≡ 0) → (64 < n → end ≡ n) → AreStored list at (of_words n low high) → (a : ℕ)
     → a < end → get_or list (at + n + a) 0 ≡ get_or high a 0
 stored_high n low high list at end c none all s a lt = elim (cases_lt 64 n) [
@@ -517,7 +517,7 @@ stored_high n low high list at end c none all s a lt = elim (cases_lt 64 n) [
     nothing e = omega arith
 
 -- the words that a `Rel` appends
-pub appended : (n : ℕ) (low high : List ℕ) (end : ℕ) → AreColumns n low high → (n ≤ 64 → end ≡ 0)
+pub appended : (n : ℕ) (low high : List ℕ) (end : ℕ) → AreRelColumns n low high → (n ≤ 64 → end ≡ 0)
     → (64 < n → end ≡ n) → take n low ++ take end high ≡ packed (of_words n low high)
 unfolding packed
 appended n low high end c none all = rw (c.low_kept, c.high_kept, same) refl
@@ -529,7 +529,7 @@ appended n low high end c none all = rw (c.low_kept, c.high_kept, same) refl
     ]
 
 pub put_behind : {xs xs' ys zs ls hs : List ℕ} (n : ℕ) (low high : List ℕ) (end : ℕ)
-    → AreColumns n low high → (n ≤ 64 → end ≡ 0) → (64 < n → end ≡ n) → xs' ≡ xs → ls ≡ take n low
+    → AreRelColumns n low high → (n ≤ 64 → end ≡ 0) → (64 < n → end ≡ n) → xs' ≡ xs → ls ≡ take n low
     → hs ≡ take end high → ys ≡ xs' ++ ls → zs ≡ ys ++ hs → zs ≡ xs ++ packed (of_words n low high)
 put_behind {xs} {xs'} {ys} {zs} {ls} {hs} n low high end c none all same is_low is_high first then =
     then

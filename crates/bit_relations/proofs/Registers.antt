@@ -3,7 +3,7 @@ use Rattle.std.proofs.Common.{ℕ, ◌≡◌, ◌<◌, ◌≤◌, ◌+◌, ◌-�
 use Rattle.std.proofs.lemmas.Bool.{cases_lt}
 use Rattle.bit_relations.specs.Pairs.{Plus, PlusBelow}
 use Rattle.bit_relations.specs.Relation.{Bit}
-use Rattle.bit_relations.specs.Rows.{RowsHave, AreWritten, AreLanesJoined, Through, Sixteen}
+use Rattle.bit_relations.specs.Rows.{RowsHave, AreRowsFilled, AreLanesJoined, Through, Sixteen}
 use Rattle.bit_relations.proofs.Closing.{Plus-within}
 use Rattle.bit_relations.proofs.Columns.{Within}
 use Rattle.bit_relations.proofs.Paths.{PlusBelow-all}
@@ -131,7 +131,7 @@ all_loaded n words first second few within low high a b = (to, from)
 
 -- sixteen rows that are closed below the count are the closure
 pub closed_sixteen : (n m : ℕ) (old new : List ℕ) (P : ℕ → ℕ → Type 0) → n ≤ 16 → n ≤ m
-    → Within (RowsHave old) n → AreWritten old new 16 P
+    → Within (RowsHave old) n → AreRowsFilled old new 16 P
     → ((a b : ℕ) → P a b ↔ PlusBelow (RowsHave old) m a b) → (a b : ℕ)
     → RowsHave new a b ↔ Plus (RowsHave old) a b
 closed_sixteen n m old new P few enough within written are a b =

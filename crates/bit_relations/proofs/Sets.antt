@@ -1,7 +1,7 @@
 -- A set of events as two words.
 use Rattle.std.proofs.Common.{ℕ, ◌≡◌, ◌<◌, ◌≤◌, ◌+◌, ◌-◌, ◌^◌, ◌↔◌, ◌⊎◌, inl, inr, arith, sym, refl, subst}
 use Rattle.std.proofs.lemmas.Bool.{cases_lt}
-use Rattle.bit_relations.specs.Relation.{Bit, IsEvents, AreWords, joined}
+use Rattle.bit_relations.specs.Relation.{Bit, IsEvents, AreEventSetWords, wide_word}
 use Rattle.bit_relations.proofs.Bits.{Bit-zero, same_word}
 use Rattle.bit_relations.proofs.Wide.{Bit-low, Bit-high}
 
@@ -13,13 +13,13 @@ pub record IsHeld (n l h : ℕ) (S : ℕ → Type 0) : Type 0 where
   pub high : (b : ℕ) → Bit h b ↔ S (b + 64)
   pub within : (a : ℕ) → S a → a < n
 
-pub held_apart : {n l h : ℕ} → AreWords n l h → IsHeld n l h (Bit (joined l h))
+pub held_apart : {n l h : ℕ} → AreEventSetWords n l h → IsHeld n l h (Bit (wide_word l h))
 held_apart {n} {l} {h} c = record {
   few = c.few;
   fits = c.low_fits;
   low = λ b lt. turned (Bit-low h l b lt);
   high =
-      λ b. turned (subst (λ (x : ℕ). Bit (joined l h) (b + 64) ↔ Bit h x) (less b)
+      λ b. turned (subst (λ (x : ℕ). Bit (wide_word l h) (b + 64) ↔ Bit h x) (less b)
       (Bit-high h l (b + 64) c.low_fits (omega arith)));
   within = c.within;
 }
@@ -30,7 +30,7 @@ held_apart {n} {l} {h} c = record {
     turned : {A B : Type 0} → (A ↔ B) → B ↔ A
     turned (f, g) = (g, f)
 
-pub held_bits : {n l h : ℕ} {S : ℕ → Type 0} → IsHeld n l h S → (a : ℕ) → Bit (joined l h) a ↔ S a
+pub held_bits : {n l h : ℕ} {S : ℕ → Type 0} → IsHeld n l h S → (a : ℕ) → Bit (wide_word l h) a ↔ S a
 held_bits {n} {l} {h} {S} m a =
     elim (cases_lt a 64) [
       | inl lt ↦
@@ -44,12 +44,12 @@ held_bits {n} {l} {h} {S} m a =
     more : 64 ≤ a → a - 64 + 64 ≡ a
     more ge = omega arith
 
-pub held_words : {n l h : ℕ} {S : ℕ → Type 0} → IsHeld n l h S → AreWords n l h
+pub held_words : {n l h : ℕ} {S : ℕ → Type 0} → IsHeld n l h S → AreEventSetWords n l h
 held_words m =
     record { few = m.few; low_fits = m.fits; within = λ a x. m.within a ((held_bits m a).0 x) }
 
 pub held_events : {n l h : ℕ} {S : ℕ → Type 0} → IsHeld n l h S
-    → IsEvents (record { count = n; word = joined l h }) n S
+    → IsEvents (record { count = n; word = wide_word l h }) n S
 held_events m =
     record { count = refl; within = λ a x. m.within a ((held_bits m a).0 x); members = held_bits m }
 
@@ -177,8 +177,8 @@ held_high {n} event s below ge high = record {
 pub held_empty : {n l h : ℕ} {S : ℕ → Type 0} → IsHeld n l h S → l ≡ 0 → h ≡ 0 → (a : ℕ) → S a → ⊥
 held_empty m p q a x = Bit-zero a (rw (p, q) at ((held_bits m a).1 x))
 
-pub held_empty_back : (l h : ℕ) → l < 2 ^ 64 → ((a : ℕ) → Bit (joined l h) a → ⊥)
+pub held_empty_back : (l h : ℕ) → l < 2 ^ 64 → ((a : ℕ) → Bit (wide_word l h) a → ⊥)
     → (l ≡ 0) × (h ≡ 0)
 held_empty_back l h fits none =
-    let e : joined l h ≡ 0 = same_word (joined l h) 0 (λ k. ((λ x. absurd (none k x)), (λ x. absurd (Bit-zero k x)))) in
+    let e : wide_word l h ≡ 0 = same_word (wide_word l h) 0 (λ k. ((λ x. absurd (none k x)), (λ x. absurd (Bit-zero k x)))) in
     omega arith

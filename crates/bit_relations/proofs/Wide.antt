@@ -5,12 +5,12 @@ use Rattle.std.proofs.lemmas.List.{get_or_past}
 use Rattle.std.proofs.lemmas.Bool.{cases_lt}
 use Rattle.bit_relations.specs.Rows.{RowsHave, AllFit}
 use Rattle.bit_relations.proofs.Bits.{Bit-zero}
-use Rattle.bit_relations.specs.Relation.{Bit, joined, wide, low_words, high_words}
+use Rattle.bit_relations.specs.Relation.{Bit, wide_word, wide, low_words, high_words}
 
-pub joined-low : (l h : ℕ) → l < 2 ^ 64 → joined l h % 2 ^ 64 ≡ l
+pub joined-low : (l h : ℕ) → l < 2 ^ 64 → wide_word l h % 2 ^ 64 ≡ l
 joined-low l h fits = omega arith
 
-pub joined-high : (l h : ℕ) → l < 2 ^ 64 → joined l h / 2 ^ 64 ≡ h
+pub joined-high : (l h : ℕ) → l < 2 ^ 64 → wide_word l h / 2 ^ 64 ≡ h
 joined-high l h fits = omega arith
 
 again_low : (ls hs : List ℕ) → length ls ≡ length hs → AllFit ls → low_words (wide ls hs) ≡ ls
@@ -37,7 +37,7 @@ pub high_again : (ls hs : List ℕ) → length ls ≡ 128 → length hs ≡ 128 
 high_again ls hs p q fits = again_high ls hs (p ∙ sym q) fits
 
 pub get_or-wide : (ls hs : List ℕ) (a : ℕ) → length ls ≡ length hs → a < length ls
-    → get_or (wide ls hs) a 0 ≡ joined (get_or ls a 0) (get_or hs a 0)
+    → get_or (wide ls hs) a 0 ≡ wide_word (get_or ls a 0) (get_or hs a 0)
 get_or-wide [] hs a e lt = absurd (omega arith)
 get_or-wide (l ∷ ls) [] a e lt = absurd (omega (arith, e))
 get_or-wide (l ∷ ls) (h ∷ hs) zero e lt = refl

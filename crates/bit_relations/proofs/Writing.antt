@@ -3,11 +3,11 @@ use Rattle.std.proofs.Common.{ℕ, ◌≡◌, ◌<◌, ◌≤◌, ◌↔◌, ◌
 use Rattle.std.proofs.lemmas.Bool.{cases_eq, cases_lt}
 use Rattle.std.proofs.lemmas.List.{length-set, length-replicate, get_or-replicate, get_or_past}
 use Rattle.bit_relations.specs.Relation.{Bit, wide}
-use Rattle.bit_relations.specs.Rows.{RowsHave, AllFit, AreWritten, JoinedBelow, JoinedFrom}
+use Rattle.bit_relations.specs.Rows.{RowsHave, AllFit, AreRowsFilled, JoinedBelow, JoinedFrom}
 use Rattle.bit_relations.proofs.Bits.{Bit-zero}
 use Rattle.bit_relations.proofs.Wide.{low_bit, high_bit}
 
-pub written_none : (rows : List ℕ) (P : ℕ → ℕ → Type 0) → AreWritten rows rows 0 P
+pub written_none : (rows : List ℕ) (P : ℕ → ℕ → Type 0) → AreRowsFilled rows rows 0 P
 written_none rows P =
     record {
       height = refl;
@@ -17,8 +17,8 @@ written_none rows P =
     }
 
 pub written_more : (old new : List ℕ) (i w : ℕ) (P : ℕ → ℕ → Type 0) → i < length old
-    → AreWritten old new i P → w < 2 ^ 64 → ((b : ℕ) → Bit w b ↔ P i b)
-    → AreWritten old (set new i w) (i + 1) P
+    → AreRowsFilled old new i P → w < 2 ^ 64 → ((b : ℕ) → Bit w b ↔ P i b)
+    → AreRowsFilled old (set new i w) (i + 1) P
 written_more old new i w P room before small row = record {
   height = length-set new i w ∙ before.height;
   fits = λ f a. elim (cases_eq a i) [
@@ -50,7 +50,7 @@ written_more old new i w P room before small row = record {
     below ne lt = omega arith
 
 -- the row at hand is still the old one
-pub still : {old new : List ℕ} {i : ℕ} {P : ℕ → ℕ → Type 0} → AreWritten old new i P
+pub still : {old new : List ℕ} {i : ℕ} {P : ℕ → ℕ → Type 0} → AreRowsFilled old new i P
     → get_or new i 0 ≡ get_or old i 0
 still {old} {new} {i} before = before.outside i (omega arith)
 
@@ -64,8 +64,8 @@ zeros n a =
     ]
 
 -- the same bits, said in another way
-pub written_as : {old new : List ℕ} {end : ℕ} {P Q : ℕ → ℕ → Type 0} → AreWritten old new end P
-    → ((a b : ℕ) → P a b ↔ Q a b) → AreWritten old new end Q
+pub written_as : {old new : List ℕ} {end : ℕ} {P Q : ℕ → ℕ → Type 0} → AreRowsFilled old new end P
+    → ((a b : ℕ) → P a b ↔ Q a b) → AreRowsFilled old new end Q
 written_as w same = record {
   height = w.height;
   fits = w.fits;
@@ -95,9 +95,9 @@ low_joined count n_low low high others a b e few cut_low t =
 pub both_joined : (count n_low n_high end : ℕ) (old mid new low high others : List ℕ)
     → length low ≡ length high → AllFit low → n_low ≤ 64
     → ((b : ℕ) → b < 64 → (b < n_low ↔ (b < count))) → ((b : ℕ) → b < n_high ↔ (b + 64 < count))
-    → AreWritten old mid end (JoinedFrom 0 n_low (RowsHave old) (RowsHave low) (RowsHave others))
-    → AreWritten mid new end (JoinedFrom 64 n_high (RowsHave mid) (RowsHave high) (RowsHave others))
-    → AreWritten old new end (JoinedBelow count (RowsHave old) (RowsHave (wide low high))
+    → AreRowsFilled old mid end (JoinedFrom 0 n_low (RowsHave old) (RowsHave low) (RowsHave others))
+    → AreRowsFilled mid new end (JoinedFrom 64 n_high (RowsHave mid) (RowsHave high) (RowsHave others))
+    → AreRowsFilled old new end (JoinedBelow count (RowsHave old) (RowsHave (wide low high))
     (RowsHave others))
 both_joined count n_low n_high end old mid new low high others e fits few cut_low cut_high first
     second = record {
@@ -152,8 +152,8 @@ both_joined count n_low n_high end old mid new low high others e fits few cut_lo
 -- the events of the low words joined, where there are no others
 pub one_joined : (count n_low end : ℕ) (old new low high others : List ℕ) → length low ≡ length high
     → count ≤ 64 → n_low ≤ 64 → ((b : ℕ) → b < 64 → (b < n_low ↔ (b < count)))
-    → AreWritten old new end (JoinedFrom 0 n_low (RowsHave old) (RowsHave low) (RowsHave others))
-    → AreWritten old new end (JoinedBelow count (RowsHave old) (RowsHave (wide low high))
+    → AreRowsFilled old new end (JoinedFrom 0 n_low (RowsHave old) (RowsHave low) (RowsHave others))
+    → AreRowsFilled old new end (JoinedBelow count (RowsHave old) (RowsHave (wide low high))
     (RowsHave others))
 one_joined count n_low end old new low high others e small few cut_low first =
     written_as first (λ a b. (

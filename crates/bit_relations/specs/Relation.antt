@@ -45,8 +45,8 @@ pub record IsEvents (s : Events) (n : ℕ) (S : ℕ → Type 0) : Type 0 where
   pub members : (a : ℕ) → IsMember s a ↔ S a
 
 -- each pair of the one is a pair of the other
-abbrev pub IsWithin : Relation → Relation → Type 0
-IsWithin r s = (a b : ℕ) → Has r a b → Has s a b
+abbrev pub IsSubset : Relation → Relation → Type 0
+IsSubset r s = (a b : ℕ) → Has r a b → Has s a b
 
 -- how much room a list of rows has left to grow: it falls where a row gains a bit
 abbrev pub room_in : List ℕ → ℕ
@@ -60,14 +60,14 @@ abbrev pub no_slot : Relation
 no_slot = record { count = 0; rows = [] }
 
 -- two words as one number of 128 bits
-abbrev pub joined : ℕ → ℕ → ℕ
-joined low high = high * 2 ^ 64 + low
+abbrev pub wide_word : ℕ → ℕ → ℕ
+wide_word low high = high * 2 ^ 64 + low
 
 -- low words and high words as numbers of 128 bits
 abbrev pub wide : List ℕ → List ℕ → List ℕ
 wide [] hs = []
 wide (l ∷ ls) [] = []
-wide (l ∷ ls) (h ∷ hs) = joined l h ∷ wide ls hs
+wide (l ∷ ls) (h ∷ hs) = wide_word l h ∷ wide ls hs
 
 abbrev pub low_words : List ℕ → List ℕ
 low_words [] = []
@@ -79,7 +79,7 @@ high_words (w ∷ ws) = (w / 2 ^ 64) ∷ high_words ws
 
 -- the two columns of words that a `Rel` is made of: the rows lose neither, and all pairs are below
 -- the count
-pub record AreColumns (count : ℕ) (low high : List ℕ) : Type 0 where
+pub record AreRelColumns (count : ℕ) (low high : List ℕ) : Type 0 where
   pub few : count ≤ max_events
   pub low_height : length low ≡ max_events
   pub high_height : length high ≡ max_events
@@ -89,7 +89,7 @@ pub record AreColumns (count : ℕ) (low high : List ℕ) : Type 0 where
 
 -- the two words that an `EventSet` is made of: neither is lost in the word, and all events are
 -- below the count
-pub record AreWords (count low high : ℕ) : Type 0 where
+pub record AreEventSetWords (count low high : ℕ) : Type 0 where
   pub few : count ≤ max_events
   pub low_fits : low < 2 ^ 64
-  pub within : (a : ℕ) → Bit (joined low high) a → a < count
+  pub within : (a : ℕ) → Bit (wide_word low high) a → a < count

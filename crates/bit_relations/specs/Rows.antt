@@ -10,7 +10,7 @@ abbrev pub AllFit : List ℕ → Type 0
 AllFit ws = (a : ℕ) → slice_index ws a < 2 ^ 64
 
 -- the words below the end have these bits, and the others are as they were
-pub record AreWritten (old new : List ℕ) (end : ℕ) (P : ℕ → ℕ → Type 0) : Type 0 where
+pub record AreRowsFilled (old new : List ℕ) (end : ℕ) (P : ℕ → ℕ → Type 0) : Type 0 where
   pub height : length new ≡ length old
   pub fits : AllFit old → AllFit new
   pub inside : (a : ℕ) → a < end → (b : ℕ) → RowsHave new a b ↔ P a b
@@ -30,25 +30,25 @@ abbrev pub WithOwn : ℕ → (ℕ → ℕ → Type 0) → ℕ → ℕ → Type 0
 WithOwn at R a b = R a b ⊎ ((b < 64) × (a ≡ b + at))
 
 -- the bits of one word, for each event that a word has
-abbrev pub Filled : ℕ → ℕ → ℕ → ℕ → Type 0
-Filled events word a b = Bit events a × Bit word b
+abbrev pub WordProduct : ℕ → ℕ → ℕ → ℕ → Type 0
+WordProduct events word a b = Bit events a × Bit word b
 
 -- the bits of words that one word has too, for each event that a word has
 abbrev pub Kept : ℕ → ℕ → (ℕ → ℕ → Type 0) → ℕ → ℕ → Type 0
 Kept events word R a b = Bit events a × R a b × Bit word b
 
 -- the bits of one word that the words have not
-abbrev pub Turned : ℕ → (ℕ → ℕ → Type 0) → ℕ → ℕ → Type 0
-Turned all R a b = Bit all b × (R a b → ⊥)
+abbrev pub WordComplement : ℕ → (ℕ → ℕ → Type 0) → ℕ → ℕ → Type 0
+WordComplement all R a b = Bit all b × (R a b → ⊥)
 
 -- the bits of words, and those of the rows below the end that R leads to
 abbrev pub JoinedBelow : ℕ → (ℕ → ℕ → Type 0) → (ℕ → ℕ → Type 0) → (ℕ → ℕ → Type 0) → ℕ → ℕ → Type 0
 JoinedBelow end W R S a b = W a b ⊎ ((c : ℕ) × (c < end) × R a c × S c b)
 
--- the bits turned round, for the events below the end, where the first bit stands for the event
+-- the inverse of the bits, for the events below the end, where the first bit stands for the event
 -- `at`
-abbrev pub Inverted : ℕ → ℕ → (ℕ → ℕ → Type 0) → ℕ → ℕ → Type 0
-Inverted at end R a b = (b < end) × R (b + at) a
+abbrev pub InverseFrom : ℕ → ℕ → (ℕ → ℕ → Type 0) → ℕ → ℕ → Type 0
+InverseFrom at end R a b = (b < end) × R (b + at) a
 
 -- the pairs, and those that lead through the middle
 abbrev pub Through : ℕ → (ℕ → ℕ → Type 0) → ℕ → ℕ → Type 0
@@ -60,8 +60,8 @@ Read list at all a b = Bit (slice_index list (at + a)) b × Bit all b
 
 -- the pairs below n whose bits stand in a list from an index on: the low words, and then the high
 -- ones
-abbrev pub Stored : List ℕ → ℕ → ℕ → ℕ → ℕ → Type 0
-Stored list at n a b =
+abbrev pub StoredPairs : List ℕ → ℕ → ℕ → ℕ → ℕ → Type 0
+StoredPairs list at n a b =
     (a < n) × (b < n)
     × (((b < 64) × Bit (slice_index list (at + a)) b)
     ⊎ ((k : ℕ) × (b ≡ k + 64) × Bit (slice_index list (at + n + a)) k))
@@ -86,7 +86,7 @@ AreLanesJoined acc select k row result =
     → RowsHave result i b ↔ (RowsHave acc i b ⊎ (RowsHave select i k × Bit row b))
 
 -- the new words are the lanes from an index on, and else the old ones
-pub record IsStored (old : List ℕ) (at : ℕ) (lanes new : List ℕ) : Type 0 where
+pub record AreLanesStored (old : List ℕ) (at : ℕ) (lanes new : List ℕ) : Type 0 where
   pub inside : (i : ℕ) → i < 8 → slice_index new (at + i) ≡ slice_index lanes i
   pub outside : (a : ℕ) → (a < at) ⊎ (at + 8 ≤ a) → slice_index new a ≡ slice_index old a
 

@@ -1,7 +1,7 @@
 //! Kernels that take eight words at a time, for blocks of 64 by 64 bits.
 ghost use Rattle.std.specs.Prelude.{◌≡◌, ℕ, ◌<◌, ◌≤◌, ◌+◌, ◌*◌, ◌↔◌, ◌⊎◌, List, length, slice_index};
 ghost use Rattle.bit_relations.specs.Pairs.{Plus, PlusBelow};
-ghost use Rattle.bit_relations.specs.Rows.{RowsHave, AllFit, AreWritten, UnionWhere, AreLanesJoined, IsStored, JoinedFrom, Sixteen};
+ghost use Rattle.bit_relations.specs.Rows.{RowsHave, AllFit, AreRowsFilled, UnionWhere, AreLanesJoined, AreLanesStored, JoinedFrom, Sixteen};
 
 use crate::words::MAX_EVENTS;
 use std::simd::prelude::*;
@@ -31,7 +31,7 @@ fn load(words: &[u64; MAX_EVENTS], at: usize) -> u64x8
 #[inline]
 fn store(words: &mut [u64; MAX_EVENTS], at: usize, lanes: u64x8)
     requires { at + 8 ≤ 128 }
-    ensures { IsStored words.old at lanes words.new }
+    ensures { AreLanesStored words.old at lanes words.new }
 {
     lanes.copy_to_slice(&mut words[at..]);
 }
@@ -50,7 +50,7 @@ pub(crate) fn blocks_of(end: usize) -> usize
 pub(crate) fn join_own(words: &mut [u64; MAX_EVENTS], k: usize, word: u64, blocks: usize)
     requires inside { k < 64 }
     requires few { 8 * blocks ≤ 128 }
-    ensures { AreWritten words.old words.new (8 * blocks) (UnionWhere (RowsHave words.old)
+    ensures { AreRowsFilled words.old words.new (8 * blocks) (UnionWhere (RowsHave words.old)
         (RowsHave words.old) k word) }
 {
     for block in 0..blocks {
@@ -84,7 +84,7 @@ fn close_eight(own: u64x8, other: u64x8, at: usize, end: usize) -> (u64x8, u64x8
 
 /// Writes the first sixteen words.
 fn store_sixteen(words: &mut [u64; MAX_EVENTS], first: u64x8, second: u64x8)
-    ensures { AreWritten words.old words.new 16 (Sixteen 0 first second) }
+    ensures { AreRowsFilled words.old words.new 16 (Sixteen 0 first second) }
 {
     store(words, 0, first);
     store(words, 8, second);
@@ -121,9 +121,9 @@ pub(crate) fn join_both(
 )
     requires inside { k < 64 }
     requires few { 8 * blocks ≤ 128 }
-    ensures own { AreWritten own.old own.new (8 * blocks) (UnionWhere (RowsHave own.old)
+    ensures own { AreRowsFilled own.old own.new (8 * blocks) (UnionWhere (RowsHave own.old)
         (RowsHave own.old) k own_word) }
-    ensures other { AreWritten other.old other.new (8 * blocks) (UnionWhere (RowsHave other.old)
+    ensures other { AreRowsFilled other.old other.new (8 * blocks) (UnionWhere (RowsHave other.old)
         (RowsHave own.old) k other_word) }
 {
     for block in 0..blocks {
@@ -177,7 +177,7 @@ pub(crate) fn join_block(
     requires inside { middles ≤ 64 }
     requires room { at + middles ≤ 128 }
     requires few { 8 * blocks ≤ 128 }
-    ensures { AreWritten words.old words.new (8 * blocks) (JoinedFrom at middles
+    ensures { AreRowsFilled words.old words.new (8 * blocks) (JoinedFrom at middles
         (RowsHave words.old) (RowsHave select.now) (RowsHave others.now)) }
 {
     for block in 0..blocks {

@@ -2,8 +2,8 @@
 ghost use Rattle.std.specs.Prelude.{◌≡◌, ◌<◌, ◌≤◌, ◌+◌, ◌++◌, ◌↔◌, length, IsTrue, OnOk, OnErr};
 ghost use Rattle.bit_relations.specs.Packing.{packed};
 ghost use Rattle.bit_relations.specs.Relation.{Relation, Has, IsRegular, IsRelation, IsMember};
-ghost use Rattle.bit_relations.specs.Rows.{Stored, AreStored};
-ghost use Rattle.bit_relations.specs.Pairs.{Added, Identity, Union, Inter, Minus, Composed, Complement, Inverse, Opt, On, Product, Restricted, Plus, Star, IsIrreflexive, IsAcyclic, IsEmpty};
+ghost use Rattle.bit_relations.specs.Rows.{StoredPairs, AreStored};
+ghost use Rattle.bit_relations.specs.Pairs.{WithPair, Identity, Union, Inter, Minus, Composite, Complement, Inverse, Opt, On, Product, Restriction, Plus, Star, IsIrreflexive, IsAcyclic, IsEmpty};
 
 use crate::lanes::blocks_of;
 use crate::set::EventSet;
@@ -23,13 +23,13 @@ pub struct Rel {
 
 impl Model for Rel {
     ghost use Rattle.std.proofs.Common.{refl};
-    ghost use Rattle.bit_relations.specs.Relation.{Relation, AreColumns, wide, low_words, high_words};
+    ghost use Rattle.bit_relations.specs.Relation.{Relation, AreRelColumns, wide, low_words, high_words};
 
     ghost Value = { Relation };
 
     ghost view = { λ r. record { count = r.count; rows = wide r.low r.high } };
 
-    ghost invariant = { λ r. AreColumns r.count r.low r.high };
+    ghost invariant = { λ r. AreRelColumns r.count r.low r.high };
 
     ghost inverse = { λ v.
         record { count = v.count; low = low_words v.rows; high = high_words v.rows } };
@@ -93,7 +93,7 @@ impl Rel {
     pub fn insert(&mut self, from: usize, to: usize)
         requires from { from < self.old.count }
         requires to { to < self.old.count }
-        ensures { IsRelation self.new self.old.count (Added (Has self.old) from to) }
+        ensures { IsRelation self.new self.old.count (WithPair (Has self.old) from to) }
     {
         if to < 64 {
             words::set_bit(&mut self.low, from, to);
@@ -145,7 +145,7 @@ impl Rel {
     /// middle.
     pub fn compose(&self, other: &Rel) -> Rel
         requires { other.now.count ≡ self.now.count }
-        ensures { IsRelation result self.now.count (Composed (Has self.now) (Has other.now)) }
+        ensures { IsRelation result self.now.count (Composite (Has self.now) (Has other.now)) }
     {
         let mut made = Rel::empty(self.count);
         made.set_composed(self, other);
@@ -161,7 +161,7 @@ impl Rel {
         made
     }
 
-    /// Its pairs turned round.
+    /// Its inverse.
     pub fn inverse(&self) -> Rel
         ensures { IsRelation result self.now.count (Inverse (Has self.now)) }
     {
@@ -201,7 +201,7 @@ impl Rel {
     pub fn restrict(&self, events: &EventSet) -> Rel
         requires { events.now.count ≡ self.now.count }
         ensures { IsRelation result self.now.count
-            (Restricted (Has self.now) (IsMember events.now)) }
+            (Restriction (Has self.now) (IsMember events.now)) }
     {
         let mut made = *self;
         made.keep_within(events);
@@ -335,7 +335,7 @@ impl Rel {
     pub fn keep_within(&mut self, events: &EventSet)
         requires { events.now.count ≡ self.old.count }
         ensures { IsRelation self.new self.old.count
-            (Restricted (Has self.old) (IsMember events.now)) }
+            (Restriction (Has self.old) (IsMember events.now)) }
     {
         let (low, high) = events.words();
         words::keep(&mut self.low, low, high, low, self.count);
@@ -345,7 +345,7 @@ impl Rel {
     /// Becomes the composition of two others.
     pub fn set_composed(&mut self, left: &Rel, right: &Rel)
         requires { right.now.count ≡ left.now.count }
-        ensures { IsRelation self.new left.now.count (Composed (Has left.now) (Has right.now)) }
+        ensures { IsRelation self.new left.now.count (Composite (Has left.now) (Has right.now)) }
     {
         let count = left.count;
         self.clear(count);
@@ -429,7 +429,7 @@ impl Rel {
         requires few { count ≤ 128 }
         requires low { at + count ≤ length list.now }
         requires high { 64 < count → at + count + count ≤ length list.now }
-        ensures { IsRelation self.new count (Stored list.now at count) }
+        ensures { IsRelation self.new count (StoredPairs list.now at count) }
     {
         self.clear(count);
         let low = lowest_bits(in_low(count));

@@ -1,7 +1,7 @@
 //! Rows of two words: a column of low words and one of high words.
 ghost use Rattle.std.specs.Prelude.{◌≡◌, ℕ, ◌<◌, ◌≤◌, ◌+◌, ◌*◌, ◌↔◌, length, IsTrue};
-ghost use Rattle.bit_relations.specs.Relation.{Bit, wide, AreColumns};
-ghost use Rattle.bit_relations.specs.Rows.{RowsHave, AreWritten, AllFit, JoinedBelow, Inverted, Through};
+ghost use Rattle.bit_relations.specs.Relation.{Bit, wide, AreRelColumns};
+ghost use Rattle.bit_relations.specs.Rows.{RowsHave, AreRowsFilled, AllFit, JoinedBelow, InverseFrom, Through};
 ghost use Rattle.bit_relations.specs.Pairs.{Plus, IsAcyclic};
 
 use crate::lanes::{blocks_of, close_sixteen, join_block, join_both, join_own};
@@ -65,8 +65,8 @@ pub fn invert(
     requires few { part ≤ 64 }
     requires room { at + part ≤ 128 }
     requires end { end ≤ 128 }
-    ensures { AreWritten words.old words.new end
-        (Inverted at part (RowsHave (wide low.now high.now))) }
+    ensures { AreRowsFilled words.old words.new end
+        (InverseFrom at part (RowsHave (wide low.now high.now))) }
 {
     for a in 0..end {
         words[a] = leading_to(low, high, a, at, part);
@@ -84,7 +84,7 @@ pub fn compose(
 )
     requires count { count ≤ 128 }
     requires few { 8 * blocks ≤ 128 }
-    ensures { AreWritten words.old words.new (8 * blocks) (JoinedBelow count (RowsHave words.old)
+    ensures { AreRowsFilled words.old words.new (8 * blocks) (JoinedBelow count (RowsHave words.old)
         (RowsHave (wide low.now high.now)) (RowsHave others.now)) }
 {
     join_block(words, low, others, 0, in_low(count), blocks);
@@ -134,8 +134,8 @@ fn close_through(
     count: usize,
 )
     requires inside { middle < count }
-    requires columns { AreColumns count low.old high.old }
-    ensures columns { AreColumns count low.new high.new }
+    requires columns { AreRelColumns count low.old high.old }
+    ensures columns { AreRelColumns count low.new high.new }
     ensures pairs { (a b : ℕ)
         → RowsHave (wide low.new high.new) a b
         ↔ Through middle (RowsHave (wide low.old high.old)) a b }
@@ -152,8 +152,8 @@ fn close_through(
 
 /// Closes rows of two words over paths of one step or more.
 fn close_both(low: &mut [u64; MAX_EVENTS], high: &mut [u64; MAX_EVENTS], count: usize)
-    requires { AreColumns count low.old high.old }
-    ensures columns { AreColumns count low.new high.new }
+    requires { AreRelColumns count low.old high.old }
+    ensures columns { AreRelColumns count low.new high.new }
     ensures pairs { (a b : ℕ)
         → RowsHave (wide low.new high.new) a b ↔ Plus (RowsHave (wide low.old high.old)) a b }
 {
@@ -167,8 +167,8 @@ fn close_both(low: &mut [u64; MAX_EVENTS], high: &mut [u64; MAX_EVENTS], count: 
 /// Closes rows over paths of one step or more: of one word where the count is at most 64, and else
 /// of two.
 pub fn close(low: &mut [u64; MAX_EVENTS], high: &mut [u64; MAX_EVENTS], count: usize)
-    requires { AreColumns count low.old high.old }
-    ensures columns { AreColumns count low.new high.new }
+    requires { AreRelColumns count low.old high.old }
+    ensures columns { AreRelColumns count low.new high.new }
     ensures pairs { (a b : ℕ)
         → RowsHave (wide low.new high.new) a b ↔ Plus (RowsHave (wide low.old high.old)) a b }
 {

@@ -1,6 +1,6 @@
 //! Sets of events.
 ghost use Rattle.std.specs.Prelude.{◌≡◌, ℕ, ◌<◌, ◌≤◌, ◌^◌, ◌↔◌, ◌⊎◌, IsTrue};
-ghost use Rattle.bit_relations.specs.Relation.{Events, IsMember, IsEvents, joined};
+ghost use Rattle.bit_relations.specs.Relation.{Events, IsMember, IsEvents, wide_word};
 
 use crate::word::{both, either, has_event, in_high, in_low, left_alone, lowest_bits, with_bit};
 use std::marker::Model;
@@ -15,13 +15,13 @@ pub struct EventSet {
 
 impl Model for EventSet {
     ghost use Rattle.std.specs.Prelude.{◌/◌, ◌%◌, ◌^◌};
-    ghost use Rattle.bit_relations.specs.Relation.{Events, joined, AreWords};
+    ghost use Rattle.bit_relations.specs.Relation.{Events, wide_word, AreEventSetWords};
 
     ghost Value = { Events };
 
-    ghost view = { λ s. record { count = s.count; word = joined s.low s.high } };
+    ghost view = { λ s. record { count = s.count; word = wide_word s.low s.high } };
 
-    ghost invariant = { λ s. AreWords s.count s.low s.high };
+    ghost invariant = { λ s. AreEventSetWords s.count s.low s.high };
 
     ghost inverse = { λ v.
         record { count = v.count; low = v.word % 2 ^ 64; high = v.word / 2 ^ 64 } };
@@ -148,7 +148,7 @@ impl EventSet {
     pub(crate) fn words(&self) -> (u64, u64)
         ensures few { self.now.count ≤ 128 }
         ensures low { result.0 < 2 ^ 64 }
-        ensures word { joined result.0 result.1 ≡ self.now.word }
+        ensures word { wide_word result.0 result.1 ≡ self.now.word }
         ensures within { (a : ℕ) → IsMember self.now a → a < self.now.count }
     {
         (self.low, self.high)

@@ -1,6 +1,6 @@
 //! One word of bits.
 ghost use Rattle.std.specs.Prelude.{◌≡◌, ℕ, ◌<◌, ◌≤◌, ◌+◌, ◌↔◌, ◌⊎◌, IsTrue};
-ghost use Rattle.bit_relations.specs.Relation.{Bit, joined};
+ghost use Rattle.bit_relations.specs.Relation.{Bit, wide_word};
 
 /// Whether the word has the bit.
 #[inline]
@@ -98,7 +98,7 @@ pub fn in_high(count: usize) -> usize
 #[inline]
 pub fn has_event(low: u64, high: u64, event: usize) -> bool
     requires { event < 128 }
-    ensures { IsTrue result ↔ Bit (joined low high) event }
+    ensures { IsTrue result ↔ Bit (wide_word low high) event }
 {
     if event < 64 {
         has_bit(low, event)

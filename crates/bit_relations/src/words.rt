@@ -1,8 +1,8 @@
 //! Columns of words: the words below an end change, the others stay.
 ghost use Rattle.std.specs.Prelude.{◌≡◌, ℕ, ◌<◌, ◌≤◌, ◌+◌, ◌↔◌, length, slice_index, take, IsTrue};
-ghost use Rattle.bit_relations.specs.Relation.{joined};
-ghost use Rattle.bit_relations.specs.Rows.{RowsHave, AllFit, AreWritten, Nothing, WithOwn, Filled, Kept, Turned, Read};
-ghost use Rattle.bit_relations.specs.Pairs.{Added, Union, Inter, Minus};
+ghost use Rattle.bit_relations.specs.Relation.{wide_word};
+ghost use Rattle.bit_relations.specs.Rows.{RowsHave, AllFit, AreRowsFilled, Nothing, WithOwn, WordProduct, Kept, WordComplement, Read};
+ghost use Rattle.bit_relations.specs.Pairs.{WithPair, Union, Inter, Minus};
 
 use crate::word::{both, either, has_event, has_own_bit, left_alone, own_bit, with_bit, word_if};
 
@@ -33,7 +33,7 @@ pub fn set_bit(words: &mut [u64; MAX_EVENTS], a: usize, k: usize)
     requires inside { k < 64 }
     ensures height { length words.new ≡ 128 }
     ensures fits { AllFit words.new }
-    ensures bits { (x b : ℕ) → RowsHave words.new x b ↔ Added (RowsHave words.old) a k x b }
+    ensures bits { (x b : ℕ) → RowsHave words.new x b ↔ WithPair (RowsHave words.old) a k x b }
 {
     words[a] = with_bit(words[a], k);
 }
@@ -41,7 +41,7 @@ pub fn set_bit(words: &mut [u64; MAX_EVENTS], a: usize, k: usize)
 /// Empties the words.
 pub fn clear(words: &mut [u64; MAX_EVENTS], end: usize)
     requires { end ≤ 128 }
-    ensures { AreWritten words.old words.new end Nothing }
+    ensures { AreRowsFilled words.old words.new end Nothing }
 {
     for a in 0..end {
         words[a] = 0;
@@ -51,7 +51,7 @@ pub fn clear(words: &mut [u64; MAX_EVENTS], end: usize)
 /// Writes the words of another over them.
 pub fn copy(words: &mut [u64; MAX_EVENTS], others: &[u64; MAX_EVENTS], end: usize)
     requires { end ≤ 128 }
-    ensures { AllFit others.now → AreWritten words.old words.new end (RowsHave others.now) }
+    ensures { AllFit others.now → AreRowsFilled words.old words.new end (RowsHave others.now) }
 {
     for a in 0..end {
         words[a] = others[a];
@@ -61,7 +61,7 @@ pub fn copy(words: &mut [u64; MAX_EVENTS], others: &[u64; MAX_EVENTS], end: usiz
 /// Adds the bits of the words of another.
 pub fn join(words: &mut [u64; MAX_EVENTS], others: &[u64; MAX_EVENTS], end: usize)
     requires { end ≤ 128 }
-    ensures { AreWritten words.old words.new end
+    ensures { AreRowsFilled words.old words.new end
         (Union (RowsHave words.old) (RowsHave others.now)) }
 {
     for a in 0..end {
@@ -72,7 +72,7 @@ pub fn join(words: &mut [u64; MAX_EVENTS], others: &[u64; MAX_EVENTS], end: usiz
 /// Keeps the bits that the words of another have too.
 pub fn meet(words: &mut [u64; MAX_EVENTS], others: &[u64; MAX_EVENTS], end: usize)
     requires { end ≤ 128 }
-    ensures { AreWritten words.old words.new end
+    ensures { AreRowsFilled words.old words.new end
         (Inter (RowsHave words.old) (RowsHave others.now)) }
 {
     for a in 0..end {
@@ -83,7 +83,7 @@ pub fn meet(words: &mut [u64; MAX_EVENTS], others: &[u64; MAX_EVENTS], end: usiz
 /// Drops the bits that the words of another have.
 pub fn drop_bits(words: &mut [u64; MAX_EVENTS], others: &[u64; MAX_EVENTS], end: usize)
     requires { end ≤ 128 }
-    ensures { AreWritten words.old words.new end
+    ensures { AreRowsFilled words.old words.new end
         (Minus (RowsHave words.old) (RowsHave others.now)) }
 {
     for a in 0..end {
@@ -94,7 +94,7 @@ pub fn drop_bits(words: &mut [u64; MAX_EVENTS], others: &[u64; MAX_EVENTS], end:
 /// Leaves those bits of a word that the words do not have.
 pub fn turn(words: &mut [u64; MAX_EVENTS], all: u64, end: usize)
     requires { end ≤ 128 }
-    ensures { AreWritten words.old words.new end (Turned all (RowsHave words.old)) }
+    ensures { AreRowsFilled words.old words.new end (WordComplement all (RowsHave words.old)) }
 {
     for a in 0..end {
         words[a] = left_alone(all, words[a]);
@@ -104,7 +104,7 @@ pub fn turn(words: &mut [u64; MAX_EVENTS], all: u64, end: usize)
 /// Writes one word over those whose event is in the set of two words, and empties the others.
 pub fn fill(words: &mut [u64; MAX_EVENTS], low: u64, high: u64, word: u64, end: usize)
     requires { end ≤ 128 }
-    ensures { AreWritten words.old words.new end (Filled (joined low high) word) }
+    ensures { AreRowsFilled words.old words.new end (WordProduct (wide_word low high) word) }
 {
     for a in 0..end {
         words[a] = word_if(has_event(low, high, a), word);
@@ -114,8 +114,8 @@ pub fn fill(words: &mut [u64; MAX_EVENTS], low: u64, high: u64, word: u64, end: 
 /// Keeps the bits of one word where the event is in the set of two words, and empties the others.
 pub fn keep(words: &mut [u64; MAX_EVENTS], low: u64, high: u64, word: u64, end: usize)
     requires { end ≤ 128 }
-    ensures { AreWritten words.old words.new end
-        (Kept (joined low high) word (RowsHave words.old)) }
+    ensures { AreRowsFilled words.old words.new end
+        (Kept (wide_word low high) word (RowsHave words.old)) }
 {
     for a in 0..end {
         words[a] = word_if(has_event(low, high, a), both(words[a], word));
@@ -125,7 +125,7 @@ pub fn keep(words: &mut [u64; MAX_EVENTS], low: u64, high: u64, word: u64, end: 
 /// Adds to each word the bit of its own event, where the first bit stands for the event `at`.
 pub fn add_diagonal(words: &mut [u64; MAX_EVENTS], at: usize, end: usize)
     requires { end ≤ 128 }
-    ensures { AreWritten words.old words.new end (WithOwn at (RowsHave words.old)) }
+    ensures { AreRowsFilled words.old words.new end (WithOwn at (RowsHave words.old)) }
 {
     for a in 0..end {
         words[a] = either(words[a], own_bit(a, at));
@@ -200,7 +200,7 @@ pub fn first(words: &[u64; MAX_EVENTS], end: usize) -> &[u64]
 pub fn read(words: &mut [u64; MAX_EVENTS], list: &[u64], at: usize, all: u64, end: usize)
     requires end { end ≤ 128 }
     requires room { at + end ≤ length list.now }
-    ensures { AreWritten words.old words.new end (Read list.now at all) }
+    ensures { AreRowsFilled words.old words.new end (Read list.now at all) }
 {
     for a in 0..end {
         words[a] = both(list[at + a], all);

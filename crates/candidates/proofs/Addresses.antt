@@ -24,12 +24,12 @@ use Rattle.thread_runs.specs.declared.instruction.Line.{Line}
 use Rattle.thread_runs.specs.declared.instruction.Line.TheVariants.{Label, Does}
 use Rattle.thread_runs.specs.declared.instruction.Program.{Program}
 use Rattle.thread_runs.specs.declared.state.State.{State}
-use Rattle.thread_runs.specs.Machine.{register, with_register, sum_of, outcome_of, operated, cancels, after, event_of, is_fault, is_load, is_branch, goes}
-use Rattle.thread_runs.specs.Runs.{Walk, Outcome, Thread, InDomain, started, advanced, passed, ends, supplied, obeyed, one, run_from, free_ends, free_obeyed, free_one, free_from}
+use Rattle.thread_runs.specs.Machine.{register, with_register, sum_of, outcome_of, operated, cancels, state_after, event_of, is_fault, is_load, is_branch, takes_branch}
+use Rattle.thread_runs.specs.Runs.{Walk, Outcome, Thread, InDomain, walk_at, walk_after, walk_past, ends, after_load, after_instruction, after_line, run_from, free_ends, after_free_instruction, after_free_line, free_from}
 use Rattle.thread_runs.specs.AllRuns.{thread_of, first_of}
 use Rattle.ppc_semantics.proofs.Starting.{number_at}
 use Rattle.ppc_semantics.specs.Domain.{threads_from, threads_of}
-use Rattle.ppc_semantics.specs.Lowering.{IsProgram, Starts, AreRegisters, number_of, value_of, test_names, entry_names, place_names, value_names, formula_names}
+use Rattle.ppc_semantics.specs.Lowering.{IsProgram, Starts, AreRegisters, name_index, lowered_value, test_names, entry_names, place_names, value_names, formula_names}
 use Rattle.candidates.proofs.Elements.{member_first, member_cases, no_member, joined_there}
 
 -- the value is no address of a location past the first n
@@ -129,7 +129,7 @@ module _ (n : ℕ) where
       (outcome_below o (register s a) (register s b) (h a) (h b))
 
   after_below : (i : Instruction) (v : Value) (s : State) → (is_load i ≡ true → Below n v)
-      → RegistersBelow s → RegistersBelow (after i v s)
+      → RegistersBelow s → RegistersBelow (state_after i v s)
   after_below (Immediate d m) v s loaded h = put_below s d (Number m) tt h
   after_below (Move d a) v s loaded h = put_below s d (register s a) (h a) h
   after_below (AddImmediate d a m) v s loaded h =
@@ -171,7 +171,7 @@ module _ (n : ℕ) where
     pub events : AllBelow w.events
 
   kept_more : (i : Instruction) (b : Bool) (v : Value) (w : Walk) → (is_load i ≡ true → Below n v)
-      → IsKept w → IsKept (advanced i b v w)
+      → IsKept w → IsKept (walk_after i b v w)
   kept_more i b v w loaded h = record {
     registers = after_below i v w.state loaded h.registers;
     events =
@@ -179,7 +179,7 @@ module _ (n : ℕ) where
         (event_below i v w.state loaded h.registers);
   }
 
-  kept_passing : (x : Line) (l : ℕ) (w : Walk) → IsKept w → IsKept (passed x l w)
+  kept_passing : (x : Line) (l : ℕ) (w : Walk) → IsKept w → IsKept (walk_past x l w)
   kept_passing x l w h = record { registers = h.registers; events = h.events }
 
   ends_kept : (f : Bool) (w : Walk) (vs : List Value) (o : Outcome) → ends f w vs ≡ Some o
@@ -191,14 +191,14 @@ module _ (n : ℕ) where
       (rest : (w : Walk) (vs : List Value) (o : Outcome) → go w vs ≡ Some o → All (Below n) vs
       → IsKept w → IsKept o.walk) where
     supplied_kept : (l : Bool) (i : Instruction) (b : Bool) (w : Walk) (vs : List Value)
-        (o : Outcome) → supplied l i b go w vs ≡ Some o → All (Below n) vs → IsKept w
+        (o : Outcome) → after_load l i b go w vs ≡ Some o → All (Below n) vs → IsKept w
         → IsKept o.walk
     supplied_kept true i b w [] o e all h = absurd cc
     supplied_kept true i b w (v ∷ vs) o e all h =
-        rest (advanced i b v w) vs o e (All-tail (Below n) v vs all)
+        rest (walk_after i b v w) vs o e (All-tail (Below n) v vs all)
         (kept_more i b v w (λ _. All-head (Below n) v vs all) h)
     supplied_kept false i b w vs o e all h =
-        rest (advanced i b NoValue w) vs o e all (kept_more i b NoValue w (λ _. tt) h)
+        rest (walk_after i b NoValue w) vs o e all (kept_more i b NoValue w (λ _. tt) h)
 
   abbrev Keeps : List Line → Type 0
   Keeps xs =
@@ -207,16 +207,16 @@ module _ (n : ℕ) where
 
   obeyed_kept : (xs : List Line) → Keeps xs
       → (f : Bool) (i : Instruction) (w : Walk) (vs : List Value) (o : Outcome)
-      → obeyed f i (run_from xs) w vs ≡ Some o → All (Below n) vs → IsKept w → IsKept o.walk
+      → after_instruction f i (run_from xs) w vs ≡ Some o → All (Below n) vs → IsKept w → IsKept o.walk
   obeyed_kept xs rest true i w vs o e all h = ends_kept true w vs o e h
   obeyed_kept xs rest false i w vs o e all h =
-      supplied_kept (run_from xs) rest (is_load i) i (goes i w.state) w vs o e all h
+      supplied_kept (run_from xs) rest (is_load i) i (takes_branch i w.state) w vs o e all h
 
   line_kept : (xs : List Line) → Keeps xs
       → (s : Option ℕ) (x : Line) (w : Walk) (vs : List Value) (o : Outcome)
-      → one s x (run_from xs) w vs ≡ Some o → All (Below n) vs → IsKept w → IsKept o.walk
+      → after_line s x (run_from xs) w vs ≡ Some o → All (Below n) vs → IsKept w → IsKept o.walk
   line_kept xs rest (Some l) x w vs o e all h =
-      rest (passed x l w) vs o e all (kept_passing x l w h)
+      rest (walk_past x l w) vs o e all (kept_passing x l w h)
   line_kept xs rest None (Label m) w vs o e all h = rest w vs o e all h
   line_kept xs rest None (Does i) w vs o e all h =
       obeyed_kept xs rest (is_fault i w.state) i w vs o e all h
@@ -237,7 +237,7 @@ module _ (n : ℕ) where
 
   free_step_kept : (xs : List Line) → KeepsFreely xs
       → (b : Bool) (i : Instruction) (bs : List Bool) (w : Walk) (vs : List Value) (o : Outcome)
-      → free_obeyed b i (free_from xs) w bs vs ≡ Some o → All (Below n) vs → IsKept w
+      → after_free_instruction b i (free_from xs) w bs vs ≡ Some o → All (Below n) vs → IsKept w
       → IsKept o.walk
   free_step_kept xs rest true i [] w vs o e all h = absurd cc
   free_step_kept xs rest true i (b ∷ bs) w vs o e all h =
@@ -247,9 +247,9 @@ module _ (n : ℕ) where
 
   free_line_kept : (xs : List Line) → KeepsFreely xs
       → (s : Option ℕ) (x : Line) (bs : List Bool) (w : Walk) (vs : List Value) (o : Outcome)
-      → free_one s x (free_from xs) w bs vs ≡ Some o → All (Below n) vs → IsKept w → IsKept o.walk
+      → after_free_line s x (free_from xs) w bs vs ≡ Some o → All (Below n) vs → IsKept w → IsKept o.walk
   free_line_kept xs rest (Some l) x bs w vs o e all h =
-      rest bs (passed x l w) vs o e all (kept_passing x l w h)
+      rest bs (walk_past x l w) vs o e all (kept_passing x l w h)
   free_line_kept xs rest None (Label m) bs w vs o e all h = rest bs w vs o e all h
   free_line_kept xs rest None (Does i) bs w vs o e all h =
       free_step_kept xs rest (is_branch i) i bs w vs o e all h
@@ -265,17 +265,17 @@ module _ (t : Test) (p : Program) (is : IsProgram t p) where
   many = length p.initial.items
 
   named_below : (name : List ℕ) → Contains (test_names t) name
-      → number_of p.locations.items name < many
+      → name_index p.locations.items name < many
   named_below name there =
       let c : Contains p.locations.items name = (is.locations.exact name).1 there in
-      let k : c.0 ≡ number_of p.locations.items (get_or p.locations.items c.0 []) = number_at p.locations.items c.0 is.locations.rising c.1 in
+      let k : c.0 ≡ name_index p.locations.items (get_or p.locations.items c.0 []) = number_at p.locations.items c.0 is.locations.rising c.1 in
       let e : get_or p.locations.items c.0 [] ≡ name = get_or_default p.locations.items c.0 [] name c.1 ∙ c.2 in
-      let f : number_of p.locations.items (get_or p.locations.items c.0 []) ≡ number_of p.locations.items name = ap (λ (m : List ℕ). number_of p.locations.items m) e in
+      let f : name_index p.locations.items (get_or p.locations.items c.0 []) ≡ name_index p.locations.items name = ap (λ (m : List ℕ). name_index p.locations.items m) e in
       let lt : c.0 < length p.locations.items = c.1 in
       omega (arith, k, f, lt, is.initial.each_one)
 
   entry_below : (e : InitEntry) → Contains t.init.items e → (w : written.Value) → e.value ≡ w
-      → Below many (value_of p.locations.items w)
+      → Below many (lowered_value p.locations.items w)
   entry_below e there (values.Number m) at = tt
   entry_below e there (values.Address name) at =
       let own : Contains (entry_names e) name = Contains-append_right (place_names e.place) (value_names e.value) name (subst (λ (w : written.Value). Contains (value_names w) name) (sym at) (member_first name [])) in
@@ -340,7 +340,7 @@ module _ (t : Test) (p : Program) (is : IsProgram t p) where
     | inr e ↦ subst (λ (x : Thread). RegistersBelow many x.first) e (first_below k)
   ]
 
-  pub begins_kept : (th : Thread) → Contains (threads_of p) th → IsKept many (started th.first)
+  pub begins_kept : (th : Thread) → Contains (threads_of p) th → IsKept many (walk_at th.first)
   begins_kept th c = record { registers = thread_below (vec_len p.threads) th c; events = tt }
 
   -- so are the values of the domain
@@ -350,5 +350,5 @@ module _ (t : Test) (p : Program) (is : IsProgram t p) where
   domain_below (suc k) v (inl h) = domain_below k v h
   domain_below (suc k) v (inr h) =
       let f = h.0 in
-      let kept : IsKept many f.5.walk = free_kept many f.0.lines f.2 (started f.0.first) f.3 f.5 f.6 (λ i d lt. domain_below k (get_or f.3 i d) (f.4 i d lt)) (begins_kept f.0 f.1) in
+      let kept : IsKept many f.5.walk = free_kept many f.0.lines f.2 (walk_at f.0.first) f.3 f.5 f.6 (λ i d lt. domain_below k (get_or f.3 i d) (f.4 i d lt)) (begins_kept f.0 f.1) in
       (one_below many f.5.walk.events (Writes f.7 v) kept.events f.8).1

@@ -3,7 +3,7 @@ use Rattle.std.proofs.Common.{Vec, ℕ, zero, suc, Some, slice_get, map, HoldsAt
 use Rattle.std.specs.declared.alloc.Global.{Global}
 use Rattle.thread_runs.specs.declared.value.Value.{Value}
 use Rattle.dataflow.specs.DependencyLists.{DependencyLists}
-use Rattle.candidates.specs.Space.{Shown, shown_by, shown_of, Candidate, IsExecution}
+use Rattle.candidates.specs.Space.{Shown, shown_by, shown_of, Candidate, IsCandidateOf}
 use Rattle.run_combinations.specs.declared.combination.Event.{Event}
 use Rattle.candidates.specs.declared.execution.Execution.{Execution}
 
@@ -26,13 +26,13 @@ shown_one d e events dependencies sources order registers =
 
 -- an execution shows what its candidate does
 candidate_shown : (threads : List (Vec (List Value) Global)) (u : Candidate) (x : Execution)
-    → IsExecution threads u.0 u.1 x → shown_of threads u ≡ shown_by x
+    → IsCandidateOf threads u.0 u.1 x → shown_of threads u ≡ shown_by x
 candidate_shown threads u x h =
     shown_one (shown_of threads u) (shown_by x) (sym h.events) (sym h.dependencies) (sym h.sources)
     (sym h.order) (sym h.registers)
 
 pub shown_there : (threads : List (Vec (List Value) Global)) (xs : List Candidate) (index : ℕ)
-    (x : Execution) → index < length xs → HoldsAt (λ u. IsExecution threads u.0 u.1 x) xs index
+    (x : Execution) → index < length xs → HoldsAt (λ u. IsCandidateOf threads u.0 u.1 x) xs index
     → slice_get (map (shown_of threads) xs) index ≡ Some (shown_by x)
 shown_there threads [] index x lt holds = absurd (omega (arith, lt))
 shown_there threads (u ∷ xs) zero x lt holds =

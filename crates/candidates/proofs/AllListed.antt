@@ -4,14 +4,14 @@ use Rattle.std.specs.List.{AllZip, flat_map}
 use Rattle.std.proofs.lemmas.List.Elements.{All-contains, All-tail, All-head, All-weaker}
 use Rattle.text_values.specs.declared.test.Test.{Test}
 use Rattle.thread_runs.specs.declared.value.Value.{Value}
-use Rattle.thread_runs.specs.Runs.{Thread, Run, IsRun, AreRuns}
-use Rattle.thread_runs.specs.ValueSet.{IsOne}
+use Rattle.thread_runs.specs.Runs.{Thread, Run, IsThreadRun, AreThreadRuns}
+use Rattle.thread_runs.specs.ValueSet.{IsProperValue}
 use Rattle.ppc_semantics.specs.Domain.{threads_of}
 use Rattle.candidates.proofs.NoLocation.{over_any_domain}
 use Rattle.candidates.proofs.Elements.{member_cases, member_later, member_first, no_member, mapped_there, joined_there}
 use Rattle.run_combinations.proofs.Numbers.{number_there}
 use Rattle.run_combinations.specs.Events.{is_store, writes}
-use Rattle.candidates.specs.Executions.{Execution, IsExecution, IsOrder, MayRead, loads, stores, stores_at, locations_from, events, product, maps, rows, orders, over_runs}
+use Rattle.candidates.specs.Executions.{Execution, IsExecution, IsStoreOrder, MayRead, loads, stores, stores_at, locations_from, events, product, read_choices, order_choices, orders, over_runs}
 use Rattle.candidates.specs.Laws.{HasAllExecutions}
 use Rattle.run_combinations.specs.Lists.{IsFiltered, none, kept, left}
 use Rattle.run_combinations.specs.declared.combination.Action.TheVariants.{Write}
@@ -51,8 +51,8 @@ product_there {X} (xs ∷ xss) (y ∷ ys) h =
 
 -- runs
 runs_there : (V : List Value) (threads : List Thread) (rss : List (List Run)) (rs : List Run)
-    → AllZip (λ t all. AreRuns t (Contains V) all) threads rss
-    → AllZip (λ t r. IsRun t (Contains V) r) threads rs → AllZip Contains rss rs
+    → AllZip (λ t all. AreThreadRuns t (Contains V) all) threads rss
+    → AllZip (λ t r. IsThreadRun t (Contains V) r) threads rs → AllZip Contains rss rs
 runs_there V [] [] [] h k = tt
 runs_there V [] [] (r ∷ rs) h k = absurd k
 runs_there V [] (all ∷ rss) rs h k = absurd h
@@ -87,8 +87,8 @@ drawn ss (x ∷ order) (suc n) long h = (
   drawn ss order n (omega (arith, long)) (All-tail (Contains ss) x order h),
 )
 
-orders_there : (es : List Event) (ls : List ℕ) (os : List (List ℕ)) → AllZip (IsOrder es) ls os
-    → AllZip Contains (map (rows es) ls) os
+orders_there : (es : List Event) (ls : List ℕ) (os : List (List ℕ)) → AllZip (IsStoreOrder es) ls os
+    → AllZip Contains (map (order_choices es) ls) os
 orders_there es [] [] h = tt
 orders_there es [] (o ∷ os) h = absurd h
 orders_there es (l ∷ ls) [] h = absurd h
@@ -100,7 +100,7 @@ orders_there es (l ∷ ls) (o ∷ os) h = (
 
 -- so all executions over the values are there
 listed : (initial : List Value) (threads : List Thread) (V : List Value) (rss : List (List Run))
-    → AllZip (λ t all. AreRuns t (Contains V) all) threads rss → (x : Execution)
+    → AllZip (λ t all. AreThreadRuns t (Contains V) all) threads rss → (x : Execution)
     → IsExecution initial threads (Contains V) x
     → Contains (flat_map (over_runs initial) (product rss)) x
 listed initial threads V rss are x is =
@@ -111,22 +111,22 @@ listed initial threads V rss are x is =
     (λ reads_from. map
     (λ coherence. record { runs = x.runs; reads_from = reads_from; coherence = coherence })
     (orders es initial))
-    (maps es) x.reads_from x
+    (read_choices es) x.reads_from x
     (product_there (map (λ load. stores es) (loads es)) x.reads_from
     (reads_there es (loads es) x.reads_from is.reads))
     (mapped_there
     (λ coherence. record { runs = x.runs; reads_from = x.reads_from; coherence = coherence })
     (orders es initial) x.coherence
-    (product_there (map (rows es) (locations_from 0 initial)) x.coherence
+    (product_there (map (order_choices es) (locations_from 0 initial)) x.coherence
     (orders_there es (locations_from 0 initial) x.coherence is.orders))))
 
-weaker_runs : (V : List Value) → All IsOne V → (threads : List Thread) (rs : List Run)
-    → AllZip (λ t r. IsRun t (Contains V) r) threads rs → AllZip (λ t r. IsRun t IsOne r) threads rs
+weaker_runs : (V : List Value) → All IsProperValue V → (threads : List Thread) (rs : List Run)
+    → AllZip (λ t r. IsThreadRun t (Contains V) r) threads rs → AllZip (λ t r. IsThreadRun t IsProperValue r) threads rs
 weaker_runs V ones [] [] h = tt
 weaker_runs V ones [] (r ∷ rs) h = absurd h
 weaker_runs V ones (t ∷ threads) [] h = absurd h
 weaker_runs V ones (t ∷ threads) (r ∷ rs) h = (
-  (All-weaker (Contains V) IsOne (λ v c. All-contains IsOne V v ones c) r.values h.0.0, h.0.1),
+  (All-weaker (Contains V) IsProperValue (λ v c. All-contains IsProperValue V v ones c) r.values h.0.0, h.0.1),
   weaker_runs V ones threads rs h.1,
 )
 
@@ -134,7 +134,7 @@ weaker_runs V ones (t ∷ threads) (r ∷ rs) h = (
 pub all_executions : (t : Test) → HasAllExecutions t
 all_executions t initial xs h x = (to, back)
   where
-    to : Contains xs x → IsExecution initial (threads_of h.program) IsOne x
+    to : Contains xs x → IsExecution initial (threads_of h.program) IsProperValue x
     to c =
         let is : IsExecution initial (threads_of h.program) (Contains h.values) x =
         filtered_holds (IsExecution initial (threads_of h.program) (Contains h.values))
@@ -142,13 +142,13 @@ all_executions t initial xs h x = (to, back)
         c in
         record { runs = weaker_runs h.values h.domain.last.set.proper (threads_of h.program) x.runs is.runs; reads = is.reads; orders = is.orders; acyclic = is.acyclic }
 
-    back : IsExecution initial (threads_of h.program) IsOne x → Contains xs x
+    back : IsExecution initial (threads_of h.program) IsProperValue x → Contains xs x
     back is =
         let over : IsExecution initial (threads_of h.program) (Contains h.values) x =
         subst (λ (vs : List Value). IsExecution vs (threads_of h.program) (Contains h.values) x)
         (sym h.starts)
         (over_any_domain t h.program h.values h.of_test h.domain.last x (subst
-        (λ (vs : List Value). IsExecution vs (threads_of h.program) IsOne x) h.starts
+        (λ (vs : List Value). IsExecution vs (threads_of h.program) IsProperValue x) h.starts
         is)) in
         filtered_there (IsExecution initial (threads_of h.program) (Contains h.values))
         (flat_map (over_runs initial) (product h.executions.runs)) xs h.executions.executions x

@@ -18,12 +18,12 @@ use Rattle.thread_runs.specs.declared.instruction.Event.TheVariants as does
 use Rattle.thread_runs.specs.declared.instruction.Line.{Line}
 use Rattle.thread_runs.specs.declared.instruction.Program.{Program}
 use Rattle.thread_runs.specs.Machine.{is_load as loads_from}
-use Rattle.thread_runs.specs.Runs.{Thread, Run, IsRun, InDomain, StoresFreely, executed, loaded_at, started}
+use Rattle.thread_runs.specs.Runs.{Thread, Run, IsThreadRun, InDomain, StoresFreely, executed, loaded_at, walk_at}
 use Rattle.thread_runs.specs.AllRuns.{thread_of, lines_at}
-use Rattle.thread_runs.specs.ValueSet.{IsOne}
-use Rattle.ppc_semantics.specs.Domain.{IsRound, threads_from, threads_of, has_load, load_total}
-use Rattle.dataflow.specs.Chains.{IsNeed, event_place}
-use Rattle.dataflow.specs.Execution.{Way}
+use Rattle.thread_runs.specs.ValueSet.{IsProperValue}
+use Rattle.ppc_semantics.specs.Domain.{IsDomainAt, threads_from, threads_of, has_load, load_total}
+use Rattle.dataflow.specs.Chains.{IsNeed, event_index}
+use Rattle.dataflow.specs.Execution.{EdgePath}
 use Rattle.dataflow.proofs.DomainLaw.{all_there, stored_freely}
 use Rattle.candidates.proofs.Elements.{member_cases, member_later, member_first, no_member, behind_first, within_first}
 use Rattle.candidates.proofs.LoadValues.{read_in, values_read, loads_few}
@@ -256,10 +256,10 @@ no_initial_load at (w ∷ vs) (suc k) e l v there is = no_initial_load (at + 1) 
 pub record RunOf (P : Value → Type 0) (threads : List Thread) (r : Run) : Type 0 where
   pub thread : Thread
   pub there : Contains threads thread
-  pub is : IsRun thread P r
+  pub is : IsThreadRun thread P r
 
 pub thread_of_run : (P : Value → Type 0) (threads : List Thread) (rs : List Run) (its : ℕ) (r : Run)
-    → AllZip (λ t r. IsRun t P r) threads rs → slice_get rs its ≡ Some r → RunOf P threads r
+    → AllZip (λ t r. IsThreadRun t P r) threads rs → slice_get rs its ≡ Some r → RunOf P threads r
 thread_of_run P [] [] its r h there = absurd cc
 thread_of_run P [] (q ∷ rs) its r h there = absurd h
 thread_of_run P (t ∷ threads) [] its r h there = absurd h
@@ -267,14 +267,14 @@ thread_of_run P (t ∷ threads) (q ∷ rs) zero r h there =
     record {
       thread = t;
       there = member_first t threads;
-      is = subst (λ (s : Run). IsRun t P s) (same_Some _ _ there) h.0;
+      is = subst (λ (s : Run). IsThreadRun t P s) (same_Some _ _ there) h.0;
     }
 thread_of_run P (t ∷ threads) (q ∷ rs) (suc k) r h there =
     let o : RunOf P threads r = thread_of_run P threads rs k r h.1 there in record { thread = o.thread; there = member_later t threads o.thread o.there; is = o.is }
 
-located : (P : Value → Type 0) (t : Thread) (r : Run) → IsRun t P r
+located : (P : Value → Type 0) (t : Thread) (r : Run) → IsThreadRun t P r
     → AreLocated r.outcome.walk.events
-located P t r is = run_located t.lines (started t.first) r.values r.outcome is.1 tt
+located P t r is = run_located t.lines (walk_at t.first) r.values r.outcome is.1 tt
 
 zip_at : {X Y : Type 0} (R : X → Y → Type 0) (xs : List X) (ys : List Y) (k : ℕ) (d : X) (c : Y)
     → AllZip R xs ys → k < length xs → R (get_or xs k d) (get_or ys k c)
@@ -294,7 +294,7 @@ value_at None = NoValue
 value_at (Some e) = value_of e.action
 
 module _ (initial : List Value) (threads : List Thread) (some : Value)
-    (begins : Contains initial some) (x : Execution) (is : IsExecution initial threads IsOne x)
+    (begins : Contains initial some) (x : Execution) (is : IsExecution initial threads IsProperValue x)
   where
     abbrev es : List Event
     es = events initial x.runs
@@ -328,7 +328,7 @@ module _ (initial : List Value) (threads : List Thread) (some : Value)
         AllZip-long (MayRead es) (loads es) x.reads_from is.reads in
         (l, omega (arith, lt, long), lt, refl, refl)
 
-    longer : (a : ℕ) (through : List ℕ) (b : ℕ) → Way Before a through b
+    longer : (a : ℕ) (through : List ℕ) (b : ℕ) → EdgePath Before a through b
         → (nodes : List ℕ)
         × Path (Union (IsDependency IsNeed initial x.runs) (ReadsFrom (loads es) x.reads_from))
         (load a) nodes (load b)
@@ -344,11 +344,11 @@ module _ (initial : List Value) (threads : List Thread) (some : Value)
         elim (origin (initial_stores 0 initial) 0 x.runs (load l) m.2.0 m.2.1) [
           | inl i ↦ no_initial_load 0 initial (load l) m.2.0 m.0 m.1 i m.2.2
           | inr o ↦
-              let t : RunOf IsOne threads o.run = thread_of_run IsOne threads x.runs o.its o.run is.runs o.its_run in
-              let r : Raw o.run.outcome.walk.events o.index m.2.0.action = raw_at (0 + o.its) o.run.outcome.walk.events (located IsOne t.thread o.run t.is) o.index m.2.0 o.there in
+              let t : RunOf IsProperValue threads o.run = thread_of_run IsProperValue threads x.runs o.its o.run is.runs o.its_run in
+              let r : Raw o.run.outcome.walk.events o.index m.2.0.action = raw_at (0 + o.its) o.run.outcome.walk.events (located IsProperValue t.thread o.run t.is) o.index m.2.0 o.there in
               let a : (a : Value) × (r.event ≡ does.Reads a m.1) = read_is r.event m.0 m.1 (r.does ∙ ap (λ (y : Action). Some y) m.2.2) in
               let c : Contains (read_in o.run.outcome.walk.events) m.1 = value_read o.run.outcome.walk.events o.index a.0 m.1 (r.there ∙ ap (λ (y : run.Event). Some y) a.1) in
-              All-contains IsOne o.run.values m.1 t.is.0
+              All-contains IsProperValue o.run.values m.1 t.is.0
               (subst (λ (vs : List Value). Contains vs m.1)
               (values_read t.thread.lines t.thread.first o.run.values o.run.outcome t.is.1) c)
               none
@@ -358,18 +358,18 @@ module _ (initial : List Value) (threads : List Thread) (some : Value)
     step_value : (its : ℕ) (r : Run) → slice_get x.runs its ≡ Some r → (i : ℕ)
         → loads_from (executed r.outcome.walk.steps i) ≡ true
         → value_at (slice_get es (length (events initial (take its x.runs))
-        + event_place (executed r.outcome.walk.steps) i))
+        + event_index (executed r.outcome.walk.steps) i))
         ≡ loaded_at r.outcome.walk.steps i
     step_value its r there i load =
-        let t : RunOf IsOne threads r = thread_of_run IsOne threads x.runs its r is.runs there in
-        let h : AreLocated r.outcome.walk.events = located IsOne t.thread r t.is in
+        let t : RunOf IsProperValue threads r = thread_of_run IsProperValue threads x.runs its r is.runs there in
+        let h : AreLocated r.outcome.walk.events = located IsProperValue t.thread r t.is in
         let lt : i < length r.outcome.walk.steps = in_run r.outcome.walk.steps i (load_is (executed r.outcome.walk.steps i) load) in
-        let own : (a : Value) × (slice_get r.outcome.walk.events (event_place (executed r.outcome.walk.steps) i) ≡ Some (does.Reads a (loaded_at r.outcome.walk.steps i))) = loaded_there t.thread.lines t.thread.first r.values r.outcome t.is.1 i lt load in
-        let a : (a : Action) × (action_in (does.Reads own.0 (loaded_at r.outcome.walk.steps i)) ≡ Some a) = located_at r.outcome.walk.events h (event_place (executed r.outcome.walk.steps) i) (does.Reads own.0 (loaded_at r.outcome.walk.steps i)) own.1 in
+        let own : (a : Value) × (slice_get r.outcome.walk.events (event_index (executed r.outcome.walk.steps) i) ≡ Some (does.Reads a (loaded_at r.outcome.walk.steps i))) = loaded_there t.thread.lines t.thread.first r.values r.outcome t.is.1 i lt load in
+        let a : (a : Action) × (action_in (does.Reads own.0 (loaded_at r.outcome.walk.steps i)) ≡ Some a) = located_at r.outcome.walk.events h (event_index (executed r.outcome.walk.steps) i) (does.Reads own.0 (loaded_at r.outcome.walk.steps i)) own.1 in
         ap value_at (event_of_run (initial_stores 0 initial) 0 x.runs its
-        (event_place (executed r.outcome.walk.steps) i) r
+        (event_index (executed r.outcome.walk.steps) i) r
         (record { thread = Some (0 + its); action = a.0 }) there
-        (event_at (0 + its) r.outcome.walk.events h (event_place (executed r.outcome.walk.steps) i)
+        (event_at (0 + its) r.outcome.walk.events h (event_index (executed r.outcome.walk.steps) i)
         (does.Reads own.0 (loaded_at r.outcome.walk.steps i)) a.0 own.1 a.1))
         ∙ (read_action own.0 (loaded_at r.outcome.walk.steps i) a.0 a.1).1
 
@@ -401,12 +401,12 @@ module _ (initial : List Value) (threads : List Thread) (some : Value)
         m : MayRead es (load l) (store l)
         m = read l lt
 
-        t : RunOf IsOne threads o.run
-        t = thread_of_run IsOne threads x.runs o.its o.run is.runs o.its_run
+        t : RunOf IsProperValue threads o.run
+        t = thread_of_run IsProperValue threads x.runs o.its o.run is.runs o.its_run
 
         r : Raw o.run.outcome.walk.events o.index (read l lt).3.0.action
         r =
-            raw_at (0 + o.its) o.run.outcome.walk.events (located IsOne t.thread o.run t.is) o.index
+            raw_at (0 + o.its) o.run.outcome.walk.events (located IsProperValue t.thread o.run t.is) o.index
             (read l lt).3.0 o.there
 
         s : StoredAt t.thread.first o.run.outcome o.index (read l lt).1
@@ -419,7 +419,7 @@ module _ (initial : List Value) (threads : List Thread) (some : Value)
         dependency : (i : ℕ) → IsNeed (executed o.run.outcome.walk.steps) i s.step
             → IsDependency IsNeed initial x.runs
             (length (events initial (take o.its x.runs))
-            + event_place (executed o.run.outcome.walk.steps) i)
+            + event_index (executed o.run.outcome.walk.steps) i)
             (store l)
         dependency i need = record {
           thread = o.its;
@@ -435,8 +435,8 @@ module _ (initial : List Value) (threads : List Thread) (some : Value)
         needed : (i : ℕ) → IsNeed (executed o.run.outcome.walk.steps) i s.step
             → InDomain initial threads k (loaded_at o.run.outcome.walk.steps i)
         needed i need =
-            let at : ℕ = length (events initial (take o.its x.runs)) + event_place (executed o.run.outcome.walk.steps) i in
-            let n : Nth at = nth_load at (needed_load IsOne threads initial x.runs is.runs at (store l) (dependency i need)) in
+            let at : ℕ = length (events initial (take o.its x.runs)) + event_index (executed o.run.outcome.walk.steps) i in
+            let n : Nth at = nth_load at (needed_load IsProperValue threads initial x.runs is.runs at (store l) (dependency i need)) in
             subst (λ (v : Value). InDomain initial threads k v) (ap
             (λ (j : ℕ). value_at (slice_get es j)) n.at
             ∙ step_value o.its o.run o.its_run i need.0)
@@ -467,8 +467,8 @@ module _ (initial : List Value) (threads : List Thread) (some : Value)
     pub value_in : (its : ℕ) (r : Run) → slice_get x.runs its ≡ Some r → (v : Value)
         → Contains r.values v → InDomain initial threads count v
     value_in its r there v c =
-        let t : RunOf IsOne threads r = thread_of_run IsOne threads x.runs its r is.runs there in
-        let h : AreLocated r.outcome.walk.events = located IsOne t.thread r t.is in
+        let t : RunOf IsProperValue threads r = thread_of_run IsProperValue threads x.runs its r is.runs there in
+        let h : AreLocated r.outcome.walk.events = located IsProperValue t.thread r t.is in
         let q : ReadAt r.outcome.walk.events v = read_at r.outcome.walk.events v (subst (λ (vs : List Value). Contains vs v) (sym (values_read t.thread.lines t.thread.first r.values r.outcome t.is.1)) c) in
         let a : (a : Action) × (action_in (does.Reads q.address v) ≡ Some a) = located_at r.outcome.walk.events h q.index (does.Reads q.address v) q.there in
         let e : Event = record { thread = Some (0 + its); action = a.0 } in
@@ -492,7 +492,7 @@ text_push [] t = omega arith
 text_push (u ∷ ts) t = omega (arith, text_push ts t)
 
 runs_few : (P : Value → Type 0) (threads : List Thread) (rs : List Run) (t : ℕ)
-    → AllZip (λ t r. IsRun t P r) threads rs
+    → AllZip (λ t r. IsThreadRun t P r) threads rs
     → length (filter is_load (events_from t rs)) ≤ text_loads threads
 runs_few P [] [] t h = omega arith
 runs_few P [] (r ∷ rs) t h = absurd h
@@ -519,7 +519,7 @@ no_loads at [] = refl
 no_loads at (v ∷ vs) = no_loads (at + 1) vs
 
 loads_of_text : (P : Value → Type 0) (initial : List Value) (threads : List Thread) (rs : List Run)
-    → AllZip (λ t r. IsRun t P r) threads rs
+    → AllZip (λ t r. IsThreadRun t P r) threads rs
     → length (loads (events initial rs)) ≤ text_loads threads
 loads_of_text P initial threads rs h =
     let a : length (filter is_load (events initial rs)) ≡ length (loads (events initial rs)) = as_many is_load 0 (events initial rs) in
@@ -575,13 +575,13 @@ zip_as R S (x ∷ xs) (y ∷ ys) each h =
     (each 0 x y refl h.0, zip_as R S xs ys (λ k u w e r. each (suc k) u w e r) h.1)
 
 -- the law
-pub over_domain : (p : Program) (V : List Value) (some : Value) → IsRound p (load_total p) V
+pub over_domain : (p : Program) (V : List Value) (some : Value) → IsDomainAt p (load_total p) V
     → Contains p.initial.items some → (x : Execution)
-    → IsExecution p.initial.items (threads_of p) IsOne x
+    → IsExecution p.initial.items (threads_of p) IsProperValue x
     → IsExecution p.initial.items (threads_of p) (Contains V) x
 over_domain p V some d begins x is = record {
   runs =
-      zip_as (λ t r. IsRun t IsOne r) (λ t r. IsRun t (Contains V) r) (threads_of p) x.runs
+      zip_as (λ t r. IsThreadRun t IsProperValue r) (λ t r. IsThreadRun t (Contains V) r) (threads_of p) x.runs
       (λ its t r there h. (
         (λ k v lt. in_values its r there (get_or r.values k v)
             (Contains-get_or r.values k v lt)),
@@ -594,7 +594,7 @@ over_domain p V some d begins x is = record {
   where
     few : length (loads (events p.initial.items x.runs)) ≤ load_total p
     few =
-        omega (arith, loads_of_text IsOne p.initial.items (threads_of p) x.runs is.runs, text_few p)
+        omega (arith, loads_of_text IsProperValue p.initial.items (threads_of p) x.runs is.runs, text_few p)
 
     in_values : (its : ℕ) (r : Run) → slice_get x.runs its ≡ Some r → (v : Value)
         → Contains r.values v → Contains V v

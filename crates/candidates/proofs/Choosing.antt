@@ -9,7 +9,7 @@ use Rattle.candidates.specs.Executions.{product}
 use Rattle.run_combinations.specs.Events.{CannotRead}
 use Rattle.run_combinations.specs.Layouts.{ArePartsOf, AreThreadsOf, AreChosen, chosen_events, HasRun, HaveParts, IsLaidOut}
 use Rattle.run_combinations.specs.Parts.{IsPartOf}
-use Rattle.run_combinations.specs.Search.{PrefixLists, with_run, combinations, start, all_combinations}
+use Rattle.run_combinations.specs.Search.{PrefixLists, with_run, combinations, initial_prefix, all_combinations}
 use Rattle.run_combinations.specs.declared.combination.Event.{Event}
 use Rattle.thread_runs.specs.declared.instruction.Program.{Program}
 use Rattle.run_combinations.specs.declared.layout.Layout.{Layout}
@@ -261,7 +261,7 @@ choices_made thread (v ∷ vs) (t ∷ ts) b h out =
     (λ j le has. has)
 
 pub layout_choices : (p : Program) (runs : List (Vec Run Global)) (l : Layout) → IsLaidOut p runs l
-    → AreChoices 0 (start l.initial.items) l.threads.items (product (runs_in runs))
+    → AreChoices 0 (initial_prefix l.initial.items) l.threads.items (product (runs_in runs))
     (all_combinations l)
 layout_choices p runs l o =
-    choices_made 0 runs l.threads.items (start l.initial.items) o.threads o.left_out
+    choices_made 0 runs l.threads.items (initial_prefix l.initial.items) o.threads o.left_out

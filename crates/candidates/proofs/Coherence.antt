@@ -6,7 +6,7 @@ use Rattle.std.proofs.lemmas.Bool.{or_parts}
 use Rattle.std.proofs.lemmas.Option.{same_Some}
 use Rattle.candidates.proofs.Products.{FilteredEach, filter_of_products, filter_twice, filter_as}
 use Rattle.candidates.proofs.ReadsFrom.{tuples_are}
-use Rattle.candidates.specs.Executions.{IsOrder, product, rows, stores_at}
+use Rattle.candidates.specs.Executions.{IsStoreOrder, product, order_choices, stores_at}
 use Rattle.run_combinations.specs.Lists.{tuples, IsFiltered, none, kept, left}
 use Rattle.run_combinations.specs.Events.{has_store, AreDistinct}
 use Rattle.run_combinations.specs.Orders.{are_distinct, orders_of}
@@ -183,7 +183,7 @@ orders_found first others apart =
 -- in the words of executions
 order_of : (es : List Event) (location : ℕ) (others order : List ℕ)
     → stores_at es location ≡ location ∷ others → Orders location (location ∷ others) order
-    → IsOrder es location order
+    → IsStoreOrder es location order
 order_of es location others order e h = record {
   initial = h.initial;
   stores = subst (λ (ss : List ℕ). All (Contains ss) order) (sym e) h.stores;
@@ -192,7 +192,7 @@ order_of es location others order e h = record {
 }
 
 order_is : (es : List Event) (location : ℕ) (others order : List ℕ)
-    → stores_at es location ≡ location ∷ others → IsOrder es location order
+    → stores_at es location ≡ location ∷ others → IsStoreOrder es location order
     → Orders location (location ∷ others) order
 order_is es location others order e h = record {
   initial = h.initial;
@@ -203,10 +203,10 @@ order_is es location others order e h = record {
 
 pub location_orders : (es : List Event) (location : ℕ) (others : List ℕ)
     → stores_at es location ≡ location ∷ others → has_store others location ≡ false
-    → IsFiltered (IsOrder es location) (rows es location) (orders_of location others)
+    → IsFiltered (IsStoreOrder es location) (order_choices es location) (orders_of location others)
 location_orders es location others e apart =
-    filter_as (Orders location (location ∷ others)) (IsOrder es location)
-    (λ o. (order_of es location others o e, order_is es location others o e)) (rows es location)
+    filter_as (Orders location (location ∷ others)) (IsStoreOrder es location)
+    (λ o. (order_of es location others o e, order_is es location others o e)) (order_choices es location)
     (orders_of location others)
     (subst
     (λ (ss : List ℕ). IsFiltered (Orders location (location ∷ others))

@@ -10,7 +10,7 @@ use Rattle.thread_runs.specs.declared.value.Value.{Value}
 use Rattle.thread_runs.specs.declared.value.Value.TheVariants.{Number, Address, NoValue}
 use Rattle.thread_runs.specs.declared.instruction.Event as run
 use Rattle.thread_runs.specs.declared.instruction.Event.TheVariants.{Reads, Writes, Orders}
-use Rattle.thread_runs.specs.Runs.{Run, started}
+use Rattle.thread_runs.specs.Runs.{Run, walk_at}
 use Rattle.ppc_semantics.specs.Domain.{threads_of, load_total}
 use Rattle.candidates.proofs.Addresses.{AllBelow, one_below, run_kept, begins_kept, domain_below}
 use Rattle.candidates.proofs.AnyValues.{RunOf, thread_of_run}
@@ -18,8 +18,8 @@ use Rattle.candidates.proofs.Elements.{member_cases, member_first, member_later,
 use Rattle.candidates.proofs.NoLocation.{over_any_domain}
 use Rattle.run_combinations.proofs.Numbers.{Numbered, contained, number_there}
 use Rattle.candidates.proofs.OneOutcome.{without, one_fewer, still_there}
-use Rattle.run_combinations.specs.Events.{AreDistinct, has_store, action_in, with_action, thread_events, initial_stores, is_store, writes_to}
-use Rattle.candidates.specs.Executions.{IsExecution, IsOrder, events, events_from, stores_at, locations_from}
+use Rattle.run_combinations.specs.Events.{AreDistinct, has_store, action_in, with_action, thread_events, initial_stores, is_store, is_store_to}
+use Rattle.candidates.specs.Executions.{IsExecution, IsStoreOrder, events, events_from, stores_at, locations_from}
 use Rattle.candidates.specs.Laws.{CoversEachStore}
 use Rattle.run_combinations.specs.declared.combination.Action.{Action}
 use Rattle.run_combinations.specs.declared.combination.Action.TheVariants.{Read, Write, Fence}
@@ -129,20 +129,20 @@ all_stand order ss k distinct there many c = go (has_store order k) refl
 record OrderAt (es : List Event) (coherence : List (List ℕ)) (k l : ℕ) : Type 0 where
   order : List ℕ
   found : slice_get coherence k ≡ Some order
-  is : IsOrder es l order
+  is : IsStoreOrder es l order
 
 order_at : (es : List Event) (m : ℕ) (vs : List Value) (coherence : List (List ℕ)) (k : ℕ)
-    → AllZip (IsOrder es) (locations_from m vs) coherence → k < length vs
+    → AllZip (IsStoreOrder es) (locations_from m vs) coherence → k < length vs
     → OrderAt es coherence k (m + k)
 order_at es m [] coherence k h lt = absurd (omega (arith, lt))
 order_at es m (v ∷ vs) [] k h lt = absurd h
 order_at es m (v ∷ vs) (o ∷ os) zero h lt =
     let e : m ≡ m + 0 = omega arith in
-    record { order = o; found = refl; is = subst (λ (l : ℕ). IsOrder es l o) e h.0 }
+    record { order = o; found = refl; is = subst (λ (l : ℕ). IsStoreOrder es l o) e h.0 }
 order_at es m (v ∷ vs) (o ∷ os) (suc k) h lt =
     let rest : OrderAt es os k ((m + 1) + k) = order_at es (m + 1) vs os k h.1 (omega (arith, lt)) in
     let e : (m + 1) + k ≡ m + suc k = omega arith in
-    record { order = rest.order; found = rest.found; is = subst (λ (l : ℕ). IsOrder es l rest.order) e rest.is }
+    record { order = rest.order; found = rest.found; is = subst (λ (l : ℕ). IsStoreOrder es l rest.order) e rest.is }
 
 -- what an event that is a store does
 record StoreOf (a : Action) : Type 0 where
@@ -176,10 +176,10 @@ covers t p V x is domain executes store c =
     let lt : s.location < length p.initial.items = all_below found.item s.location s.value (event_there es store found.item there) s.is in
     let o : OrderAt es x.coherence s.location (0 + s.location) = order_at es 0 p.initial.items x.coherence s.location executes.orders lt in
     let zeroth : 0 + s.location ≡ s.location = omega arith in
-    let i : IsOrder es s.location o.order = subst (λ (l : ℕ). IsOrder es l o.order) zeroth o.is in
-    let writes : writes_to s.location found.item.action ≡ true = ap (λ (a : Action). writes_to s.location a) s.is ∙ eq-eqb s.location s.location refl in
+    let i : IsStoreOrder es s.location o.order = subst (λ (l : ℕ). IsStoreOrder es l o.order) zeroth o.is in
+    let writes : is_store_to s.location found.item.action ≡ true = ap (λ (a : Action). is_store_to s.location a) s.is ∙ eq-eqb s.location s.location refl in
     let first : 0 + store ≡ store = omega arith in
-    let own : Contains (stores_at es s.location) store = subst (λ (k : ℕ). Contains (stores_at es s.location) k) first (number_there (λ e. writes_to s.location e.action) 0 es store found.item there writes) in
+    let own : Contains (stores_at es s.location) store = subst (λ (k : ℕ). Contains (stores_at es s.location) k) first (number_there (λ e. is_store_to s.location e.action) 0 es store found.item there writes) in
     record {
       location = s.location;
       value = s.value;
@@ -202,7 +202,7 @@ covers t p V x is domain executes store c =
         → AllBelow (length p.initial.items) r.outcome.walk.events
     run_below its r there =
         let o : RunOf (Contains V) (threads_of p) r = thread_of_run (Contains V) (threads_of p) x.runs its r over.runs there in
-        (run_kept (length p.initial.items) o.thread.lines (started o.thread.first) r.values
+        (run_kept (length p.initial.items) o.thread.lines (walk_at o.thread.first) r.values
         r.outcome o.is.1
         (λ i d lt. domain_below t p is (load_total p) (get_or r.values i d)
         ((domain.exact (get_or r.values i d)).0 (o.is.0 i d lt)))

@@ -10,7 +10,7 @@ use Rattle.run_combinations.specs.Events.{numbers, is_load, is_store, ReadsFrom}
 use Rattle.run_combinations.specs.Lists.{tuples, IsFiltered, none, kept, left}
 use Rattle.run_combinations.specs.Search.{PrefixLists}
 use Rattle.run_combinations.specs.Combinations.{CombinationLists}
-use Rattle.run_combinations.specs.Ways.{AreWays, IsWay, accesses_in}
+use Rattle.run_combinations.specs.Ways.{AreReadChoices, IsReadChoice, accesses_in}
 use Rattle.run_combinations.specs.declared.combination.Event.{Event}
 
 -- a fact is decided
@@ -288,7 +288,7 @@ union_edges R S f g = record {
 }
 
 way_decided : (es : List Event) (pairs : List (ℕ × ℕ)) (way : List ℕ)
-    → Decided (IsWay (accesses_in es pairs) way)
+    → Decided (IsReadChoice (accesses_in es pairs) way)
 way_decided es pairs way =
     let need : Found (accesses_in es pairs).Need =
     found_as
@@ -321,12 +321,12 @@ pub combined : (n : ℕ) (bs : List PrefixLists)
 combined n [] = ([], nothing_left)
 combined n (b ∷ bs) =
     go
-    (filtered (IsWay (accesses_in b.combination.events b.needs))
+    (filtered (IsReadChoice (accesses_in b.combination.events b.needs))
     (way_decided b.combination.events b.needs) (tuples []
     (accesses_in b.combination.events b.needs).sources))
     (combined n bs)
   where
-    go : ((ways : List (List ℕ)) × AreWays b.combination.events b.needs ways)
+    go : ((ways : List (List ℕ)) × AreReadChoices b.combination.events b.needs ways)
         → ((cs : List CombinationLists) × AreCombinations n bs cs)
         → (cs : List CombinationLists) × AreCombinations n (b ∷ bs) cs
     go ([], are) rest = (rest.0, without are rest.1)

@@ -5,18 +5,18 @@ use Rattle.std.proofs.lemmas.Bool.{cases_eq}
 use Rattle.bit_relations.specs.Pairs.{Union, IsAcyclic}
 use Rattle.thread_runs.specs.declared.value.Value.{Value}
 use Rattle.thread_runs.specs.declared.instruction.Event as run
-use Rattle.thread_runs.specs.Runs.{Thread, Run, IsRun}
+use Rattle.thread_runs.specs.Runs.{Thread, Run, IsThreadRun}
 use Rattle.dataflow.specs.Chains.{IsNeed}
 use Rattle.candidates.proofs.Coherence.{location_orders}
 use Rattle.run_combinations.proofs.Counting.{eq_true, numbers_above}
 use Rattle.candidates.proofs.Products.{FilteredEach, filter_of_product, filter_of_products}
 use Rattle.candidates.proofs.ReadsFrom.{reads_found}
-use Rattle.candidates.specs.Executions.{Execution, IsExecution, IsDependency, IsOrder, MayRead, product, maps, rows, orders, over_runs, loads, stores_at, locations_from, events, events_from}
+use Rattle.candidates.specs.Executions.{Execution, IsExecution, IsDependency, IsStoreOrder, MayRead, product, read_choices, order_choices, orders, over_runs, loads, stores_at, locations_from, events, events_from}
 use Rattle.candidates.specs.Listed.{ChoosesApart, IsReadsFrom, IsCoherence}
 use Rattle.run_combinations.specs.Lists.{IsFiltered}
-use Rattle.run_combinations.specs.Events.{numbers, has_store, writes_to, thread_events, with_action, action_in, initial_stores, ReadsFrom}
+use Rattle.run_combinations.specs.Events.{numbers, has_store, is_store_to, thread_events, with_action, action_in, initial_stores, ReadsFrom}
 use Rattle.run_combinations.specs.Orders.{orders_of, is_thread_store}
-use Rattle.run_combinations.specs.Ways.{AreWays, accesses_in}
+use Rattle.run_combinations.specs.Ways.{AreReadChoices, accesses_in}
 use Rattle.run_combinations.specs.declared.combination.Action.{Action}
 use Rattle.run_combinations.specs.declared.combination.Event.{Event}
 
@@ -47,15 +47,15 @@ runs_in_threads t (r ∷ rs) =
 
 -- of these all stores are stores of threads
 abbrev stores_from : ℕ → ℕ → List Event → List ℕ
-stores_from location at es = numbers (λ e. writes_to location e.action) at es
+stores_from location at es = numbers (λ e. is_store_to location e.action) at es
 
 thread_stores : (l at : ℕ) (es : List Event) → InThreads es
     → stores_from l at es ≡ numbers (is_thread_store l) at es
 thread_stores l at [] h = refl
 thread_stores l at (e ∷ es) h =
-    ap (λ (ns : List ℕ). cond (writes_to l e.action) (at ∷ ns) ns) (thread_stores l (at + 1) es h.1)
+    ap (λ (ns : List ℕ). cond (is_store_to l e.action) (at ∷ ns) ns) (thread_stores l (at + 1) es h.1)
     ∙ ap
-    (λ (o : Option ℕ). cond (is_some o && writes_to l e.action)
+    (λ (o : Option ℕ). cond (is_some o && is_store_to l e.action)
     (at ∷ numbers (is_thread_store l) (at + 1) es)
     (numbers (is_thread_store l) (at + 1) es))
     (sym h.0.1)
@@ -132,8 +132,8 @@ module _ (initial : List Value) (runs : List Run) where
       ∙ numbers_above (is_thread_store l) (length initial) (events_from 0 runs) l lt
 
   each_location : (at : ℕ) (vs : List Value) → at + length vs ≡ length initial
-      → FilteredEach (IsOrder (events initial runs)) (locations_from at vs)
-      (map (rows (events initial runs)) (locations_from at vs)) (map
+      → FilteredEach (IsStoreOrder (events initial runs)) (locations_from at vs)
+      (map (order_choices (events initial runs)) (locations_from at vs)) (map
       (λ l. orders_of l (others_at (events initial runs) l)) (locations_from at vs))
   each_location at [] e = tt
   each_location at (v ∷ vs) e =
@@ -144,11 +144,11 @@ module _ (initial : List Value) (runs : List Run) where
       )
 
   pub orders_filtered : IsFiltered
-      (AllZip (IsOrder (events initial runs)) (locations_from 0 initial))
+      (AllZip (IsStoreOrder (events initial runs)) (locations_from 0 initial))
       (orders (events initial runs) initial) (product (orders_at (events initial runs) initial))
   orders_filtered =
-      filter_of_products (IsOrder (events initial runs)) (locations_from 0 initial)
-      (map (rows (events initial runs)) (locations_from 0 initial))
+      filter_of_products (IsStoreOrder (events initial runs)) (locations_from 0 initial)
+      (map (order_choices (events initial runs)) (locations_from 0 initial))
       (orders_at (events initial runs) initial) (each_location 0 initial (omega arith))
 
   -- an execution of these runs
@@ -158,12 +158,12 @@ module _ (initial : List Value) (runs : List Run) where
   -- the executions among all that can be put together of these runs: each way to read with each
   -- order of the stores
   pub executions_found : (threads : List Thread) (V : List Value) (pairs : List (ℕ × ℕ))
-      → AllZip (λ t r. IsRun t (Contains V) r) threads runs
+      → AllZip (λ t r. IsThreadRun t (Contains V) r) threads runs
       → ((a b : ℕ) → IsDependency IsNeed initial runs a b
       → (accesses_in (events initial runs) pairs).Need a b)
       → ((a b : ℕ) → (accesses_in (events initial runs) pairs).Need a b
       → IsDependency IsNeed initial runs a b) → (ways : List (List ℕ))
-      → AreWays (events initial runs) pairs ways
+      → AreReadChoices (events initial runs) pairs ways
       → IsFiltered (IsExecution initial threads (Contains V)) (over_runs initial runs)
       (flat_map
       (λ way. map (executed_so way) (product (orders_at (events initial runs) initial)))
@@ -173,13 +173,13 @@ module _ (initial : List Value) (runs : List Run) where
       (λ way. AllZip (MayRead (events initial runs)) (loads (events initial runs)) way
       × IsAcyclic (Union (IsDependency IsNeed initial runs)
       (ReadsFrom (loads (events initial runs)) way)))
-      (AllZip (IsOrder (events initial runs)) (locations_from 0 initial))
+      (AllZip (IsStoreOrder (events initial runs)) (locations_from 0 initial))
       (IsExecution initial threads (Contains V)) executed_so
       (λ way order. (
         (λ x. ((x.reads, x.acyclic), x.orders)),
         (λ p. record { runs = are; reads = p.0.0; orders = p.1; acyclic = p.0.1 }),
       ))
-      (maps (events initial runs)) ways (orders (events initial runs) initial)
+      (read_choices (events initial runs)) ways (orders (events initial runs) initial)
       (product (orders_at (events initial runs) initial))
       (reads_found (events initial runs) pairs (IsDependency IsNeed initial runs) there back ways
       found) orders_filtered
@@ -194,4 +194,4 @@ chosen_apart initial threads V runs reads coherences are r o =
       (λ x. ((x.reads, x.acyclic), x.orders)),
       (λ p. record { runs = are; reads = p.0.0; orders = p.1; acyclic = p.0.1 }),
     ))
-    (maps (events initial runs)) reads (orders (events initial runs) initial) coherences r o
+    (read_choices (events initial runs)) reads (orders (events initial runs) initial) coherences r o

@@ -10,8 +10,8 @@ use Rattle.thread_runs.specs.declared.instruction.RunStep.{RunStep}
 use Rattle.thread_runs.specs.declared.run.Run as made
 use Rattle.thread_runs.specs.Machine.{is_load}
 use Rattle.thread_runs.specs.Runs.{Thread, Run, executed}
-use Rattle.thread_runs.specs.AllRuns.{Shown}
-use Rattle.dataflow.specs.Chains.{Executed, IsAddr, IsData, IsCtrl, IsCtrlIsync, IsNeed, IsListOf, event_place}
+use Rattle.thread_runs.specs.AllRuns.{ShownRun}
+use Rattle.dataflow.specs.Chains.{Executed, IsAddr, IsData, IsCtrl, IsCtrlIsync, IsNeed, IsPairListOf, event_index}
 use Rattle.dataflow.specs.Dependencies.{AreLinks}
 use Rattle.dataflow.specs.declared.lists.Links.{Links}
 use Rattle.candidates.proofs.Choosing.{GoesOnWith}
@@ -24,7 +24,7 @@ use Rattle.candidates.specs.Executions.{IsDependency, events, events_from}
 use Rattle.run_combinations.specs.Layouts.{chosen_events}
 use Rattle.run_combinations.specs.Parts.{IsPartOf}
 use Rattle.dataflow.specs.DependencyLists.{renumbered_pairs}
-use Rattle.run_combinations.specs.Search.{PrefixLists, with_run, start}
+use Rattle.run_combinations.specs.Search.{PrefixLists, with_run, initial_prefix}
 use Rattle.run_combinations.specs.declared.combination.Event.{Event}
 use Rattle.run_combinations.specs.declared.layout.ThreadParts.{ThreadParts}
 use Rattle.run_combinations.specs.declared.part.Part.{Part}
@@ -56,23 +56,23 @@ pub record OfRun (R : Executed → ℕ → ℕ → Type 0) (base : ℕ) (steps :
   pub first : ℕ
   pub second : ℕ
   pub related : R (executed steps) first second
-  pub from : x ≡ base + event_place (executed steps) first
-  pub to : y ≡ base + event_place (executed steps) second
+  pub from : x ≡ base + event_index (executed steps) first
+  pub to : y ≡ base + event_index (executed steps) second
 
 pub small : (n : ℕ) → n ≤ 256 → min n (2 ^ 64 - 1) ≡ n
 small n le = let most : 256 ≤ 2 ^ 64 - 1 = lit≤ tt in min-eq_left (omega (arith, le, most))
 
 module _ (R : Executed → ℕ → ℕ → Type 0) (base : ℕ) (steps : List RunStep) (ps : List (ℕ × ℕ))
-    (are : IsListOf R (executed steps) ps) (low : base ≤ 128)
-    (few : event_place (executed steps) (length steps) ≤ 128) where
+    (are : IsPairListOf R (executed steps) ps) (low : base ≤ 128)
+    (few : event_index (executed steps) (length steps) ≤ 128) where
   abbrev shift : ℕ × ℕ → ℕ × ℕ
   shift p = (min (base + p.0) (2 ^ 64 - 1), min (base + p.1) (2 ^ 64 - 1))
 
   place : (n : ℕ)
-      → min (base + event_place (executed steps) n) (2 ^ 64 - 1)
-      ≡ base + event_place (executed steps) n
+      → min (base + event_index (executed steps) n) (2 ^ 64 - 1)
+      ≡ base + event_index (executed steps) n
   place n =
-      small (base + event_place (executed steps) n) (omega (arith, place_few steps n, low, few))
+      small (base + event_index (executed steps) n) (omega (arith, place_few steps n, low, few))
 
   run_pairs : (x y : ℕ) → Contains (renumbered_pairs base ps) (x, y) → OfRun R base steps x y
   run_pairs x y c =
@@ -92,14 +92,14 @@ module _ (R : Executed → ℕ → ℕ → Type 0) (base : ℕ) (steps : List Ru
 
   run_listed : (x y : ℕ) → OfRun R base steps x y → Contains (renumbered_pairs base ps) (x, y)
   run_listed x y h =
-      let p : ℕ × ℕ = (event_place (executed steps) h.first, event_place (executed steps) h.second) in
+      let p : ℕ × ℕ = (event_index (executed steps) h.first, event_index (executed steps) h.second) in
       let there : Contains ps p = (are.exact p).1 (h.first, h.second, h.related, refl, refl) in
-      let a : min (base + event_place (executed steps) h.first) (2 ^ 64 - 1) ≡ x = place h.first ∙ sym h.from in
-      let b : min (base + event_place (executed steps) h.second) (2 ^ 64 - 1) ≡ y = place h.second ∙ sym h.to in
+      let a : min (base + event_index (executed steps) h.first) (2 ^ 64 - 1) ≡ x = place h.first ∙ sym h.from in
+      let b : min (base + event_index (executed steps) h.second) (2 ^ 64 - 1) ≡ y = place h.second ∙ sym h.to in
       subst (λ (k : ℕ). Contains (renumbered_pairs base ps) (x, k)) b (subst
       (λ (k : ℕ). Contains (renumbered_pairs base ps) (
         k,
-        min (base + event_place (executed steps) h.second) (2 ^ 64 - 1),
+        min (base + event_index (executed steps) h.second) (2 ^ 64 - 1),
       )) a
       (mapped_there shift ps p there))
 
@@ -121,30 +121,30 @@ pub record Listed : Type 1 where
   pub Related : Executed → ℕ → ℕ → Type 0
   pub own : Links → List (ℕ × ℕ)
   pub all : PrefixLists → List (ℕ × ℕ)
-  pub listed : (at : Executed) (l : Links) → AreLinks at l → IsListOf Related at (own l)
+  pub listed : (at : Executed) (l : Links) → AreLinks at l → IsPairListOf Related at (own l)
   pub grows : (at : ℕ) (p : Part) (b : PrefixLists)
       → all (with_run at p b)
       ≡ all b ++ renumbered_pairs (length b.combination.events) (own p.links)
-  pub first : (es : List Event) → all (start es) ≡ []
+  pub first : (es : List Event) → all (initial_prefix es) ≡ []
   pub starts : (at : Executed) (i j : ℕ) → Related at i j → is_load (at i) ≡ true
 
 module _ (d : Listed) (V : List Value) where
   -- of one thread more
   part_links : (t : Thread) (thread : ℕ) (m : made.Run) (r : Run) (p : Part) → SameRun V t m r
-      → IsPartOf thread m p → IsListOf d.Related (executed r.outcome.walk.steps) (d.own p.links)
+      → IsPartOf thread m p → IsPairListOf d.Related (executed r.outcome.walk.steps) (d.own p.links)
   part_links t thread m r p same is =
-      let steps : m.steps.items ≡ r.outcome.walk.steps = ap (λ (s : Shown). s.steps) same.0.shows in
-      let long : event_place (executed r.outcome.walk.steps) (length r.outcome.walk.steps) ≡ length r.outcome.walk.events = places_are_events t.lines t.first r.values r.outcome same.1.1 in
+      let steps : m.steps.items ≡ r.outcome.walk.steps = ap (λ (s : ShownRun). s.steps) same.0.shows in
+      let long : event_index (executed r.outcome.walk.steps) (length r.outcome.walk.steps) ≡ length r.outcome.walk.events = places_are_events t.lines t.first r.values r.outcome same.1.1 in
       let few : length r.outcome.walk.events ≤ 128 = run_small t m r same in
       d.listed (executed r.outcome.walk.steps) p.links
       (subst (λ (s : List RunStep). AreLinks (executed s) p.links) steps (is.links
-      (subst (λ (s : List RunStep). event_place (executed s) (length s) ≤ 128)
+      (subst (λ (s : List RunStep). event_index (executed s) (length s) ≤ 128)
       (sym steps) (omega (arith, long, few)))))
     where
       run_small : (t : Thread) (m : made.Run) (r : Run) → SameRun V t m r
           → length r.outcome.walk.events ≤ 128
       run_small t m r same =
-          let e : take 128 r.outcome.walk.events ≡ r.outcome.walk.events = sym (ap (λ (s : Shown). s.events) same.0.shows) ∙ same.0.events in
+          let e : take 128 r.outcome.walk.events ≡ r.outcome.walk.events = sym (ap (λ (s : ShownRun). s.events) same.0.shows) ∙ same.0.events in
           let l : length (take 128 r.outcome.walk.events) ≡ length r.outcome.walk.events = ap (λ (es : List run.Event). length es) e in
           omega (arith, l, length-take 128 r.outcome.walk.events)
 
@@ -168,14 +168,14 @@ module _ (d : Listed) (V : List Value) where
     pub low : length b.combination.events ≤ 128
     low = omega (arith, longer, o.few)
 
-    pub run_few : event_place (executed r.outcome.walk.steps) (length r.outcome.walk.steps) ≤ 128
+    pub run_few : event_index (executed r.outcome.walk.steps) (length r.outcome.walk.steps) ≤ 128
     run_few =
-        let long : event_place (executed r.outcome.walk.steps) (length r.outcome.walk.steps) ≡ length r.outcome.walk.events = places_are_events t.lines t.first r.values r.outcome o.same.1.1 in
-        let e : take 128 r.outcome.walk.events ≡ r.outcome.walk.events = sym (ap (λ (s : Shown). s.events) o.same.0.shows) ∙ o.same.0.events in
+        let long : event_index (executed r.outcome.walk.steps) (length r.outcome.walk.steps) ≡ length r.outcome.walk.events = places_are_events t.lines t.first r.values r.outcome o.same.1.1 in
+        let e : take 128 r.outcome.walk.events ≡ r.outcome.walk.events = sym (ap (λ (s : ShownRun). s.events) o.same.0.shows) ∙ o.same.0.events in
         let l : length (take 128 r.outcome.walk.events) ≡ length r.outcome.walk.events = ap (λ (es : List run.Event). length es) e in
         omega (arith, long, l, length-take 128 r.outcome.walk.events)
 
-    pub links : IsListOf d.Related (executed r.outcome.walk.steps) (d.own p.links)
+    pub links : IsPairListOf d.Related (executed r.outcome.walk.steps) (d.own p.links)
     links = part_links t thread m r p o.same o.is
 
     base_at : (its : ℕ) (rs : List Run)
@@ -327,16 +327,16 @@ module _ (d : Listed) (V : List Value) where
 
   pub facts : (threads : List Thread) (ts : List ThreadParts) (ms : List made.Run) (rs : List Run)
       (initial : List Value) (c : PrefixLists) → AreOne V threads ms rs
-      → GoesOnWith 0 (start (initial_stores 0 initial)) ts ms c → length c.combination.events ≤ 128
+      → GoesOnWith 0 (initial_prefix (initial_stores 0 initial)) ts ms c → length c.combination.events ≤ 128
       → (x y : ℕ) → Contains (d.all c) (x, y) ↔ IsDependency d.Related initial rs x y
   facts threads ts ms rs initial c one g few x y = (λ h. to (are.0 h), λ h. are.1 (inr (back h)))
     where
       are : Contains (d.all c) (x, y)
-          ↔ (Contains (d.all (start (initial_stores 0 initial))) (x, y)
+          ↔ (Contains (d.all (initial_prefix (initial_stores 0 initial))) (x, y)
           ⊎ OfRuns d.Related 0 (length (initial_stores 0 initial)) rs x y)
-      are = pairs_are threads 0 ts ms rs (start (initial_stores 0 initial)) c one g few x y
+      are = pairs_are threads 0 ts ms rs (initial_prefix (initial_stores 0 initial)) c one g few x y
 
-      to : Contains (d.all (start (initial_stores 0 initial))) (x, y)
+      to : Contains (d.all (initial_prefix (initial_stores 0 initial))) (x, y)
           ⊎ OfRuns d.Related 0 (length (initial_stores 0 initial)) rs x y
           → IsDependency d.Related initial rs x y
       to (inl h) =
@@ -351,11 +351,11 @@ module _ (d : Listed) (V : List Value) where
         related = a.pair.related;
         from =
             a.pair.from
-            ∙ ap (λ (n : ℕ). n + event_place (executed a.run.outcome.walk.steps) a.pair.first)
+            ∙ ap (λ (n : ℕ). n + event_index (executed a.run.outcome.walk.steps) a.pair.first)
             (sym (before initial rs a.its));
         to =
             a.pair.to
-            ∙ ap (λ (n : ℕ). n + event_place (executed a.run.outcome.walk.steps) a.pair.second)
+            ∙ ap (λ (n : ℕ). n + event_index (executed a.run.outcome.walk.steps) a.pair.second)
             (sym (before initial rs a.its));
       }
 
@@ -371,11 +371,11 @@ module _ (d : Listed) (V : List Value) where
           related = h.related;
           from =
               h.from
-              ∙ ap (λ (n : ℕ). n + event_place (executed h.run.outcome.walk.steps) h.first)
+              ∙ ap (λ (n : ℕ). n + event_index (executed h.run.outcome.walk.steps) h.first)
               (before initial rs h.thread);
           to =
               h.to
-              ∙ ap (λ (n : ℕ). n + event_place (executed h.run.outcome.walk.steps) h.second)
+              ∙ ap (λ (n : ℕ). n + event_index (executed h.run.outcome.walk.steps) h.second)
               (before initial rs h.thread);
         };
       }

@@ -6,7 +6,7 @@ use Rattle.std.proofs.lemmas.List.Concat.{flat_map-append}
 use Rattle.thread_runs.specs.declared.value.Value.{Value}
 use Rattle.candidates.proofs.Executing.{others_at, orders_at}
 use Rattle.candidates.specs.Executions.{product, locations_from}
-use Rattle.run_combinations.specs.Lists.{joined_with}
+use Rattle.run_combinations.specs.Lists.{each_behind}
 use Rattle.run_combinations.specs.Events.{numbers}
 use Rattle.run_combinations.specs.Orders.{orders_of, is_thread_store, stores_of, all_orders}
 use Rattle.run_combinations.specs.declared.combination.Event.{Event}
@@ -17,22 +17,22 @@ flat orders = flat_map (λ order. order) orders
 
 -- with one location more
 both_fronts : (x f : List ℕ) (ys : List (List ℕ))
-    → map (λ (o : List ℕ). x ++ o) (joined_with ys f) ≡ joined_with ys (x ++ f)
+    → map (λ (o : List ℕ). x ++ o) (each_behind ys f) ≡ each_behind ys (x ++ f)
 both_fronts x f [] = refl
 both_fronts x f (y ∷ ys) =
-    ap (λ (l : List ℕ). l ∷ map (λ (o : List ℕ). x ++ o) (joined_with ys f))
+    ap (λ (l : List ℕ). l ∷ map (λ (o : List ℕ). x ++ o) (each_behind ys f))
     (sym (append_assoc x f y))
     ∙ ap (λ (l : List (List ℕ)). ((x ++ f) ++ y) ∷ l) (both_fronts x f ys)
 
 front_of_all : (x : List ℕ) (ys fs : List (List ℕ))
-    → map (λ (o : List ℕ). x ++ o) (flat_map (joined_with ys) fs)
-    ≡ flat_map (joined_with ys) (map (λ (o : List ℕ). x ++ o) fs)
+    → map (λ (o : List ℕ). x ++ o) (flat_map (each_behind ys) fs)
+    ≡ flat_map (each_behind ys) (map (λ (o : List ℕ). x ++ o) fs)
 front_of_all x ys [] = refl
 front_of_all x ys (f ∷ fs) =
-    map-append (λ (o : List ℕ). x ++ o) (joined_with ys f) (flat_map (joined_with ys) fs)
-    ∙ ap (λ (l : List (List ℕ)). l ++ map (λ (o : List ℕ). x ++ o) (flat_map (joined_with ys) fs))
+    map-append (λ (o : List ℕ). x ++ o) (each_behind ys f) (flat_map (each_behind ys) fs)
+    ∙ ap (λ (l : List (List ℕ)). l ++ map (λ (o : List ℕ). x ++ o) (flat_map (each_behind ys) fs))
     (both_fronts x f ys)
-    ∙ ap (λ (l : List (List ℕ)). joined_with ys (x ++ f) ++ l) (front_of_all x ys fs)
+    ∙ ap (λ (l : List (List ℕ)). each_behind ys (x ++ f) ++ l) (front_of_all x ys fs)
 
 flat_rows : (x : List ℕ) (rs : List (List (List ℕ)))
     → map flat (map (λ (r : List (List ℕ)). x ∷ r) rs) ≡ map (λ (o : List ℕ). x ++ o) (map flat rs)
@@ -41,7 +41,7 @@ flat_rows x (r ∷ rs) = ap (λ (l : List (List ℕ)). (x ++ flat r) ∷ l) (fla
 
 last_alone : (ys : List (List ℕ))
     → map flat (flat_map (λ (y : List ℕ). map (λ (r : List (List ℕ)). y ∷ r) ([] ∷ [])) ys)
-    ≡ joined_with ys []
+    ≡ each_behind ys []
 last_alone [] = refl
 last_alone (y ∷ ys) =
     ap
@@ -64,29 +64,29 @@ flat_product (x ∷ xs) rss =
     (flat_product xs rss)
 
 one_by_one : (ys fs xs : List (List ℕ))
-    → flat_map (λ (x : List ℕ). map (λ (o : List ℕ). x ++ o) (flat_map (joined_with ys) fs)) xs
-    ≡ flat_map (joined_with ys) (flat_map (λ (x : List ℕ). map (λ (o : List ℕ). x ++ o) fs) xs)
+    → flat_map (λ (x : List ℕ). map (λ (o : List ℕ). x ++ o) (flat_map (each_behind ys) fs)) xs
+    ≡ flat_map (each_behind ys) (flat_map (λ (x : List ℕ). map (λ (o : List ℕ). x ++ o) fs) xs)
 one_by_one ys fs [] = refl
 one_by_one ys fs (x ∷ xs) =
     ap
     (λ (l : List (List ℕ)). l
     ++ flat_map
-    (λ (x : List ℕ). map (λ (o : List ℕ). x ++ o) (flat_map (joined_with ys) fs)) xs)
+    (λ (x : List ℕ). map (λ (o : List ℕ). x ++ o) (flat_map (each_behind ys) fs)) xs)
     (front_of_all x ys fs)
-    ∙ ap (λ (l : List (List ℕ)). flat_map (joined_with ys) (map (λ (o : List ℕ). x ++ o) fs) ++ l)
+    ∙ ap (λ (l : List (List ℕ)). flat_map (each_behind ys) (map (λ (o : List ℕ). x ++ o) fs) ++ l)
     (one_by_one ys fs xs)
-    ∙ sym (flat_map-append (joined_with ys) (map (λ (o : List ℕ). x ++ o) fs)
+    ∙ sym (flat_map-append (each_behind ys) (map (λ (o : List ℕ). x ++ o) fs)
     (flat_map (λ (x : List ℕ). map (λ (o : List ℕ). x ++ o) fs) xs))
 
 one_location_more : (xss : List (List (List ℕ))) (ys : List (List ℕ))
-    → map flat (product (xss ++ ys ∷ [])) ≡ flat_map (joined_with ys) (map flat (product xss))
-one_location_more [] ys = last_alone ys ∙ sym (append-nil (joined_with ys []))
+    → map flat (product (xss ++ ys ∷ [])) ≡ flat_map (each_behind ys) (map flat (product xss))
+one_location_more [] ys = last_alone ys ∙ sym (append-nil (each_behind ys []))
 one_location_more (xs ∷ xss) ys =
     flat_product xs (product (xss ++ ys ∷ []))
     ∙ ap (λ (l : List (List ℕ)). flat_map (λ (x : List ℕ). map (λ (o : List ℕ). x ++ o) l) xs)
     (one_location_more xss ys)
     ∙ one_by_one ys (map flat (product xss)) xs
-    ∙ ap (λ (l : List (List ℕ)). flat_map (joined_with ys) l) (sym (flat_product xs (product xss)))
+    ∙ ap (λ (l : List (List ℕ)). flat_map (each_behind ys) l) (sym (flat_product xs (product xss)))
 
 -- the first locations
 abbrev first_locations : ℕ → List ℕ
@@ -116,10 +116,10 @@ orders_upto es few (suc n) =
     (λ l. orders_of l (others_at es l)) (first_locations n) (n ∷ []))
     ∙ one_location_more (map (λ l. orders_of l (others_at es l)) (first_locations n))
     (orders_of n (others_at es n))
-    ∙ ap (λ (l : List (List ℕ)). flat_map (joined_with (orders_of n (others_at es n))) l)
+    ∙ ap (λ (l : List (List ℕ)). flat_map (each_behind (orders_of n (others_at es n))) l)
     (orders_upto es few n)
     ∙ ap
-    (λ (l : List Event). flat_map (joined_with (orders_of n (numbers (is_thread_store n) 0 l)))
+    (λ (l : List Event). flat_map (each_behind (orders_of n (numbers (is_thread_store n) 0 l)))
     (all_orders es n))
     (sym (take_all 128 es few))
 

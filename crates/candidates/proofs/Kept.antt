@@ -10,8 +10,8 @@ use Rattle.thread_runs.specs.declared.instruction.Event as run
 use Rattle.thread_runs.specs.declared.instruction.Line.{Line}
 use Rattle.thread_runs.specs.declared.instruction.Program.{Program}
 use Rattle.thread_runs.specs.declared.run.Run as made
-use Rattle.thread_runs.specs.Runs.{Thread, Run, IsRun, AreRuns, started}
-use Rattle.thread_runs.specs.AllRuns.{Shown, shown, shown_of, lines_at, thread_of}
+use Rattle.thread_runs.specs.Runs.{Thread, Run, IsThreadRun, AreThreadRuns, walk_at}
+use Rattle.thread_runs.specs.AllRuns.{ShownRun, run_shown, shown_run, lines_at, thread_of}
 use Rattle.thread_runs.specs.Held.{AreLeft, IsUnserved, ShowsServed}
 use Rattle.thread_runs.proofs.Serving.{left_contains}
 use Rattle.ppc_semantics.specs.Domain.{has_event, IsDomain, threads_from, threads_of}
@@ -24,15 +24,15 @@ use Rattle.run_combinations.specs.declared.combination.Event.{Event}
 
 -- a run as it is kept, and the run
 pub record Same (m : made.Run) (r : Run) : Type 0 where
-  pub shows : shown m ≡ shown_of r
+  pub shows : run_shown m ≡ shown_run r
   pub events : m.events.items ≡ r.outcome.walk.events
 
 abbrev pub SameRun : List Value → Thread → made.Run → Run → Type 0
-SameRun V t m r = Same m r × IsRun t (Contains V) r
+SameRun V t m r = Same m r × IsThreadRun t (Contains V) r
 
 -- the runs of a thread, but for some that no store serves
 abbrev pub AreServed : Program → List Value → Thread → List Run → Type 0
-AreServed p V t rs = (all : List Run) × AreRuns t (Contains V) all × AreLeft (IsUnserved p) all rs
+AreServed p V t rs = (all : List Run) × AreThreadRuns t (Contains V) all × AreLeft (IsUnserved p) all rs
 
 -- those of each thread
 abbrev pub AreKept : Program → List Value → List Thread → List (Vec made.Run Global)
@@ -98,7 +98,7 @@ product_kept p V (t ∷ ts) (v ∷ vs) (rs ∷ rss) h =
 -- all runs of each thread
 abbrev pub AllRuns : Program → List Value → List Thread → List (List Run) → Type 0
 AllRuns p V ts rss =
-    (alls : List (List Run)) × AllZip (λ t all. AreRuns t (Contains V) all) ts alls
+    (alls : List (List Run)) × AllZip (λ t all. AreThreadRuns t (Contains V) all) ts alls
     × AllZip (AreLeft (IsUnserved p)) alls rss
 
 pub runs_kept : (p : Program) (V : List Value) (ts : List Thread) (vs : List (Vec made.Run Global))
@@ -114,7 +114,7 @@ runs_kept p V (t ∷ ts) (v ∷ vs) (rs ∷ rss) h =
 
 -- the events of a choice
 pub one_run_each : (V : List Value) (ts : List Thread) (ms : List made.Run) (rs : List Run)
-    → AreOne V ts ms rs → AllZip (λ t r. IsRun t (Contains V) r) ts rs
+    → AreOne V ts ms rs → AllZip (λ t r. IsThreadRun t (Contains V) r) ts rs
 one_run_each V [] [] [] h = tt
 one_run_each V [] [] (r ∷ rs) h = absurd h
 one_run_each V [] (m ∷ ms) rs h = absurd h
@@ -136,7 +136,7 @@ same_events V (t ∷ ts) thread (m ∷ ms) (r ∷ rs) h =
     (same_events V ts (thread + 1) ms rs h.1)
 
 -- what a run of a thread shows, of which there are at most 128 events
-zipped : (P : Run → Type 0) (ms : List made.Run) (rs : List Run) → map shown ms ≡ map shown_of rs
+zipped : (P : Run → Type 0) (ms : List made.Run) (rs : List Run) → map run_shown ms ≡ map shown_run rs
     → ((r : Run) → Contains rs r → P r × (length r.outcome.walk.events ≤ 128))
     → AllZip (λ m r. Same m r × P r) ms rs
 zipped P [] [] e each = tt
@@ -148,7 +148,7 @@ zipped P (m ∷ ms) (r ∷ rs) e each =
         record {
           shows = heads e;
           events =
-              ap (λ (x : Shown). x.events) (heads e)
+              ap (λ (x : ShownRun). x.events) (heads e)
               ∙ take_all 128 r.outcome.walk.events here.1;
         },
         here.0,
@@ -156,10 +156,10 @@ zipped P (m ∷ ms) (r ∷ rs) e each =
       zipped P ms rs (tails e) (λ x c. each x (Contains-append_right (r ∷ []) rs x c)),
     )
   where
-    heads : {x y : Shown} {xs ys : List Shown} → (x ∷ xs) ≡ (y ∷ ys) → x ≡ y
+    heads : {x y : ShownRun} {xs ys : List ShownRun} → (x ∷ xs) ≡ (y ∷ ys) → x ≡ y
     heads e = cc
 
-    tails : {x y : Shown} {xs ys : List Shown} → (x ∷ xs) ≡ (y ∷ ys) → xs ≡ ys
+    tails : {x y : ShownRun} {xs ys : List ShownRun} → (x ∷ xs) ≡ (y ∷ ys) → xs ≡ ys
     tails e = cc
 
 -- no thread has more events than the text
@@ -199,14 +199,14 @@ module _ (p : Program) (V : List Value) (runs : List (Vec made.Run Global)) (dom
   thread_kept : (t : ℕ) (v : Vec made.Run Global) (s : ShowsServed p t V v.items)
       → AllZip (SameRun V (thread_of p t)) v.items s.2
   thread_kept t v s =
-      zipped (IsRun (thread_of p t) (Contains V)) v.items s.2 s.4 (λ r c.
-      let is : IsRun (thread_of p t) (Contains V) r =
+      zipped (IsThreadRun (thread_of p t) (Contains V)) v.items s.2 s.4 (λ r c.
+      let is : IsThreadRun (thread_of p t) (Contains V) r =
       (s.1.exact r).0 (left_contains (IsUnserved p) s.0 s.2 s.3 r c) in
       (is, few r is))
     where
-      few : (r : Run) → IsRun (thread_of p t) (Contains V) r → length r.outcome.walk.events ≤ 128
+      few : (r : Run) → IsThreadRun (thread_of p t) (Contains V) r → length r.outcome.walk.events ≤ 128
       few r h =
-          let a : length r.outcome.walk.events ≤ 0 + count_by has_event (thread_of p t).lines = run_few (thread_of p t).lines (started (thread_of p t).first) r.values r.outcome h.1 in
+          let a : length r.outcome.walk.events ≤ 0 + count_by has_event (thread_of p t).lines = run_few (thread_of p t).lines (walk_at (thread_of p t).first) r.values r.outcome h.1 in
           omega (arith, a, thread_count p.threads.items t, domain.events)
 
   first_kept : (n : ℕ) → n ≤ length runs

@@ -4,7 +4,7 @@ use Rattle.std.specs.List.{flat_map, AllZip}
 use Rattle.bit_relations.specs.Pairs.{Union, IsAcyclic}
 use Rattle.thread_runs.specs.declared.value.Value.{Value}
 use Rattle.thread_runs.specs.declared.run.Run as made
-use Rattle.thread_runs.specs.Runs.{Thread, Run, IsRun}
+use Rattle.thread_runs.specs.Runs.{Thread, Run, IsThreadRun}
 use Rattle.dataflow.specs.Chains.{IsNeed}
 use Rattle.dataflow.specs.DependencyLists.{no_dependencies}
 use Rattle.candidates.proofs.Choosing.{AreChoices, GoesOnWith, over, next, skipped}
@@ -18,12 +18,12 @@ use Rattle.run_combinations.proofs.Pruning.{no_ways}
 use Rattle.candidates.proofs.ReadsFrom.{reads_found, acyclic_as}
 use Rattle.run_combinations.specs.declared.layout.ThreadParts.{ThreadParts}
 use Rattle.run_combinations.specs.Candidates.{AreSmall, AreCombinations, nothing_left, with_ways, without}
-use Rattle.candidates.specs.Executions.{Execution, IsExecution, IsDependency, IsOrder, MayRead, product, maps, orders, over_runs, loads, locations_from, events}
+use Rattle.candidates.specs.Executions.{Execution, IsExecution, IsDependency, IsStoreOrder, MayRead, product, read_choices, orders, over_runs, loads, locations_from, events}
 use Rattle.run_combinations.specs.Lists.{IsFiltered, none, left}
 use Rattle.run_combinations.specs.Events.{initial_stores, ReadsFrom, CannotRead}
-use Rattle.run_combinations.specs.Search.{PrefixLists, start}
+use Rattle.run_combinations.specs.Search.{PrefixLists, initial_prefix}
 use Rattle.run_combinations.specs.Combinations.{CombinationLists, ordered}
-use Rattle.run_combinations.specs.Ways.{AreWays, accesses_in}
+use Rattle.run_combinations.specs.Ways.{AreReadChoices, accesses_in}
 use Rattle.run_combinations.specs.declared.combination.Event.{Event}
 
 -- a filter that keeps nothing keeps nothing of what is less
@@ -52,17 +52,17 @@ no_need es a b n = let c : Contains [] (a, b) = n.0 in omega (arith, c.1)
 
 -- runs with a load that no store serves have no execution
 pub none_executed : (initial : List Value) (threads : List Thread) (V : List Value) (rs : List Run)
-    → AllZip (λ t r. IsRun t (Contains V) r) threads rs → CannotRead (events initial rs)
+    → AllZip (λ t r. IsThreadRun t (Contains V) r) threads rs → CannotRead (events initial rs)
     → IsFiltered (IsExecution initial threads (Contains V)) (over_runs initial rs) []
 none_executed initial threads V rs are stuck =
     filter_of_product (Reading (events initial rs) (IsDependency IsNeed initial rs))
-    (AllZip (IsOrder (events initial rs)) (locations_from 0 initial))
+    (AllZip (IsStoreOrder (events initial rs)) (locations_from 0 initial))
     (IsExecution initial threads (Contains V)) (executed_so initial rs)
     (λ way order. (
       (λ x. ((x.reads, x.acyclic), x.orders)),
       (λ p. record { runs = are; reads = p.0.0; orders = p.1; acyclic = p.0.1 }),
     ))
-    (maps (events initial rs)) [] (orders (events initial rs) initial)
+    (read_choices (events initial rs)) [] (orders (events initial rs) initial)
     (product (orders_at (events initial rs) initial))
     (none_of_less (Reading (events initial rs) (accesses_in (events initial rs) []).Need)
     (Reading (events initial rs) (IsDependency IsNeed initial rs))
@@ -79,7 +79,7 @@ none_executed initial threads V rs are stuck =
                 y
           ]) h.1,
     ))
-    (maps (events initial rs)) (reads_found (events initial rs) []
+    (read_choices (events initial rs)) (reads_found (events initial rs) []
     (accesses_in (events initial rs) []).Need (λ a b n. n) (λ a b n. n) []
     (no_ways stuck.0 stuck.1 (events_alone (events initial rs)) (stuck.2, stuck.3))))
     (orders_filtered initial rs)
@@ -90,7 +90,7 @@ pub record IsListed (n : ℕ) (initial : List Value) (threads : List Thread) (V 
     (ts : List ThreadParts) (b : PrefixLists) (rs : List Run) : Type 0 where
   pub made : List made.Run
   pub one : AreOne V threads made rs
-  pub goes : GoesOnWith 0 (start (initial_stores 0 initial)) ts made b
+  pub goes : GoesOnWith 0 (initial_prefix (initial_stores 0 initial)) ts made b
   pub few : length b.combination.events ≤ 128
   pub events : b.combination.events ≡ events initial rs
 
@@ -102,7 +102,7 @@ pub data AreListed (n : ℕ) (initial : List Value) (threads : List Thread) (V :
   no_more : AreListed n initial threads V ts [] [] []
   one_more : {b : PrefixLists} {bs : List PrefixLists} {cs : List CombinationLists}
       {xs : List Execution} {way : List ℕ} {ways : List (List ℕ)} (rs : List Run)
-      → IsListed n initial threads V ts b rs → AreWays b.combination.events b.needs (way ∷ ways)
+      → IsListed n initial threads V ts b rs → AreReadChoices b.combination.events b.needs (way ∷ ways)
       → AreListed n initial threads V ts bs cs xs
       → AreListed n initial threads V ts (b ∷ bs)
       (ordered n (record b.combination { sources = way ∷ ways }) ∷ cs) (flat_map
@@ -110,7 +110,7 @@ pub data AreListed (n : ℕ) (initial : List Value) (threads : List Thread) (V :
       (product (orders_at (events initial rs) initial)))
       (way ∷ ways) ++ xs)
   not_one : {b : PrefixLists} {bs : List PrefixLists} {cs : List CombinationLists}
-      {xs : List Execution} → AreWays b.combination.events b.needs []
+      {xs : List Execution} → AreReadChoices b.combination.events b.needs []
       → AreListed n initial threads V ts bs cs xs → AreListed n initial threads V ts (b ∷ bs) cs xs
 
 -- all executions
@@ -125,7 +125,7 @@ pub record Listing (n : ℕ) (initial : List Value) (threads : List Thread) (V :
 module _ (n : ℕ) (initial : List Value) (threads : List Thread) (V : List Value)
     (ts : List ThreadParts) where
   one_listed : (ms : List made.Run) (rs : List Run) (b : PrefixLists) → AreOne V threads ms rs
-      → GoesOnWith 0 (start (initial_stores 0 initial)) ts ms b → length b.combination.events ≤ 128
+      → GoesOnWith 0 (initial_prefix (initial_stores 0 initial)) ts ms b → length b.combination.events ≤ 128
       → IsListed n initial threads V ts b rs
   one_listed ms rs b one g few = record {
     made = ms;
@@ -133,13 +133,13 @@ module _ (n : ℕ) (initial : List Value) (threads : List Thread) (V : List Valu
     goes = g;
     few = few;
     events =
-        events_are 0 (start (initial_stores 0 initial)) b ts ms g
+        events_are 0 (initial_prefix (initial_stores 0 initial)) b ts ms g
         ∙ ap (λ (l : List Event). initial_stores 0 initial ++ l)
         (same_events V threads 0 ms rs one);
   }
 
   executions_of : (b : PrefixLists) (rs : List Run) (ways : List (List ℕ))
-      → IsListed n initial threads V ts b rs → AreWays b.combination.events b.needs ways
+      → IsListed n initial threads V ts b rs → AreReadChoices b.combination.events b.needs ways
       → IsFiltered (IsExecution initial threads (Contains V)) (over_runs initial rs)
       (flat_map
       (λ w.
@@ -149,11 +149,11 @@ module _ (n : ℕ) (initial : List Value) (threads : List Thread) (V : List Valu
       executions_found initial rs threads V b.needs (one_run_each V threads i.made rs i.one)
       (λ x y. (needs_are V threads ts i.made rs initial b i.one i.goes i.few x y).0)
       (λ x y. (needs_are V threads ts i.made rs initial b i.one i.goes i.few x y).1) ways
-      (subst (λ (l : List Event). AreWays l b.needs ways) i.events are)
+      (subst (λ (l : List Event). AreReadChoices l b.needs ways) i.events are)
 
   pub all_listed : (mss : List (List made.Run)) (rss : List (List Run)) (bs : List PrefixLists)
       (cs : List CombinationLists) → AllZip (AreOne V threads) mss rss
-      → AreChoices 0 (start (initial_stores 0 initial)) ts mss bs → AreSmall bs
+      → AreChoices 0 (initial_prefix (initial_stores 0 initial)) ts mss bs → AreSmall bs
       → AreCombinations n bs cs → Listing n initial threads V ts bs cs rss
   all_listed [] [] bs cs same over small nothing_left =
       record { all = []; executions = none; listed = no_more }

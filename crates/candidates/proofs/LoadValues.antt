@@ -13,8 +13,8 @@ use Rattle.thread_runs.specs.declared.instruction.Instruction.TheVariants.{Immed
 use Rattle.thread_runs.specs.declared.instruction.Line.{Line}
 use Rattle.thread_runs.specs.declared.instruction.Line.TheVariants.{Label, Does}
 use Rattle.thread_runs.specs.declared.state.State.{State}
-use Rattle.thread_runs.specs.Machine.{is_load, is_fault, goes, event_of}
-use Rattle.thread_runs.specs.Runs.{Walk, Outcome, started, advanced, passed, ends, supplied, obeyed, one, run_from, run_of}
+use Rattle.thread_runs.specs.Machine.{is_load, is_fault, takes_branch, event_of}
+use Rattle.thread_runs.specs.Runs.{Walk, Outcome, walk_at, walk_after, walk_past, ends, after_load, after_instruction, after_line, run_from, run_of}
 use Rattle.ppc_semantics.specs.Domain.{has_load}
 
 -- the values that events read
@@ -79,10 +79,10 @@ ends_taken f w (v ∷ vs) o n e = absurd cc
 
 module _ (xs : List Line) (n : ℕ) (rest : TakesAll xs n) where
   advanced_taken : (i : Instruction) (b : Bool) (v : Value) (w : Walk) (vs : List Value)
-      (o : Outcome) → run_from xs (advanced i b v w) vs ≡ Some o
+      (o : Outcome) → run_from xs (walk_after i b v w) vs ≡ Some o
       → (read_in o.walk.events ≡ read_in w.events ++ (given (is_load i) v ++ vs)) × (length vs ≤ n)
   advanced_taken i b v w vs o e =
-      let t : Takes n (advanced i b v w) vs o = rest (advanced i b v w) vs o e in (
+      let t : Takes n (walk_after i b v w) vs o = rest (walk_after i b v w) vs o e in (
         t.values
             ∙ ap (λ (l : List Value). l ++ vs) (read_both w.events (event_of i v w.state)
             ∙ ap (λ (l : List Value). read_in w.events ++ l)
@@ -92,7 +92,7 @@ module _ (xs : List Line) (n : ℕ) (rest : TakesAll xs n) where
       )
 
   supplied_taken : (l : Bool) (i : Instruction) (b : Bool) (w : Walk) (vs : List Value)
-      (o : Outcome) → is_load i ≡ l → supplied l i b (run_from xs) w vs ≡ Some o
+      (o : Outcome) → is_load i ≡ l → after_load l i b (run_from xs) w vs ≡ Some o
       → Takes (cond l 1 0 + n) w vs o
   supplied_taken true i b w [] o is e = absurd cc
   supplied_taken true i b w (v ∷ vs) o is e =
@@ -103,14 +103,14 @@ module _ (xs : List Line) (n : ℕ) (rest : TakesAll xs n) where
       record { values = t.0 ∙ ap (λ (k : Bool). read_in w.events ++ (given k NoValue ++ vs)) is; few = omega (arith, t.1) }
 
   obeyed_taken : (f : Bool) (i : Instruction) (w : Walk) (vs : List Value) (o : Outcome)
-      → obeyed f i (run_from xs) w vs ≡ Some o → Takes (cond (is_load i) 1 0 + n) w vs o
+      → after_instruction f i (run_from xs) w vs ≡ Some o → Takes (cond (is_load i) 1 0 + n) w vs o
   obeyed_taken true i w vs o e = ends_taken true w vs o (cond (is_load i) 1 0 + n) e
-  obeyed_taken false i w vs o e = supplied_taken (is_load i) i (goes i w.state) w vs o refl e
+  obeyed_taken false i w vs o e = supplied_taken (is_load i) i (takes_branch i w.state) w vs o refl e
 
   one_taken : (s : Option ℕ) (x : Line) (w : Walk) (vs : List Value) (o : Outcome)
-      → one s x (run_from xs) w vs ≡ Some o → Takes (cond (has_load x) 1 0 + n) w vs o
+      → after_line s x (run_from xs) w vs ≡ Some o → Takes (cond (has_load x) 1 0 + n) w vs o
   one_taken (Some l) x w vs o e =
-      let t : Takes n (passed x l w) vs o = rest (passed x l w) vs o e in
+      let t : Takes n (walk_past x l w) vs o = rest (walk_past x l w) vs o e in
       record { values = t.values; few = omega (arith, t.few) }
   one_taken None (Label m) w vs o e =
       let t : Takes n w vs o = rest w vs o e in
@@ -125,8 +125,8 @@ lines_taken (x ∷ xs) w vs o e =
 
 pub values_read : (lines : List Line) (s : State) (vs : List Value) (o : Outcome)
     → run_of lines s vs ≡ Some o → read_in o.walk.events ≡ vs
-values_read lines s vs o e = (lines_taken lines (started s) vs o e).values
+values_read lines s vs o e = (lines_taken lines (walk_at s) vs o e).values
 
 pub loads_few : (lines : List Line) (s : State) (vs : List Value) (o : Outcome)
     → run_of lines s vs ≡ Some o → length vs ≤ count_by has_load lines
-loads_few lines s vs o e = (lines_taken lines (started s) vs o e).few
+loads_few lines s vs o e = (lines_taken lines (walk_at s) vs o e).few

@@ -19,12 +19,12 @@ use Rattle.thread_runs.specs.declared.instruction.Instruction.TheVariants.{Immed
 use Rattle.thread_runs.specs.declared.instruction.Line.{Line}
 use Rattle.thread_runs.specs.declared.instruction.Program.{Program}
 use Rattle.thread_runs.specs.declared.state.State.{State}
-use Rattle.thread_runs.specs.Machine.{register, with_register, sum_of, outcome_of, operated, cancels, after, is_address, is_fault, is_load}
-use Rattle.thread_runs.specs.Runs.{Walk, Outcome, Thread, Run, IsRun, started, advanced, run_of}
+use Rattle.thread_runs.specs.Machine.{register, with_register, sum_of, outcome_of, operated, cancels, state_after, is_address, is_fault, is_load}
+use Rattle.thread_runs.specs.Runs.{Walk, Outcome, Thread, Run, IsThreadRun, walk_at, walk_after, run_of}
 use Rattle.thread_runs.specs.AllRuns.{thread_of, first_of}
-use Rattle.thread_runs.specs.ValueSet.{IsOne}
-use Rattle.ppc_semantics.specs.Domain.{IsRound, load_total, threads_from, threads_of}
-use Rattle.ppc_semantics.specs.Lowering.{IsProgram, Starts, AreRegisters, value_of, test_names, entry_names, place_names, value_names, formula_names}
+use Rattle.thread_runs.specs.ValueSet.{IsProperValue}
+use Rattle.ppc_semantics.specs.Domain.{IsDomainAt, load_total, threads_from, threads_of}
+use Rattle.ppc_semantics.specs.Lowering.{IsProgram, Starts, AreRegisters, lowered_value, test_names, entry_names, place_names, value_names, formula_names}
 use Rattle.text_values.specs.TestValue.{formula_of}
 use Rattle.candidates.proofs.AnyValues.{over_domain, zip_as, thread_of_run, RunOf}
 use Rattle.candidates.proofs.Elements.{member_first, no_member, joined_there}
@@ -105,7 +105,7 @@ record IsQuiet (w : Walk) : Type 0 where
   loads : read_in w.events ≡ []
 
 after_quiet : (i : Instruction) (v : Value) (s : State) → is_fault i s ≡ false → HasNoAddress s
-    → (is_load i ≡ false) × HasNoAddress (after i v s)
+    → (is_load i ≡ false) × HasNoAddress (state_after i v s)
 after_quiet (Immediate d n) v s sound h = (refl, put s d (Number n) refl h)
 after_quiet (Move d a) v s sound h = (refl, put s d (register s a) (h a) h)
 after_quiet (AddImmediate d a n) v s sound h = (
@@ -128,9 +128,9 @@ after_quiet (Jump l) v s sound h = (refl, h)
 after_quiet (Barrier f) v s sound h = (refl, h)
 
 quiet_more : (i : Instruction) (b : Bool) (v : Value) (w : Walk) → is_fault i w.state ≡ false
-    → IsQuiet w → IsQuiet (advanced i b v w)
+    → IsQuiet w → IsQuiet (walk_after i b v w)
 quiet_more i b v w sound q =
-    let a : (is_load i ≡ false) × HasNoAddress (after i v w.state) = after_quiet i v w.state sound q.registers in
+    let a : (is_load i ≡ false) × HasNoAddress (state_after i v w.state) = after_quiet i v w.state sound q.registers in
     record { registers = a.1; loads = read_more w.events i v w.state a.0 ∙ q.loads }
 
 none_loaded : (lines : List Line) (s : State) (vs : List Value) (o : Outcome) → HasNoAddress s
@@ -138,7 +138,7 @@ none_loaded : (lines : List Line) (s : State) (vs : List Value) (o : Outcome) �
 none_loaded lines s vs o h e =
     sym (values_read lines s vs o e)
     ∙ (along IsQuiet (λ i b v w sound q. quiet_more i b v w sound q)
-    (λ x l w q. record { registers = q.registers; loads = q.loads }) lines (started s)
+    (λ x l w q. record { registers = q.registers; loads = q.loads }) lines (walk_at s)
     vs o e (record { registers = h; loads = refl })).loads
 
 -- the threads of a program without a location begin so
@@ -153,7 +153,7 @@ module _ (t : Test) (p : Program) (is : IsProgram t p) (none : p.initial.items �
       no_names p.locations.items (omega (arith, l, is.initial.each_one))
 
   entry_plain : (e : InitEntry) → Contains t.init.items e → (w : written.Value) → e.value ≡ w
-      → is_address (value_of p.locations.items w) ≡ false
+      → is_address (lowered_value p.locations.items w) ≡ false
   entry_plain e there (values.Number n) at = refl
   entry_plain e there (values.Address name) at =
       let own : Contains (entry_names e) name = Contains-append_right (place_names e.place) (value_names e.value) name (subst (λ (w : written.Value). Contains (value_names w) name) (sym at) (member_first name [])) in
@@ -210,11 +210,11 @@ module _ (t : Test) (p : Program) (is : IsProgram t p) (none : p.initial.items �
     | inr e ↦ subst (λ (x : Thread). HasNoAddress x.first) e (first_plain n)
   ]
 
-  no_values : (V : List Value) (x : Execution) → IsExecution p.initial.items (threads_of p) IsOne x
+  no_values : (V : List Value) (x : Execution) → IsExecution p.initial.items (threads_of p) IsProperValue x
       → IsExecution p.initial.items (threads_of p) (Contains V) x
   no_values V x e = record {
     runs =
-        zip_as (λ t r. IsRun t IsOne r) (λ t r. IsRun t (Contains V) r) (threads_of p) x.runs
+        zip_as (λ t r. IsThreadRun t IsProperValue r) (λ t r. IsThreadRun t (Contains V) r) (threads_of p) x.runs
         (λ its th r there h. (
           subst (λ (vs : List Value). All (Contains V) vs)
               (sym (empty its r there)) (All-nil (Contains V)),
@@ -227,14 +227,14 @@ module _ (t : Test) (p : Program) (is : IsProgram t p) (none : p.initial.items �
     where
       empty : (its : ℕ) (r : Run) → slice_get x.runs its ≡ Some r → r.values ≡ []
       empty its r there =
-          let o : RunOf IsOne (threads_of p) r = thread_of_run IsOne (threads_of p) x.runs its r e.runs there in
+          let o : RunOf IsProperValue (threads_of p) r = thread_of_run IsProperValue (threads_of p) x.runs its r e.runs there in
           none_loaded o.thread.lines o.thread.first r.values r.outcome
           (thread_plain (vec_len p.threads) o.thread o.there) o.is.1
 
 -- so the law of the domain holds for each test
 pub over_any_domain : (t : Test) (p : Program) (V : List Value) → IsProgram t p
-    → IsRound p (load_total p) V → (x : Execution)
-    → IsExecution p.initial.items (threads_of p) IsOne x
+    → IsDomainAt p (load_total p) V → (x : Execution)
+    → IsExecution p.initial.items (threads_of p) IsProperValue x
     → IsExecution p.initial.items (threads_of p) (Contains V) x
 over_any_domain t p V is d x e = go p.initial.items refl
   where

@@ -8,17 +8,17 @@ use Rattle.thread_runs.specs.declared.value.Value.{Value}
 use Rattle.thread_runs.specs.declared.instruction.Program.{Program}
 use Rattle.thread_runs.specs.Runs.{Thread, Run, InDomain, IsLess}
 use Rattle.thread_runs.specs.AllRuns.{HasRuns}
-use Rattle.thread_runs.specs.FreeRuns.{HasFreeRuns, IsOther}
-use Rattle.ppc_semantics.specs.Domain.{threads_of, load_total, IsDomain, IsFirst, IsRefused, IsRound, IsWithin, InRound, HasManyValues, HasManyRuns, HasCombinations}
+use Rattle.thread_runs.specs.FreeRuns.{HasFreeRuns, IsOtherFreeRun}
+use Rattle.ppc_semantics.specs.Domain.{threads_of, load_total, IsDomain, IsFirstFailure, IsDomainRefusal, IsDomainAt, IsBoundedRound, InDomainAt, HasManyValues, HasManyRuns, HasCombinations}
 use Rattle.ppc_semantics.specs.declared.fault.DomainRefusal.{DomainRefusal}
 use Rattle.ppc_semantics.specs.declared.fault.DomainRefusal.TheVariants as no_domain
 use Rattle.candidates.proofs.Elements.{member_cases, member_first, member_later}
 use Rattle.candidates.proofs.OneProgram.{Alike, programs_alike, test_executions_one}
 use Rattle.candidates.proofs.Sole.{first_rises, rest_rises, same_rising, less_apart, runs_sole}
 use Rattle.candidates.specs.Executions.{Execution}
-use Rattle.candidates.specs.Faults.{refusal_of}
-use Rattle.candidates.specs.Listed.{AreTestExecutions, ListsExecutions, HasManyExecutions, HasFaultedExecution, HasNoDomain, IsRefusal}
-use Rattle.candidates.specs.Laws.{HasOneOutcome}
+use Rattle.candidates.specs.Faults.{space_refusal_of}
+use Rattle.candidates.specs.Listed.{AreTestExecutions, ListsExecutions, HasManyExecutions, HasFaultedExecution, HasNoDomain, IsSpaceRefusal}
+use Rattle.candidates.specs.Laws.{HasOneSpaceOrRefusal}
 use Rattle.candidates.specs.declared.candidate.Space.{Space}
 use Rattle.candidates.specs.declared.fault.EvalRefusal.{EvalRefusal}
 use Rattle.candidates.specs.declared.fault.EvalRefusal.TheVariants.{TooManyEvents, TooManyValues, TooManyRuns, TooManyCandidates, AddressFault, TooManyCombinations}
@@ -67,25 +67,25 @@ free_runs_one t V m n h k = omega (arith, h.2, k.2, fewer h k, fewer k h)
   where
     fewer : {m n : ℕ} (h : HasFreeRuns t V m) (k : HasFreeRuns t V n) → length h.0 ≤ length k.0
     fewer h k =
-        no_more_of IsOther (λ x other. other refl refl) h.0 k.0 h.1.once
+        no_more_of IsOtherFreeRun (λ x other. other refl refl) h.0 k.0 h.1.once
         (λ z c. (k.1.exact z).1 ((h.1.exact z).0 c))
 
 -- rounds, and what is more than their bounds
-round_one : (p : Program) (k : ℕ) (V W : List Value) → IsRound p k V → IsRound p k W → V ≡ W
+round_one : (p : Program) (k : ℕ) (V W : List Value) → IsDomainAt p k V → IsDomainAt p k W → V ≡ W
 round_one p k V W h g =
     same_rising IsLess less_apart V W h.set.rising g.set.rising
     (λ v c. (g.exact v).1 ((h.exact v).0 c)) (λ v c. (h.exact v).1 ((g.exact v).0 c))
 
-few_values : (p : Program) (k : ℕ) (V : List Value) → IsRound p k V → length V ≤ 16
+few_values : (p : Program) (k : ℕ) (V : List Value) → IsDomainAt p k V → length V ≤ 16
     → HasManyValues p k → ⊥
 few_values p k V round few many =
-    let le : length many.0 ≤ length V = no_more_of IsLess (λ v less. less_apart v v less less) many.0 V many.1.rising (λ v c. (round.exact v).1 (All-contains (InRound p k) many.0 v many.2 c)) in
+    let le : length many.0 ≤ length V = no_more_of IsLess (λ v less. less_apart v v less less) many.0 V many.1.rising (λ v c. (round.exact v).1 (All-contains (InDomainAt p k) many.0 v many.2 c)) in
     omega (arith, le, few, many.3)
 
-within_values : (p : Program) (k : ℕ) → IsWithin p k → HasManyValues p k → ⊥
+within_values : (p : Program) (k : ℕ) → IsBoundedRound p k → HasManyValues p k → ⊥
 within_values p k h many = few_values p k h.values h.round h.few many
 
-within_runs : (p : Program) (k : ℕ) → IsWithin p k → HasManyRuns p k → ⊥
+within_runs : (p : Program) (k : ℕ) → IsBoundedRound p k → HasManyRuns p k → ⊥
 within_runs p k h many =
     let few = h.runs many.thread many.there in
     let e : many.values ≡ h.values = round_one p k many.values h.values many.round h.round in
@@ -95,17 +95,17 @@ within_runs p k h many =
 values_or_runs : (p : Program) (k : ℕ) → HasManyValues p k → HasManyRuns p k → ⊥
 values_or_runs p k values runs = few_values p k runs.values runs.round runs.few values
 
-one_first : (p : Program) (F G : Program → ℕ → Type 0) → ((k : ℕ) → IsWithin p k → F p k → ⊥)
-    → ((k : ℕ) → IsWithin p k → G p k → ⊥) → ((k : ℕ) → F p k → G p k → ⊥) → (j k : ℕ)
-    → IsFirst p j F → IsFirst p k G → ⊥
+one_first : (p : Program) (F G : Program → ℕ → Type 0) → ((k : ℕ) → IsBoundedRound p k → F p k → ⊥)
+    → ((k : ℕ) → IsBoundedRound p k → G p k → ⊥) → ((k : ℕ) → F p k → G p k → ⊥) → (j k : ℕ)
+    → IsFirstFailure p j F → IsFirstFailure p k G → ⊥
 one_first p F G within_f within_g both j k f g = elim (cases_order j k) [
   | inl e ↦ both k (subst (λ (n : ℕ). F p n) e f.fails) g.fails
   | inr (inl lt) ↦ within_f j (g.before j lt) f.fails
   | inr (inr lt) ↦ within_g k (f.before k lt) g.fails
 ]
 
-all_within : (p : Program) (F : Program → ℕ → Type 0) → ((k : ℕ) → IsWithin p k → F p k → ⊥)
-    → ((k : ℕ) → k ≤ load_total p → IsWithin p k) → (k : ℕ) → IsFirst p k F → ⊥
+all_within : (p : Program) (F : Program → ℕ → Type 0) → ((k : ℕ) → IsBoundedRound p k → F p k → ⊥)
+    → ((k : ℕ) → k ≤ load_total p → IsBoundedRound p k) → (k : ℕ) → IsFirstFailure p k F → ⊥
 all_within p F within rounds k f = within k (rounds k f.bound) f.fails
 
 -- the combinations of runs
@@ -122,7 +122,7 @@ combinations_counted (t ∷ ts) V m n h k =
 
 -- a program has a domain, or one refusal
 domain_or_refused : (p : Program) (V : List Value) (r : DomainRefusal) → IsDomain p V
-    → IsRefused p r → ⊥
+    → IsDomainRefusal p r → ⊥
 domain_or_refused p V no_domain.TooManyEvents d h = omega (arith, d.events, h)
 domain_or_refused p V no_domain.TooManyValues d h =
     all_within p HasManyValues (within_values p) d.rounds h.0 h.1
@@ -133,7 +133,7 @@ domain_or_refused p V no_domain.TooManyCombinations d h =
     let same : h.combinations ≡ d.combinations.0 = combinations_counted (threads_of p) V h.combinations d.combinations.0 (subst (λ (W : List Value). HasCombinations (threads_of p) W h.combinations) e h.counted) d.combinations.1 in
     omega (arith, same, h.many, d.combinations.2)
 
-one_refused : (p : Program) (q r : DomainRefusal) → IsRefused p q → IsRefused p r → q ≡ r
+one_refused : (p : Program) (q r : DomainRefusal) → IsDomainRefusal p q → IsDomainRefusal p r → q ≡ r
 one_refused p no_domain.TooManyEvents no_domain.TooManyEvents h k = refl
 one_refused p no_domain.TooManyEvents no_domain.TooManyValues h k =
     absurd (omega (arith, h, k.1.events))
@@ -167,17 +167,17 @@ one_refused p no_domain.TooManyCombinations no_domain.TooManyCombinations h k = 
 
 -- two programs of a test are refused alike
 module _ (p q : Program) (a : Alike p q) where
-  in_round : (k : ℕ) (v : Value) → InRound p k v → InRound q k v
+  in_round : (k : ℕ) (v : Value) → InDomainAt p k v → InDomainAt q k v
   in_round k v h =
       subst (λ (ts : List Thread). InDomain q.initial.items ts k v) a.threads
       (subst (λ (vs : List Value). InDomain vs (threads_of p) k v) a.initial h)
 
-  back_round : (k : ℕ) (v : Value) → InRound q k v → InRound p k v
+  back_round : (k : ℕ) (v : Value) → InDomainAt q k v → InDomainAt p k v
   back_round k v h =
       subst (λ (ts : List Thread). InDomain p.initial.items ts k v) (sym a.threads)
       (subst (λ (vs : List Value). InDomain vs (threads_of q) k v) (sym a.initial) h)
 
-  round_alike : (k : ℕ) (V : List Value) → IsRound p k V → IsRound q k V
+  round_alike : (k : ℕ) (V : List Value) → IsDomainAt p k V → IsDomainAt q k V
   round_alike k V h =
       record {
         set = h.set;
@@ -186,7 +186,7 @@ module _ (p q : Program) (a : Alike p q) where
             ((λ c. in_round k v ((h.exact v).0 c)), (λ r. (h.exact v).1 (back_round k v r)));
       }
 
-  within_alike : (k : ℕ) → IsWithin p k → IsWithin q k
+  within_alike : (k : ℕ) → IsBoundedRound p k → IsBoundedRound q k
   within_alike k h = record {
     values = h.values;
     round = round_alike k h.values h.round;
@@ -194,12 +194,12 @@ module _ (p q : Program) (a : Alike p q) where
     runs = λ t there. h.runs t (subst (λ (ts : List Thread). Contains ts t) (sym a.threads) there);
   }
 
-  rounds_alike : ((k : ℕ) → k ≤ load_total p → IsWithin p k) → (k : ℕ) → k ≤ load_total q
-      → IsWithin q k
+  rounds_alike : ((k : ℕ) → k ≤ load_total p → IsBoundedRound p k) → (k : ℕ) → k ≤ load_total q
+      → IsBoundedRound q k
   rounds_alike h k le = within_alike k (h k (omega (arith, le, a.loads)))
 
-  first_alike : (F : Program → ℕ → Type 0) → ((k : ℕ) → F p k → F q k) → (k : ℕ) → IsFirst p k F
-      → IsFirst q k F
+  first_alike : (F : Program → ℕ → Type 0) → ((k : ℕ) → F p k → F q k) → (k : ℕ) → IsFirstFailure p k F
+      → IsFirstFailure q k F
   first_alike F to k h =
       record {
         events = omega (arith, h.events, a.events);
@@ -211,7 +211,7 @@ module _ (p q : Program) (a : Alike p q) where
   values_alike : (k : ℕ) → HasManyValues p k → HasManyValues q k
   values_alike k h = (h.0, h.1, all h.0 h.2, h.3)
     where
-      all : (V : List Value) → All (InRound p k) V → All (InRound q k) V
+      all : (V : List Value) → All (InDomainAt p k) V → All (InDomainAt q k) V
       all V g i d lt = in_round k (get_or V i d) (g i d lt)
 
   runs_alike : (k : ℕ) → HasManyRuns p k → HasManyRuns q k
@@ -226,7 +226,7 @@ module _ (p q : Program) (a : Alike p q) where
     many = h.many;
   }
 
-  refused_alike : (r : DomainRefusal) → IsRefused p r → IsRefused q r
+  refused_alike : (r : DomainRefusal) → IsDomainRefusal p r → IsDomainRefusal q r
   refused_alike no_domain.TooManyEvents h = omega (arith, h, a.events)
   refused_alike no_domain.TooManyValues h = (h.0, first_alike HasManyValues values_alike h.0 h.1)
   refused_alike no_domain.TooManyRuns h = (h.0, first_alike HasManyRuns runs_alike h.0 h.1)
@@ -235,7 +235,7 @@ module _ (p q : Program) (a : Alike p q) where
     rounds = rounds_alike h.rounds;
     values = h.values;
     last =
-        subst (λ (k : ℕ). IsRound q k h.values) a.loads
+        subst (λ (k : ℕ). IsDomainAt q k h.values) a.loads
         (round_alike (load_total p) h.values h.last);
     combinations = h.combinations;
     counted =
@@ -269,11 +269,11 @@ many_or_faulted t m f =
 -- which of the three kinds a refusal is of
 Sort : Test → EvalRefusal → Type 0
 Sort t r =
-    ((d : DomainRefusal) × (r ≡ refusal_of d) × HasNoDomain t d)
+    ((d : DomainRefusal) × (r ≡ space_refusal_of d) × HasNoDomain t d)
     ⊎ (((r ≡ TooManyCandidates) × HasManyExecutions t)
     ⊎ ((r ≡ AddressFault) × HasFaultedExecution t))
 
-sorted : (t : Test) (r : EvalRefusal) → IsRefusal t r → Sort t r
+sorted : (t : Test) (r : EvalRefusal) → IsSpaceRefusal t r → Sort t r
 unfolding Sort
 sorted t TooManyEvents h = inl (no_domain.TooManyEvents, refl, h)
 sorted t TooManyValues h = inl (no_domain.TooManyValues, refl, h)
@@ -284,7 +284,7 @@ sorted t AddressFault h = inr (inr (refl, h))
 
 sorts_one : (t : Test) (q r : EvalRefusal) → Sort t q → Sort t r → q ≡ r
 unfolding Sort
-sorts_one t q r (inl h) (inl k) = h.1 ∙ ap refusal_of (one_no_domain t h.0 k.0 h.2 k.2) ∙ sym k.1
+sorts_one t q r (inl h) (inl k) = h.1 ∙ ap space_refusal_of (one_no_domain t h.0 k.0 h.2 k.2) ∙ sym k.1
 sorts_one t q r (inl h) (inr (inl m)) =
     absurd (executions_or_refused t m.1.initial m.1.all h.0 m.1.executions h.2)
 sorts_one t q r (inl h) (inr (inr f)) =
@@ -311,7 +311,7 @@ listed_or t s r h (inr (inr f)) =
     (sym (test_executions_one t h.initial f.1.initial h.all f.1.all h.executions
     f.1.executions).1) f.1.there) f.1.fault
 
-pub one_outcome : (t : Test) → HasOneOutcome t
+pub one_outcome : (t : Test) → HasOneSpaceOrRefusal t
 one_outcome t = record {
   listed_or_refused = λ s r h k. listed_or t s r h (sorted t r k);
   one_refusal = λ q r h k. sorts_one t q r (sorted t q h) (sorted t r k);

@@ -21,7 +21,7 @@ use Rattle.thread_runs.specs.declared.instruction.Program.{Program}
 use Rattle.thread_runs.specs.Runs.{Thread, InDomain, IsLess}
 use Rattle.thread_runs.specs.AllRuns.{thread_of, lines_at, first_of}
 use Rattle.ppc_semantics.specs.Domain.{IsDomain, threads_from, threads_of, has_event, has_load, event_total, load_total}
-use Rattle.ppc_semantics.specs.Lowering.{IsProgram, IsBefore, AreNames, Starts, AreInitial, AreRegisters, AreFiles, AreLines, AreThreads, value_of, line_of, labels_in}
+use Rattle.ppc_semantics.specs.Lowering.{IsProgram, IsNameBefore, AreNamesOf, Starts, AreInitial, AreRegisters, AreFiles, LowersTo, AreThreadLines, lowered_value, lowered_line, labels_in}
 use Rattle.ppc_semantics.proofs.Sorting.{order}
 use Rattle.candidates.proofs.Elements.{member_first}
 use Rattle.candidates.proofs.Sole.{same_rising, less_apart, executions_sole}
@@ -29,15 +29,15 @@ use Rattle.candidates.specs.Executions.{Execution, AreExecutions}
 use Rattle.candidates.specs.Listed.{AreTestExecutions}
 
 -- names in their order are one list
-names_apart : (a b : List ℕ) → IsBefore a b → IsBefore b a → ⊥
+names_apart : (a b : List ℕ) → IsNameBefore a b → IsNameBefore b a → ⊥
 names_apart a b h k = turned (sym h ∙ order.antisymm a b ∙ ap ordering_reverse k)
   where
     turned : how.Less ≡ how.Greater → ⊥
     turned e = cc
 
-pub names_one : (found xs ys : List (List ℕ)) → AreNames found xs → AreNames found ys → xs ≡ ys
+pub names_one : (found xs ys : List (List ℕ)) → AreNamesOf found xs → AreNamesOf found ys → xs ≡ ys
 names_one found xs ys h k =
-    same_rising IsBefore names_apart xs ys h.rising k.rising
+    same_rising IsNameBefore names_apart xs ys h.rising k.rising
     (λ n c. (k.exact n).1 ((h.exact n).0 c)) (λ n c. (h.exact n).1 ((k.exact n).0 c))
 
 -- lists with the same elements
@@ -83,7 +83,7 @@ starts_one : (init : List InitEntry) (p : Place) (names : List (List ℕ)) (v w 
     → Starts init p names v → Starts init p names w → v ≡ w
 starts_one init p names v w (inl h) (inl k) =
     let e : h.0 ≡ k.0 = last_one p h.1.before h.0 h.1.behind k.1.before k.0 k.1.behind (sym h.1.there ∙ k.1.there) h.1.place k.1.place h.1.last k.1.last in
-    h.2 ∙ ap (λ (x : InitEntry). value_of names x.value) e ∙ sym k.2
+    h.2 ∙ ap (λ (x : InitEntry). lowered_value names x.value) e ∙ sym k.2
 starts_one init p names v w (inl h) (inr k) =
     absurd (not_behind p h.1.before h.0 h.1.behind init h.1.there h.1.place k.0)
 starts_one init p names v w (inr h) (inl k) =
@@ -118,11 +118,11 @@ files_one init names n vs ws h k =
     (k.starts t l))
 
 -- the lines of threads
-lines_one : (steps : List Step) (xs ys : List Line) → AreLines steps xs → AreLines steps ys
+lines_one : (steps : List Step) (xs ys : List Line) → LowersTo steps xs → LowersTo steps ys
     → xs ≡ ys
 lines_one steps xs ys h k =
     h.2
-    ∙ ap (λ (labels : List (List ℕ)). map (line_of labels) steps)
+    ∙ ap (λ (labels : List (List ℕ)). map (lowered_line labels) steps)
     (names_one (flat_map labels_in steps) h.0 k.0 h.1 k.1) ∙ sym k.2
 
 abbrev items_of : Vec Line Global → List Line
@@ -131,8 +131,8 @@ items_of v = v.items
 some_is : {X : Type 0} {x y : X} → Some x ≡ Some y → x ≡ y
 some_is e = cc
 
-threads_one : (threads : List text.Thread) (vs ws : List (Vec Line Global)) → AreThreads threads vs
-    → AreThreads threads ws → map items_of vs ≡ map items_of ws
+threads_one : (threads : List text.Thread) (vs ws : List (Vec Line Global)) → AreThreadLines threads vs
+    → AreThreadLines threads ws → map items_of vs ≡ map items_of ws
 threads_one threads vs ws h k = go vs ws (h.each_one ∙ sym k.each_one) each
   where
     each : (i : ℕ) (v w : Vec Line Global) → slice_get vs i ≡ Some v → slice_get ws i ≡ Some w
@@ -143,9 +143,9 @@ threads_one threads vs ws h k = go vs ws (h.each_one ∙ sym k.each_one) each
           let va : get_or vs i v ≡ v = some_is (sym (slice_get-get_or vs i v (omega (arith, lt, h.each_one))) ∙ a) in
           let wa : get_or ws i w ≡ w = some_is (sym (slice_get-get_or ws i w (omega (arith, lt, k.each_one))) ∙ b) in
           lines_one (get_or threads i t).steps.items v.items w.items
-          (subst (λ (x : Vec Line Global). AreLines (get_or threads i t).steps.items x.items) va
+          (subst (λ (x : Vec Line Global). LowersTo (get_or threads i t).steps.items x.items) va
           (h.each i t v lt))
-          (subst (λ (x : Vec Line Global). AreLines (get_or threads i t).steps.items x.items) wa
+          (subst (λ (x : Vec Line Global). LowersTo (get_or threads i t).steps.items x.items) wa
           (k.each i t w lt))
       | inr past ↦ absurd (outside i v a past.0)
     ]

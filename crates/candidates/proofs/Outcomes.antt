@@ -11,7 +11,7 @@ use Rattle.candidates.specs.Space.{Shown, shown_in}
 use Rattle.ppc_semantics.specs.Lowering.{test_names}
 use Rattle.std.specs.List.{AllZip}
 use Rattle.candidates.specs.Executions.{Execution}
-use Rattle.candidates.specs.Listed.{Shows, ArePairs}
+use Rattle.candidates.specs.Listed.{ShowsExecution, AreDependencyPairs}
 use Rattle.candidates.specs.Laws.{ShowOneTest}
 use Rattle.candidates.specs.declared.candidate.Space.{Space}
 
@@ -23,12 +23,12 @@ before_apart p q (inr a) (inl b) = omega (arith, a.0, b)
 before_apart p q (inr a) (inr b) = omega (arith, a.1, b.1)
 
 pairs_one : (R : Executed → ℕ → ℕ → Type 0) (initial : List Value) (x : Execution)
-    (ps qs : List (ℕ × ℕ)) → ArePairs R initial x ps → ArePairs R initial x qs → ps ≡ qs
+    (ps qs : List (ℕ × ℕ)) → AreDependencyPairs R initial x ps → AreDependencyPairs R initial x qs → ps ≡ qs
 pairs_one R initial x ps qs h k =
     same_rising IsPairBefore before_apart ps qs h.rising k.rising
     (λ p c. (k.exact p).1 ((h.exact p).0 c)) (λ p c. (h.exact p).1 ((k.exact p).0 c))
 
-alike : (initial : List Value) (x : Execution) (d e : Shown) → Shows initial x d → Shows initial x e
+alike : (initial : List Value) (x : Execution) (d e : Shown) → ShowsExecution initial x d → ShowsExecution initial x e
     → d ≡ e
 alike initial x d e h k =
     shown_one d e (h.events ∙ sym k.events)
@@ -42,7 +42,7 @@ alike initial x d e h k =
     (h.registers ∙ sym k.registers)
 
 all_alike : (initial : List Value) (xs : List Execution) (ds es : List Shown)
-    → AllZip (Shows initial) xs ds → AllZip (Shows initial) xs es → ds ≡ es
+    → AllZip (ShowsExecution initial) xs ds → AllZip (ShowsExecution initial) xs es → ds ≡ es
 all_alike initial [] [] [] h k = refl
 all_alike initial [] [] (e ∷ es) h k = absurd k
 all_alike initial [] (d ∷ ds) es h k = absurd h
@@ -56,8 +56,8 @@ pub shown_alike : (t : Test) (r s : Space) → ShowOneTest t r s
 shown_alike t r s h k = (
   names_one (test_names t) r.locations.items s.locations.items h.locations k.locations,
   all_alike h.initial h.all (shown_in r) (shown_in s) h.shown
-      (subst (λ (vs : List Value). AllZip (Shows vs) h.all (shown_in s)) (sym same.0)
-      (subst (λ (xs : List Execution). AllZip (Shows k.initial) xs (shown_in s))
+      (subst (λ (vs : List Value). AllZip (ShowsExecution vs) h.all (shown_in s)) (sym same.0)
+      (subst (λ (xs : List Execution). AllZip (ShowsExecution k.initial) xs (shown_in s))
       (sym same.1) k.shown)),
 )
   where

@@ -10,15 +10,15 @@ use Rattle.thread_runs.specs.declared.instruction.Line.{Line}
 use Rattle.thread_runs.specs.declared.instruction.Line.TheVariants.{Label, Does}
 use Rattle.thread_runs.specs.declared.instruction.RunStep.{RunStep}
 use Rattle.thread_runs.specs.declared.state.State.{State}
-use Rattle.thread_runs.specs.Machine.{is_load, is_fault, goes, event_of}
-use Rattle.thread_runs.specs.Runs.{Walk, Outcome, started, advanced, passed, ends, supplied, obeyed, one, run_from, run_of, executed, nothing}
-use Rattle.dataflow.specs.Chains.{Executed, event_place, is_event}
+use Rattle.thread_runs.specs.Machine.{is_load, is_fault, takes_branch, event_of}
+use Rattle.thread_runs.specs.Runs.{Walk, Outcome, walk_at, walk_after, walk_past, ends, after_load, after_instruction, after_line, run_from, run_of, executed, no_step}
+use Rattle.dataflow.specs.Chains.{Executed, event_index, is_event}
 
 -- what each step of a run keeps holds at its end
 module _ (P : Walk → Type 0)
     (step : (i : Instruction) (b : Bool) (v : Value) (w : Walk) → is_fault i w.state ≡ false → P w
-    → P (advanced i b v w))
-    (pass : (x : Line) (l : ℕ) (w : Walk) → P w → P (passed x l w)) where
+    → P (walk_after i b v w))
+    (pass : (x : Line) (l : ℕ) (w : Walk) → P w → P (walk_past x l w)) where
   at_end : (f : Bool) (w : Walk) (vs : List Value) (o : Outcome) → ends f w vs ≡ Some o → P w
       → P o.walk
   at_end f w [] o e h = subst (λ (q : Outcome). P q.walk) (same_Some _ _ e) h
@@ -27,26 +27,26 @@ module _ (P : Walk → Type 0)
   at_load : (xs : List Line)
       → ((w : Walk) (vs : List Value) (o : Outcome) → run_from xs w vs ≡ Some o → P w → P o.walk)
       → (l : Bool) (i : Instruction) (b : Bool) (w : Walk) (vs : List Value) (o : Outcome)
-      → is_fault i w.state ≡ false → supplied l i b (run_from xs) w vs ≡ Some o → P w → P o.walk
+      → is_fault i w.state ≡ false → after_load l i b (run_from xs) w vs ≡ Some o → P w → P o.walk
   at_load xs rest true i b w [] o sound e h = absurd cc
   at_load xs rest true i b w (v ∷ vs) o sound e h =
-      rest (advanced i b v w) vs o e (step i b v w sound h)
+      rest (walk_after i b v w) vs o e (step i b v w sound h)
   at_load xs rest false i b w vs o sound e h =
-      rest (advanced i b NoValue w) vs o e (step i b NoValue w sound h)
+      rest (walk_after i b NoValue w) vs o e (step i b NoValue w sound h)
 
   at_step : (xs : List Line)
       → ((w : Walk) (vs : List Value) (o : Outcome) → run_from xs w vs ≡ Some o → P w → P o.walk)
       → (f : Bool) (i : Instruction) (w : Walk) (vs : List Value) (o : Outcome)
-      → is_fault i w.state ≡ f → obeyed f i (run_from xs) w vs ≡ Some o → P w → P o.walk
+      → is_fault i w.state ≡ f → after_instruction f i (run_from xs) w vs ≡ Some o → P w → P o.walk
   at_step xs rest true i w vs o is e h = at_end true w vs o e h
   at_step xs rest false i w vs o is e h =
-      at_load xs rest (is_load i) i (goes i w.state) w vs o is e h
+      at_load xs rest (is_load i) i (takes_branch i w.state) w vs o is e h
 
   at_line : (xs : List Line)
       → ((w : Walk) (vs : List Value) (o : Outcome) → run_from xs w vs ≡ Some o → P w → P o.walk)
       → (s : Option ℕ) (x : Line) (w : Walk) (vs : List Value) (o : Outcome)
-      → one s x (run_from xs) w vs ≡ Some o → P w → P o.walk
-  at_line xs rest (Some l) x w vs o e h = rest (passed x l w) vs o e (pass x l w h)
+      → after_line s x (run_from xs) w vs ≡ Some o → P w → P o.walk
+  at_line xs rest (Some l) x w vs o e h = rest (walk_past x l w) vs o e (pass x l w h)
   at_line xs rest None (Label m) w vs o e h = rest w vs o e h
   at_line xs rest None (Does i) w vs o e h = at_step xs rest (is_fault i w.state) i w vs o refl e h
 
@@ -57,10 +57,10 @@ module _ (P : Walk → Type 0)
 
 -- the places of events
 pub places_same : (at on : Executed) (n : ℕ) → ((k : ℕ) → k < n → at k ≡ on k)
-    → event_place at n ≡ event_place on n
+    → event_index at n ≡ event_index on n
 places_same at on zero same = refl
 places_same at on (suc n) same =
-    ap (λ (i : Instruction). cond (is_event i) (event_place at n + 1) (event_place at n))
+    ap (λ (i : Instruction). cond (is_event i) (event_index at n + 1) (event_index at n))
     (same n (omega arith))
     ∙ ap (λ (k : ℕ). cond (is_event (on n)) (k + 1) k)
     (places_same at on n (λ k lt. same k (omega (arith, lt))))
@@ -86,28 +86,28 @@ one_place_more true k = omega arith
 one_place_more false k = omega arith
 
 abbrev pub Placed : Walk → Type 0
-Placed w = event_place (executed w.steps) (length w.steps) ≡ length w.events
+Placed w = event_index (executed w.steps) (length w.steps) ≡ length w.events
 
 pub placed_more : (i : Instruction) (b : Bool) (v : Value) (w : Walk) → Placed w
-    → Placed (advanced i b v w)
+    → Placed (walk_after i b v w)
 placed_more i b v w h =
     let long : length (w.steps ++ record { instruction = i; loaded = v } ∷ []) ≡ suc (length w.steps) = omega (arith, length-append w.steps (record { instruction = i; loaded = v } ∷ [])) in
     ap
     (λ (n : ℕ).
-    event_place (executed (w.steps ++ record { instruction = i; loaded = v } ∷ [])) n) long
+    event_index (executed (w.steps ++ record { instruction = i; loaded = v } ∷ [])) n) long
     ∙ ap
     (λ (j : Instruction). cond (is_event j)
-    (event_place (executed (w.steps ++ record { instruction = i; loaded = v } ∷ []))
+    (event_index (executed (w.steps ++ record { instruction = i; loaded = v } ∷ []))
     (length w.steps) + 1)
-    (event_place (executed (w.steps ++ record { instruction = i; loaded = v } ∷ []))
+    (event_index (executed (w.steps ++ record { instruction = i; loaded = v } ∷ []))
     (length w.steps)))
     (ap (λ (s : RunStep). s.instruction) (get_or_at w.steps
-    (record { instruction = i; loaded = v }) [] nothing (length w.steps) refl))
+    (record { instruction = i; loaded = v }) [] no_step (length w.steps) refl))
     ∙ ap (λ (k : ℕ). cond (is_event i) (k + 1) k) (places_same
     (executed (w.steps ++ record { instruction = i; loaded = v } ∷ []))
     (executed w.steps) (length w.steps) (λ k lt. ap (λ (s : RunStep). s.instruction)
     (get_or_append_left w.steps (record { instruction = i; loaded = v } ∷ [])
-    nothing k lt)) ∙ h)
+    no_step k lt)) ∙ h)
     ∙ one_place_more (is_event i) (length w.events)
     ∙ ap (λ (k : ℕ). length w.events + k) (sym (event_count i v w.state))
     ∙ sym (length-append w.events (event_of i v w.state))
@@ -115,7 +115,7 @@ placed_more i b v w h =
 -- the event places of a run end where its events do
 pub places_are_events : (lines : List Line) (s : State) (vs : List Value) (o : Outcome)
     → run_of lines s vs ≡ Some o
-    → event_place (executed o.walk.steps) (length o.walk.steps) ≡ length o.walk.events
+    → event_index (executed o.walk.steps) (length o.walk.steps) ≡ length o.walk.events
 places_are_events lines s vs o e =
-    along Placed (λ i b v w sound h. placed_more i b v w h) (λ x l w h. h) lines (started s) vs o e
+    along Placed (λ i b v w sound h. placed_more i b v w h) (λ x l w h. h) lines (walk_at s) vs o e
     refl

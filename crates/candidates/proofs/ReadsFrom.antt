@@ -8,10 +8,10 @@ use Rattle.thread_runs.specs.declared.value.Value.{Value}
 use Rattle.thread_runs.specs.declared.value.Value.TheVariants.{Number, Address, NoValue}
 use Rattle.run_combinations.proofs.Pruning.{is_store_of}
 use Rattle.candidates.proofs.Products.{FilteredEach, filter_of_products, filter_twice, filter_as}
-use Rattle.candidates.specs.Executions.{MayRead, product, maps, loads, stores}
+use Rattle.candidates.specs.Executions.{MayRead, product, read_choices, loads, stores}
 use Rattle.run_combinations.specs.Lists.{tuples, IsFiltered, none, kept, left}
 use Rattle.run_combinations.specs.Events.{numbers, ReadsFrom, reads, writes, is_load, is_store}
-use Rattle.run_combinations.specs.Ways.{AreWays, IsWay, accesses_in, sources_of, may_read, same_value}
+use Rattle.run_combinations.specs.Ways.{AreReadChoices, IsReadChoice, accesses_in, stores_for, may_read, same_value}
 use Rattle.run_combinations.specs.declared.combination.Action.{Action}
 use Rattle.run_combinations.specs.declared.combination.Action.TheVariants.{Read, Write, Fence}
 use Rattle.run_combinations.specs.declared.combination.Event.{Event}
@@ -68,7 +68,7 @@ store_is (Fence f) b e = absurd cc
 
 -- the stores that one load may read
 one_load : (es : List Event) (n : ℕ) (e : Event) → slice_get es n ≡ Some e → is_load e ≡ true
-    → IsFiltered (MayRead es n) (stores es) (sources_of es e)
+    → IsFiltered (MayRead es n) (stores es) (stores_for es e)
 one_load es n e there load =
     numbers_filtered is_store (λ s. may_read e.action s.action) (MayRead es n)
     (λ s h. store_is e.action s.action h) 0 es (λ j s g. (to j s g, back j s g))
@@ -94,7 +94,7 @@ one_load es n e there load =
 each_load : (es : List Event) (at : ℕ) (fs : List Event)
     → ((j : ℕ) → slice_get es (at + j) ≡ slice_get fs j)
     → FilteredEach (MayRead es) (numbers is_load at fs)
-    (map (λ load. stores es) (numbers is_load at fs)) (map (sources_of es) (filter is_load fs))
+    (map (λ load. stores es) (numbers is_load at fs)) (map (stores_for es) (filter is_load fs))
 each_load es at [] from = tt
 each_load es at (e ∷ fs) from =
     go (is_load e) refl (numbers is_load (at + 1) fs) (filter is_load fs) (each_load es (at + 1) fs
@@ -106,10 +106,10 @@ each_load es at (e ∷ fs) from =
     here = let n : at ≡ at + 0 = omega arith in ap (λ (k : ℕ). slice_get es k) n ∙ from 0
 
     go : (b : Bool) → is_load e ≡ b → (ns : List ℕ) (rest : List Event)
-        → FilteredEach (MayRead es) ns (map (λ load. stores es) ns) (map (sources_of es) rest)
+        → FilteredEach (MayRead es) ns (map (λ load. stores es) ns) (map (stores_for es) rest)
         → FilteredEach (MayRead es) (cond b (at ∷ ns) ns)
         (map (λ load. stores es) (cond b (at ∷ ns) ns))
-        (map (sources_of es) (cond b (e ∷ rest) rest))
+        (map (stores_for es) (cond b (e ∷ rest) rest))
     go true load ns rest h = (one_load es at e here load, h)
     go false load ns rest h = h
 
@@ -170,25 +170,25 @@ acyclic_as R S same never a p = never a (p.0, path_as R S same p.0 a a p.1)
 pub reads_found : (es : List Event) (pairs : List (ℕ × ℕ)) (Need : ℕ → ℕ → Type 0)
     → ((a b : ℕ) → Need a b → (accesses_in es pairs).Need a b)
     → ((a b : ℕ) → (accesses_in es pairs).Need a b → Need a b) → (ways : List (List ℕ))
-    → AreWays es pairs ways
+    → AreReadChoices es pairs ways
     → IsFiltered
     (λ way. AllZip (MayRead es) (loads es) way
     × IsAcyclic (Union Need (ReadsFrom (loads es) way)))
-    (maps es) ways
+    (read_choices es) ways
 reads_found es pairs Need there back ways are =
     filter_twice (AllZip (MayRead es) (loads es))
-    (λ way. IsAcyclic (Union Need (ReadsFrom (loads es) way))) (maps es)
-    (product (map (sources_of es) (filter is_load es))) ways
+    (λ way. IsAcyclic (Union Need (ReadsFrom (loads es) way))) (read_choices es)
+    (product (map (stores_for es) (filter is_load es))) ways
     (filter_of_products (MayRead es) (loads es) (map (λ load. stores es) (loads es))
-    (map (sources_of es) (filter is_load es)) (each_load es 0 es
+    (map (stores_for es) (filter is_load es)) (each_load es 0 es
     (λ j. let z : 0 + j ≡ j = omega arith in ap (λ (k : ℕ). slice_get es k) z)))
-    (filter_as (IsWay (accesses_in es pairs))
+    (filter_as (IsReadChoice (accesses_in es pairs))
     (λ way. IsAcyclic (Union Need (ReadsFrom (loads es) way))) (λ way. (to way, from way))
-    (product (map (sources_of es) (filter is_load es))) ways
-    (subst (λ (l : List (List ℕ)). IsFiltered (IsWay (accesses_in es pairs)) l ways)
-    (tuples_are (map (sources_of es) (filter is_load es))) are))
+    (product (map (stores_for es) (filter is_load es))) ways
+    (subst (λ (l : List (List ℕ)). IsFiltered (IsReadChoice (accesses_in es pairs)) l ways)
+    (tuples_are (map (stores_for es) (filter is_load es))) are))
   where
-    to : (way : List ℕ) → IsWay (accesses_in es pairs) way
+    to : (way : List ℕ) → IsReadChoice (accesses_in es pairs) way
         → IsAcyclic (Union Need (ReadsFrom (loads es) way))
     to way h =
         acyclic_as (Union Need (ReadsFrom (loads es) way))
@@ -196,7 +196,7 @@ reads_found es pairs Need there back ways are =
         (λ a b u. elim u [ inl x ↦ inl (there a b x) | inr y ↦ inr y ]) h
 
     from : (way : List ℕ) → IsAcyclic (Union Need (ReadsFrom (loads es) way))
-        → IsWay (accesses_in es pairs) way
+        → IsReadChoice (accesses_in es pairs) way
     from way h =
         acyclic_as (Union (accesses_in es pairs).Need (ReadsFrom (loads es) way))
         (Union Need (ReadsFrom (loads es) way))

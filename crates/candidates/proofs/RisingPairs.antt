@@ -10,7 +10,7 @@ use Rattle.thread_runs.specs.declared.instruction.RunStep.{RunStep}
 use Rattle.thread_runs.specs.declared.run.Run as made
 use Rattle.thread_runs.specs.Runs.{Thread, Run, executed}
 use Rattle.dataflow.proofs.ReachLoop.{place_lt}
-use Rattle.dataflow.specs.Chains.{IsPairBefore, IsListOf, is_event, event_place}
+use Rattle.dataflow.specs.Chains.{IsPairBefore, IsPairListOf, is_event, event_index}
 use Rattle.candidates.proofs.Choosing.{GoesOnWith}
 use Rattle.candidates.proofs.Elements.{no_member, mapped}
 use Rattle.candidates.proofs.Facts as facts
@@ -21,7 +21,7 @@ use Rattle.candidates.proofs.StepEvents.{in_run, place_few}
 use Rattle.candidates.proofs.Whole.{none_left_out}
 use Rattle.run_combinations.specs.Events.{initial_stores}
 use Rattle.dataflow.specs.DependencyLists.{renumbered_pairs}
-use Rattle.run_combinations.specs.Search.{PrefixLists, with_run, start}
+use Rattle.run_combinations.specs.Search.{PrefixLists, with_run, initial_prefix}
 use Rattle.run_combinations.specs.declared.layout.ThreadParts.{ThreadParts}
 use Rattle.run_combinations.specs.declared.part.Part.{Part}
 
@@ -55,10 +55,10 @@ joined_rise xs ys k m n h g km mn = record {
 
 -- the pairs of a run, numbered on
 module _ (d : facts.Listed) (base : ℕ) (steps : List RunStep) (ps : List (ℕ × ℕ))
-    (are : IsListOf d.Related (executed steps) ps) (low : base ≤ 128)
-    (few : event_place (executed steps) (length steps) ≤ 128) where
+    (are : IsPairListOf d.Related (executed steps) ps) (low : base ≤ 128)
+    (few : event_index (executed steps) (length steps) ≤ 128) where
   abbrev most : ℕ
-  most = event_place (executed steps) (length steps)
+  most = event_index (executed steps) (length steps)
 
   record Lies (p : ℕ × ℕ) : Type 0 where
     from : p.0 < most
@@ -70,11 +70,11 @@ module _ (d : facts.Listed) (base : ℕ) (steps : List RunStep) (ps : List (ℕ 
       let event : is_event (executed steps i) ≡ true = load_is (executed steps i) (d.starts (executed steps) i j r) in
       record {
         from =
-            let lt : event_place (executed steps) i < most =
+            let lt : event_index (executed steps) i < most =
             place_lt (executed steps) i (length steps) event (in_run steps i event) in
             omega (arith, e, lt);
         to =
-            let le : event_place (executed steps) j ≤ most = place_few steps j in
+            let le : event_index (executed steps) j ≤ most = place_few steps j in
             omega (arith, f, le);
       }
 
@@ -134,10 +134,10 @@ module _ (d : facts.Listed) (V : List Value) where
   one_rises thread b t m r at p o h =
       let ps : List (ℕ × ℕ) = d.own p.links in
       let steps : List RunStep = r.outcome.walk.steps in
-      let on : Rises (renumbered_pairs (length b.combination.events) ps) (length b.combination.events) (length b.combination.events + event_place (executed steps) (length steps)) =
+      let on : Rises (renumbered_pairs (length b.combination.events) ps) (length b.combination.events) (length b.combination.events + event_index (executed steps) (length steps)) =
       numbered_on d (length b.combination.events) steps ps (facts.links d V thread b t m r at p o)
       (facts.low d V thread b t m r at p o) (facts.run_few d V thread b t m r at p o) in
-      let long : length (with_run at p b).combination.events ≡ length b.combination.events + event_place (executed steps) (length steps) =
+      let long : length (with_run at p b).combination.events ≡ length b.combination.events + event_index (executed steps) (length steps) =
       (let all = none_left_out thread t.lines t.first r.values r.outcome o.same.1.1 in
       let places = places_are_events t.lines t.first r.values r.outcome o.same.1.1 in
       omega (arith, facts.longer d V thread b t m r at p o, all, places)) in
@@ -170,10 +170,10 @@ module _ (d : facts.Listed) (V : List Value) where
 
   pub pairs_rise : (threads : List Thread) (ts : List ThreadParts) (ms : List made.Run)
       (rs : List Run) (initial : List Value) (c : PrefixLists) → AreOne V threads ms rs
-      → GoesOnWith 0 (start (initial_stores 0 initial)) ts ms c → length c.combination.events ≤ 128
+      → GoesOnWith 0 (initial_prefix (initial_stores 0 initial)) ts ms c → length c.combination.events ≤ 128
       → AllPairs IsPairBefore (d.all c)
   pairs_rise threads ts ms rs initial c one g few =
-      let s : PrefixLists = start (initial_stores 0 initial) in
+      let s : PrefixLists = initial_prefix (initial_stores 0 initial) in
       (rise_on threads 0 ts ms rs s c one g few (subst
       (λ (l : List (ℕ × ℕ)). Rises l 0 (length s.combination.events))
       (sym (d.first (initial_stores 0 initial)))

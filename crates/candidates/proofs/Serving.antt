@@ -7,7 +7,7 @@ use Rattle.thread_runs.specs.declared.value.Value.TheVariants.{Number, Address, 
 use Rattle.thread_runs.specs.declared.instruction.Event as run
 use Rattle.thread_runs.specs.declared.instruction.Event.TheVariants as does
 use Rattle.thread_runs.specs.declared.instruction.Program.{Program}
-use Rattle.thread_runs.specs.Runs.{Thread, Run, IsRun}
+use Rattle.thread_runs.specs.Runs.{Thread, Run, IsThreadRun}
 use Rattle.thread_runs.specs.AllRuns.{thread_of}
 use Rattle.thread_runs.specs.Held.{MayHold, AreLeft, none, stays, goes, IsUnserved}
 use Rattle.thread_runs.proofs.Serving.{all_go, left_append, left_map}
@@ -21,7 +21,7 @@ use Rattle.run_combinations.specs.declared.combination.Action.TheVariants.{Write
 use Rattle.candidates.proofs.AllListed.{filtered_there}
 use Rattle.candidates.proofs.Elements.{member_cases, member_first, member_later, no_member, mapped, joined}
 use Rattle.candidates.proofs.Listing.{none_executed}
-use Rattle.candidates.specs.Executions.{Execution, IsExecution, product, maps, orders, over_runs, events, events_from}
+use Rattle.candidates.specs.Executions.{Execution, IsExecution, product, read_choices, orders, over_runs, events, events_from}
 
 -- one of the runs has such a load
 abbrev pub HasUnserved : Program → List Run → Type 0
@@ -144,11 +144,11 @@ thread_there p (suc n) t c = elim (Contains-push_cases (threads_from p n) (threa
 
 abbrev IsStoredBy : List Thread → List Value → ℕ → Value → Type 0
 IsStoredBy threads V l v =
-    (t : Thread) × Contains threads t × (r : Run) × IsRun t (Contains V) r
+    (t : Thread) × Contains threads t × (r : Run) × IsThreadRun t (Contains V) r
     × Contains r.outcome.walk.events (does.Writes (Address l) v)
 
 run_store : (V : List Value) (thread l : ℕ) (v : Value) (threads : List Thread) (rs : List Run)
-    → AllZip (λ t r. IsRun t (Contains V) r) threads rs → HasStore l v (events_from thread rs)
+    → AllZip (λ t r. IsThreadRun t (Contains V) r) threads rs → HasStore l v (events_from thread rs)
     → IsStoredBy threads V l v
 run_store V thread l v [] [] are h = absurd h
 run_store V thread l v [] (r ∷ rs) are h = absurd are
@@ -169,7 +169,7 @@ run_store V thread l v (t ∷ threads) (r ∷ rs) are h =
     ]
 
 may_hold : (p : Program) (V : List Value) (l : ℕ) (v : Value) (rs : List Run)
-    → AllZip (λ t r. IsRun t (Contains V) r) (threads_of p) rs
+    → AllZip (λ t r. IsThreadRun t (Contains V) r) (threads_of p) rs
     → HasStore l v (events p.initial.items rs) → MayHold p l v
 may_hold p V l v rs are h =
     elim (store_split l v (initial_stores 0 p.initial.items) (events_from 0 rs) h) [
@@ -180,12 +180,12 @@ may_hold p V l v rs are h =
       | inr by ↦
           let s : IsStoredBy (threads_of p) V l v = run_store V 0 l v (threads_of p) rs are by in
           let t : (k : ℕ) × (k < vec_len p.threads) × (thread_of p k ≡ s.0) = thread_there p (vec_len p.threads) s.0 s.1 in
-          let is : IsRun (thread_of p t.0) (Contains V) s.2 = subst (λ (x : Thread). IsRun x (Contains V) s.2) (sym t.2) s.3 in
+          let is : IsThreadRun (thread_of p t.0) (Contains V) s.2 = subst (λ (x : Thread). IsThreadRun x (Contains V) s.2) (sym t.2) s.3 in
           inr (t.0, t.1, s.2.values, s.2.outcome, is.1, s.4)
     ]
 
 cannot_read : (p : Program) (V : List Value) (rs : List Run)
-    → AllZip (λ t r. IsRun t (Contains V) r) (threads_of p) rs → HasUnserved p rs
+    → AllZip (λ t r. IsThreadRun t (Contains V) r) (threads_of p) rs → HasUnserved p rs
     → CannotRead (events p.initial.items rs)
 cannot_read p V rs are u = (
   u.2.0,
@@ -208,7 +208,7 @@ taken rs way order = record { runs = rs; reads_from = way; coherence = order }
 runs_are : (initial : List Value) (rs : List Run) (x : Execution)
     → Contains (over_runs initial rs) x → x.runs ≡ rs
 runs_are initial rs x c =
-    let (way, within, found) = joined (λ (way : List ℕ). map (taken rs way) (orders (events initial rs) initial)) (maps (events initial rs)) x c in
+    let (way, within, found) = joined (λ (way : List ℕ). map (taken rs way) (orders (events initial rs) initial)) (read_choices (events initial rs)) x c in
     let (order, there, is) = mapped (taken rs way) (orders (events initial rs) initial) x found in
     sym (ap (λ (y : Execution). y.runs) is)
 
@@ -222,7 +222,7 @@ module _ (p : Program) (V : List Value) where
     where
       never : (x : Execution) → Contains (over_runs p.initial.items rs) x → Executes x → ⊥
       never x c is =
-          let are : AllZip (λ t r. IsRun t (Contains V) r) (threads_of p) rs = subst (λ (qs : List Run). AllZip (λ t r. IsRun t (Contains V) r) (threads_of p) qs) (runs_are p.initial.items rs x c) is.runs in
+          let are : AllZip (λ t r. IsThreadRun t (Contains V) r) (threads_of p) rs = subst (λ (qs : List Run). AllZip (λ t r. IsThreadRun t (Contains V) r) (threads_of p) qs) (runs_are p.initial.items rs x c) is.runs in
           no_member x (filtered_there Executes (over_runs p.initial.items rs) []
           (none_executed p.initial.items (threads_of p) V rs are (cannot_read p V rs are u))
           x c is)

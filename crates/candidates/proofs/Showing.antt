@@ -9,7 +9,7 @@ use Rattle.std.proofs.lemmas.Bool.{or_cases, or_left, or_right}
 use Rattle.thread_runs.specs.declared.value.Value.{Value}
 use Rattle.thread_runs.specs.declared.run.Run as made
 use Rattle.thread_runs.specs.Runs.{Thread, Run}
-use Rattle.thread_runs.specs.AllRuns.{Shown}
+use Rattle.thread_runs.specs.AllRuns.{ShownRun}
 use Rattle.candidates.proofs.Choosing.{GoesOnWith}
 use Rattle.run_combinations.proofs.Counting.{some_order}
 use Rattle.candidates.proofs.Elements.{member_cases, member_later, member_first, no_member, mapped, mapped_there, joined, joined_there}
@@ -19,18 +19,18 @@ use Rattle.run_combinations.proofs.Filters.{IsFiltered-unique}
 use Rattle.candidates.proofs.Flat.{flat, orders_flat}
 use Rattle.candidates.proofs.Kept.{AreOne, zip_both}
 use Rattle.candidates.proofs.Listing.{IsListed, AreListed, no_more, one_more, not_one}
-use Rattle.run_combinations.specs.Candidates.{HasFault as HasFaultAmong}
+use Rattle.run_combinations.specs.Candidates.{HasFaultedCandidate as HasFaultAmong}
 use Rattle.run_combinations.specs.Events.{initial_stores, has_store}
-use Rattle.candidates.specs.Executions.{Execution, HasFault, IsDependency, product, events}
+use Rattle.candidates.specs.Executions.{Execution, HasFaultedRun, IsDependency, product, events}
 use Rattle.run_combinations.specs.Lists.{tuples}
-use Rattle.candidates.specs.Listed.{Shows, ArePairs}
+use Rattle.candidates.specs.Listed.{ShowsExecution, AreDependencyPairs}
 use Rattle.candidates.proofs.RisingPairs.{pairs_rise}
 use Rattle.dataflow.specs.Chains.{IsPairBefore}
-use Rattle.run_combinations.specs.Orders.{all_orders, stores_of, AreApart}
-use Rattle.run_combinations.specs.Search.{PrefixLists, with_run, start}
+use Rattle.run_combinations.specs.Orders.{all_orders, stores_of, AreInitialStoresApart}
+use Rattle.run_combinations.specs.Search.{PrefixLists, with_run, initial_prefix}
 use Rattle.run_combinations.specs.Combinations.{CombinationLists, combination_lists, ordered, pairs, candidates_of}
 use Rattle.candidates.specs.Space.{candidates_in, end_at, registers_at, shown_of}
-use Rattle.run_combinations.specs.Ways.{IsWay, accesses_in}
+use Rattle.run_combinations.specs.Ways.{IsReadChoice, accesses_in}
 use Rattle.run_combinations.specs.declared.combination.Combination.{Combination}
 use Rattle.run_combinations.specs.declared.combination.Event.{Event}
 use Rattle.run_combinations.specs.declared.layout.ThreadParts.{ThreadParts}
@@ -94,7 +94,7 @@ run_ends V (q ∷ threads) thread (t ∷ ts) (m ∷ ms) (r ∷ rs) b c one g =
     }
   where
     own : g.1.registers ≡ final r
-    own = g.2.1.registers ∙ ap (λ (s : Shown). s.registers) one.0.0.shows
+    own = g.2.1.registers ∙ ap (λ (s : ShownRun). s.registers) one.0.0.shows
 
     here : (vs : List (Vec (List Value) Global)) (rest : Ends ts rs
         (with_run g.0 g.1 b).combination.runs c.combination.runs)
@@ -133,7 +133,7 @@ run_faults V (q ∷ threads) thread (t ∷ ts) (m ∷ ms) (r ∷ rs) b c one g =
     ((λ f. to (rest.0 f)), (λ u. rest.1 (back u)))
   where
     own : g.1.is_faulted ≡ r.outcome.faulted
-    own = g.2.1.faulted ∙ ap (λ (s : Shown). s.faulted) one.0.0.shows
+    own = g.2.1.faulted ∙ ap (λ (s : ShownRun). s.faulted) one.0.0.shows
 
     split : (b.faulted ≡ true) ⊎ (g.1.is_faulted ≡ true) → (b.faulted ≡ true) ⊎ SomeFault (r ∷ rs)
     split (inl f) = inl f
@@ -170,7 +170,7 @@ module _ (n : ℕ) (initial : List Value) (threads : List Thread) (V : List Valu
   faulted_is : (b : PrefixLists) (rs : List Run) → IsListed n initial threads V ts b rs
       → (b.faulted ≡ true) ↔ SomeFault rs
   faulted_is b rs i =
-      let f : (b.faulted ≡ true) ↔ ((false ≡ true) ⊎ SomeFault rs) = run_faults V threads 0 ts i.made rs (start (initial_stores 0 initial)) b i.one i.goes in
+      let f : (b.faulted ≡ true) ↔ ((false ≡ true) ⊎ SomeFault rs) = run_faults V threads 0 ts i.made rs (initial_prefix (initial_stores 0 initial)) b i.one i.goes in
       ((λ h. only (f.0 h)), (λ s. f.1 (inr s)))
     where
       only : (false ≡ true) ⊎ SomeFault rs → SomeFault rs
@@ -186,7 +186,7 @@ module _ (n : ℕ) (initial : List Value) (threads : List Thread) (V : List Valu
       sym (ap (λ (y : Execution). y.runs) is)
 
   pub fault_among : (bs : List PrefixLists) (ss : List CombinationLists) (xs : List Execution)
-      → AreListed n initial threads V ts bs ss xs → (x : Execution) → Contains xs x → HasFault x
+      → AreListed n initial threads V ts bs ss xs → (x : Execution) → Contains xs x → HasFaultedRun x
       → HasFaultAmong bs
   fault_among [] ss xs no_more x c f = absurd (no_member x c)
   fault_among (b ∷ bs) ss xs (not_one are h) x c f = inr (fault_among bs ss xs h x c f)
@@ -216,7 +216,7 @@ module _ (n : ℕ) (initial : List Value) (threads : List Thread) (V : List Valu
       few : length (events initial rs) ≤ 128
       few = subst (λ (l : List Event). length l ≤ 128) i.events i.few
 
-      are_apart : AreApart (events initial rs) (length initial)
+      are_apart : AreInitialStoresApart (events initial rs) (length initial)
       are_apart l lt =
           ap (λ (es : List Event). has_store (others_at es l) l)
           (take_all 128 (events initial rs) few) ∙ apart initial rs l lt
@@ -230,10 +230,10 @@ module _ (n : ℕ) (initial : List Value) (threads : List Thread) (V : List Valu
   pub faulted_execution : n ≡ length initial
       → (bs : List PrefixLists) (ss : List CombinationLists) (xs : List Execution)
       → AreListed n initial threads V ts bs ss xs → HasFaultAmong bs
-      → (x : Execution) × Contains xs x × HasFault x
+      → (x : Execution) × Contains xs x × HasFaultedRun x
   faulted_execution e [] ss xs no_more f = absurd f
   faulted_execution e (b ∷ bs) ss xs (not_one are h) (inl f) =
-      absurd (some_none (IsFiltered-unique (IsWay (accesses_in b.combination.events b.needs))
+      absurd (some_none (IsFiltered-unique (IsReadChoice (accesses_in b.combination.events b.needs))
       (tuples [] (accesses_in b.combination.events b.needs).sources) (f.1 ∷ f.2) [] f.3
       are))
     where
@@ -265,14 +265,14 @@ module _ (n : ℕ) (initial : List Value) (threads : List Thread) (V : List Valu
 -- an execution, and how it is shown
 abbrev pub AreShown : List Value → List (Vec (List Value) Global) → Execution
     → Combination × (List ℕ × List ℕ) → Type 0
-AreShown initial registers x c = Shows initial x (shown_of registers c)
+AreShown initial registers x c = ShowsExecution initial x (shown_of registers c)
 
 module _ (n : ℕ) (initial : List Value) (threads : List Thread) (V : List Value)
     (ts : List ThreadParts) (registers : List (Vec (List Value) Global))
     (files_are : map items_of registers ≡ map files ts) where
   shown_pairs : (d : dependencies.Listed) (b : PrefixLists) (rs : List Run)
       → IsListed n initial threads V ts b rs → (x : Execution) → rs ≡ x.runs
-      → (shown : List (ℕ × ℕ)) → shown ≡ d.all b → ArePairs d.Related initial x shown
+      → (shown : List (ℕ × ℕ)) → shown ≡ d.all b → AreDependencyPairs d.Related initial x shown
   shown_pairs d b rs i x are shown e = record {
     rising =
         subst (λ (l : List (ℕ × ℕ)). AllPairs IsPairBefore l) (sym e) (pairs_rise d V threads ts
@@ -290,7 +290,7 @@ module _ (n : ℕ) (initial : List Value) (threads : List Thread) (V : List Valu
       → (way : List ℕ) (order : List (List ℕ))
       → AreShown initial registers (executed_so initial rs way order) (c, (way, flat order))
   one_shown b rs i c ways eq way order =
-      let ends : Ends ts rs [] b.combination.runs = run_ends V threads 0 ts i.made rs (start (initial_stores 0 initial)) b i.one i.goes in
+      let ends : Ends ts rs [] b.combination.runs = run_ends V threads 0 ts i.made rs (initial_prefix (initial_stores 0 initial)) b i.one i.goes in
       record {
         events = ap (λ (x : CombinationLists). x.events) eq ∙ i.events;
         addr =

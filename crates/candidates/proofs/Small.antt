@@ -17,15 +17,15 @@ use Rattle.thread_runs.specs.declared.instruction.Line.TheVariants.{Label, Does}
 use Rattle.thread_runs.specs.declared.instruction.Program.{Program}
 use Rattle.thread_runs.specs.declared.run.Run as made
 use Rattle.thread_runs.specs.declared.state.State.{State}
-use Rattle.thread_runs.specs.Machine.{is_load, is_fault, goes, event_of}
-use Rattle.thread_runs.specs.Runs.{Walk, Outcome, Run, started, advanced, passed, ends, supplied, obeyed, one, run_from}
-use Rattle.thread_runs.specs.AllRuns.{Shown, shown, shown_of, lines_at, thread_of}
+use Rattle.thread_runs.specs.Machine.{is_load, is_fault, takes_branch, event_of}
+use Rattle.thread_runs.specs.Runs.{Walk, Outcome, Run, walk_at, walk_after, walk_past, ends, after_load, after_instruction, after_line, run_from}
+use Rattle.thread_runs.specs.AllRuns.{ShownRun, run_shown, shown_run, lines_at, thread_of}
 use Rattle.thread_runs.specs.Held.{IsUnserved, ShowsServed}
 use Rattle.thread_runs.proofs.Serving.{left_contains}
 use Rattle.ppc_semantics.specs.Domain.{makes_event, has_event, IsDomain}
 use Rattle.run_combinations.specs.Events.{action_in, with_action, thread_events, initial_stores}
 use Rattle.run_combinations.specs.Layouts.{AreServedRuns, ArePartsOf, AreThreadsOf, IsLaidOut}
-use Rattle.run_combinations.specs.Search.{PrefixLists, with_run, combinations, start, all_combinations}
+use Rattle.run_combinations.specs.Search.{PrefixLists, with_run, combinations, initial_prefix, all_combinations}
 use Rattle.run_combinations.specs.Candidates.{AreSmall}
 use Rattle.candidates.specs.TestSpaces.{HasLayout}
 use Rattle.run_combinations.specs.declared.combination.Action.{Action}
@@ -68,30 +68,30 @@ ends_few f w (v ∷ vs) o n e = absurd cc
 
 module _ (xs : List Line) (n : ℕ) (rest : Adds xs n) where
   advanced_few : (i : Instruction) (b : Bool) (v : Value) (w : Walk) (vs : List Value) (o : Outcome)
-      → run_from xs (advanced i b v w) vs ≡ Some o
+      → run_from xs (walk_after i b v w) vs ≡ Some o
       → length o.walk.events ≤ length w.events + (cond (makes_event i) 1 0 + n)
   advanced_few i b v w vs o e =
-      let a : length o.walk.events ≤ length (w.events ++ event_of i v w.state) + n = rest (advanced i b v w) vs o e in
+      let a : length o.walk.events ≤ length (w.events ++ event_of i v w.state) + n = rest (walk_after i b v w) vs o e in
       omega (arith, a, length-append w.events (event_of i v w.state), event_few i v w.state)
 
   supplied_few : (l : Bool) (i : Instruction) (b : Bool) (w : Walk) (vs : List Value) (o : Outcome)
-      → supplied l i b (run_from xs) w vs ≡ Some o
+      → after_load l i b (run_from xs) w vs ≡ Some o
       → length o.walk.events ≤ length w.events + (cond (makes_event i) 1 0 + n)
   supplied_few true i b w [] o e = absurd cc
   supplied_few true i b w (v ∷ vs) o e = advanced_few i b v w vs o e
   supplied_few false i b w vs o e = advanced_few i b NoValue w vs o e
 
   obeyed_few : (f : Bool) (i : Instruction) (w : Walk) (vs : List Value) (o : Outcome)
-      → obeyed f i (run_from xs) w vs ≡ Some o
+      → after_instruction f i (run_from xs) w vs ≡ Some o
       → length o.walk.events ≤ length w.events + (cond (makes_event i) 1 0 + n)
   obeyed_few true i w vs o e = ends_few true w vs o (cond (makes_event i) 1 0 + n) e
-  obeyed_few false i w vs o e = supplied_few (is_load i) i (goes i w.state) w vs o e
+  obeyed_few false i w vs o e = supplied_few (is_load i) i (takes_branch i w.state) w vs o e
 
   one_few : (s : Option ℕ) (x : Line) (w : Walk) (vs : List Value) (o : Outcome)
-      → one s x (run_from xs) w vs ≡ Some o
+      → after_line s x (run_from xs) w vs ≡ Some o
       → length o.walk.events ≤ length w.events + (cond (has_event x) 1 0 + n)
   one_few (Some l) x w vs o e =
-      let a : length o.walk.events ≤ length w.events + n = rest (passed x l w) vs o e in
+      let a : length o.walk.events ≤ length w.events + n = rest (walk_past x l w) vs o e in
       omega (arith, a)
   one_few None (Label m) w vs o e =
       let a : length o.walk.events ≤ length w.events + n = rest w vs o e in omega (arith, a)
@@ -109,7 +109,7 @@ taken zero es = omega arith
 taken (suc n) [] = omega arith
 taken (suc n) (e ∷ es) = let a : length (take n es) ≤ length es = taken n es in omega (arith, a)
 
-shown_few : (n : ℕ) (runs : List made.Run) (all : List Run) → map shown runs ≡ map shown_of all
+shown_few : (n : ℕ) (runs : List made.Run) (all : List Run) → map run_shown runs ≡ map shown_run all
     → ((q : Run) → Contains all q → length q.outcome.walk.events ≤ n) → (k : ℕ) (r : made.Run)
     → slice_get runs k ≡ Some r → length r.events.items ≤ n
 shown_few n [] all e few k r g = absurd cc
@@ -128,20 +128,20 @@ shown_few n (m ∷ runs) (q ∷ all) e few zero r g =
     made_is : {x y : made.Run} → Some x ≡ Some y → x ≡ y
     made_is e = cc
 
-    heads : {x y : Shown} {xs ys : List Shown} → (x ∷ xs) ≡ (y ∷ ys) → x ≡ y
+    heads : {x y : ShownRun} {xs ys : List ShownRun} → (x ∷ xs) ≡ (y ∷ ys) → x ≡ y
     heads e = cc
 
-    first : map shown (m ∷ runs) ≡ map shown_of (q ∷ all)
+    first : map run_shown (m ∷ runs) ≡ map shown_run (q ∷ all)
         → length m.events.items ≡ length (take 128 q.outcome.walk.events)
-    first e = ap (λ (x : Shown). length x.events) (heads e)
+    first e = ap (λ (x : ShownRun). length x.events) (heads e)
 shown_few n (m ∷ runs) (q ∷ all) e few (suc k) r g =
     shown_few n runs all (rest e) (λ x there. few x (Contains-append_right (q ∷ []) all x there)) k
     r g
   where
-    tails : {x y : Shown} {xs ys : List Shown} → (x ∷ xs) ≡ (y ∷ ys) → xs ≡ ys
+    tails : {x y : ShownRun} {xs ys : List ShownRun} → (x ∷ xs) ≡ (y ∷ ys) → xs ≡ ys
     tails e = cc
 
-    rest : map shown (m ∷ runs) ≡ map shown_of (q ∷ all) → map shown runs ≡ map shown_of all
+    rest : map run_shown (m ∷ runs) ≡ map shown_run (q ∷ all) → map run_shown runs ≡ map shown_run all
     rest e = tails e
 
 runs_few : (p : Program) (t : ℕ) (V : List Value) (runs : List made.Run) → ShowsServed p t V runs
@@ -153,7 +153,7 @@ runs_few p t V runs s k r g =
     few : (q : Run) → Contains s.2 q
         → length q.outcome.walk.events ≤ count_by has_event (thread_of p t).lines
     few q there =
-        let a : length q.outcome.walk.events ≤ 0 + count_by has_event (thread_of p t).lines = run_few (thread_of p t).lines (started (thread_of p t).first) q.values q.outcome ((s.1.exact q).0 (left_contains (IsUnserved p) s.0 s.2 s.3 q there)).1 in
+        let a : length q.outcome.walk.events ≤ 0 + count_by has_event (thread_of p t).lines = run_few (thread_of p t).lines (walk_at (thread_of p t).first) q.values q.outcome ((s.1.exact q).0 (left_contains (IsUnserved p) s.0 s.2 s.3 q there)).1 in
         omega (arith, a)
 
 -- and its part
@@ -256,7 +256,7 @@ layout_small t l h =
     let o : IsLaidOut p h.2 l = h.6 in
     let a : length l.initial.items ≡ length (initial_stores 0 p.initial.items) = ap (λ (es : List Event). length es) o.initial in
     let b : length p.initial.items ≡ length p.locations.items = h.3.initial.each_one in
-    all_small p.threads.items l.threads.items (start l.initial.items)
+    all_small p.threads.items l.threads.items (initial_prefix l.initial.items)
     (threads_few 0 h.2 p.threads.items l.threads.items (r.count ∙ p.threads.ok.0)
     (λ j v g. runs_few p j h.1 v.items (r.each j v g)) o.threads)
     (omega (arith, a, b, initial_length 0 p.initial.items, d.events))

@@ -3,7 +3,7 @@ use Rattle.std.proofs.Common.{zero, suc, ◌≡◌, ◌<◌, List, [], ◌∷◌
 use Rattle.std.specs.List.{flat_map, AllZip, AllPairs}
 use Rattle.thread_runs.specs.declared.value.Value.{Value}
 use Rattle.thread_runs.specs.declared.value.Value.TheVariants.{Number, Address, NoValue}
-use Rattle.thread_runs.specs.Runs.{Thread, Run, AreRuns, IsBefore, IsLess}
+use Rattle.thread_runs.specs.Runs.{Thread, Run, AreThreadRuns, IsLexicallyBefore, IsLess}
 use Rattle.candidates.proofs.Elements.{member_cases, member_later}
 use Rattle.run_combinations.proofs.Filters.{IsFiltered-unique}
 use Rattle.run_combinations.specs.Lists.{IsFiltered}
@@ -72,7 +72,7 @@ less_apart NoValue (Number n) h g = h
 less_apart NoValue (Address l) h g = h
 less_apart NoValue NoValue h g = h
 
-before_apart : (xs ys : List Value) → IsBefore IsLess xs ys → IsBefore IsLess ys xs → ⊥
+before_apart : (xs ys : List Value) → IsLexicallyBefore IsLess xs ys → IsLexicallyBefore IsLess ys xs → ⊥
 before_apart [] [] h k = h
 before_apart (x ∷ xs) [] h k = h
 before_apart [] (y ∷ ys) h k = k
@@ -83,15 +83,15 @@ before_apart (x ∷ xs) (y ∷ ys) (inr a) (inl b) =
     let c : IsLess y y = subst (λ (v : Value). IsLess y v) a.0 b in less_apart y y c c
 before_apart (x ∷ xs) (y ∷ ys) (inr a) (inr b) = before_apart xs ys a.1 b.1
 
-pub runs_sole : (t : Thread) (P : Value → Type 0) (rs ss : List Run) → AreRuns t P rs
-    → AreRuns t P ss → rs ≡ ss
+pub runs_sole : (t : Thread) (P : Value → Type 0) (rs ss : List Run) → AreThreadRuns t P rs
+    → AreThreadRuns t P ss → rs ≡ ss
 runs_sole t P rs ss h k =
-    same_rising (λ (r s : Run). IsBefore IsLess r.values s.values)
+    same_rising (λ (r s : Run). IsLexicallyBefore IsLess r.values s.values)
     (λ r s. before_apart r.values s.values) rs ss h.rising k.rising
     (λ r c. (k.exact r).1 ((h.exact r).0 c)) (λ r c. (h.exact r).1 ((k.exact r).0 c))
 
 all_runs_sole : (P : Value → Type 0) (threads : List Thread) (cs bs : List (List Run))
-    → AllZip (λ t rs. AreRuns t P rs) threads cs → AllZip (λ t rs. AreRuns t P rs) threads bs
+    → AllZip (λ t rs. AreThreadRuns t P rs) threads cs → AllZip (λ t rs. AreThreadRuns t P rs) threads bs
     → cs ≡ bs
 all_runs_sole P [] [] [] h k = refl
 all_runs_sole P [] [] (b ∷ bs) h k = absurd k

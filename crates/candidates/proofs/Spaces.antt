@@ -10,7 +10,7 @@ use Rattle.std.proofs.lemmas.List.Folds.{length-flat_map-take}
 use Rattle.std.specs.Prelude.{HoldsAt}
 use Rattle.thread_runs.specs.declared.value.Value.{Value}
 use Rattle.run_combinations.specs.Combinations.{candidates_of}
-use Rattle.candidates.specs.Space.{candidates_in, end_at, registers_at, IsExecution}
+use Rattle.candidates.specs.Space.{candidates_in, end_at, registers_at, IsCandidateOf}
 use Rattle.run_combinations.specs.declared.combination.Combination.{Combination}
 use Rattle.candidates.specs.declared.execution.Execution.{Execution}
 use Rattle.run_combinations.proofs.Pairs.{beside, candidate_at, has_orders, has_index}
@@ -48,11 +48,11 @@ place_within cs i left place e lt is inside at =
 pub found_there : (threads : List (Vec (List Value) Global)) (cs : List Combination)
     (i left place : ℕ) (e : Combination) (x : Execution) → i < length cs → e ≡ get_or cs i e
     → left < length (candidates_of e) → length (candidates_in (take i cs)) + left ≡ place
-    → HoldsAt (λ t. IsExecution threads e t x) (candidates_of e) left
-    → HoldsAt (λ u. IsExecution threads u.0 u.1 x) (candidates_in cs) place
+    → HoldsAt (λ t. IsCandidateOf threads e t x) (candidates_of e) left
+    → HoldsAt (λ u. IsCandidateOf threads u.0 u.1 x) (candidates_in cs) place
 found_there threads cs i left place e x lt is inside at holds d =
-    subst (λ (u : Combination × (List ℕ × List ℕ)). IsExecution threads u.0 u.1 x) (sym there)
-    (subst (λ (c : Combination). IsExecution threads c (get_or (candidates_of c) left d.1) x) is
+    subst (λ (u : Combination × (List ℕ × List ℕ)). IsCandidateOf threads u.0 u.1 x) (sym there)
+    (subst (λ (c : Combination). IsCandidateOf threads c (get_or (candidates_of c) left d.1) x) is
     (holds d.1))
   where
     k : left < length (candidates_of (get_or cs i e))
@@ -66,10 +66,10 @@ found_there threads cs i left place e x lt is inside at holds d =
 pub candidate_there : (threads : List (Vec (List Value) Global)) (c : Combination) (p n : ℕ)
     (v : Vec ℕ Global) (w : List ℕ) (x : Execution) → n ≡ length c.orders
     → p < length (candidates_of c) → v ≡ get_or c.sources.items (p / n) v
-    → w ≡ get_or c.orders (p % n) [] → IsExecution threads c (v.items, w) x
-    → HoldsAt (λ t. IsExecution threads c t x) (candidates_of c) p
+    → w ≡ get_or c.orders (p % n) [] → IsCandidateOf threads c (v.items, w) x
+    → HoldsAt (λ t. IsCandidateOf threads c t x) (candidates_of c) p
 candidate_there threads c p n v w x is lt source order holds d =
-    subst (λ (t : List ℕ × List ℕ). IsExecution threads c t x) (sym there) holds
+    subst (λ (t : List ℕ × List ℕ). IsCandidateOf threads c t x) (sym there) holds
   where
     there : get_or (candidates_of c) p d ≡ (v.items, w)
     there =

@@ -15,13 +15,13 @@ use Rattle.thread_runs.specs.declared.instruction.Line.{Line}
 use Rattle.thread_runs.specs.declared.instruction.RunStep.{RunStep}
 use Rattle.thread_runs.specs.declared.state.State.{State}
 use Rattle.thread_runs.specs.Machine.{register, sum_of, is_load as loads, is_fault, is_address, event_of}
-use Rattle.thread_runs.specs.Runs.{Walk, Outcome, started, advanced, run_of, executed, nothing}
-use Rattle.dataflow.specs.Chains.{Executed, event_place, is_event}
+use Rattle.thread_runs.specs.Runs.{Walk, Outcome, walk_at, walk_after, run_of, executed, no_step}
+use Rattle.dataflow.specs.Chains.{Executed, event_index, is_event}
 use Rattle.candidates.proofs.Elements.{behind_first, in_first}
 use Rattle.candidates.proofs.Places.{along, Placed, placed_more, places_same}
 use Rattle.candidates.proofs.Whole.{AreLocated, located_both, event_located, located_all}
 use Rattle.text_values.specs.declared.instruction.Fence.{Fence}
-use Rattle.run_combinations.specs.Events.{thread_events, with_action, action_in, stores_to, fence_of, IsKind}
+use Rattle.run_combinations.specs.Events.{thread_events, with_action, action_in, makes_store, fence_of_instruction, IsKind}
 use Rattle.run_combinations.specs.declared.combination.Action.TheVariants.{Fence as FenceAction}
 use Rattle.run_combinations.specs.declared.combination.Event.{Event}
 
@@ -34,7 +34,7 @@ pub record Alone (t : ℕ) (i : Instruction) (es : List run.Event) : Type 0 wher
 no_fence : {f : Fence} → Some f ≡ None → ⊥
 no_fence e = cc
 
-read_alone : (t : ℕ) (i : Instruction) (x v : Value) → stores_to i ≡ false → fence_of i ≡ None
+read_alone : (t : ℕ) (i : Instruction) (x v : Value) → makes_store i ≡ false → fence_of_instruction i ≡ None
     → not (is_address x) ≡ false → Alone t i (Reads x v ∷ [])
 read_alone t i (Number n) v never unfenced h = absurd cc
 read_alone t i (Address l) v never unfenced h =
@@ -54,7 +54,7 @@ read_alone t i (Address l) v never unfenced h =
     true_false h = cc
 read_alone t i NoValue v never unfenced h = absurd cc
 
-write_alone : (t : ℕ) (i : Instruction) (x v : Value) → loads i ≡ false → fence_of i ≡ None
+write_alone : (t : ℕ) (i : Instruction) (x v : Value) → loads i ≡ false → fence_of_instruction i ≡ None
     → not (is_address x) ≡ false → Alone t i (Writes x v ∷ [])
 write_alone t i (Number n) v never unfenced h = absurd cc
 write_alone t i (Address l) v never unfenced h =
@@ -107,7 +107,7 @@ alone t (Barrier f) v s h e =
 -- at the place of each step that is an event stands its event
 pub record Stands (t : ℕ) (steps : List RunStep) (es : List run.Event) (n : ℕ) : Type 0 where
   pub event : Event
-  pub there : slice_get (thread_events t es) (event_place (executed steps) n) ≡ Some event
+  pub there : slice_get (thread_events t es) (event_index (executed steps) n) ≡ Some event
   pub kind : IsKind t (executed steps n) event
 
 record Stand (t : ℕ) (w : Walk) : Type 0 where
@@ -126,14 +126,14 @@ module _ (t : ℕ) (i : Instruction) (b : Bool) (v : Value) (w : Walk)
 
   earlier : (k : ℕ) → k < length w.steps → executed (w.steps ++ one ∷ []) k ≡ executed w.steps k
   earlier k lt =
-      ap (λ (s : RunStep). s.instruction) (get_or_append_left w.steps (one ∷ []) nothing k lt)
+      ap (λ (s : RunStep). s.instruction) (get_or_append_left w.steps (one ∷ []) no_step k lt)
 
   last : executed (w.steps ++ one ∷ []) (length w.steps) ≡ i
   last =
-      ap (λ (s : RunStep). s.instruction) (get_or_at w.steps one [] nothing (length w.steps) refl)
+      ap (λ (s : RunStep). s.instruction) (get_or_at w.steps one [] no_step (length w.steps) refl)
 
   place : (n : ℕ) → n ≤ length w.steps
-      → event_place (executed (w.steps ++ one ∷ [])) n ≡ event_place (executed w.steps) n
+      → event_index (executed (w.steps ++ one ∷ [])) n ≡ event_index (executed w.steps) n
   place n le =
       places_same (executed (w.steps ++ one ∷ [])) (executed w.steps) n
       (λ k lt. earlier k (omega (arith, lt, le)))
@@ -166,13 +166,13 @@ module _ (t : ℕ) (i : Instruction) (b : Bool) (v : Value) (w : Walk)
     there =
         ap (λ (k : ℕ). slice_get (thread_events t (w.events ++ event_of i v w.state)) k)
         (place n (omega (arith, lt)))
-        ∙ ap (λ (l : List Event). slice_get l (event_place (executed w.steps) n)) events
+        ∙ ap (λ (l : List Event). slice_get l (event_index (executed w.steps) n)) events
         ∙ in_first (thread_events t w.events) (thread_events t (event_of i v w.state))
-        (event_place (executed w.steps) n) s.event s.there;
+        (event_index (executed w.steps) n) s.event s.there;
     kind = subst (λ (j : Instruction). IsKind t j s.event) (sym (earlier n lt)) s.kind;
   }
 
-  stand_more : Stand t (advanced i b v w)
+  stand_more : Stand t (walk_after i b v w)
   stand_more = record {
     placed = placed_more i b v w h.placed;
     located =
@@ -193,7 +193,7 @@ pub in_run : (steps : List RunStep) (n : ℕ) → is_event (executed steps n) �
 in_run steps n is = elim (cases_lt n (length steps)) [
   | inl lt ↦ lt
   | inr ge ↦ absurd (no (sym (ap (λ (s : RunStep). is_event s.instruction)
-      (get_or_past steps n nothing ge)) ∙ is))
+      (get_or_past steps n no_step ge)) ∙ is))
 ]
   where
     no : false ≡ true → ⊥
@@ -205,44 +205,44 @@ pub events_stand : (t : ℕ) (lines : List Line) (s : State) (vs : List Value) (
 events_stand t lines s vs o e n is =
     (along (Stand t) (λ i b v w sound h. stand_more t i b v w sound h)
     (λ x l w h. record { placed = h.placed; located = h.located; each = h.each }) lines
-    (started s) vs o e
+    (walk_at s) vs o e
     (record { placed = refl; located = tt; each = λ k lt i. absurd (omega (arith, lt)) })).each n
     (in_run o.walk.steps n is) is
 
 -- no place of a run is past the number of its events
-place_suc : (f : Executed) (n : ℕ) → event_place f n ≤ event_place f (suc n)
+place_suc : (f : Executed) (n : ℕ) → event_index f n ≤ event_index f (suc n)
 place_suc f n = go (is_event (f n))
   where
-    go : (b : Bool) → event_place f n ≤ cond b (event_place f n + 1) (event_place f n)
+    go : (b : Bool) → event_index f n ≤ cond b (event_index f n + 1) (event_index f n)
     go true = omega arith
     go false = omega arith
 
-place_rises : (f : Executed) (i j : ℕ) → i ≤ j → event_place f i ≤ event_place f j
+place_rises : (f : Executed) (i j : ℕ) → i ≤ j → event_index f i ≤ event_index f j
 place_rises f i zero le =
     let z : i ≡ 0 = omega (arith, le) in
-    subst (λ (k : ℕ). event_place f k ≤ 0) (sym z) (omega arith)
+    subst (λ (k : ℕ). event_index f k ≤ 0) (sym z) (omega arith)
 place_rises f i (suc j) le = elim (cases_eq i (suc j)) [
-  | inl same ↦ subst (λ (k : ℕ). event_place f i ≤ event_place f k) same (omega arith)
+  | inl same ↦ subst (λ (k : ℕ). event_index f i ≤ event_index f k) same (omega arith)
   | inr other ↦ omega (arith, place_suc f j, place_rises f i j (omega (arith, le, other)))
 ]
 
 place_past : (steps : List RunStep) (k : ℕ)
-    → event_place (executed steps) (length steps + k) ≡ event_place (executed steps) (length steps)
+    → event_index (executed steps) (length steps + k) ≡ event_index (executed steps) (length steps)
 place_past steps zero =
     let z : length steps + 0 ≡ length steps = omega arith in
-    ap (λ (n : ℕ). event_place (executed steps) n) z
+    ap (λ (n : ℕ). event_index (executed steps) n) z
 place_past steps (suc k) =
     let z : length steps + suc k ≡ suc (length steps + k) = omega arith in
-    ap (λ (n : ℕ). event_place (executed steps) n) z
+    ap (λ (n : ℕ). event_index (executed steps) n) z
     ∙ ap
     (λ (s : RunStep). cond (is_event s.instruction)
-    (event_place (executed steps) (length steps + k) + 1)
-    (event_place (executed steps) (length steps + k)))
-    (get_or_past steps (length steps + k) nothing (omega arith))
+    (event_index (executed steps) (length steps + k) + 1)
+    (event_index (executed steps) (length steps + k)))
+    (get_or_past steps (length steps + k) no_step (omega arith))
     ∙ place_past steps k
 
 pub place_few : (steps : List RunStep) (n : ℕ)
-    → event_place (executed steps) n ≤ event_place (executed steps) (length steps)
+    → event_index (executed steps) n ≤ event_index (executed steps) (length steps)
 place_few steps n =
-    let a : event_place (executed steps) n ≤ event_place (executed steps) (length steps + n) = place_rises (executed steps) n (length steps + n) (omega arith) in
+    let a : event_index (executed steps) n ≤ event_index (executed steps) (length steps + n) = place_rises (executed steps) n (length steps + n) (omega arith) in
     omega (arith, a, place_past steps n)

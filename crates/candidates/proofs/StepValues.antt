@@ -11,18 +11,18 @@ use Rattle.thread_runs.specs.declared.instruction.Instruction.TheVariants.{Immed
 use Rattle.thread_runs.specs.declared.instruction.Line.{Line}
 use Rattle.thread_runs.specs.declared.state.State.{State}
 use Rattle.thread_runs.specs.Machine.{register, is_load, event_of}
-use Rattle.thread_runs.specs.Runs.{Outcome, started, run_of, executed, loaded_at}
-use Rattle.dataflow.specs.Chains.{Executed, Register, IsStoredRegister, event_place, is_event}
-use Rattle.dataflow.specs.Law.{state_at, events_before, IsWalk}
+use Rattle.thread_runs.specs.Runs.{Outcome, walk_at, run_of, executed, loaded_at}
+use Rattle.dataflow.specs.Chains.{Executed, Register, IsStoredRegister, event_index, is_event}
+use Rattle.dataflow.specs.Law.{state_at, events_before, IsWalkFrom}
 use Rattle.dataflow.proofs.Walks.{IsWalk-advanced, IsWalk-started}
 use Rattle.candidates.proofs.Elements.{behind_first, in_first, within_first}
 use Rattle.candidates.proofs.Places.{along, event_count, one_place_more}
 
 run_is_walk : (lines : List Line) (s : State) (vs : List Value) (o : Outcome)
-    → run_of lines s vs ≡ Some o → IsWalk s o.walk
+    → run_of lines s vs ≡ Some o → IsWalkFrom s o.walk
 run_is_walk lines s vs o e =
-    along (IsWalk s) (λ i b v w sound h. IsWalk-advanced s i b v w h)
-    (λ x l w h. record { state = h.state; events = h.events }) lines (started s) vs o e
+    along (IsWalkFrom s) (λ i b v w sound h. IsWalk-advanced s i b v w h)
+    (λ x l w h. record { state = h.state; events = h.events }) lines (walk_at s) vs o e
     (IsWalk-started s)
 
 -- an instruction makes one event or none
@@ -82,29 +82,29 @@ store_of (Barrier f) v s a w e = absurd cc
 
 -- the events of instructions, by their event places
 module _ (f : Executed) (l : ℕ → Value) (s : State) where
-  events_long : (n : ℕ) → length (events_before f l s n) ≡ event_place f n
+  events_long : (n : ℕ) → length (events_before f l s n) ≡ event_index f n
   events_long zero = refl
   events_long (suc n) =
       length-append (events_before f l s n) (event_of (f n) (l n) (state_at f l s n))
       ∙ ap (λ (k : ℕ). k + length (event_of (f n) (l n) (state_at f l s n))) (events_long n)
-      ∙ ap (λ (k : ℕ). event_place f n + k) (event_count (f n) (l n) (state_at f l s n))
-      ∙ sym (one_place_more (is_event (f n)) (event_place f n))
+      ∙ ap (λ (k : ℕ). event_index f n + k) (event_count (f n) (l n) (state_at f l s n))
+      ∙ sym (one_place_more (is_event (f n)) (event_index f n))
 
   event_there : (n j : ℕ) (e : run.Event) → j < n → event_of (f j) (l j) (state_at f l s j) ≡ e ∷ []
-      → slice_get (events_before f l s n) (event_place f j) ≡ Some e
+      → slice_get (events_before f l s n) (event_index f j) ≡ Some e
   event_there zero j e lt is = absurd (omega (arith, lt))
   event_there (suc n) j e lt is = elim (cases_eq j n) [
     | inl same ↦ subst
-        (λ (k : ℕ). slice_get (events_before f l s (suc n)) (event_place f k) ≡ Some e) (sym same)
+        (λ (k : ℕ). slice_get (events_before f l s (suc n)) (event_index f k) ≡ Some e) (sym same)
         (last (sym (ap (λ (k : ℕ). event_of (f k) (l k) (state_at f l s k)) same) ∙ is))
     | inr other ↦ in_first (events_before f l s n) (event_of (f n) (l n) (state_at f l s n))
-        (event_place f j) e (event_there n j e (omega (arith, lt, other)) is)
+        (event_index f j) e (event_there n j e (omega (arith, lt, other)) is)
   ]
     where
       last : event_of (f n) (l n) (state_at f l s n) ≡ e ∷ []
-          → slice_get (events_before f l s (suc n)) (event_place f n) ≡ Some e
+          → slice_get (events_before f l s (suc n)) (event_index f n) ≡ Some e
       last own =
-          let z : event_place f n ≡ length (events_before f l s n) + 0 = omega (arith, events_long n) in
+          let z : event_index f n ≡ length (events_before f l s n) + 0 = omega (arith, events_long n) in
           ap (λ (k : ℕ). slice_get (events_before f l s (suc n)) k) z
           ∙ behind_first (events_before f l s n) (event_of (f n) (l n) (state_at f l s n)) 0
           ∙ ap (λ (es : List run.Event). slice_get es 0) own
@@ -112,10 +112,10 @@ module _ (f : Executed) (l : ℕ → Value) (s : State) where
   record Step (n k : ℕ) (e : run.Event) : Type 0 where
     step : ℕ
     within : step < n
-    place : event_place f step ≡ k
+    place : event_index f step ≡ k
     event : event_of (f step) (l step) (state_at f l s step) ≡ e ∷ []
 
-  alone : (n k d : ℕ) (e : run.Event) → k ≡ event_place f n + d
+  alone : (n k d : ℕ) (e : run.Event) → k ≡ event_index f n + d
       → slice_get (event_of (f n) (l n) (state_at f l s n)) d ≡ Some e
       → (event_of (f n) (l n) (state_at f l s n) ≡ [])
       ⊎ ((x : run.Event) × (event_of (f n) (l n) (state_at f l s n) ≡ x ∷ []))
@@ -131,7 +131,7 @@ module _ (f : Executed) (l : ℕ → Value) (s : State) where
       event_is : {y z : run.Event} → Some y ≡ Some z → y ≡ z
       event_is h = cc
 
-      go : (d : ℕ) → k ≡ event_place f n + d → slice_get (x.0 ∷ []) d ≡ Some e → Step (suc n) k e
+      go : (d : ℕ) → k ≡ event_index f n + d → slice_get (x.0 ∷ []) d ≡ Some e → Step (suc n) k e
       go zero at h =
           record {
             step = n;
@@ -159,7 +159,7 @@ module _ (f : Executed) (l : ℕ → Value) (s : State) where
 -- where a store of a run stands, and what it stores
 pub record StoredAt (s : State) (o : Outcome) (k : ℕ) (w : Value) : Type 0 where
   pub step : ℕ
-  pub place : event_place (executed o.walk.steps) step ≡ k
+  pub place : event_index (executed o.walk.steps) step ≡ k
   pub stores : StoresValue (executed o.walk.steps step)
       (state_at (executed o.walk.steps) (loaded_at o.walk.steps) s step) w
 
@@ -167,7 +167,7 @@ pub stored_at : (lines : List Line) (s : State) (vs : List Value) (o : Outcome)
     → run_of lines s vs ≡ Some o → (k : ℕ) (a w : Value)
     → slice_get o.walk.events k ≡ Some (Writes a w) → StoredAt s o k w
 stored_at lines s vs o e k a w is =
-    let walk : IsWalk s o.walk = run_is_walk lines s vs o e in
+    let walk : IsWalkFrom s o.walk = run_is_walk lines s vs o e in
     let f : Executed = executed o.walk.steps in
     let l : ℕ → Value = loaded_at o.walk.steps in
     let r : Step f l s (length o.walk.steps) k (Writes a w) = step_of f l s (length o.walk.steps) k (Writes a w) (sym (ap (λ (es : List run.Event). slice_get es k) walk.events) ∙ is) in
@@ -178,14 +178,14 @@ pub loaded_there : (lines : List Line) (s : State) (vs : List Value) (o : Outcom
     → run_of lines s vs ≡ Some o → (j : ℕ) → j < length o.walk.steps
     → is_load (executed o.walk.steps j) ≡ true
     → (a : Value)
-    × (slice_get o.walk.events (event_place (executed o.walk.steps) j)
+    × (slice_get o.walk.events (event_index (executed o.walk.steps) j)
     ≡ Some (Reads a (loaded_at o.walk.steps j)))
 loaded_there lines s vs o e j lt load =
-    let walk : IsWalk s o.walk = run_is_walk lines s vs o e in
+    let walk : IsWalkFrom s o.walk = run_is_walk lines s vs o e in
     let f : Executed = executed o.walk.steps in
     let l : ℕ → Value = loaded_at o.walk.steps in
     let own : (a : Value) × (event_of (f j) (l j) (state_at f l s j) ≡ Reads a (l j) ∷ []) = load_of (f j) (l j) (state_at f l s j) load in (
       own.0,
-      ap (λ (es : List run.Event). slice_get es (event_place f j)) walk.events
+      ap (λ (es : List run.Event). slice_get es (event_index f j)) walk.events
           ∙ event_there f l s (length o.walk.steps) j (Reads own.0 (l j)) lt own.1,
     )

@@ -24,19 +24,19 @@ use Rattle.candidates.proofs.Deciding.{combined}
 use Rattle.candidates.proofs.Showing.{AreShown, all_shown, fault_among, faulted_execution}
 use Rattle.run_combinations.specs.Candidates.{AreTooMany, AreFaulted, AreCombinations, AreCandidates, candidate_total}
 use Rattle.candidates.specs.TestSpaces.{IsRefusedAs, IsTestRefusal, HasLayout, IsTestSpace}
-use Rattle.candidates.specs.Executions.{Execution, HasFault, product, events}
+use Rattle.candidates.specs.Executions.{Execution, HasFaultedRun, product, events}
 use Rattle.run_combinations.specs.Layouts.{IsLaidOut}
-use Rattle.candidates.specs.Listed.{AreTestExecutions, Shows, ListsExecutions, HasManyExecutions, HasFaultedExecution, IsRefusal, IsRefusedFor}
-use Rattle.candidates.specs.Faults.{refusal_of}
+use Rattle.candidates.specs.Listed.{AreTestExecutions, ShowsExecution, ListsExecutions, HasManyExecutions, HasFaultedExecution, IsSpaceRefusal, IsSpaceFault}
+use Rattle.candidates.specs.Faults.{space_refusal_of}
 use Rattle.candidates.specs.declared.fault.EvalRefusal.{EvalRefusal}
-use Rattle.ppc_semantics.specs.Lowering.{IsTestFault, AreNames, test_names}
+use Rattle.ppc_semantics.specs.Lowering.{IsTestDomainFault, AreNamesOf, test_names}
 use Rattle.text_values.specs.declared.name.Name.{Name}
 use Rattle.ppc_semantics.specs.declared.fault.DomainRefusal.{DomainRefusal}
 use Rattle.ppc_semantics.specs.declared.fault.DomainRefusal.TheVariants as no_domain
 use Rattle.ppc_semantics.specs.declared.fault.DomainFault.TheVariants as domain_faults
 use Rattle.run_combinations.specs.Orders.{all_orders}
 use Rattle.run_combinations.specs.Events.{initial_stores}
-use Rattle.run_combinations.specs.Search.{PrefixLists, start, all_combinations, location_count}
+use Rattle.run_combinations.specs.Search.{PrefixLists, initial_prefix, all_combinations, location_count}
 use Rattle.run_combinations.specs.Combinations.{CombinationLists, combination_lists}
 use Rattle.candidates.specs.Space.{Candidate, candidates_in, shown_of}
 use Rattle.candidates.specs.declared.candidate.Space.{Space}
@@ -61,10 +61,10 @@ layout_told t l cs h found =
     let o : IsLaidOut p runs l = h.6 in
     let k : (rss : List (List Run)) × AreKept p V (threads_of p) runs rss = all_kept p V runs h.4 h.5 in
     let a : AllRuns p V (threads_of p) k.0 = runs_kept p V (threads_of p) runs k.0 k.1 in
-    let choices : AreChoices 0 (start (initial_stores 0 p.initial.items)) l.threads.items (product (runs_in runs)) (all_combinations l) =
+    let choices : AreChoices 0 (initial_prefix (initial_stores 0 p.initial.items)) l.threads.items (product (runs_in runs)) (all_combinations l) =
     subst
     (λ (es : List Event).
-    AreChoices 0 (start es) l.threads.items (product (runs_in runs)) (all_combinations l))
+    AreChoices 0 (initial_prefix es) l.threads.items (product (runs_in runs)) (all_combinations l))
     o.initial
     (layout_choices p runs l o) in
     let all : Listing (location_count l) p.initial.items (threads_of p) V l.threads.items (all_combinations l) cs (product k.0) =
@@ -143,7 +143,7 @@ locations_counted t l h =
 -- what each of some candidates shows
 all_shown_in : (initial : List Value) (registers : List (Vec (List Value) Global))
     (xs : List Execution) (cs : List Candidate) → AllZip (AreShown initial registers) xs cs
-    → AllZip (Shows initial) xs (map (shown_of registers) cs)
+    → AllZip (ShowsExecution initial) xs (map (shown_of registers) cs)
 all_shown_in initial registers [] [] h = tt
 all_shown_in initial registers [] (c ∷ cs) h = absurd h
 all_shown_in initial registers (x ∷ xs) [] h = absurd h
@@ -177,7 +177,7 @@ space_lists t s h =
           all_shown_in initial s.registers.items told.all (candidates_in s.combinations.items)
           shown;
       locations =
-          subst (λ (names : Vec Name Global). AreNames (test_names t) names.items)
+          subst (λ (names : Vec Name Global). AreNamesOf (test_names t) names.items)
           (sym (h.2.1.1 ∙ h.1.6.locations)) h.1.3.locations;
     }
 
@@ -200,18 +200,18 @@ fault_told t l h f =
     let n : location_count l ≡ length initial = locations_counted t l h in
     let c : length told.all ≡ candidate_total f.all = as_many (location_count l) initial (threads_of h.0) h.1 l.threads.items (all_combinations l) f.all told.all n told.listed in
     let g : candidate_total f.all ≤ 16384 = f.few in
-    let x : (x : Execution) × Contains told.all x × HasFault x = faulted_execution (location_count l) initial (threads_of h.0) h.1 l.threads.items n (all_combinations l) f.all told.all told.listed f.fault in
+    let x : (x : Execution) × Contains told.all x × HasFaultedRun x = faulted_execution (location_count l) initial (threads_of h.0) h.1 l.threads.items n (all_combinations l) f.all told.all told.listed f.fault in
     record { initial = initial; all = told.all; executions = told.executions; few = omega (arith, c, g); execution = x.0; there = x.1; fault = x.2 }
 
-domain_told : (t : Test) (d : DomainRefusal) → IsTestFault t (domain_faults.Refused d)
-    → IsRefusal t (refusal_of d)
+domain_told : (t : Test) (d : DomainRefusal) → IsTestDomainFault t (domain_faults.Refused d)
+    → IsSpaceRefusal t (space_refusal_of d)
 domain_told t no_domain.TooManyEvents h = h
 domain_told t no_domain.TooManyValues h = h
 domain_told t no_domain.TooManyRuns h = h
 domain_told t no_domain.TooManyCombinations h = h
 
 layout_told_refused : (t : Test) (l : Layout) (r : EvalRefusal) → HasLayout t l → IsRefusedAs l r
-    → IsRefusal t r
+    → IsSpaceRefusal t r
 layout_told_refused t l TooManyCandidates h many = many_told t l h many
 layout_told_refused t l AddressFault h f = fault_told t l h f
 layout_told_refused t l TooManyEvents h impossible = absurd impossible
@@ -219,8 +219,8 @@ layout_told_refused t l TooManyValues h impossible = absurd impossible
 layout_told_refused t l TooManyRuns h impossible = absurd impossible
 layout_told_refused t l TooManyCombinations h impossible = absurd impossible
 
-pub refused_told : (t : Test) (f : SpaceFault) → IsTestRefusal t f → IsRefusedFor t f
+pub refused_told : (t : Test) (f : SpaceFault) → IsTestRefusal t f → IsSpaceFault t f
 refused_told t (OutOfMemory e) h = tt
 refused_told t (Refused r) (inl h) =
-    subst (λ (x : EvalRefusal). IsRefusal t x) (sym h.1) (domain_told t h.0 h.2)
+    subst (λ (x : EvalRefusal). IsSpaceRefusal t x) (sym h.1) (domain_told t h.0 h.2)
 refused_told t (Refused r) (inr h) = layout_told_refused t h.0 r h.1 h.2

@@ -1,7 +1,7 @@
 -- What a search through all combinations has found.
 use Rattle.std.proofs.Common.{Vec, Result, Ok, Err, IfOk, ℕ, zero, suc, ◌≡◌, ◌<◌, ◌≤◌, ◌+◌, ◌*◌, ◌⊎◌, ◌||◌, ◌&&◌, cond, min, Bool, true, false, List, [], ◌∷◌, ◌++◌, map, take, length, Option, Some, None, MatchOption, is_some, append_assoc, if◌then◌else◌, inl, inr, arith, refl, sym, ap, subst, ◌∙◌}
 use Rattle.thread_runs.specs.declared.value.Value.{Value}
-use Rattle.run_combinations.specs.Events.{numbers, has_store, writes_to, initial_stores}
+use Rattle.run_combinations.specs.Events.{numbers, has_store, is_store_to, initial_stores}
 use Rattle.run_combinations.specs.Orders.{all_orders, stores_of, is_thread_store}
 use Rattle.std.specs.declared.alloc.AllocError.{AllocError}
 use Rattle.std.specs.declared.alloc.Global.{Global}
@@ -12,18 +12,18 @@ use Rattle.candidates.specs.declared.fault.SpaceFault.{SpaceFault}
 use Rattle.candidates.specs.declared.fault.SpaceFault.TheVariants.{Refused, OutOfMemory}
 use Rattle.thread_runs.specs.declared.instruction.Program.{Program}
 use Rattle.thread_runs.specs.declared.run.Run.{Run}
-use Rattle.ppc_semantics.specs.Domain.{IsDomain, IsFault}
+use Rattle.ppc_semantics.specs.Domain.{IsDomain, LacksDomain}
 use Rattle.ppc_semantics.specs.Lowering.{IsProgram}
 use Rattle.run_combinations.specs.Keys.{IsKeyed, bit_of}
 use Rattle.run_combinations.specs.Layouts.{AreServedRuns, IsLaidOut}
 use Rattle.candidates.specs.declared.candidate.Space.{Space}
-use Rattle.run_combinations.specs.Ways.{AreWays, IsWay, accesses_in}
+use Rattle.run_combinations.specs.Ways.{AreReadChoices, IsReadChoice, accesses_in}
 use Rattle.run_combinations.specs.Lists.{tuples}
-use Rattle.run_combinations.specs.Search.{PrefixLists, Tally, Fits, AllFit, tally_with, with_run, combinations, Searched, none, more, AreTooMuch, now, later, nothing, tally, start, all_combinations, location_count}
+use Rattle.run_combinations.specs.Search.{PrefixLists, Tally, PrefixFits, AllPrefixesFit, tally_with, with_run, combinations, TalliesAll, none, more, AreTooMuch, now, later, no_tally, tally, initial_prefix, all_combinations, location_count}
 use Rattle.run_combinations.specs.Combinations.{CombinationLists, combination_lists, ordered}
-use Rattle.run_combinations.specs.Candidates.{AreCombinations, nothing_left, with_ways, without, candidate_total, HasFault, AreCandidates, AreTooMany, AreFaulted, AreSmall}
-use Rattle.candidates.specs.TestSpaces.{IsAnswer, IsReady, IsLayoutFault, IsTestSpace, IsTestRefusal}
-use Rattle.candidates.specs.Faults.{fault_of}
+use Rattle.run_combinations.specs.Candidates.{AreCombinations, nothing_left, with_ways, without, candidate_total, HasFaultedCandidate, AreCandidates, AreTooMany, AreFaulted, AreSmall}
+use Rattle.candidates.specs.TestSpaces.{IsAnswerTo, HasKeyedLayout, IsLayoutFault, IsTestSpace, IsTestRefusal}
+use Rattle.candidates.specs.Faults.{space_fault_of}
 use Rattle.ppc_semantics.specs.declared.fault.DomainFault.{DomainFault}
 use Rattle.ppc_semantics.specs.declared.fault.DomainFault.TheVariants as domain_faults
 use Rattle.run_combinations.specs.declared.combination.Combination.{Combination}
@@ -42,14 +42,14 @@ pub record Sum (n : ℕ) (bs : List PrefixLists) (t u : Tally) : Type 0 where
   pub are : AreCombinations n bs all
   pub count : u.count ≡ t.count + candidate_total all
   pub kept : u.faulted ≡ false
-      → (map (ordered n) u.kept ≡ map (ordered n) t.kept ++ all) × (HasFault bs → ⊥)
+      → (map (ordered n) u.kept ≡ map (ordered n) t.kept ++ all) × (HasFaultedCandidate bs → ⊥)
       × (t.faulted ≡ false)
-  pub fault : u.faulted ≡ true → (t.faulted ≡ true) ⊎ HasFault bs
+  pub fault : u.faulted ≡ true → (t.faulted ≡ true) ⊎ HasFaultedCandidate bs
 
-same_ways : (b : PrefixLists) (xs ys : List (List ℕ)) → AreWays b.combination.events b.needs xs
-    → AreWays b.combination.events b.needs ys → xs ≡ ys
+same_ways : (b : PrefixLists) (xs ys : List (List ℕ)) → AreReadChoices b.combination.events b.needs xs
+    → AreReadChoices b.combination.events b.needs ys → xs ≡ ys
 same_ways b xs ys h k =
-    IsFiltered-unique (IsWay (accesses_in b.combination.events b.needs))
+    IsFiltered-unique (IsReadChoice (accesses_in b.combination.events b.needs))
     (tuples [] (accesses_in b.combination.events b.needs).sources) xs ys h k
 
 seens_nil : (xs : List CombinationLists) → xs ≡ xs ++ []
@@ -68,7 +68,7 @@ true_not_false false t f = cc
 wayless : {x : List ℕ} {xs : List (List ℕ)} → (x ∷ xs) ≡ [] → ⊥
 wayless e = cc
 
-pub summed : (n : ℕ) (bs : List PrefixLists) (t u : Tally) → Searched n bs t u → Sum n bs t u
+pub summed : (n : ℕ) (bs : List PrefixLists) (t u : Tally) → TalliesAll n bs t u → Sum n bs t u
 summed n [] t u none =
     record {
       all = [];
@@ -79,7 +79,7 @@ summed n [] t u none =
     }
 summed n (b ∷ bs) t v (more {u = w} j h) = step j.0 j.1 j.2 (summed n bs w v h)
   where
-    step : (ways : List (List ℕ)) → AreWays b.combination.events b.needs ways
+    step : (ways : List (List ℕ)) → AreReadChoices b.combination.events b.needs ways
         → w ≡ tally_with n b ways t → Sum n bs w v → Sum n (b ∷ bs) t v
     step [] are e s = record {
       all = s.all;
@@ -88,7 +88,7 @@ summed n (b ∷ bs) t v (more {u = w} j h) = step j.0 j.1 j.2 (summed n bs w v h
           let c : w.count ≡ t.count = ap (λ (x : Tally). x.count) e in
           let d : v.count ≡ w.count + candidate_total s.all = s.count in omega (arith, c, d);
       kept = λ f.
-          let k : (map (ordered n) v.kept ≡ map (ordered n) w.kept ++ s.all) × (HasFault bs → ⊥) × (w.faulted ≡ false) = s.kept f in (
+          let k : (map (ordered n) v.kept ≡ map (ordered n) w.kept ++ s.all) × (HasFaultedCandidate bs → ⊥) × (w.faulted ≡ false) = s.kept f in (
             k.0 ∙ ap (λ (x : Tally). map (ordered n) x.kept ++ s.all) e,
             (λ x. elim x [
               | inl y ↦ wayless (same_ways b (y.1 ∷ y.2) [] y.3 are)
@@ -112,7 +112,7 @@ summed n (b ∷ bs) t v (more {u = w} j h) = step j.0 j.1 j.2 (summed n bs w v h
           let d : v.count ≡ w.count + candidate_total s.all = s.count in
           omega (arith, c, d);
       kept = λ f.
-          let k : (map (ordered n) v.kept ≡ map (ordered n) w.kept ++ s.all) × (HasFault bs → ⊥) × (w.faulted ≡ false) = s.kept f in
+          let k : (map (ordered n) v.kept ≡ map (ordered n) w.kept ++ s.all) × (HasFaultedCandidate bs → ⊥) × (w.faulted ≡ false) = s.kept f in
           let o : (t.faulted || b.faulted) ≡ false = sym (ap (λ (x : Tally). x.faulted) e) ∙ k.2 in
           let p : (t.faulted ≡ false) × (b.faulted ≡ false) = or_parts t.faulted b.faulted o in
           let q : w.kept ≡ t.kept ++ record b.combination { sources = way ∷ ways } ∷ [] = ap (λ (x : Tally). x.kept) e ∙ ap (λ (x : Bool). if x then t.kept else t.kept ++ record b.combination { sources = way ∷ ways } ∷ []) o in (
@@ -148,14 +148,14 @@ over_all n (b ∷ bs) t (later {u = u} j h) cs (without are rest) =
     omega (arith, g, e)
 
 -- nothing was found before
-pub too_many : (n : ℕ) (bs : List PrefixLists) → AreTooMuch n bs nothing → AreTooMany n bs
+pub too_many : (n : ℕ) (bs : List PrefixLists) → AreTooMuch n bs no_tally → AreTooMany n bs
 too_many n bs h cs k =
-    let g : 16384 < 0 + candidate_total cs = over_all n bs nothing h cs k in omega (arith, g)
+    let g : 16384 < 0 + candidate_total cs = over_all n bs no_tally h cs k in omega (arith, g)
 
-pub faulted : (n : ℕ) (bs : List PrefixLists) (t : Tally) → Searched n bs nothing t
+pub faulted : (n : ℕ) (bs : List PrefixLists) (t : Tally) → TalliesAll n bs no_tally t
     → t.count ≤ 16384 → t.faulted ≡ true → AreFaulted n bs
 faulted n bs t h few f =
-    let s : Sum n bs nothing t = summed n bs nothing t h in
+    let s : Sum n bs no_tally t = summed n bs no_tally t h in
     let c : t.count ≡ 0 + candidate_total s.all = s.count in
     record { all = s.all; combinations = s.are; few = omega (arith, c, few); fault = elim (s.fault f) [ inl e ↦ absurd (never e) | inr y ↦ y ] }
   where
@@ -163,10 +163,10 @@ faulted n bs t h few f =
     never e = cc
 
 pub all_candidates : (n : ℕ) (bs : List PrefixLists) (t : Tally) (cs : List CombinationLists)
-    → Searched n bs nothing t → t.count ≤ 16384 → t.faulted ≡ false → cs ≡ map (ordered n) t.kept
+    → TalliesAll n bs no_tally t → t.count ≤ 16384 → t.faulted ≡ false → cs ≡ map (ordered n) t.kept
     → AreCandidates n bs cs
 all_candidates n bs t cs h few f e =
-    let s : Sum n bs nothing t = summed n bs nothing t h in
+    let s : Sum n bs no_tally t = summed n bs no_tally t h in
     let c : t.count ≡ 0 + candidate_total s.all = s.count in
     subst (λ (l : List CombinationLists). AreCandidates n bs l) (sym (e ∙ (s.kept f).0))
     (record { combinations = s.are; few = omega (arith, c, few); sound = (s.kept f).1 })
@@ -188,7 +188,7 @@ none_before l (suc m) at [] rest k i lt lm =
 none_before l (suc m) at (e ∷ init) rest k i lt lm =
     ap
     (λ (t : Option ℕ). has_store
-    (cond (is_some t && writes_to l e.action)
+    (cond (is_some t && is_store_to l e.action)
     (at ∷ numbers (is_thread_store l) (at + 1) (take m (init ++ rest)))
     (numbers (is_thread_store l) (at + 1) (take m (init ++ rest)))) k) i.0
     ∙ none_before l m (at + 1) init rest k i.1 (omega (arith, lt)) (omega (arith, lm))
@@ -198,7 +198,7 @@ abbrev pub Begins : List Event → PrefixLists → Type 0
 Begins init b = (rest : List Event) × (b.combination.events ≡ init ++ rest)
 
 begun_fits : (n : ℕ) (init : List Event) (b : PrefixLists) → AreInitial init
-    → n ≡ min (length init) 128 → Begins init b → length b.combination.events ≤ 128 → Fits n b
+    → n ≡ min (length init) 128 → Begins init b → length b.combination.events ≤ 128 → PrefixFits n b
 unfolding stores_of
 begun_fits n init b i e s few = record {
   few = few;
@@ -211,14 +211,14 @@ begun_fits n init b i e s few = record {
       (omega (arith, lt, e)));
 }
 
-fit_both : (n : ℕ) (xs ys : List PrefixLists) → AllFit n xs → AllFit n ys → AllFit n (xs ++ ys)
+fit_both : (n : ℕ) (xs ys : List PrefixLists) → AllPrefixesFit n xs → AllPrefixesFit n ys → AllPrefixesFit n (xs ++ ys)
 fit_both n [] ys h k = k
 fit_both n (x ∷ xs) ys h k = (h.0, fit_both n xs ys h.1 k)
 
 runs_fit : (n : ℕ) (init : List Event) (b : PrefixLists) (ts : List ThreadParts)
     → ((c : PrefixLists) → Begins init c → AreSmall (combinations c ts)
-    → AllFit n (combinations c ts)) → Begins init b → (at : ℕ) (ps : List Part)
-    → AreSmall (going_on b ts at ps) → AllFit n (going_on b ts at ps)
+    → AllPrefixesFit n (combinations c ts)) → Begins init b → (at : ℕ) (ps : List Part)
+    → AreSmall (going_on b ts at ps) → AllPrefixesFit n (going_on b ts at ps)
 runs_fit n init b ts each s at [] small = tt
 runs_fit n init b ts each s at (p ∷ ps) small =
     fit_both n (combinations (with_run at p b) ts) (going_on b ts (at + 1) ps)
@@ -233,7 +233,7 @@ runs_fit n init b ts each s at (p ∷ ps) small =
 
 all_fit : (n : ℕ) (init : List Event) → AreInitial init → n ≡ min (length init) 128
     → (ts : List ThreadParts) (b : PrefixLists) → Begins init b → AreSmall (combinations b ts)
-    → AllFit n (combinations b ts)
+    → AllPrefixesFit n (combinations b ts)
 all_fit n init i e [] b s small = (begun_fits n init b i e s small.0, tt)
 all_fit n init i e (t ∷ ts) b s small =
     runs_fit n init b ts (λ c d k. all_fit n init i e ts c d k) s 0 t.parts.items small
@@ -243,10 +243,10 @@ events_nil [] = refl
 events_nil (x ∷ xs) = ap (λ (l : List Event). x ∷ l) (events_nil xs)
 
 pub layout_fits : (init : List Event) (ts : List ThreadParts) → AreInitial init
-    → AreSmall (combinations (start init) ts)
-    → AllFit (min (length init) 128) (combinations (start init) ts)
+    → AreSmall (combinations (initial_prefix init) ts)
+    → AllPrefixesFit (min (length init) 128) (combinations (initial_prefix init) ts)
 layout_fits init ts i small =
-    all_fit (min (length init) 128) init i refl ts (start init) ([], events_nil init) small
+    all_fit (min (length init) 128) init i refl ts (initial_prefix init) ([], events_nil init) small
 
 -- the answers
 pub seen_ordered : (n : ℕ) (cs : List Combination)
@@ -256,7 +256,7 @@ seen_ordered n (c ∷ cs) =
     ap (λ (l : List CombinationLists). ordered n (combination_lists c) ∷ l) (seen_ordered n cs)
 
 pub fits_layout : (l : Layout) (vs : List Value) → l.initial.items ≡ initial_stores 0 vs
-    → AreSmall (all_combinations l) → AllFit (location_count l) (all_combinations l)
+    → AreSmall (all_combinations l) → AllPrefixesFit (location_count l) (all_combinations l)
 fits_layout l vs e small =
     layout_fits l.initial.items l.threads.items
     (subst (λ (es : List Event). AreInitial es) (sym e) (all_initial 0 vs)) small
@@ -264,8 +264,8 @@ fits_layout l vs e small =
 -- what the search says
 abbrev pub IsSearched : Layout → Option Found → Type 0
 IsSearched l o =
-    MatchOption o (AreTooMuch (location_count l) (all_combinations l) nothing)
-    (λ f. Searched (location_count l) (all_combinations l) nothing (tally f) × (f.count ≤ 16384))
+    MatchOption o (AreTooMuch (location_count l) (all_combinations l) no_tally)
+    (λ f. TalliesAll (location_count l) (all_combinations l) no_tally (tally f) × (f.count ≤ 16384))
 
 pub none_searched : (l : Layout) (o : Option Found) → o ≡ None → IsSearched l o
     → AreTooMany (location_count l) (all_combinations l)
@@ -274,13 +274,13 @@ none_searched l o e h =
     (subst (λ (x : Option Found). IsSearched l x) e h)
 
 pub some_searched : (l : Layout) (o : Option Found) (f : Found) → o ≡ Some f → IsSearched l o
-    → Searched (location_count l) (all_combinations l) nothing (tally f) × (f.count ≤ 16384)
+    → TalliesAll (location_count l) (all_combinations l) no_tally (tally f) × (f.count ≤ 16384)
 some_searched l o f e h = subst (λ (x : Option Found). IsSearched l x) e h
 
 pub fault_searched : (l : Layout) (o : Option Found) (f : Found) → o ≡ Some f → f.is_faulted ≡ true
     → IsSearched l o → AreFaulted (location_count l) (all_combinations l)
 fault_searched l o f e b h =
-    let s : Searched (location_count l) (all_combinations l) nothing (tally f) × (f.count ≤ 16384) =
+    let s : TalliesAll (location_count l) (all_combinations l) no_tally (tally f) × (f.count ≤ 16384) =
     some_searched l o f e h in
     faulted (location_count l) (all_combinations l) (tally f) s.0 s.1 b
 
@@ -290,13 +290,13 @@ pub all_searched : (l : Layout) (o : Option Found) (f : Found) (cs : List Combin
     ≡ map (λ c. ordered (location_count l) (combination_lists c)) f.combinations.items
     → AreCandidates (location_count l) (all_combinations l) (map combination_lists cs)
 all_searched l o f cs e b h m =
-    let s : Searched (location_count l) (all_combinations l) nothing (tally f) × (f.count ≤ 16384) = some_searched l o f e h in
+    let s : TalliesAll (location_count l) (all_combinations l) no_tally (tally f) × (f.count ≤ 16384) = some_searched l o f e h in
     all_candidates (location_count l) (all_combinations l) (tally f) (map combination_lists cs) s.0
     s.1 b (m ∙ seen_ordered (location_count l) f.combinations.items)
 
 -- what the test says
-pub test_fault : (t : Test) (p : Program) (e : DomainFault) (f : SpaceFault) → f ≡ fault_of e
-    → IsProgram t p → IsFault p e → IsLayoutFault t f
+pub test_fault : (t : Test) (p : Program) (e : DomainFault) (f : SpaceFault) → f ≡ space_fault_of e
+    → IsProgram t p → LacksDomain p e → IsLayoutFault t f
 test_fault t p (domain_faults.Refused r) f is h k =
     subst (λ (x : SpaceFault). IsLayoutFault t x) (sym is) (r, refl, (p, h, k))
 test_fault t p (domain_faults.OutOfMemory x) f is h k =
@@ -309,7 +309,7 @@ fault_told t (OutOfMemory x) h = tt
 pub ready : (t : Test) (p : Program) (values : List Value) (l : Layout) → IsProgram t p
     → IsDomain p values
     → (runs : List (Vec Run Global)) × AreServedRuns p values runs × IsLaidOut p runs l
-    × IsKeyed (bit_of values) l → IsReady t l
+    × IsKeyed (bit_of values) l → HasKeyedLayout t l
 ready t p values l h d r =
     ((p, values, r.0, h, d, r.1, r.2), bit_of values, p.initial.items, r.3, r.2.initial)
 
@@ -317,18 +317,18 @@ ready t p values l h d r =
 abbrev pub Answers : Layout → Result (Result Space EvalRefusal) AllocError → Type 0
 Answers l r =
     (key : ℕ → Value → Option (ℕ × ℕ)) (initial : List Value) → IsKeyed key l
-    → l.initial.items ≡ initial_stores 0 initial → IfOk r (λ a. IsAnswer l a)
+    → l.initial.items ≡ initial_stores 0 initial → IfOk r (λ a. IsAnswerTo l a)
 
 told : (t : Test) (l : Layout) (r : Result (Result Space EvalRefusal) AllocError)
-    (a : Result Space EvalRefusal) → r ≡ Ok a → IsReady t l → Answers l r → IsAnswer l a
+    (a : Result Space EvalRefusal) → r ≡ Ok a → HasKeyedLayout t l → Answers l r → IsAnswerTo l a
 told t l r a e h f =
-    subst (λ (x : Result (Result Space EvalRefusal) AllocError). IfOk x (λ b. IsAnswer l b)) e
+    subst (λ (x : Result (Result Space EvalRefusal) AllocError). IfOk x (λ b. IsAnswerTo l b)) e
     (f h.1 h.2 h.3 h.4)
 
 pub space_told : (t : Test) (l : Layout) (r : Result (Result Space EvalRefusal) AllocError)
-    (s : Space) → r ≡ Ok (Ok s) → IsReady t l → Answers l r → IsTestSpace t s
+    (s : Space) → r ≡ Ok (Ok s) → HasKeyedLayout t l → Answers l r → IsTestSpace t s
 space_told t l r s e h f = (l, h.0, told t l r (Ok s) e h f)
 
 pub refusal_told : (t : Test) (l : Layout) (r : Result (Result Space EvalRefusal) AllocError)
-    (x : EvalRefusal) → r ≡ Ok (Err x) → IsReady t l → Answers l r → IsTestRefusal t (Refused x)
+    (x : EvalRefusal) → r ≡ Ok (Err x) → HasKeyedLayout t l → Answers l r → IsTestRefusal t (Refused x)
 refusal_told t l r x e h f = inr (l, h.0, told t l r (Err x) e h f)

@@ -6,10 +6,10 @@ use Rattle.std.specs.Prelude.{ℕ, ◌≡◌, ◌+◌, List, [], ◌∷◌, ◌+
 use Rattle.std.specs.List.{flat_map, AllZip}
 use Rattle.bit_relations.specs.Pairs.{Union, IsAcyclic}
 use Rattle.thread_runs.specs.declared.value.Value.{Value}
-use Rattle.thread_runs.specs.Runs.{Thread, Run, IsRun, AreRuns, executed}
-use Rattle.dataflow.specs.Chains.{Executed, IsNeed, event_place}
+use Rattle.thread_runs.specs.Runs.{Thread, Run, IsThreadRun, AreThreadRuns, executed}
+use Rattle.dataflow.specs.Chains.{Executed, IsNeed, event_index}
 use Rattle.run_combinations.specs.Lists.{IsFiltered}
-use Rattle.run_combinations.specs.Events.{numbers, writes_to, AreDistinct, thread_events, initial_stores, is_load, is_store, ReadsFrom}
+use Rattle.run_combinations.specs.Events.{numbers, is_store_to, AreDistinct, thread_events, initial_stores, is_load, is_store, ReadsFrom}
 use Rattle.run_combinations.specs.declared.combination.Action.{Action}
 use Rattle.run_combinations.specs.declared.combination.Action.TheVariants.{Read, Write}
 use Rattle.run_combinations.specs.declared.combination.Event.{Event}
@@ -23,7 +23,7 @@ pub record Execution : Type 0 where
   pub coherence : List (List ℕ)
 
 -- The events: the initial store of each location, and then what each thread does, in program order.
--- The number of an event is its place in this list
+-- The number of an event is its index in this list
 abbrev pub events_from : ℕ → List Run → List Event
 events_from thread [] = []
 events_from thread (r ∷ rs) =
@@ -40,7 +40,7 @@ stores es = numbers is_store 0 es
 
 -- the stores of a location, the initial one among them
 abbrev pub stores_at : List Event → ℕ → List ℕ
-stores_at es location = numbers (λ e. writes_to location e.action) 0 es
+stores_at es location = numbers (λ e. is_store_to location e.action) 0 es
 
 -- the locations by number, the first of these values being that of this one
 abbrev pub locations_from : ℕ → List Value → List ℕ
@@ -51,7 +51,7 @@ locations_from location (v ∷ vs) = location ∷ locations_from (location + 1) 
 -- the run are numbered on from those of the initial stores and of the threads before it
 abbrev pub event_number : List Value → List Run → ℕ → Run → ℕ → ℕ
 event_number initial runs thread run step =
-    length (events initial (take thread runs)) + event_place (executed run.outcome.walk.steps) step
+    length (events initial (take thread runs)) + event_index (executed run.outcome.walk.steps) step
 
 -- A dependency: two steps of the run of a thread are so related, and the events are theirs
 pub record IsDependency (R : Executed → ℕ → ℕ → Type 0) (initial : List Value) (runs : List Run)
@@ -77,7 +77,7 @@ MayRead es load store =
 
 -- the list is an order of the stores of a location: the initial store, which has the number of the
 -- location, is the first, and each of the stores stands in it just once
-pub record IsOrder (es : List Event) (location : ℕ) (order : List ℕ) : Type 0 where
+pub record IsStoreOrder (es : List Event) (location : ℕ) (order : List ℕ) : Type 0 where
   pub initial : slice_get order 0 ≡ Some location
   pub stores : All (Contains (stores_at es location)) order
   pub each : length order ≡ length (stores_at es location)
@@ -89,9 +89,9 @@ pub record IsOrder (es : List Event) (location : ℕ) (order : List ℕ) : Type 
 -- thin air
 pub record IsExecution (initial : List Value) (threads : List Thread) (P : Value → Type 0)
     (x : Execution) : Type 0 where
-  pub runs : AllZip (λ t r. IsRun t P r) threads x.runs
+  pub runs : AllZip (λ t r. IsThreadRun t P r) threads x.runs
   pub reads : AllZip (MayRead (events initial x.runs)) (loads (events initial x.runs)) x.reads_from
-  pub orders : AllZip (IsOrder (events initial x.runs)) (locations_from 0 initial) x.coherence
+  pub orders : AllZip (IsStoreOrder (events initial x.runs)) (locations_from 0 initial) x.coherence
   pub acyclic : IsAcyclic (Union (IsDependency IsNeed initial x.runs)
       (ReadsFrom (loads (events initial x.runs)) x.reads_from))
 
@@ -101,14 +101,15 @@ abbrev pub product : {X : Type 0} → List (List X) → List (List X)
 product [] = [] ∷ []
 product {X} (xs ∷ xss) = flat_map (λ (x : X). map (λ (rest : List X). x ∷ rest) (product xss)) xs
 
-abbrev pub maps : List Event → List (List ℕ)
-maps es = product (map (λ load. stores es) (loads es))
+abbrev pub read_choices : List Event → List (List ℕ)
+read_choices es = product (map (λ load. stores es) (loads es))
 
-abbrev pub rows : List Event → ℕ → List (List ℕ)
-rows es location = product (replicate (length (stores_at es location)) (stores_at es location))
+abbrev pub order_choices : List Event → ℕ → List (List ℕ)
+order_choices es location =
+    product (replicate (length (stores_at es location)) (stores_at es location))
 
 abbrev pub orders : List Event → List Value → List (List (List ℕ))
-orders es initial = product (map (rows es) (locations_from 0 initial))
+orders es initial = product (map (order_choices es) (locations_from 0 initial))
 
 abbrev pub over_runs : List Value → List Run → List Execution
 over_runs initial runs =
@@ -116,16 +117,16 @@ over_runs initial runs =
     (λ reads_from. map
     (λ coherence. record { runs = runs; reads_from = reads_from; coherence = coherence })
     (orders (events initial runs) initial))
-    (maps (events initial runs))
+    (read_choices (events initial runs))
 
 -- The list has just the executions of the threads over the values, in that order
 pub record AreExecutions (initial : List Value) (threads : List Thread) (V : List Value)
     (xs : List Execution) : Type 0 where
   pub runs : List (List Run)
-  pub of_threads : AllZip (λ t rs. AreRuns t (Contains V) rs) threads runs
+  pub of_threads : AllZip (λ t rs. AreThreadRuns t (Contains V) rs) threads runs
   pub executions : IsFiltered (IsExecution initial threads (Contains V))
       (flat_map (over_runs initial) (product runs)) xs
 
 -- some run of it stopped at a fault
-abbrev pub HasFault : Execution → Type 0
-HasFault x = (r : Run) × Contains x.runs r × (r.outcome.faulted ≡ true)
+abbrev pub HasFaultedRun : Execution → Type 0
+HasFaultedRun x = (r : Run) × Contains x.runs r × (r.outcome.faulted ≡ true)

@@ -18,12 +18,12 @@ number TooManyCandidates = 4
 number AddressFault = 5
 number TooManyCombinations = 6
 
-abbrev pub refusal_of : DomainRefusal → EvalRefusal
-refusal_of domain_refusals.TooManyEvents = TooManyEvents
-refusal_of domain_refusals.TooManyValues = TooManyValues
-refusal_of domain_refusals.TooManyRuns = TooManyRuns
-refusal_of domain_refusals.TooManyCombinations = TooManyCombinations
+abbrev pub space_refusal_of : DomainRefusal → EvalRefusal
+space_refusal_of domain_refusals.TooManyEvents = TooManyEvents
+space_refusal_of domain_refusals.TooManyValues = TooManyValues
+space_refusal_of domain_refusals.TooManyRuns = TooManyRuns
+space_refusal_of domain_refusals.TooManyCombinations = TooManyCombinations
 
-abbrev pub fault_of : DomainFault → SpaceFault
-fault_of (domain_faults.Refused r) = Refused (refusal_of r)
-fault_of (domain_faults.OutOfMemory e) = OutOfMemory e
+abbrev pub space_fault_of : DomainFault → SpaceFault
+space_fault_of (domain_faults.Refused r) = Refused (space_refusal_of r)
+space_fault_of (domain_faults.OutOfMemory e) = OutOfMemory e

@@ -5,11 +5,11 @@ use Rattle.std.specs.List.{AllZip}
 use Rattle.text_values.specs.declared.test.Test.{Test}
 use Rattle.thread_runs.specs.declared.instruction.Program.{Program}
 use Rattle.thread_runs.specs.declared.value.Value.{Value}
-use Rattle.ppc_semantics.specs.Domain.{IsRound, load_total, threads_of}
+use Rattle.ppc_semantics.specs.Domain.{IsDomainAt, load_total, threads_of}
 use Rattle.ppc_semantics.specs.Lowering.{IsProgram}
 use Rattle.candidates.specs.declared.fault.EvalRefusal.{EvalRefusal}
-use Rattle.thread_runs.specs.ValueSet.{IsOne}
-use Rattle.thread_runs.specs.Runs.{Thread, Run, IsRun, run_of, executed}
+use Rattle.thread_runs.specs.ValueSet.{IsProperValue}
+use Rattle.thread_runs.specs.Runs.{Thread, Run, IsThreadRun, run_of, executed}
 use Rattle.candidates.specs.Executions.{Execution, IsExecution, AreExecutions, Does, events, stores, over_runs, event_number}
 use Rattle.run_combinations.specs.Lists.{IsFiltered}
 use Rattle.dataflow.specs.Chains.{is_event}
@@ -19,15 +19,15 @@ use Rattle.candidates.specs.Space.{shown_by, ShowTheSame}
 use Rattle.run_combinations.specs.declared.combination.Action.TheVariants.{Write}
 use Rattle.candidates.specs.declared.execution.Execution as shown
 use Rattle.candidates.specs.declared.candidate.Space.{Space}
-use Rattle.candidates.specs.Listed.{AreTestExecutions, Shows, ListsExecutions, IsRefusal}
+use Rattle.candidates.specs.Listed.{AreTestExecutions, ShowsExecution, ListsExecutions, IsSpaceRefusal}
 
 -- the law of the domain: what is shown, where the loads of the execution take any values whatever,
 -- is an execution over the values of the last round, also of a test that is refused for a bound
 abbrev pub LosesNoValue : Test → shown.Execution → Type 0
 LosesNoValue t e =
-    (p : Program) (V : List Value) (x : Execution) → IsProgram t p → IsRound p (load_total p) V
-    → Shows p.initial.items x (shown_by e)
-    → IsExecution p.initial.items (threads_of p) IsOne x
+    (p : Program) (V : List Value) (x : Execution) → IsProgram t p → IsDomainAt p (load_total p) V
+    → ShowsExecution p.initial.items x (shown_by e)
+    → IsExecution p.initial.items (threads_of p) IsProperValue x
     → IsExecution p.initial.items (threads_of p) (Contains V) x
 
 -- a test has one list of executions
@@ -39,7 +39,7 @@ HasOneList initial threads V =
 -- runs with a load that no store serves are in no execution
 abbrev pub LosesNoExecution : List Value → List Thread → List Value → List Run → Type 0
 LosesNoExecution initial threads V runs =
-    AllZip (λ t r. IsRun t (Contains V) r) threads runs → CannotRead (events initial runs)
+    AllZip (λ t r. IsThreadRun t (Contains V) r) threads runs → CannotRead (events initial runs)
     → IsFiltered (IsExecution initial threads (Contains V)) (over_runs initial runs) []
 
 -- no event of a run of a thread is left out of the events of an execution
@@ -51,7 +51,7 @@ DropsNoEvent t r =
 -- at the number by which a dependency names a step of a run stands the event of that step
 abbrev pub NumbersItsSteps : List Value → List Thread → List Run → Type 0
 NumbersItsSteps initial threads runs =
-    AllZip (λ t r. IsRun t IsOne r) threads runs
+    AllZip (λ t r. IsThreadRun t IsProperValue r) threads runs
     → (thread step : ℕ) (r : Run) → slice_get runs thread ≡ Some r
     → is_event (executed r.outcome.walk.steps step) ≡ true
     → (e : Event)
@@ -70,15 +70,16 @@ pub record IsCovered (initial : List Value) (x : Execution) (store : ℕ) : Type
 -- each does: an execution makes no store but at a location of the test
 abbrev pub CoversEachStore : Test → Type 0
 CoversEachStore t =
-    (p : Program) (V : List Value) (x : Execution) → IsProgram t p → IsRound p (load_total p) V
-    → IsExecution p.initial.items (threads_of p) IsOne x
+    (p : Program) (V : List Value) (x : Execution) → IsProgram t p → IsDomainAt p (load_total p) V
+    → IsExecution p.initial.items (threads_of p) IsProperValue x
     → (store : ℕ) → Contains (stores (events p.initial.items x.runs)) store
     → IsCovered p.initial.items x store
 
 -- a test has one outcome: a space or a refusal, and one refusal at most
-pub record HasOneOutcome (t : Test) : Type 0 where
-  pub listed_or_refused : (s : Space) (r : EvalRefusal) → ListsExecutions t s → IsRefusal t r → ⊥
-  pub one_refusal : (q r : EvalRefusal) → IsRefusal t q → IsRefusal t r → q ≡ r
+pub record HasOneSpaceOrRefusal (t : Test) : Type 0 where
+  pub listed_or_refused :
+      (s : Space) (r : EvalRefusal) → ListsExecutions t s → IsSpaceRefusal t r → ⊥
+  pub one_refusal : (q r : EvalRefusal) → IsSpaceRefusal t q → IsSpaceRefusal t r → q ≡ r
 
 -- two spaces of one test show the same
 abbrev pub ShowOneTest : Test → Space → Space → Type 0
@@ -89,4 +90,4 @@ abbrev pub HasAllExecutions : Test → Type 0
 HasAllExecutions t =
     (initial : List Value) (xs : List Execution) (h : AreTestExecutions t initial xs)
     (x : Execution)
-    → Contains xs x ↔ IsExecution initial (threads_of h.program) IsOne x
+    → Contains xs x ↔ IsExecution initial (threads_of h.program) IsProperValue x

@@ -1,13 +1,13 @@
 -- What `space` says of the executions of a test, and how a space shows them: its clauses
--- `executions` and `refused` cite `ListsExecutions` and `IsRefusedFor`. Read `Events` and
+-- `executions` and `refused` cite `ListsExecutions` and `IsSpaceFault`. Read `Events` and
 -- `Executions` first.
 use Rattle.std.specs.Prelude.{ℕ, ◌≡◌, ◌<◌, ◌≤◌, ◌↔◌, List, map, length, Contains}
 use Rattle.std.specs.List.{AllPairs, AllZip, flat_map}
 use Rattle.text_values.specs.declared.test.Test.{Test}
 use Rattle.thread_runs.specs.declared.instruction.Program.{Program}
 use Rattle.thread_runs.specs.declared.value.Value.{Value}
-use Rattle.ppc_semantics.specs.Domain.{IsDomain, IsRefused, threads_of}
-use Rattle.ppc_semantics.specs.Lowering.{IsProgram, AreNames, test_names}
+use Rattle.ppc_semantics.specs.Domain.{IsDomain, IsDomainRefusal, threads_of}
+use Rattle.ppc_semantics.specs.Lowering.{IsProgram, AreNamesOf, test_names}
 use Rattle.ppc_semantics.specs.declared.fault.DomainRefusal.{DomainRefusal}
 use Rattle.ppc_semantics.specs.declared.fault.DomainRefusal.TheVariants as no_domain
 use Rattle.candidates.specs.declared.fault.EvalRefusal.{EvalRefusal}
@@ -15,8 +15,8 @@ use Rattle.candidates.specs.declared.fault.EvalRefusal.TheVariants.{TooManyEvent
 use Rattle.candidates.specs.declared.fault.SpaceFault.{SpaceFault}
 use Rattle.candidates.specs.declared.fault.SpaceFault.TheVariants.{Refused, OutOfMemory}
 use Rattle.dataflow.specs.Chains.{Executed, IsAddr, IsData, IsCtrl, IsCtrlIsync, IsNeed, IsPairBefore}
-use Rattle.thread_runs.specs.Runs.{Thread, Run, IsRun}
-use Rattle.candidates.specs.Executions.{Execution, IsExecution, AreExecutions, HasFault, IsDependency, IsOrder, MayRead, events, loads, maps, orders, locations_from, over_runs}
+use Rattle.thread_runs.specs.Runs.{Thread, Run, IsThreadRun}
+use Rattle.candidates.specs.Executions.{Execution, IsExecution, AreExecutions, HasFaultedRun, IsDependency, IsStoreOrder, MayRead, events, loads, read_choices, orders, locations_from, over_runs}
 use Rattle.run_combinations.specs.Lists.{IsFiltered}
 use Rattle.run_combinations.specs.Events.{ReadsFrom}
 use Rattle.bit_relations.specs.Pairs.{Union, IsAcyclic}
@@ -33,18 +33,18 @@ pub record AreTestExecutions (t : Test) (initial : List Value) (xs : List Execut
   pub executions : AreExecutions initial (threads_of program) values xs
 
 -- the pairs are just those of the dependency, in rising order
-pub record ArePairs (R : Executed → ℕ → ℕ → Type 0) (initial : List Value) (x : Execution)
+pub record AreDependencyPairs (R : Executed → ℕ → ℕ → Type 0) (initial : List Value) (x : Execution)
     (pairs : List (ℕ × ℕ)) : Type 0 where
   pub rising : AllPairs IsPairBefore pairs
   pub exact : (p : ℕ × ℕ) → Contains pairs p ↔ IsDependency R initial x.runs p.0 p.1
 
 -- what is shown is this execution
-pub record Shows (initial : List Value) (x : Execution) (e : Shown) : Type 0 where
+pub record ShowsExecution (initial : List Value) (x : Execution) (e : Shown) : Type 0 where
   pub events : e.events ≡ events initial x.runs
-  pub addr : ArePairs IsAddr initial x e.dependencies.addr_pairs
-  pub «data» : ArePairs IsData initial x e.dependencies.data_pairs
-  pub ctrl : ArePairs IsCtrl initial x e.dependencies.ctrl_pairs
-  pub ctrlisync : ArePairs IsCtrlIsync initial x e.dependencies.ctrlisync_pairs
+  pub addr : AreDependencyPairs IsAddr initial x e.dependencies.addr_pairs
+  pub «data» : AreDependencyPairs IsData initial x e.dependencies.data_pairs
+  pub ctrl : AreDependencyPairs IsCtrl initial x e.dependencies.ctrl_pairs
+  pub ctrlisync : AreDependencyPairs IsCtrlIsync initial x e.dependencies.ctrlisync_pairs
   pub reads_from : e.sources ≡ x.reads_from
   pub coherence : e.order ≡ flat_map (λ order. order) x.coherence
   pub registers : e.registers ≡ map (λ r. r.outcome.walk.state.registers) x.runs
@@ -56,9 +56,9 @@ pub record ListsExecutions (t : Test) (s : Space) : Type 0 where
   pub all : List Execution
   pub executions : AreTestExecutions t initial all
   pub few : length all ≤ 16384
-  pub sound : (x : Execution) → Contains all x → HasFault x → ⊥
-  pub shown : AllZip (Shows initial) all (shown_in s)
-  pub locations : AreNames (test_names t) s.locations.items
+  pub sound : (x : Execution) → Contains all x → HasFaultedRun x → ⊥
+  pub shown : AllZip (ShowsExecution initial) all (shown_in s)
+  pub locations : AreNamesOf (test_names t) s.locations.items
 
 -- there are more
 pub record HasManyExecutions (t : Test) : Type 0 where
@@ -75,24 +75,24 @@ pub record HasFaultedExecution (t : Test) : Type 0 where
   pub few : length all ≤ 16384
   pub execution : Execution
   pub there : Contains all execution
-  pub fault : HasFault execution
+  pub fault : HasFaultedRun execution
 
 -- the domain of the test is refused
 abbrev pub HasNoDomain : Test → DomainRefusal → Type 0
-HasNoDomain t r = (p : Program) × IsProgram t p × IsRefused p r
+HasNoDomain t r = (p : Program) × IsProgram t p × IsDomainRefusal p r
 
 -- why a test has no space: its domain is refused, or its executions call for a refusal
-abbrev pub IsRefusal : Test → EvalRefusal → Type 0
-IsRefusal t TooManyEvents = HasNoDomain t no_domain.TooManyEvents
-IsRefusal t TooManyValues = HasNoDomain t no_domain.TooManyValues
-IsRefusal t TooManyRuns = HasNoDomain t no_domain.TooManyRuns
-IsRefusal t TooManyCombinations = HasNoDomain t no_domain.TooManyCombinations
-IsRefusal t TooManyCandidates = HasManyExecutions t
-IsRefusal t AddressFault = HasFaultedExecution t
+abbrev pub IsSpaceRefusal : Test → EvalRefusal → Type 0
+IsSpaceRefusal t TooManyEvents = HasNoDomain t no_domain.TooManyEvents
+IsSpaceRefusal t TooManyValues = HasNoDomain t no_domain.TooManyValues
+IsSpaceRefusal t TooManyRuns = HasNoDomain t no_domain.TooManyRuns
+IsSpaceRefusal t TooManyCombinations = HasNoDomain t no_domain.TooManyCombinations
+IsSpaceRefusal t TooManyCandidates = HasManyExecutions t
+IsSpaceRefusal t AddressFault = HasFaultedExecution t
 
-abbrev pub IsRefusedFor : Test → SpaceFault → Type 0
-IsRefusedFor t (Refused r) = IsRefusal t r
-IsRefusedFor t (OutOfMemory e) = Unit {0}
+abbrev pub IsSpaceFault : Test → SpaceFault → Type 0
+IsSpaceFault t (Refused r) = IsSpaceRefusal t r
+IsSpaceFault t (OutOfMemory e) = Unit {0}
 
 -- reads-from and coherence are chosen apart: the executions of some runs are each reads-from, that
 -- is one, with each coherence, that is one
@@ -104,13 +104,13 @@ IsReadsFrom initial runs reads_from =
 
 abbrev pub IsCoherence : List Value → List Run → List (List ℕ) → Type 0
 IsCoherence initial runs coherence =
-    AllZip (IsOrder (events initial runs)) (locations_from 0 initial) coherence
+    AllZip (IsStoreOrder (events initial runs)) (locations_from 0 initial) coherence
 
 abbrev pub ChoosesApart : List Value → List Thread → List Value → List Run → Type 0
 ChoosesApart initial threads V runs =
     (reads : List (List ℕ)) (coherences : List (List (List ℕ)))
-    → AllZip (λ t r. IsRun t (Contains V) r) threads runs
-    → IsFiltered (IsReadsFrom initial runs) (maps (events initial runs)) reads
+    → AllZip (λ t r. IsThreadRun t (Contains V) r) threads runs
+    → IsFiltered (IsReadsFrom initial runs) (read_choices (events initial runs)) reads
     → IsFiltered (IsCoherence initial runs) (orders (events initial runs) initial) coherences
     → IsFiltered (IsExecution initial threads (Contains V)) (over_runs initial runs)
     (flat_map (λ r. map (λ c. record { runs = runs; reads_from = r; coherence = c }) coherences)

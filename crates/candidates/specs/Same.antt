@@ -31,8 +31,9 @@ abbrev pub chosen : Chosen → Candidate
 chosen c = (c.combination.now, (c.sources.now, c.order.now))
 
 -- the next candidate is taken from those that are left
-abbrev pub IsNext : Candidates → Candidates → Option Chosen → Type 0
-IsNext old new o = MatchOption o (left_in old ≡ []) (λ c. left_in old ≡ chosen c ∷ left_in new)
+abbrev pub IsNextCandidate : Candidates → Candidates → Option Chosen → Type 0
+IsNextCandidate old new o =
+    MatchOption o (left_in old ≡ []) (λ c. left_in old ≡ chosen c ∷ left_in new)
 
 -- what they show
 abbrev pub shown_left : List (Vec (List Value) Global) → Candidates → List Shown

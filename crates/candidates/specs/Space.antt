@@ -29,7 +29,7 @@ registers_at threads runs = map (λ p. end_at p.0.items p.1) (zip threads runs)
 
 -- the execution is this candidate of the combination, where each thread has runs with these
 -- registers at their ends
-pub record IsExecution (threads : List (Vec (List Value) Global)) (c : Combination)
+pub record IsCandidateOf (threads : List (Vec (List Value) Global)) (c : Combination)
     (t : List ℕ × List ℕ) (e : Execution) : Type 0 where
   pub events : e.events.items ≡ c.events.items
   pub dependencies : dependency_lists e.dependencies ≡ dependency_lists c.dependencies
@@ -69,8 +69,8 @@ abbrev pub shown_in : Space → List Shown
 shown_in s = map (shown_of s.registers.items) (candidates_in s.combinations.items)
 
 -- the execution shows what the candidate at this index does
-abbrev pub IsShown : Space → ℕ → Execution → Type 0
-IsShown s index e = slice_get (shown_in s) index ≡ Some (shown_by e)
+abbrev pub IsShownAt : Space → ℕ → Execution → Type 0
+IsShownAt s index e = slice_get (shown_in s) index ≡ Some (shown_by e)
 
 -- two spaces show the same: locations of the same names, and candidates that show the same, in the
 -- same order

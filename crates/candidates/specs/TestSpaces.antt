@@ -9,10 +9,10 @@ use Rattle.candidates.specs.declared.fault.SpaceFault.TheVariants.{Refused, OutO
 use Rattle.thread_runs.specs.declared.instruction.Program.{Program}
 use Rattle.thread_runs.specs.declared.run.Run.{Run}
 use Rattle.ppc_semantics.specs.Domain.{IsDomain}
-use Rattle.ppc_semantics.specs.Lowering.{IsProgram, IsTestFault}
+use Rattle.ppc_semantics.specs.Lowering.{IsProgram, IsTestDomainFault}
 use Rattle.ppc_semantics.specs.declared.fault.DomainRefusal.{DomainRefusal}
 use Rattle.ppc_semantics.specs.declared.fault.DomainFault.TheVariants as domain_faults
-use Rattle.candidates.specs.Faults.{refusal_of}
+use Rattle.candidates.specs.Faults.{space_refusal_of}
 use Rattle.text_values.specs.declared.test.Test.{Test}
 use Rattle.run_combinations.specs.Keys.{IsKeyed}
 use Rattle.run_combinations.specs.Events.{initial_stores}
@@ -31,8 +31,8 @@ HasEnds l s =
     × (s.locations ≡ l.locations)
 
 -- the space of a layout, or why there is none
-abbrev pub IsSpaceOf : Layout → Space → Type 0
-IsSpaceOf l s =
+abbrev pub IsLayoutSpace : Layout → Space → Type 0
+IsLayoutSpace l s =
     AreCandidates (location_count l) (all_combinations l)
     (map combination_lists s.combinations.items) × HasEnds l s
 
@@ -41,9 +41,9 @@ IsRefusedAs l TooManyCandidates = AreTooMany (location_count l) (all_combination
 IsRefusedAs l AddressFault = AreFaulted (location_count l) (all_combinations l)
 IsRefusedAs l _ = ⊥
 
-abbrev pub IsAnswer : Layout → Result Space EvalRefusal → Type 0
-IsAnswer l (Ok s) = IsSpaceOf l s
-IsAnswer l (Err r) = IsRefusedAs l r
+abbrev pub IsAnswerTo : Layout → Result Space EvalRefusal → Type 0
+IsAnswerTo l (Ok s) = IsLayoutSpace l s
+IsAnswerTo l (Err r) = IsRefusedAs l r
 
 -- what the candidates of the test are made of: the initial stores of its program, and runs of each
 -- of its threads over its domain, but for some with a load of what its location never holds
@@ -53,19 +53,19 @@ HasLayout t l =
     × IsDomain p values × AreServedRuns p values runs × IsLaidOut p runs l
 
 -- with the sets of what its runs read and store
-abbrev pub IsReady : Test → Layout → Type 0
-IsReady t l =
+abbrev pub HasKeyedLayout : Test → Layout → Type 0
+HasKeyedLayout t l =
     HasLayout t l × (key : ℕ → Value → Option (ℕ × ℕ)) × (initial : List Value) × IsKeyed key l
     × (l.initial.items ≡ initial_stores 0 initial)
 
 -- the space of the test, or why it has none: a refusal of its domain, or one that its candidates
 -- call for
 abbrev pub IsTestSpace : Test → Space → Type 0
-IsTestSpace t s = (l : Layout) × HasLayout t l × IsSpaceOf l s
+IsTestSpace t s = (l : Layout) × HasLayout t l × IsLayoutSpace l s
 
 abbrev pub IsLayoutFault : Test → SpaceFault → Type 0
 IsLayoutFault t (Refused r) =
-    (d : DomainRefusal) × (r ≡ refusal_of d) × IsTestFault t (domain_faults.Refused d)
+    (d : DomainRefusal) × (r ≡ space_refusal_of d) × IsTestDomainFault t (domain_faults.Refused d)
 IsLayoutFault t (OutOfMemory e) = Unit {0}
 
 abbrev pub IsTestRefusal : Test → SpaceFault → Type 0

@@ -1,7 +1,7 @@
 //! Candidate executions, shared by combinations of runs.
 ghost use Rattle.std.specs.Prelude.{◌≡◌, ◌-◌, ◌^◌, ◌<◌, ◌≤◌, ◌↔◌, min, length, IsTrue, IfOk, IfSome, IfNone, HoldsAt};
 ghost use Rattle.run_combinations.specs.Combinations.{candidates_of};
-ghost use Rattle.candidates.specs.Space.{IsExecution};
+ghost use Rattle.candidates.specs.Space.{IsCandidateOf};
 
 use crate::Combination;
 use crate::ends::final_registers;
@@ -39,7 +39,7 @@ fn execution_of(
     index: usize,
 ) -> Result<Execution, AllocError>
     requires { index < length (candidates_of combination.now) }
-    ensures { IfOk result (λ e. HoldsAt (λ t. IsExecution registers.now combination.now t e)
+    ensures { IfOk result (λ e. HoldsAt (λ t. IsCandidateOf registers.now combination.now t e)
         (candidates_of combination.now) index) }
 {
     let orders = combination.orders.len();
@@ -55,7 +55,7 @@ fn execution_of(
 }
 
 impl Space {
-    ghost use Rattle.candidates.specs.Space.{candidate_count, IsShown, ShowTheSame};
+    ghost use Rattle.candidates.specs.Space.{candidate_count, IsShownAt, ShowTheSame};
 
     /// How many candidates there are, or the greatest number where that is less.
     pub fn len(&self) -> usize
@@ -95,7 +95,7 @@ impl Space {
     /// of memory.
     pub fn execution(&self, alloc: Global, index: usize) -> Result<Option<Execution>, AllocError>
         ensures some { IfOk result (λ o.
-            IfSome o (λ e. (index < candidate_count self.now) × IsShown self.now index e)) }
+            IfSome o (λ e. (index < candidate_count self.now) × IsShownAt self.now index e)) }
         ensures none { IfOk result (λ o. IfNone o (candidate_count self.now ≤ index)) }
     {
         let mut left = index;

@@ -1,7 +1,7 @@
 //! Why a test has no list of candidates.
 
 ghost use Rattle.std.specs.Prelude.{◌≡◌};
-ghost use Rattle.candidates.specs.Faults.{number, refusal_of, fault_of};
+ghost use Rattle.candidates.specs.Faults.{number, space_refusal_of, space_fault_of};
 
 use ppc_semantics::{DomainFault, DomainRefusal};
 use std::alloc::AllocError;
@@ -41,7 +41,7 @@ impl EvalRefusal {
 
     /// The refusal of a test whose domain is refused so.
     pub fn of_domain(refusal: DomainRefusal) -> EvalRefusal
-        ensures { result ≡ refusal_of refusal }
+        ensures { result ≡ space_refusal_of refusal }
     {
         match refusal {
             DomainRefusal::TooManyEvents => EvalRefusal::TooManyEvents,
@@ -66,7 +66,7 @@ pub enum SpaceFault {
 impl SpaceFault {
     /// The fault of a test that has no domain for this fault.
     pub fn of_domain(fault: DomainFault) -> SpaceFault
-        ensures { result ≡ fault_of fault }
+        ensures { result ≡ space_fault_of fault }
     {
         match fault {
             DomainFault::Refused(refusal) => SpaceFault::Refused(EvalRefusal::of_domain(refusal)),

@@ -5,7 +5,7 @@ ghost use Rattle.std.specs.Prelude.{List};
 ghost use Rattle.thread_runs.specs.declared.value.Value.{Value};
 ghost use Rattle.thread_runs.specs.Runs.{Thread, Run};
 ghost use Rattle.candidates.specs.Listed.{ChoosesApart};
-ghost use Rattle.candidates.specs.Laws.{HasAllExecutions, CoversEachStore, LosesNoValue, HasOneOutcome, HasOneList, ShowOneTest, LosesNoExecution, DropsNoEvent, NumbersItsSteps};
+ghost use Rattle.candidates.specs.Laws.{HasAllExecutions, CoversEachStore, LosesNoValue, HasOneSpaceOrRefusal, HasOneList, ShowOneTest, LosesNoExecution, DropsNoEvent, NumbersItsSteps};
 
 use crate::{Execution, Space};
 use text_values::Test;
@@ -65,7 +65,7 @@ pub fn coherence_covers_each_store(test: &Test)
 
 /// A test has one outcome: where it has a space it has no refusal, and it has no two refusals.
 pub fn outcomes_exclude_one_another(test: &Test)
-    ensures { HasOneOutcome test.now }
+    ensures { HasOneSpaceOrRefusal test.now }
 {
     let _test = test;
 }

@@ -9,12 +9,12 @@
 ghost use Rattle.std.specs.Prelude.{ℕ, ◌≡◌, List, Option, map, IfOk, IfErr};
 ghost use Rattle.thread_runs.specs.declared.value.Value.{Value};
 ghost use Rattle.run_combinations.specs.Keys.{IsKeyed};
-ghost use Rattle.candidates.specs.Listed.{ListsExecutions, IsRefusedFor};
+ghost use Rattle.candidates.specs.Listed.{ListsExecutions, IsSpaceFault};
 ghost use Rattle.run_combinations.specs.Events.{initial_stores};
 ghost use Rattle.run_combinations.specs.Search.{all_combinations, location_count};
 ghost use Rattle.run_combinations.specs.Combinations.{combination_lists, ordered};
 ghost use Rattle.run_combinations.specs.Candidates.{AreSmall};
-ghost use Rattle.candidates.specs.TestSpaces.{HasEnds, IsAnswer, IsLayoutFault, IsReady};
+ghost use Rattle.candidates.specs.TestSpaces.{HasEnds, IsAnswerTo, IsLayoutFault, HasKeyedLayout};
 
 mod candidate;
 mod ends;
@@ -56,7 +56,7 @@ fn space_with(
 fn space_of(alloc: Global, layout: Layout) -> Result<Result<Space, EvalRefusal>, AllocError>
     requires { AreSmall (all_combinations layout) }
     ensures { (key : ℕ → Value → Option (ℕ × ℕ)) (initial : List Value) → IsKeyed key layout
-        → layout.initial.items ≡ initial_stores 0 initial → IfOk result (λ r. IsAnswer layout r) }
+        → layout.initial.items ≡ initial_stores 0 initial → IfOk result (λ r. IsAnswerTo layout r) }
 {
     match find_combinations(alloc, &layout)? {
         None => Ok(Err(EvalRefusal::TooManyCandidates)),
@@ -71,7 +71,7 @@ fn space_of(alloc: Global, layout: Layout) -> Result<Result<Space, EvalRefusal>,
 
 /// What the candidates of a test are made of, or a refusal of its domain.
 fn layout_of(alloc: Global, test: &Test) -> Result<Layout, SpaceFault>
-    ensures layout { IfOk result (IsReady test.now) }
+    ensures layout { IfOk result (HasKeyedLayout test.now) }
     ensures fault { IfErr result (IsLayoutFault test.now) }
 {
     match program(alloc, test) {
@@ -94,7 +94,7 @@ fn layout_of(alloc: Global, test: &Test) -> Result<Layout, SpaceFault>
 /// fault. Errors: that refusal, or want of memory.
 pub fn space(alloc: Global, test: &Test) -> Result<Space, SpaceFault>
     ensures executions { IfOk result (ListsExecutions test.now) }
-    ensures refused { IfErr result (IsRefusedFor test.now) }
+    ensures refused { IfErr result (IsSpaceFault test.now) }
 {
     match layout_of(alloc, test) {
         Err(fault) => Err(fault),

@@ -2,7 +2,7 @@
 
 ghost use Rattle.std.specs.Prelude.{◌≡◌, ◌↔◌, IsTrue};
 ghost use Rattle.candidates.specs.Space.{registers_at, shown_of, candidates_in};
-ghost use Rattle.candidates.specs.Same.{left_in, chosen, shown_left, IsNext};
+ghost use Rattle.candidates.specs.Same.{left_in, chosen, shown_left, IsNextCandidate};
 
 use crate::ends::registers_of;
 use crate::{Action, Combination, Event};
@@ -133,7 +133,7 @@ impl<'a> Candidates<'a> {
 
     /// The next candidate.
     fn next(&mut self) -> Option<Chosen<'a>>
-        ensures { IsNext self.old self.new result }
+        ensures { IsNextCandidate self.old self.new result }
     {
         while let Some(combination) = self.combinations.first() {
             if self.source < combination.sources.len() && self.order < combination.orders.len() {

@@ -6,7 +6,7 @@ use Rattle.std.proofs.lemmas.Nat.Bits.{bit_at_above}
 use Rattle.std.proofs.lemmas.Nat.{pow_pos}
 use Rattle.std.proofs.Math.Pow.{pow-lt}
 use denote.Ref.{Bor}
-use Rattle.bit_relations.specs.Pairs.{Union, Complement, Composed, Product, On, Plus, PlusBelow, Identity}
+use Rattle.bit_relations.specs.Pairs.{Union, Complement, Composite, Product, On, Plus, PlusBelow, Identity}
 use Rattle.bit_relations.specs.Relation.{Bit, Relation, Events, Has, IsMember}
 use Rattle.bit_relations.proofs.Bits.{Bit-zero, Bit_cases}
 use Rattle.bit_relations.proofs.Closing.{Plus-within}
@@ -152,11 +152,11 @@ blended blends.Difference R S r s = record {
   told = λ a b. told_both (R a b) (S a b → ⊥) (r.told a b) (told_not (S a b) (s.told a b));
 }
 
-composed : (R S : ℕ → ℕ → Type 0) → IsTold R → IsTold S → IsTold (Composed R S)
+composed : (R S : ℕ → ℕ → Type 0) → IsTold R → IsTold S → IsTold (Composite R S)
 composed R S r s = record {
   end = r.end + s.end;
   within = λ a b h. (omega (arith, (r.within a h.0 h.1).0), omega (arith, (s.within h.0 b h.2).1));
-  told = λ a b. told_same (Below (λ c. R a c × S c b) r.end) (Composed R S a b)
+  told = λ a b. told_same (Below (λ c. R a c × S c b) r.end) (Composite R S a b)
       ((λ h. (h.0, h.2.0, h.2.1)), (λ h. (h.0, (r.within a h.0 h.1).1, (h.1, h.2))))
       (told_below (λ c. R a c × S c b) (λ c. told_both (R a c) (S c b) (r.told a c) (s.told c b))
       r.end);

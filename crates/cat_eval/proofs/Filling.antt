@@ -10,7 +10,7 @@ use Rattle.text_values.specs.declared.predefined.Predefined.TheVariants as names
 use Rattle.text_values.specs.PredefinedNames.{is_set}
 use Rattle.run_combinations.specs.declared.combination.Combination.{Combination}
 use Rattle.base_names.specs.Candidate.{SetIn, RelationIn}
-use Rattle.base_names.specs.Known.{Known, EventsFound, EventsOf, PairsOf}
+use Rattle.base_names.specs.Known.{Known, EventsFound, KnownEvents, KnownPairs}
 use Rattle.candidates.specs.Space.{Candidate}
 use Rattle.cat_eval.specs.declared.column.Column.{Column}
 use Rattle.cat_eval.specs.declared.column.Column.TheVariants as columns
@@ -31,7 +31,7 @@ use Rattle.cat_eval.proofs.Visits.{get_more, get_within}
 
 -- of the two the one of the kind
 pub held_one : (b : Bool) (name : Predefined) (base : Known) (s : Events) (r : Relation)
-    → IsEvents s base.count (EventsOf base name) → IsRelation r base.count (PairsOf base name)
+    → IsEvents s base.count (KnownEvents base name) → IsRelation r base.count (KnownPairs base name)
     → IsHeld b name base s r
 held_one true name base s r events pairs = events
 held_one false name base s r events pairs = pairs
@@ -183,10 +183,10 @@ no_events names.IsyncOrder is n c a h = h.1.2
 -- a value that is held under a name, over a base of the candidate
 module _ (name : Predefined) (k : ℕ) (one : Candidate) (base : Known)
     (count : base.count ≡ events_of one)
-    (sets : SameSet (EventsOf base name) (SetIn one.0 base.count name))
-    (pairs : Same (PairsOf base name) (RelationIn name base.count one.0 one.1.0 one.1.1)) where
+    (sets : SameSet (KnownEvents base name) (SetIn one.0 base.count name))
+    (pairs : Same (KnownPairs base name) (RelationIn name base.count one.0 one.1.0 one.1.1)) where
   set_stands : (values : List Events) (s : Events) → slice_get values k ≡ Some s
-      → IsEvents s base.count (EventsOf base name) → (a : ℕ)
+      → IsEvents s base.count (KnownEvents base name) → (a : ℕ)
       → EventsFound (slice_get values k) (events_of one) a ↔ SetIn one.0 (events_of one) name a
   set_stands values s has held a =
       subst (λ (n : ℕ). EventsFound (slice_get values k) n a ↔ SetIn one.0 n name a) count
@@ -196,7 +196,7 @@ module _ (name : Predefined) (k : ℕ) (one : Candidate) (base : Known)
       ))
 
   relation_stands : (values : List Relation) (r : Relation) → slice_get values k ≡ Some r
-      → IsRelation r base.count (PairsOf base name) → (a b : ℕ)
+      → IsRelation r base.count (KnownPairs base name) → (a b : ℕ)
       → PairsFound (slice_get values k) (events_of one) a b
       ↔ RelationIn name (events_of one) one.0 one.1.0 one.1.1 a b
   relation_stands values r has held a b =

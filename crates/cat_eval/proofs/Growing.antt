@@ -2,7 +2,7 @@
 use Rattle.std.proofs.Common.{ℕ, ◌≡◌, ◌<◌, ◌≤◌, ◌+◌, ◌↔◌, ◌⊎◌, ◌∙◌, inl, inr, zero, suc, List, [], ◌∷◌, length, get_or, set, IsTrue, arith, sym, subst, refl, get_or-set_same, get_or-set_other}
 use Rattle.std.proofs.lemmas.Bool.{cases_eq}
 use Rattle.std.proofs.lemmas.List.{length-set, get_or_default}
-use Rattle.bit_relations.specs.Relation.{Relation, Has, IsRelation, IsWithin, room_of, no_slot}
+use Rattle.bit_relations.specs.Relation.{Relation, Has, IsRelation, IsSubset, room_of, no_slot}
 use Rattle.binding_graph.specs.declared.resolved.Source.{Source}
 use Rattle.binding_graph.specs.declared.resolved.Source.TheVariants as sources
 use Rattle.binding_graph.specs.declared.resolved.Blend.TheVariants as blends
@@ -235,7 +235,7 @@ module _ (n : ℕ) (sets : Source → ℕ → Type 0) (outer : Source → ℕ �
   )
 
   -- the old value lies inside the new one
-  pub value_within : IsWithin (get_or values x no_slot) r
+  pub value_within : IsSubset (get_or values x no_slot) r
   value_within a b h =
       (next.pairs a b).1 (sound.rising x lt a b ((found n values x a b in_values).1
       ((sound.on x in_values).0, h)))

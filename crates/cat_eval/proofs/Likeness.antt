@@ -11,7 +11,7 @@ use Rattle.run_combinations.specs.declared.combination.Action.{Action}
 use Rattle.run_combinations.specs.declared.combination.Action.TheVariants.{Read, Write, Fence}
 use Rattle.run_combinations.specs.declared.combination.Combination.{Combination}
 use Rattle.run_combinations.specs.declared.combination.Event.{Event}
-use Rattle.base_names.specs.Events.{location_of, IsAccess, IsFence, IsSameThread, IsSameLocation, At, Both, ProgramOrder, Fenced, Listed}
+use Rattle.base_names.specs.Events.{location_of, IsAccess, IsFence, IsSameThread, IsSameLocation, At, Both, ProgramOrder, Fenced, ListedPairs}
 use Rattle.base_names.specs.Names.{IsIn, Fixed}
 use Rattle.base_names.specs.Candidate.{IsEntered, SetIn, SharedIn}
 use Rattle.base_names.specs.Known.{Known}
@@ -171,13 +171,13 @@ fixed_like names.External n c d like a b h = (
       thread_like a b inside)),
 )
 fixed_like names.AddressDependency n c d like a b h =
-    subst (λ (x : DependencyLists). Listed x.addr_pairs a b) like.dependencies h
+    subst (λ (x : DependencyLists). ListedPairs x.addr_pairs a b) like.dependencies h
 fixed_like names.DataDependency n c d like a b h =
-    subst (λ (x : DependencyLists). Listed x.data_pairs a b) like.dependencies h
+    subst (λ (x : DependencyLists). ListedPairs x.data_pairs a b) like.dependencies h
 fixed_like names.ControlDependency n c d like a b h =
-    subst (λ (x : DependencyLists). Listed x.ctrl_pairs a b) like.dependencies h
+    subst (λ (x : DependencyLists). ListedPairs x.ctrl_pairs a b) like.dependencies h
 fixed_like names.ControlIsyncDependency n c d like a b h =
-    subst (λ (x : DependencyLists). Listed x.ctrlisync_pairs a b) like.dependencies h
+    subst (λ (x : DependencyLists). ListedPairs x.ctrlisync_pairs a b) like.dependencies h
 fixed_like names.SyncOrder n c d like a b h =
     fenced_like c.events.items d.events.items like.events _ a b h
 fixed_like names.LwsyncOrder n c d like a b h =

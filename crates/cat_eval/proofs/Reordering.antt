@@ -5,7 +5,7 @@ use Rattle.bit_relations.specs.Relation.{Relation, Events}
 use Rattle.text_values.specs.declared.predefined.Predefined.{Predefined}
 use Rattle.text_values.specs.declared.predefined.Predefined.TheVariants as names
 use Rattle.text_values.specs.PredefinedNames.{is_set}
-use Rattle.base_names.specs.Known.{Known, PairsOf, SharedPairs}
+use Rattle.base_names.specs.Known.{Known, KnownPairs, SharedPairs}
 use Rattle.cat_eval.specs.Needed.{changes_with_orders}
 use Rattle.cat_eval.specs.Reordered.{IsReordered, HoldsSame}
 use Rattle.cat_eval.specs.Tables.{IsHeld}
@@ -16,7 +16,7 @@ module _ (first second : Known) (same : IsReordered first second) where
 
   -- a name that does not change with the order of the stores has the same pairs
   pairs_kept : (name : Predefined) → changes_with_orders name ≡ false
-      → PairsOf second name ≡ PairsOf first name
+      → KnownPairs second name ≡ KnownPairs first name
   pairs_kept names.Loads is = shared_kept names.Loads
   pairs_kept names.Stores is = shared_kept names.Stores
   pairs_kept names.Accesses is = shared_kept names.Accesses

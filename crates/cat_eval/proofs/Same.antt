@@ -1,6 +1,6 @@
 -- Operations on sets that have the same members give sets that have the same members.
 use Rattle.std.proofs.Common.{ℕ, ◌↔◌, inl, inr}
-use Rattle.bit_relations.specs.Pairs.{Complement, Composed, Product, On}
+use Rattle.bit_relations.specs.Pairs.{Complement, Composite, Product, On}
 use Rattle.bit_relations.specs.Relation.{Relation, IsRelation, Events, IsEvents}
 use Rattle.text_values.specs.declared.model.Postfix.{Postfix}
 use Rattle.text_values.specs.declared.model.Postfix.TheVariants as postfix
@@ -45,7 +45,7 @@ same_blend blends.Difference R P S Q r s a b = (
 )
 
 pub same_then : (R P S Q : ℕ → ℕ → Type 0) → Same R P → Same S Q
-    → Same (Composed R S) (Composed P Q)
+    → Same (Composite R S) (Composite P Q)
 same_then R P S Q r s a b =
     ((λ (c, x, y). (c, (r a c).0 x, (s c b).0 y)), (λ (c, x, y). (c, (r a c).1 x, (s c b).1 y)))
 

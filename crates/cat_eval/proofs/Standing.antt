@@ -8,8 +8,8 @@ use Rattle.text_values.specs.PredefinedNames.{is_set}
 use Rattle.run_combinations.specs.declared.combination.Combination.{Combination}
 use Rattle.base_names.specs.declared.names.Named.{Named}
 use Rattle.base_names.specs.declared.names.Shared.{Shared}
-use Rattle.base_names.specs.Known.{Known, IsConsistent, EventsUnder, PairsUnder, EventsOf, PairsOf, SharedPairs, set_names, shared_names}
-use Rattle.base_names.specs.Candidate.{IsEntered, IsReading, IsOrdered, Gives, SetIn, SharedIn, RelationIn, FromReadsIn}
+use Rattle.base_names.specs.Known.{Known, IsConsistent, EventsUnder, PairsUnder, KnownEvents, KnownPairs, SharedPairs, set_names, shared_names}
+use Rattle.base_names.specs.Candidate.{IsEntered, HasReadsFrom, HasCoherence, Gives, SetIn, SharedIn, RelationIn, FromReadsIn}
 use Rattle.cat_eval.specs.Needed.{changes_with_reads, changes_with_orders}
 use Rattle.cat_eval.proofs.Same.{Same, SameSet}
 use Rattle.base_names.proofs.Meant.{both, either}
@@ -32,7 +32,7 @@ shared_held (x ∷ xs) name n a b (inr h) =
 module _ (known : Known) (c : Combination) (entered : IsEntered known c) where
   -- a name that stands for no set, or for no relation
   no_set : (name : Predefined) → ((a : ℕ) → SetIn c known.count name a → ⊥)
-      → SameSet (EventsOf known name) (SetIn c known.count name)
+      → SameSet (KnownEvents known name) (SetIn c known.count name)
   no_set name none a = (
     (λ h. (entered.sets name (set_held known.sets name known.count a h) a).0 h),
     (λ h. absurd (none a h)),
@@ -47,7 +47,7 @@ module _ (known : Known) (c : Combination) (entered : IsEntered known c) where
 
   pub set_meant : (name : Predefined)
       → (IsTrue (is_set name) → Contains (set_names known.sets) name)
-      → SameSet (EventsOf known name) (SetIn c known.count name)
+      → SameSet (KnownEvents known name) (SetIn c known.count name)
   set_meant names.Loads held = entered.sets names.Loads (held refl)
   set_meant names.Stores held = entered.sets names.Stores (held refl)
   set_meant names.Accesses held = entered.sets names.Accesses (held refl)
@@ -85,7 +85,7 @@ module _ (known : Known) (c : Combination) (entered : IsEntered known c) where
   set_meant names.IsyncOrder held = no_set names.IsyncOrder (λ a h. absurd h.1.2)
 
   module _ (consistent : IsConsistent known) (sources order : List ℕ) where
-    from_reads : IsReading known c sources → IsOrdered known c order
+    from_reads : HasReadsFrom known c sources → HasCoherence known c order
         → Same (Has known.from_reads) (FromReadsIn c known.count sources order)
     from_reads reads orders a b = (
       (λ h.
@@ -103,10 +103,10 @@ module _ (known : Known) (c : Combination) (entered : IsEntered known c) where
 
     -- what the loads read and the order of the stores matter where the name changes with them
     pub relation_meant : (name : Predefined)
-        → (IsTrue (changes_with_reads name) → IsReading known c sources)
-        → (IsTrue (changes_with_orders name) → IsOrdered known c order)
+        → (IsTrue (changes_with_reads name) → HasReadsFrom known c sources)
+        → (IsTrue (changes_with_orders name) → HasCoherence known c order)
         → (is_set name ≡ false → Gives known name)
-        → Same (PairsOf known name) (RelationIn name known.count c sources order)
+        → Same (KnownPairs known name) (RelationIn name known.count c sources order)
     relation_meant names.Loads reads orders given = no_relation names.Loads (λ a b h. absurd h.2)
     relation_meant names.Stores reads orders given = no_relation names.Stores (λ a b h. absurd h.2)
     relation_meant names.Accesses reads orders given =

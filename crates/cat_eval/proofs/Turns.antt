@@ -1,6 +1,6 @@
 -- One body of a round, evaluated.
 use Rattle.std.proofs.Common.{ℕ, ◌≡◌, ◌<◌, ◌+◌, ◌↔◌, ◌⊎◌, ◌∙◌, inl, inr, List, [], ◌∷◌, length, get_or, set, refl, sym, ap, get_or-set_same}
-use Rattle.bit_relations.specs.Relation.{Relation, IsRelation, IsWithin, no_slot}
+use Rattle.bit_relations.specs.Relation.{Relation, IsRelation, IsSubset, no_slot}
 use Rattle.binding_graph.specs.declared.resolved.Source.{Source}
 use Rattle.binding_graph.specs.declared.resolved.Body.{Body}
 use Rattle.binding_graph.specs.Trees.{RelTree, rel_code}
@@ -38,7 +38,7 @@ module _ (n : ℕ) (sets : Source → ℕ → Type 0) (outer : Source → ℕ �
 
   written : (new : List Relation)
       → ((v : Relation) (rest : List Relation) → stack ≡ v ∷ rest
-      → v.count ≡ (get_or values x no_slot).count → IsWithin (get_or values x no_slot) v
+      → v.count ≡ (get_or values x no_slot).count → IsSubset (get_or values x no_slot) v
       → new ≡ set values x v) → new ≡ set values x value.0
   written new keeps =
       keeps value.0 [] value.1 (value.2.count ∙ sym (round.sound.on x in_values).0)
@@ -46,7 +46,7 @@ module _ (n : ℕ) (sets : Source → ℕ → Type 0) (outer : Source → ℕ �
 
   pub turn_grows : (new : List Relation) (more : ℕ)
       → ((v : Relation) (rest : List Relation) → stack ≡ v ∷ rest
-      → v.count ≡ (get_or values x no_slot).count → IsWithin (get_or values x no_slot) v
+      → v.count ≡ (get_or values x no_slot).count → IsSubset (get_or values x no_slot) v
       → new ≡ set values x v) → Gains grew x more
       → IsRound n sets outer trees new todo (x + 1) more
   turn_grows new more keeps gains =
@@ -56,7 +56,7 @@ module _ (n : ℕ) (sets : Source → ℕ → Type 0) (outer : Source → ℕ �
 
   pub turn_stays : (new : List Relation) → new ≡ values
       → ((v : Relation) (rest : List Relation) → stack ≡ v ∷ rest
-      → v.count ≡ (get_or values x no_slot).count → IsWithin (get_or values x no_slot) v
+      → v.count ≡ (get_or values x no_slot).count → IsSubset (get_or values x no_slot) v
       → new ≡ set values x v) → IsRound n sets outer trees new todo (x + 1) grew
   turn_stays new old keeps =
       let e : values ≡ set values x value.0 = sym old ∙ written new keeps in

@@ -4,7 +4,7 @@ use Rattle.std.specs.declared.alloc.Global.{Global}
 use Rattle.bit_relations.specs.Relation.{Relation, Events, IsRelation, IsEvents}
 use Rattle.text_values.specs.declared.predefined.Predefined.{Predefined}
 use Rattle.text_values.specs.PredefinedNames.{is_set}
-use Rattle.base_names.specs.Known.{Known, EventsOf, PairsOf}
+use Rattle.base_names.specs.Known.{Known, KnownEvents, KnownPairs}
 use Rattle.base_names.specs.Candidate.{SetIn, RelationIn}
 use Rattle.candidates.specs.declared.candidate.Space.{Space}
 use Rattle.candidates.specs.Space.{candidates_in, Candidate}
@@ -75,8 +75,8 @@ kind_for false = kinds.OfRelation
 
 -- of the two the one of the name's kind is what is held under the name
 abbrev pub IsHeld : Bool → Predefined → Known → Events → Relation → Type 0
-IsHeld true name base s r = IsEvents s base.count (EventsOf base name)
-IsHeld false name base s r = IsRelation r base.count (PairsOf base name)
+IsHeld true name base s r = IsEvents s base.count (KnownEvents base name)
+IsHeld false name base s r = IsRelation r base.count (KnownPairs base name)
 
 -- the column has a value for each of these, one by one
 pub record IsFilled (entry : Entry) (bases : List Known) : Type 0 where

@@ -4,7 +4,7 @@ use Rattle.text_values.specs.declared.predefined.Predefined.{Predefined}
 use Rattle.text_values.specs.PredefinedNames.{is_set}
 use Rattle.run_combinations.specs.declared.combination.Combination.{Combination}
 use Rattle.base_names.specs.Known.{Known, IsConsistent, set_names}
-use Rattle.base_names.specs.Candidate.{IsEntered, IsReading, IsOrdered, Gives}
+use Rattle.base_names.specs.Candidate.{IsEntered, HasReadsFrom, HasCoherence, Gives}
 use Rattle.candidates.specs.Space.{Candidate}
 
 -- what these names need is held: the sets among them, and what the relations among them are made of
@@ -24,8 +24,8 @@ pub record IsReady (names : List Predefined) (base : Known) (c : Combination) : 
 pub record IsWorld (names : List Predefined) (reads orders : Bool) (base : Known) (one : Candidate)
     : Type 0 where
   pub ready : IsReady names base one.0
-  pub reading : IsTrue reads → IsReading base one.0 one.1.0
-  pub ordered : IsTrue orders → IsOrdered base one.0 one.1.1
+  pub reading : IsTrue reads → HasReadsFrom base one.0 one.1.0
+  pub ordered : IsTrue orders → HasCoherence base one.0 one.1.1
 
 -- one for each candidate, in order
 abbrev pub AreWorlds : List Predefined → Bool → Bool → List Known → List Candidate → Type 0

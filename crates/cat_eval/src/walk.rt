@@ -3,7 +3,7 @@
 ghost use Rattle.std.specs.Prelude.{◌≡◌, ℕ, ◌++◌, List, [], ◌∷◌, IsTrue, IfOk, IfSome, OnOk};
 ghost use Rattle.candidates.specs.Space.{candidates_in};
 ghost use Rattle.base_names.specs.Known.{Known, IsConsistent};
-ghost use Rattle.base_names.specs.Candidate.{IsEntered, IsReading, IsOrdered};
+ghost use Rattle.base_names.specs.Candidate.{IsEntered, HasReadsFrom, HasCoherence};
 ghost use Rattle.cat_eval.specs.Candidates.{reading_so, reading_in};
 ghost use Rattle.cat_eval.specs.Steady.{EndsWith};
 ghost use Rattle.cat_eval.specs.Reordered.{IsReordered, EndsReordered};
@@ -38,8 +38,8 @@ fn put_order(base: &mut Base, combination: &Combination, previous: Option<&[u8]>
     ensures shared { base.new.shared ≡ base.old.shared }
     ensures reads_from { base.new.reads_from ≡ base.old.reads_from }
     ensures ordered { IfSome previous.entry
-        (λ earlier. IsOrdered base.old combination.now earlier.now)
-        → IsOrdered base.new combination.now order.now }
+        (λ earlier. HasCoherence base.old combination.now earlier.now)
+        → HasCoherence base.new combination.now order.now }
 {
     match previous {
         Some(earlier) => base.order_after(combination, earlier, order),
@@ -61,11 +61,11 @@ fn go_to_order(
     ensures reordered { IsReordered base.old base.new }
     ensures ready { IsReady needs.now.names.items base.old combination.now
         → IsReady needs.now.names.items base.new combination.now }
-    ensures reading { (sources : List ℕ) → IsReading base.old combination.now sources
-        → IsReading base.new combination.now sources }
+    ensures reading { (sources : List ℕ) → HasReadsFrom base.old combination.now sources
+        → HasReadsFrom base.new combination.now sources }
     ensures ordered { IsTrue needs.now.orders
-        → IfSome previous.entry (λ earlier. IsOrdered base.old combination.now earlier.now)
-        → IsOrdered base.new combination.now order.now }
+        → IfSome previous.entry (λ earlier. HasCoherence base.old combination.now earlier.now)
+        → HasCoherence base.new combination.now order.now }
 {
     if needs.orders {
         put_order(base, combination, previous, order);
@@ -85,7 +85,7 @@ fn go_to_sources(
     ensures kept { IsTrue result → IsTrue again × (base.new ≡ base.old) }
     ensures ready { IsReady needs.now.names.items base.old combination.now
         → IsReady needs.now.names.items base.new combination.now }
-    ensures reading { IsTrue needs.now.reads → IsReading base.new combination.now sources.now }
+    ensures reading { IsTrue needs.now.reads → HasReadsFrom base.new combination.now sources.now }
 {
     if needs.reads {
         base.read_from(combination, sources);
@@ -128,7 +128,7 @@ fn enter_orders<V: Enter>(
     requires { IsReady needs.now.names.items base.old combination.now }
     ensures ready { IsReady needs.now.names.items base.new combination.now }
     ensures worlds { (sources : List ℕ)
-        → (IsTrue needs.now.reads → IsReading base.old combination.now sources)
+        → (IsTrue needs.now.reads → HasReadsFrom base.old combination.now sources)
         → (first : _) (bases : List Known) → (IsTrue again → EndsWith bases base.old)
         → V.has_taken first bases visitor.old
         → IfOk result (λ ends. (more : List Known)

@@ -8,15 +8,15 @@ use Rattle.std.proofs.lemmas.Option.{slice_get-map}
 use Rattle.text_values.specs.declared.instruction.Fence.TheVariants.{Sync, LightweightSync, Eieio, Isync}
 use Rattle.text_values.specs.declared.predefined.Predefined.{Predefined}
 use Rattle.text_values.specs.declared.predefined.Predefined.TheVariants as names
-use Rattle.bit_relations.specs.Pairs.{Complement, Inter, Union, Inverse, Composed}
+use Rattle.bit_relations.specs.Pairs.{Complement, Inter, Union, Inverse, Composite}
 use Rattle.dataflow.specs.DependencyLists.{DependencyLists, dependency_lists}
 use Rattle.run_combinations.specs.declared.combination.Combination.{Combination}
 use Rattle.run_combinations.specs.declared.combination.Event.{Event}
 use Rattle.candidates.specs.Space.{Candidate}
 use Rattle.base_names.specs.Events as of
-use Rattle.base_names.specs.Events.{At, Below, Fenced, Listed, ReadsFrom, Coherence}
+use Rattle.base_names.specs.Events.{At, Below, Fenced, ListedPairs, ReadsFromBy, Coherence}
 use Rattle.base_names.specs.Names.{IsIn, Fixed}
-use Rattle.base_names.specs.Candidate.{SetIn, SharedIn, ReadsIn, OrderIn, FromReadsIn, RelationIn}
+use Rattle.base_names.specs.Candidate.{SetIn, SharedIn, ReadsFromIn, CoherenceIn, FromReadsIn, RelationIn}
 use Rattle.binding_graph.specs.declared.resolved.Source.{Source}
 use Rattle.binding_graph.specs.declared.resolved.Source.TheVariants as sources
 use Rattle.cat_eval.specs.declared.column.Column.{Column}
@@ -42,12 +42,12 @@ module _ (c d : Combination) (e : HaveSameFacts c d) (n : ℕ) where
   fixed_kept names.Internal = ap (λ (es : List Event). of.Internal es) e.events
   fixed_kept names.External = ap (λ (es : List Event). Complement n (of.Internal es)) e.events
   fixed_kept names.AddressDependency =
-      ap (λ (l : DependencyLists). Listed l.addr_pairs) e.dependencies
-  fixed_kept names.DataDependency = ap (λ (l : DependencyLists). Listed l.data_pairs) e.dependencies
+      ap (λ (l : DependencyLists). ListedPairs l.addr_pairs) e.dependencies
+  fixed_kept names.DataDependency = ap (λ (l : DependencyLists). ListedPairs l.data_pairs) e.dependencies
   fixed_kept names.ControlDependency =
-      ap (λ (l : DependencyLists). Listed l.ctrl_pairs) e.dependencies
+      ap (λ (l : DependencyLists). ListedPairs l.ctrl_pairs) e.dependencies
   fixed_kept names.ControlIsyncDependency =
-      ap (λ (l : DependencyLists). Listed l.ctrlisync_pairs) e.dependencies
+      ap (λ (l : DependencyLists). ListedPairs l.ctrlisync_pairs) e.dependencies
   fixed_kept names.SyncOrder = ap (λ (es : List Event). Fenced es Sync) e.events
   fixed_kept names.LwsyncOrder = ap (λ (es : List Event). Fenced es LightweightSync) e.events
   fixed_kept names.EieioOrder = ap (λ (es : List Event). Fenced es Eieio) e.events
@@ -57,10 +57,10 @@ module _ (c d : Combination) (e : HaveSameFacts c d) (n : ℕ) where
   shared_kept : (name : Predefined) → SharedIn c n name ≡ SharedIn d n name
   shared_kept name = ap (λ (R : ℕ → ℕ → Type 0). Below n R) (fixed_kept name)
 
-  reads_kept : (reads : List ℕ) → ReadsIn c n reads ≡ ReadsIn d n reads
-  reads_kept reads = ap (λ (es : List Event). Below n (ReadsFrom es reads)) e.events
+  reads_kept : (reads : List ℕ) → ReadsFromIn c n reads ≡ ReadsFromIn d n reads
+  reads_kept reads = ap (λ (es : List Event). Below n (ReadsFromBy es reads)) e.events
 
-  order_kept : (order : List ℕ) → OrderIn c n order ≡ OrderIn d n order
+  order_kept : (order : List ℕ) → CoherenceIn c n order ≡ CoherenceIn d n order
   order_kept order = ap (λ (es : List Event). Below n (Coherence es order)) e.events
 
   from_reads_kept : (reads order : List ℕ)
@@ -68,7 +68,7 @@ module _ (c d : Combination) (e : HaveSameFacts c d) (n : ℕ) where
   from_reads_kept reads order =
       ap
       (λ (es : List Event).
-      Composed (Inverse (Below n (ReadsFrom es reads))) (Below n (Coherence es order))) e.events
+      Composite (Inverse (Below n (ReadsFromBy es reads))) (Below n (Coherence es order))) e.events
 
   both_kept : (P Q R S : ℕ → ℕ → Type 0) → P ≡ Q → R ≡ S → Inter P R ≡ Inter Q S
   both_kept P Q R S p r = λ i. Inter (p i) (r i)

@@ -12,7 +12,7 @@ use Rattle.cat_tokens.specs.declared.token.Token.{Token}
 use Rattle.cat_tokens.specs.declared.token.Token.TheVariants as tokens
 use Rattle.text_values.specs.ModelValue.{Term, Clause, Binding, Function, Checking, Flagging, Showing, Including}
 use Rattle.cat_grammar.specs.Grammar as grammar
-use Rattle.cat_grammar.specs.Grammar.{Tree, spelled, meaning, operators, Limits, IsExpression, Bound, CheckTree, Shown, ItemTree, spelled_rec, spelled_tilde, show_token, spelled_label, spelled_bound, spelled_group, spelled_parameters, spelled_check, spelled_shown, spelled_item, group_meaning, check_meaning, shown_meaning, item_meaning, items_meaning, AreBound, AreShown, has_no_effect, IsItem, AreItems, Title, NoTitle, NameTitle, StringTitle, spelled_title, spelled_items, IsText, Means}
+use Rattle.cat_grammar.specs.Grammar.{Tree, spelled, meaning, operators, Limits, IsExpressionTree, BindingTree, CheckTree, ShowTree, ItemTree, spelled_rec, spelled_tilde, show_token, spelled_label, spelled_bound, spelled_group, spelled_parameters, spelled_check, spelled_shown, spelled_item, group_meaning, check_meaning, shown_meaning, item_meaning, items_meaning, AreBindingTrees, AreShowTrees, has_no_effect, IsItemTree, AreItemTrees, Title, NoTitle, NameTitle, StringTitle, spelled_title, spelled_items, IsFormText, Means}
 use Rattle.cat_grammar.specs.Machine.{Frame, Has, Ends, fold_to, ended, comma_read}
 use Rattle.cat_tokens.specs.Tokens.{rule_of}
 use Rattle.cat_grammar.specs.ItemMachine as items
@@ -110,7 +110,7 @@ module _ (most : Limits) (form : Form) where
   body_at cs h = record { items = cs; part = begin_body h }
 
   -- an item's expression, up to what follows it
-  body_run : (cs : List Clause) (h : Head) (t : Tree) (rest : List Token) → IsExpression most t
+  body_run : (cs : List Clause) (h : Head) (t : Tree) (rest : List Token) → IsExpressionTree most t
       → CanFollow (MayEnd most form cs h []) rest
       → run_over most form (body_at cs h) (spelled t rest)
       ≡ run_over most form
@@ -120,7 +120,7 @@ module _ (most : Limits) (form : Form) where
       (let d = i.shallow in omega arith) (omega arith) i.short c
 
   -- up to a token that asks for more
-  up_to_and : (cs : List Clause) (h : Head) (t : Tree) (rest : List Token) → IsExpression most t
+  up_to_and : (cs : List Clause) (h : Head) (t : Tree) (rest : List Token) → IsExpressionTree most t
       → run_over most form (body_at cs h) (spelled t (tokens.And ∷ rest))
       ≡ from most form cs h (Ends (meaning t)) tokens.And rest
   up_to_and cs h t rest i =
@@ -128,7 +128,7 @@ module _ (most : Limits) (form : Form) where
       ∙ ap (λ (p : List Frame × Term). from most form cs h (ended tokens.And p) tokens.And rest)
       (fold_pending t [] 0 i.grouped (omega arith))
 
-  up_to_as : (cs : List Clause) (h : Head) (t : Tree) (rest : List Token) → IsExpression most t
+  up_to_as : (cs : List Clause) (h : Head) (t : Tree) (rest : List Token) → IsExpressionTree most t
       → run_over most form (body_at cs h) (spelled t (tokens.As ∷ rest))
       ≡ from most form cs h (Ends (meaning t)) tokens.As rest
   up_to_as cs h t rest i =
@@ -136,7 +136,7 @@ module _ (most : Limits) (form : Form) where
       ∙ ap (λ (p : List Frame × Term). from most form cs h (ended tokens.As p) tokens.As rest)
       (fold_pending t [] 0 i.grouped (omega arith))
 
-  up_to_comma : (cs : List Clause) (h : Head) (t : Tree) (rest : List Token) → IsExpression most t
+  up_to_comma : (cs : List Clause) (h : Head) (t : Tree) (rest : List Token) → IsExpressionTree most t
       → run_over most form (body_at cs h) (spelled t (tokens.Comma ∷ rest))
       ≡ from most form cs h (Ends (meaning t)) tokens.Comma rest
   up_to_comma cs h t rest i =
@@ -147,7 +147,7 @@ module _ (most : Limits) (form : Form) where
       (fold_pending t [] 0 i.grouped (omega arith))
 
   whole_body : (cs : List Clause) (h : Head) (t : Tree) (c : Clause) (rest : List Token)
-      → IsExpression most t → EndsItem (Room (length cs + 1)) rest
+      → IsExpressionTree most t → EndsItem (Room (length cs + 1)) rest
       → ((r : CatRule) → finished h (meaning t) r ≡ Ok c)
       → run_over most form (body_at cs h) (spelled t rest)
       ≡ run_over most form (ready (cs ++ c ∷ [])) rest
@@ -162,17 +162,17 @@ module _ (most : Limits) (form : Form) where
   in_group cs g = record { items = cs; part = InLet (And g) }
 
   -- what follows the expression of a binding
-  abbrev after_group : List Bound → List Token → List Token
+  abbrev after_group : List BindingTree → List Token → List Token
   after_group [] rest = rest
   after_group (c ∷ bs) rest = tokens.And ∷ spelled_group (c ∷ bs) rest
 
-  group_is : (b : Bound) (bs : List Bound) (rest : List Token)
+  group_is : (b : BindingTree) (bs : List BindingTree) (rest : List Token)
       → spelled_group (b ∷ bs) rest ≡ spelled_bound b (after_group bs rest)
   group_is b [] rest = refl
   group_is b (c ∷ bs) rest = refl
 
   -- the next name of a group
-  named : (cs : List Clause) (g : Group) (b : Bound) (bs : List Bound) (rest : List Token)
+  named : (cs : List Clause) (g : Group) (b : BindingTree) (bs : List BindingTree) (rest : List Token)
       → length g.bindings < most.names
       → run_over most form (in_group cs g) (spelled_group (b ∷ bs) rest)
       ≡ run_over most form (body_at cs (BoundHead g b.name))
@@ -186,8 +186,8 @@ module _ (most : Limits) (form : Form) where
       (lt-ltb _ _ lt)
 
   -- a group, from the expression of one of its names on
-  group_run : (cs : List Clause) (g : Group) (b : Bound) (bs : List Bound) (rest : List Token)
-      → length g.bindings + length (b ∷ bs) ≤ most.names → AreBound most (b ∷ bs)
+  group_run : (cs : List Clause) (g : Group) (b : BindingTree) (bs : List BindingTree) (rest : List Token)
+      → length g.bindings + length (b ∷ bs) ≤ most.names → AreBindingTrees most (b ∷ bs)
       → EndsItem (Room (length cs + 1)) rest
       → run_over most form (body_at cs (BoundHead g b.name)) (spelled b.body (after_group bs rest))
       ≡ run_over most form
@@ -205,8 +205,8 @@ module _ (most : Limits) (form : Form) where
       run_over most form (ready (cs ++ Binding g.recursive x ∷ [])) rest)
       (append_assoc g.bindings ((b.name, meaning b.body) ∷ []) (group_meaning (c ∷ bs)))
 
-  let_run : (cs : List Clause) (recursive : Bool) (group : List Bound) (rest : List Token)
-      → 0 < length group → length group ≤ most.names → AreBound most group
+  let_run : (cs : List Clause) (recursive : Bool) (group : List BindingTree) (rest : List Token)
+      → 0 < length group → length group ≤ most.names → AreBindingTrees most group
       → EndsItem (Room (length cs + 1)) rest
       → run_over most form (record { items = cs; part = InLet Keyword })
       (spelled_rec recursive (spelled_group group rest))
@@ -253,7 +253,7 @@ module _ (most : Limits) (form : Form) where
   -- ---- show
 
   -- a label after which the show may end
-  label_ended : (cs : List Clause) (s : items.Shown) (ts : List Token)
+  label_ended : (cs : List Clause) (s : items.ShownPart) (ts : List Token)
       → EndsItem (Room (length cs + 1)) ts
       → run_over most form (record { items = cs; part = AfterShowLabel s }) ts
       ≡ run_over most form (ready (cs ++ shown_clause s ∷ [])) ts
@@ -269,8 +269,8 @@ module _ (most : Limits) (form : Form) where
   label_ended cs s (_ ∷ ts) e = absurd e
 
   -- the last expression of a show
-  last_run : (cs : List Clause) (s : items.Shown) (t : Tree) (label : Option (List ℕ))
-      (rest : List Token) → IsExpression most t → EndsItem (Room (length cs + 1)) rest
+  last_run : (cs : List Clause) (s : items.ShownPart) (t : Tree) (label : Option (List ℕ))
+      (rest : List Token) → IsExpressionTree most t → EndsItem (Room (length cs + 1)) rest
       → run_over most form (body_at cs (ShownHead s)) (spelled t (spelled_label label rest))
       ≡ run_over most form (ready (cs ++ shown_clause (shown_also s (meaning t) label) ∷ []))
       rest
@@ -282,8 +282,8 @@ module _ (most : Limits) (form : Form) where
       ∙ label_ended cs (shown_also s (meaning t) (Some n)) rest e
 
   -- an expression of a show before another
-  next_run : (cs : List Clause) (s : items.Shown) (t : Tree) (label : Option (List ℕ))
-      (rest : List Token) → IsExpression most t
+  next_run : (cs : List Clause) (s : items.ShownPart) (t : Tree) (label : Option (List ℕ))
+      (rest : List Token) → IsExpressionTree most t
       → run_over most form (body_at cs (ShownHead s))
       (spelled t (spelled_label label (tokens.Comma ∷ rest)))
       ≡ run_over most form (body_at cs (ShownHead (shown_also s (meaning t) label))) rest
@@ -291,8 +291,8 @@ module _ (most : Limits) (form : Form) where
   next_run cs s t (Some n) rest i =
       up_to_as cs (ShownHead s) t (tokens.Name n ∷ tokens.Comma ∷ rest) i
 
-  shown_run : (cs : List Clause) (s : items.Shown) (u : Shown) (us : List Shown) (rest : List Token)
-      → AreShown most (u ∷ us) → EndsItem (Room (length cs + 1)) rest
+  shown_run : (cs : List Clause) (s : items.ShownPart) (u : ShowTree) (us : List ShowTree) (rest : List Token)
+      → AreShowTrees most (u ∷ us) → EndsItem (Room (length cs + 1)) rest
       → run_over most form (body_at cs (ShownHead s)) (spelled_shown (u ∷ us) rest)
       ≡ run_over most form
       (ready (cs ++ Showing s.hidden (s.terms ++ shown_meaning (u ∷ us)) ∷ [])) rest
@@ -308,7 +308,7 @@ module _ (most : Limits) (form : Form) where
   -- ---- items
 
   label_run : (cs : List Clause) (c : CheckTree) (label : Option (List ℕ)) (rest : List Token)
-      → IsExpression most c.body → EndsItem (Room (length cs + 1)) rest
+      → IsExpressionTree most c.body → EndsItem (Room (length cs + 1)) rest
       → run_over most form (record { items = cs; part = begin_check false c.negated c.word })
       (spelled c.body (spelled_label label rest))
       ≡ run_over most form (ready (cs ++ Checking (check_meaning c) label ∷ [])) rest
@@ -320,7 +320,7 @@ module _ (most : Limits) (form : Form) where
       c.body (tokens.Name n ∷ rest) i
 
   flag_run : (cs : List Clause) (c : CheckTree) (n : List ℕ) (rest : List Token)
-      → IsExpression most c.body
+      → IsExpressionTree most c.body
       → run_over most form (record { items = cs; part = begin_check true c.negated c.word })
       (spelled c.body (tokens.As ∷ tokens.Name n ∷ rest))
       ≡ run_over most form (ready (cs ++ Flagging (check_meaning c) n ∷ [])) rest
@@ -364,7 +364,7 @@ module _ (most : Limits) (form : Form) where
       ≡ run_over most form (ready (cs ++ Including path ∷ [])) rest
   included cs path rest e = ap (λ (b : Bool). effect cs path b >>= run_from rest) e
 
-  item_run : (cs : List Clause) (i : ItemTree) (rest : List Token) → IsItem most i
+  item_run : (cs : List Clause) (i : ItemTree) (rest : List Token) → IsItemTree most i
       → Room (length cs) → EndsItem (Room (length cs + 1)) rest
       → run_over most form (ready cs) (spelled_item i rest)
       ≡ run_over most form (ready (cs ++ item_meaning i ∷ [])) rest
@@ -426,7 +426,7 @@ module _ (most : Limits) (form : Form) where
   abbrev done : List Clause → Result State Fault
   done cs = Ok (record { items = cs; part = Done })
 
-  items_run : (cs : List Clause) (is : List ItemTree) → AreItems most is → AllRoom (length cs) is
+  items_run : (cs : List Clause) (is : List ItemTree) → AreItemTrees most is → AllRoom (length cs) is
       → ((n : ℕ) → n ≡ length cs + length is → end_of form n ≡ Ok Done)
       → run_over most form (ready cs) (spelled_items is (tokens.End ∷ []))
       ≡ done (cs ++ items_meaning is)
@@ -459,7 +459,7 @@ module _ (most : Limits) (form : Form) where
   titled NoTitle (_ ∷ ts) e = absurd e
 
 text_run : (most : Limits) (form : Form) (title : Title) (is : List ItemTree)
-    → IsText form most title is → AreItems most is
+    → IsFormText form most title is → AreItemTrees most is
     → run_over most form (start form) (spelled_title title (spelled_items is (tokens.End ∷ [])))
     ≡ Ok (record { items = items_meaning is; part = Done })
 text_run most forms.Model title is h each =

@@ -10,11 +10,11 @@ use Rattle.cat_grammar.specs.declared.form.Form.TheVariants as forms
 use Rattle.cat_tokens.specs.declared.token.Token.{Token}
 use Rattle.cat_tokens.specs.declared.token.Token.TheVariants as tokens
 use Rattle.text_values.specs.ModelValue.{Clause}
-use Rattle.cat_grammar.specs.Grammar.{Limits, Begins, SameCounts, SameDepths, IsSeparator, CanStand, BeginsText, BeforeAName, last_two, last_offset, is_tilde, is_check, IsRefusal, Nowhere, TooMany, TooDeep, Plain, IsFault}
+use Rattle.cat_grammar.specs.Grammar.{Limits, BeginsForm, SameCounts, SameDepths, IsSeparator, CanStand, BeginsText, BeforeAName, last_two, last_offset, is_tilde, is_check, BreaksRule, Nowhere, TooMany, TooDeep, Plain, IsFormFault}
 use Rattle.cat_tokens.specs.Tokens.{TokenAt, tokens_of}
 use Rattle.cat_grammar.specs.ItemMachine as items
 use Rattle.cat_grammar.specs.ItemMachine.{And, Parameter, Part, InLet, Fault, Here, Before, State, step, start}
-use Rattle.cat_grammar.specs.Running.{Ran, with_offset, and_then, run}
+use Rattle.cat_grammar.specs.Running.{ItemsResult, with_offset, and_then, run}
 use Rattle.cat_grammar.proofs.Runs.{◌>>=◌, run_over, run_over-append}
 use Rattle.cat_grammar.proofs.Finishes.{has_offset, begins, takes}
 use Rattle.cat_grammar.proofs.Shapes.{KnowsPart, Broke, Plainly, Gate, Nest, Operate, Count, Names, Takes, passes, many_fault, gate_fault, StepShape, Always, Where, step_shape}
@@ -315,7 +315,7 @@ module _ (form : Form) where
 
       -- where no limits help, no text begins so
       no_wider : (d : Fault) → ((b : Limits) → step b form s t ≡ Err d) → (wider : Limits)
-          → Begins wider form (ts ++ t ∷ []) → ⊥
+          → BeginsForm wider form (ts ++ t ∷ []) → ⊥
       no_wider d e wider b =
           let c = joined most wider in
           let r = takes wider form (ts ++ t ∷ []) b in
@@ -323,7 +323,7 @@ module _ (form : Form) where
           let q : (step c form s t >>= λ x. Ok x) ≡ kept r.0 = sym (pushed c t (wider_left most wider)) ∙ up in
           not_both d r.0 (ap (λ (y : Result State Fault). y >>= λ x. Ok x) (sym (e c)) ∙ q)
 
-      no_text : (d : Fault) → step most form s t ≡ Err d → Begins most form (ts ++ t ∷ []) → ⊥
+      no_text : (d : Fault) → step most form s t ≡ Err d → BeginsForm most form (ts ++ t ∷ []) → ⊥
       no_text d e b =
           let r = takes most form (ts ++ t ∷ []) b in
           let q : (step most form s t >>= λ x. Ok x) ≡ kept r.0 = sym (pushed most t same_limits) ∙ r.1 in
@@ -333,7 +333,7 @@ module _ (form : Form) where
       wider_text : (g : Gate) (x : State) (d : Fault)
           → ((b : Limits) → step b form s t ≡ gated (passes g b) x d)
           → ((b : Limits) → has_offset b x.part ≡ true)
-          → Begins (joined most (gate_limits g)) form (ts ++ t ∷ [])
+          → BeginsForm (joined most (gate_limits g)) form (ts ++ t ∷ [])
       wider_text g x d q offset =
           let c = joined most (gate_limits g) in
           let w = wider_left most (gate_limits g) in
@@ -364,9 +364,9 @@ module _ (form : Form) where
 
 -- what a step's fault says of the token at an offset, after these
 abbrev pub RefusedAs : Limits → Form → List TokenAt → TokenAt → Fault → Type 0
-RefusedAs most form before here (Here r) = IsRefusal most form before here r here.offset
+RefusedAs most form before here (Here r) = BreaksRule most form before here r here.offset
 RefusedAs most form before here (Before r) =
-    IsRefusal most form before here r (last_offset 0 before)
+    BreaksRule most form before here r (last_offset 0 before)
 
 module _ (most : Limits) (form : Form) (some : 0 < most.nesting) (one : 0 < most.names)
     (two : 0 < most.parameters) (before : List TokenAt) (s : State)
@@ -375,7 +375,7 @@ module _ (most : Limits) (form : Form) (some : 0 < most.nesting) (one : 0 < most
   two_before = last_two tokens.End tokens.End (tokens_of before)
 
   too_many : (wider : Limits) → SameDepths most wider
-      → Begins wider form (tokens_of before ++ here.token ∷ []) → (b : Bool)
+      → BeginsForm wider form (tokens_of before ++ here.token ∷ []) → (b : Bool)
       → (is_check here.token && is_tilde two_before.1) ≡ b
       → RefusedAs most form before here (many_fault b)
   too_many wider same text true e =
@@ -386,12 +386,12 @@ module _ (most : Limits) (form : Form) (some : 0 < most.nesting) (one : 0 < most
       (λ (b : Bool). if b then last_offset 0 before else here.offset) e))
 
   too_deep : (wider : Limits) → SameCounts most wider
-      → Begins wider form (tokens_of before ++ here.token ∷ [])
+      → BeginsForm wider form (tokens_of before ++ here.token ∷ [])
       → RefusedAs most form before here (Here rules.TooDeep)
   too_deep wider same text = TooDeep wider same text refl refl
 
   gate_refusal : (g : Gate)
-      → Begins (joined most (gate_limits g)) form (tokens_of before ++ here.token ∷ [])
+      → BeginsForm (joined most (gate_limits g)) form (tokens_of before ++ here.token ∷ [])
       → RefusedAs most form before here (gate_fault g
       (is_check here.token && is_tilde two_before.1))
   gate_refusal (Nest n) text =
@@ -448,9 +448,9 @@ module _ (most : Limits) (form : Form) (some : 0 < most.nesting) (one : 0 < most
               (gate_fault g (is_check here.token && is_tilde two_before.1)) q offset))
 
 -- the text that was taken, or the fault
-abbrev pub Outcome : Limits → Form → List TokenAt → Ran → Type 0
+abbrev pub Outcome : Limits → Form → List TokenAt → ItemsResult → Type 0
 Outcome most form ps (Ok s) = run_over most form (start form) (tokens_of ps) ≡ Ok s
-Outcome most form ps (Err e) = IsFault most form ps e.0 e.1
+Outcome most form ps (Err e) = IsFormFault most form ps e.0 e.1
 
 pub outcome : (most : Limits) (form : Form) (ps : List TokenAt) → 0 < most.nesting → 0 < most.names
     → 0 < most.parameters → Outcome most form ps (run most form 0 (start form) ps)
@@ -471,8 +471,8 @@ outcome most form ps some one two =
         (rw (tokens_of-append before (p ∷ [])) h.1)))
       where
         fault : (r : CatRule) (offset : ℕ) → (d : Fault) → step most form s p.token ≡ Err d
-            → IsRefusal most form before p r offset
-            → IsFault most form (before ++ p ∷ rest) r offset
+            → BreaksRule most form before p r offset
+            → IsFormFault most form (before ++ p ∷ rest) r offset
         fault r offset d e h =
             record { before = before; here = p; after = rest; split = refl; stand = stand; ends = cannot_stand form most (tokens_of before) s reached some one two p.token d e; refusal = h }
 
@@ -489,5 +489,5 @@ outcome most form ps some one two =
             fault r p.offset (Here r) e (refusal most form some one two before s reached p (Here r)
             e)
         by_step (Err (Before r)) e f =
-            fault r n (Before r) e (subst (IsRefusal most form before p r) at_n
+            fault r n (Before r) e (subst (BreaksRule most form before p r) at_n
             (refusal most form some one two before s reached p (Before r) e))

@@ -13,7 +13,7 @@ use Rattle.cat_grammar.specs.declared.form.Form.TheVariants as forms
 use Rattle.cat_tokens.specs.declared.token.Token.{Token}
 use Rattle.cat_tokens.specs.declared.token.Token.TheVariants as tokens
 use Rattle.text_values.specs.ModelValue.{Term, Clause, Atom, EmptySet, Join, Mark, Not, On, Apply, Function, Including, gathered}
-use Rattle.cat_grammar.specs.Grammar.{level, Limits, Begins}
+use Rattle.cat_grammar.specs.Grammar.{level, Limits, BeginsForm}
 use Rattle.cat_grammar.specs.Machine.{Frame, InGroup, InSquare, InPrefix, LeftOf, InArguments, Expectation, Wants, HasBrace, HasName, Has, HasStar, HasStarTilde, fold_to, infix_at, ended, closed, square_closed}
 use Rattle.cat_grammar.specs.ItemMachine as items
 use Rattle.cat_grammar.specs.ItemMachine.{Keyword, Named, And, Parameter, AfterParameter, Parameters, Head, BoundHead, FunctionHead, CheckedHead, ShownHead, Part, Start, InLet, AfterFlag, AfterTilde, Body, Label, ShowLabel, AfterShowLabel, AfterInclude, Done, Fault, Here, State, begin_check, excess, unless, end_of, fresh, extended, group_clause, shown_clause, shown_also, labelled, at, start}
@@ -306,13 +306,13 @@ module _ (most : Limits) (form : Form) where
   -- what the machine takes begins a text
   pub begins : (ts : List Token) (s : State) → 0 < most.nesting → 0 < most.names
       → run_over most form (start form) ts ≡ Ok s → has_offset most s.part ≡ true
-      → Begins most form ts
+      → BeginsForm most form ts
   begins ts s some one e offset =
       let f = part_finishes s.items s.part offset in
       record { rest = f.rest; items = f.items; text = sound most form (ts ++ f.rest) f.items some one (run_over-append most form (start form) s ts f.rest e ∙ f.by) }
 
   -- what begins a text, the machine takes
-  pub takes : (ts : List Token) → Begins most form ts
+  pub takes : (ts : List Token) → BeginsForm most form ts
       → (s : State) × (run_over most form (start form) ts ≡ Ok s)
   takes ts b =
       by_front (start form) ts b.rest (record { items = b.items; part = Done })

@@ -9,12 +9,12 @@ use Rattle.cat_grammar.specs.declared.form.Form.TheVariants as forms
 use Rattle.cat_tokens.specs.declared.token.Token.{Token}
 use Rattle.cat_tokens.specs.declared.token.Token.TheVariants as tokens
 use Rattle.text_values.specs.ModelValue.{Term, Clause, Atom, Mark}
-use Rattle.cat_grammar.specs.Grammar.{Limits, limits, Means, BeginsText, IsFault}
+use Rattle.cat_grammar.specs.Grammar.{Limits, limits, Means, BeginsText, IsFormFault}
 use Rattle.cat_tokens.specs.Tokens.{TokenAt, tokens_of}
 use Rattle.cat_grammar.specs.Machine.{Frame, Expectation, Wants, HasBrace, HasName, Has, HasStar, HasStarTilde, fold_to, ended, expression_step}
 use Rattle.cat_grammar.specs.ItemMachine as items
 use Rattle.cat_grammar.specs.ItemMachine.{Keyword, Named, And, Parameter, AfterParameter, Parameters, Head, Part, Start, InLet, AfterFlag, AfterTilde, Body, Label, ShowLabel, AfterShowLabel, AfterInclude, Done, Fault, Here, State, end_of, item_or_end, finished, shown_clause, at, added, goes_on, step_part, step, start}
-use Rattle.cat_grammar.specs.Running.{Ran, run, items_of}
+use Rattle.cat_grammar.specs.Running.{ItemsResult, run, items_of}
 use Rattle.cat_grammar.proofs.Runs.{◌>>=◌, run_over}
 use Rattle.cat_grammar.proofs.SoundItems.{sound}
 use Rattle.cat_grammar.proofs.CompleteItems.{complete}
@@ -124,7 +124,7 @@ not_both e cs h = absurd cc
 
 -- a text that means some items has no fault
 pub no_fault : (form : Form) (ps : List TokenAt) (v : List Clause) (r : CatRule) (n : ℕ)
-    → Means limits form (tokens_of ps) v → IsFault limits form ps r n → ⊥
+    → Means limits form (tokens_of ps) v → IsFormFault limits form ps r n → ⊥
 no_fault form ps v r n m f =
     let e : tokens_of ps ≡ (tokens_of f.before ++ f.here.token ∷ []) ++ tokens_of f.after = ap tokens_of f.split ∙ tokens_of-append f.before (f.here ∷ f.after) ∙ sym (append_assoc (tokens_of f.before) (f.here.token ∷ []) (tokens_of f.after)) in
     f.ends (BeginsText (record {
@@ -134,21 +134,21 @@ no_fault form ps v r n m f =
     }))
 
 module _ (form : Form) (ps : List TokenAt) where
-  abbrev made : Ran
+  abbrev made : ItemsResult
   made = run limits form 0 (start form) ps
 
-  is_outcome : (r : Ran) → made ≡ r → Outcome limits form ps r
+  is_outcome : (r : ItemsResult) → made ≡ r → Outcome limits form ps r
   is_outcome r e =
       subst (Outcome limits form ps) e (outcome limits form ps (omega arith) (omega arith)
       (omega arith))
 
-  pub fault_found : (r : CatRule) (n : ℕ) → items_of made ≡ Err (r, n) → IsFault limits form ps r n
+  pub fault_found : (r : CatRule) (n : ℕ) → items_of made ≡ Err (r, n) → IsFormFault limits form ps r n
   fault_found r n e = by_run made refl e
     where
-      by_run : (x : Ran) → made ≡ x → items_of x ≡ Err (r, n) → IsFault limits form ps r n
+      by_run : (x : ItemsResult) → made ≡ x → items_of x ≡ Err (r, n) → IsFormFault limits form ps r n
       by_run (Ok s) q h = absurd (not_both (r, n) s.items (sym h))
       by_run (Err d) q h =
-          subst (λ (x : CatRule × ℕ). IsFault limits form ps x.0 x.1) (refused_is d (r, n) h)
+          subst (λ (x : CatRule × ℕ). IsFormFault limits form ps x.0 x.1) (refused_is d (r, n) h)
           (is_outcome (Err d) q)
 
   module _ (ts : List Token) (ends : tokens_of ps ≡ ts ++ tokens.End ∷ []) where
@@ -156,7 +156,7 @@ module _ (form : Form) (ps : List TokenAt) where
         → Means limits form (tokens_of ps) cs
     items_found cs e = by_run made refl e
       where
-        by_run : (x : Ran) → made ≡ x → items_of x ≡ Ok cs → Means limits form (tokens_of ps) cs
+        by_run : (x : ItemsResult) → made ≡ x → items_of x ≡ Ok cs → Means limits form (tokens_of ps) cs
         by_run (Ok s) q h =
             let all = is_outcome (Ok s) q in
             let last : s.part ≡ Done = run_over_done limits form (start form) ts s (ap (run_over limits form (start form)) (sym ends) ∙ all) in
@@ -172,7 +172,7 @@ module _ (form : Form) (ps : List TokenAt) where
       → cs ≡ v
   items_only cs v e m = by_run made refl e
     where
-      by_run : (x : Ran) → made ≡ x → items_of x ≡ Ok cs → cs ≡ v
+      by_run : (x : ItemsResult) → made ≡ x → items_of x ≡ Ok cs → cs ≡ v
       by_run (Ok s) q h =
           sym (kept_is s.items cs h)
           ∙ ap items_in (sym (is_outcome (Ok s) q) ∙ complete limits form (tokens_of ps) v m)

@@ -657,13 +657,13 @@ module _ (form : Form) (p : Token × Token) where
       ok_shape (cs ++ labelled h v n ∷ []) (tokens.Name n) Start (calm_name p n k.0.1)
   as_shape cs h v t k = err_shape t (plainly p t k.0.0)
 
-  show_as_shape : (cs : List Clause) (s : items.Shown) (v : Term) (t : Token) → Calm p
+  show_as_shape : (cs : List Clause) (s : items.ShownPart) (v : Term) (t : Token) → Calm p
       → StepShape p t (λ b. at cs (after_show_as s v t))
   show_as_shape cs s v (tokens.Name n) k =
       ok_shape cs (tokens.Name n) (AfterShowLabel (shown_also s v (Some n))) (calm_name p n k.0.1)
   show_as_shape cs s v t k = err_shape t (plainly p t k.0.0)
 
-  show_label_shape : (cs : List Clause) (s : items.Shown) (t : Token) → Calm p
+  show_label_shape : (cs : List Clause) (s : items.ShownPart) (t : Token) → Calm p
       → StepShape p t (λ b. after_show_label b form cs s t)
   show_label_shape cs s tokens.Comma k =
       ok_shape cs tokens.Comma (begin_body (ShownHead s)) ((refl, refl), refl)

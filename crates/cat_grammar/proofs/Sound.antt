@@ -15,7 +15,7 @@ use Rattle.text_values.specs.declared.model.Infix.TheVariants.{Product}
 use Rattle.text_values.specs.declared.model.Postfix.{Postfix}
 use Rattle.text_values.specs.declared.model.Postfix.TheVariants as postfix
 use Rattle.text_values.specs.ModelValue.{Term, Atom, EmptySet, Join, Mark, Not, Apply}
-use Rattle.cat_grammar.specs.Grammar.{Tree, Word, Underscore, Zero, Braces, Post, Group, Square, Application, infix_token, postfix_token, spelled, meaning, level, left_level, tightness, IsGrouped, depth, operators, Limits, IsExpression}
+use Rattle.cat_grammar.specs.Grammar.{Tree, Word, Underscore, Zero, Braces, Post, Group, Square, Application, infix_token, postfix_token, spelled, meaning, level, left_level, tightness, IsGrouped, depth, operators, Limits, IsExpressionTree}
 use Rattle.cat_grammar.specs.Machine.{Frame, InGroup, InSquare, InPrefix, LeftOf, InArguments, Expectation, Wants, HasBrace, HasName, Has, HasStar, HasStarTilde, StepResult, Goes, Ends, EndsTilde, Refuses, open_count, fold_to, is_outermost, opened, operand, after_brace, left_frames, infix_at, counted, ended, closed, square_closed, comma_read, after, after_name, star_tilde, star_then, after_star, after_star_tilde, expression_step}
 use Rattle.cat_tokens.specs.Tokens.{begins_operand, infix_of, postfix_of}
 use Rattle.cat_grammar.proofs.Branches.{Branch, BGroup, BSquare, BPrefix, BLeft, BArguments, frame, frames, before, need, opens, count, Fine, Stops, open_count-frames, right_level-le, left_level-le, need-le, opens-le, meets, Folded, folded, IsOutermost, outermost, arguments_of, spelled-arguments_of, meanings-arguments_of, grouped-arguments_of, depths-arguments_of, operators-arguments_of, before_arguments-push, values-push, sum_operators-push, arguments_fine-push}
@@ -66,7 +66,7 @@ Stands most whole rest fs used (HasStarTilde v) =
 -- an expression was read
 pub record Ended (most : Limits) (whole rest : List Token) (v : Term) : Type 0 where
   pub t : Tree
-  pub is : IsExpression most t
+  pub is : IsExpressionTree most t
   pub means : meaning t ≡ v
   pub whole_is : whole ≡ spelled t rest
 

@@ -13,7 +13,7 @@ use Rattle.cat_tokens.specs.declared.token.Token.{Token}
 use Rattle.cat_tokens.specs.declared.token.Token.TheVariants as tokens
 use Rattle.text_values.specs.ModelValue.{Term, Clause, Binding, Function, Checking, Flagging, Showing, Including}
 use Rattle.cat_grammar.specs.Grammar as grammar
-use Rattle.cat_grammar.specs.Grammar.{Tree, spelled, meaning, Limits, Bound, CheckTree, Shown, ItemTree, spelled_rec, spelled_tilde, show_token, spelled_parameters, spelled_shown, spelled_item, group_meaning, shown_meaning, item_meaning, items_meaning, AreBound, AreShown, has_no_effect, IsItem, AreItems, Title, NoTitle, NameTitle, StringTitle, spelled_title, spelled_items, IsText, Means}
+use Rattle.cat_grammar.specs.Grammar.{Tree, spelled, meaning, Limits, BindingTree, CheckTree, ShowTree, ItemTree, spelled_rec, spelled_tilde, show_token, spelled_parameters, spelled_shown, spelled_item, group_meaning, shown_meaning, item_meaning, items_meaning, AreBindingTrees, AreShowTrees, has_no_effect, IsItemTree, AreItemTrees, Title, NoTitle, NameTitle, StringTitle, spelled_title, spelled_items, IsFormText, Means}
 use Rattle.cat_grammar.specs.Machine.{Frame, Expectation, StepResult, Goes, Ends, EndsTilde, Refuses, expression_step}
 use Rattle.cat_tokens.specs.Tokens.{rule_of}
 use Rattle.cat_grammar.specs.ItemMachine as items
@@ -28,10 +28,10 @@ spelled_flag false rest = rest
 
 -- the item whose expression is read, with the trees that were written
 pub data HeadTree : Type 0 where
-  BoundTree : (recursive : Bool) (group : List Bound) (name : List ℕ) → HeadTree
+  BoundTree : (recursive : Bool) (group : List BindingTree) (name : List ℕ) → HeadTree
   FunctionTree : (name : List ℕ) (parameters : List (List ℕ)) → HeadTree
   CheckedTree : (head : CheckHead) → HeadTree
-  ShownTree : (hidden : Bool) (shown : List Shown) → HeadTree
+  ShownTree : (hidden : Bool) (shown : List ShowTree) → HeadTree
 
 abbrev pub head_of : HeadTree → Head
 head_of (BoundTree recursive bs n) =
@@ -51,10 +51,10 @@ spelled_head (CheckedTree h) w =
 spelled_head (ShownTree hidden ss) w = show_token hidden ∷ before_shown ss w
 
 abbrev pub HeadFine : Limits → HeadTree → Type 0
-HeadFine most (BoundTree recursive bs n) = (length bs < most.names) × AreBound most bs
+HeadFine most (BoundTree recursive bs n) = (length bs < most.names) × AreBindingTrees most bs
 HeadFine most (FunctionTree n ps) = (0 < length ps) × (length ps ≤ most.parameters)
 HeadFine most (CheckedTree h) = Unit {0}
-HeadFine most (ShownTree hidden ss) = AreShown most ss
+HeadFine most (ShownTree hidden ss) = AreShowTrees most ss
 
 -- the tokens of a title and of items, and then rest
 abbrev pub text : Title → List ItemTree → List Token → List Token
@@ -72,10 +72,10 @@ TitleFits forms.Item title = title ≡ NoTitle
 -- a group that is read
 pub record InGroup (most : Limits) (whole rest : List Token) (title : Title) (is : List ItemTree)
     (g : items.Group) : Type 0 where
-  pub bs : List Bound
+  pub bs : List BindingTree
   pub bindings_are : group_meaning bs ≡ g.bindings
   pub few : length bs ≤ most.names
-  pub each : AreBound most bs
+  pub each : AreBindingTrees most bs
   pub whole_is : whole ≡ text title is (tokens.Let ∷ spelled_rec g.recursive (before_group bs rest))
 
 -- an item whose expression is read
@@ -97,21 +97,21 @@ pub record InLabel (most : Limits) (whole rest : List Token) (title : Title) (is
 
 -- a shown expression whose label is read
 pub record InShowLabel (most : Limits) (whole rest : List Token) (title : Title)
-    (is : List ItemTree) (s : items.Shown) (v : Term) : Type 0 where
-  pub ss : List Shown
+    (is : List ItemTree) (s : items.ShownPart) (v : Term) : Type 0 where
+  pub ss : List ShowTree
   pub terms_are : shown_meaning ss ≡ s.terms
-  pub each : AreShown most ss
+  pub each : AreShowTrees most ss
   pub own : List Token
   pub whole_is : whole ≡ text title is (show_token s.hidden ∷ before_shown ss own)
   pub ended : Ended most own (tokens.As ∷ rest) v
 
 -- a show that may end here
 pub record InShow (most : Limits) (whole rest : List Token) (title : Title) (is : List ItemTree)
-    (s : items.Shown) : Type 0 where
-  pub ss : List Shown
+    (s : items.ShownPart) : Type 0 where
+  pub ss : List ShowTree
   pub terms_are : shown_meaning ss ≡ s.terms
   pub some : 0 < length ss
-  pub each : AreShown most ss
+  pub each : AreShowTrees most ss
   pub whole_is : whole ≡ text title is (show_token s.hidden ∷ spelled_shown ss rest)
 
 abbrev pub LetStands : Limits → List Token → List Token → Title → List ItemTree → LetPart → Type 0
@@ -159,14 +159,14 @@ PartStands most form whole rest title is n (AfterShowLabel s) =
 PartStands most form whole rest title is n AfterInclude =
     Fits form most (n + 1) × (whole ≡ text title is (tokens.Include ∷ rest))
 PartStands most form whole rest title is n Done =
-    IsText form most title is × (whole ≡ text title is (tokens.End ∷ rest))
+    IsFormText form most title is × (whole ≡ text title is (tokens.End ∷ rest))
 
 pub record StateStands (most : Limits) (form : Form) (whole rest : List Token) (s : State)
     : Type 0 where
   pub title : Title
   pub is : List ItemTree
   pub title_is : TitleFits form title
-  pub each : AreItems most is
+  pub each : AreItemTrees most is
   pub meant : items_meaning is ≡ s.items
   pub part : PartStands most form whole rest title is (length s.items) s.part
 
@@ -183,7 +183,7 @@ module _ (most : Limits) (form : Form) (whole : List Token) (some : 0 < most.nes
     title : Title
     is : List ItemTree
     title_is : TitleFits form title
-    each : AreItems most is
+    each : AreItemTrees most is
     meant : items_meaning is ≡ cs
     whole_is : whole ≡ text title is rest
 
@@ -191,8 +191,8 @@ module _ (most : Limits) (form : Form) (whole : List Token) (some : 0 < most.nes
   Result' rest r = ResultStands most form whole rest r
 
   pushed : (cs : List Clause) (title : Title) (is : List ItemTree) (i : ItemTree) (c : Clause)
-      (rest : List Token) → TitleFits form title → AreItems most is → items_meaning is ≡ cs
-      → IsItem most i → item_meaning i ≡ c → whole ≡ text title is (spelled_item i rest)
+      (rest : List Token) → TitleFits form title → AreItemTrees most is → items_meaning is ≡ cs
+      → IsItemTree most i → item_meaning i ≡ c → whole ≡ text title is (spelled_item i rest)
       → Read (cs ++ c ∷ []) rest
   pushed cs title is i c rest fits each meant h e whole_is =
       record {
@@ -320,7 +320,7 @@ module _ (most : Limits) (form : Form) (whole : List Token) (some : 0 < most.nes
       by_form forms.Model e title_is fits =
           stands cs rest (tokens.End ∷ rest) Done r (
             subst
-                (λ (g : Form). IsText g most r.title r.is) (sym e) (let m = many in omega arith),
+                (λ (g : Form). IsFormText g most r.title r.is) (sym e) (let m = many in omega arith),
             r.whole_is,
           )
       by_form forms.Item e title_is fits = choose (length cs == 0) refl
@@ -331,7 +331,7 @@ module _ (most : Limits) (form : Form) (whole : List Token) (some : 0 < most.nes
           choose false q =
               stands cs rest (tokens.End ∷ rest) Done r (
                 subst
-                    (λ (g : Form). IsText g most r.title r.is) (sym e)
+                    (λ (g : Form). IsFormText g most r.title r.is) (sym e)
                     (title_is, many ∙ is_one (length cs) fits q),
                 r.whole_is,
               )
@@ -410,7 +410,7 @@ module _ (most : Limits) (form : Form) (whole : List Token) (some : 0 < most.nes
   -- ---- let
 
   module _ (cs : List Clause) (title : Title) (is : List ItemTree) (title_is : TitleFits form title)
-      (each : AreItems most is) (meant : items_meaning is ≡ cs)
+      (each : AreItemTrees most is) (meant : items_meaning is ≡ cs)
       (fits : Fits form most (length cs + 1)) where
     read : (w : List Token) → whole ≡ text title is w → Read cs w
     read w e =
@@ -570,7 +570,7 @@ module _ (most : Limits) (form : Form) (whole : List Token) (some : 0 < most.nes
         → Result' after (at (cs ++ c ∷ []) (next (length cs + 1))))
         → Result' after (added cs (finished (head_of tree) v r) next)
     added_stands (BoundTree recursive bs n) v r rest after own next fine e x k =
-        let b : Bound = record { name = n; body = x.t } in
+        let b : BindingTree = record { name = n; body = x.t } in
         let l = length-push bs b in
         k (Binding recursive (group_meaning bs ++ (n, v) ∷ []))
         (pushed cs title is (grammar.Let recursive (bs ++ b ∷ []))
@@ -609,7 +609,7 @@ module _ (most : Limits) (form : Form) (whole : List Token) (some : 0 < most.nes
             text title is (spelled_tilde h.negated (tokens.Check h.word ∷ w)))
             x.whole_is))
     added_stands (ShownTree hidden ss) v r rest after own next fine e x k =
-        let s : Shown = record { body = x.t; label = None } in
+        let s : ShowTree = record { body = x.t; label = None } in
         let l = length-push ss s in
         k (Showing hidden (shown_meaning ss ++ (v, None) ∷ []))
         (pushed cs title is (grammar.Show hidden (ss ++ s ∷ []))
@@ -627,7 +627,7 @@ module _ (most : Limits) (form : Form) (whole : List Token) (some : 0 < most.nes
         → whole ≡ text title is (spelled_head tree own) → Ended most own (tokens.And ∷ rest) v
         → Result' rest (at cs (and_read (head_of tree) v))
     and_read_stands (BoundTree recursive bs n) v rest own fine e x =
-        let b : Bound = record { name = n; body = x.t } in
+        let b : BindingTree = record { name = n; body = x.t } in
         let l = length-push bs b in
         in_let rest (And (extended (record { recursive = recursive; bindings = group_meaning bs }) n
         v))
@@ -675,8 +675,8 @@ module _ (most : Limits) (form : Form) (whole : List Token) (some : 0 < most.nes
         )
 
     -- the next expression of a show
-    show_start : (hidden : Bool) (ss : List Shown) (terms : List (Term × Option (List ℕ)))
-        (rest : List Token) → shown_meaning ss ≡ terms → AreShown most ss
+    show_start : (hidden : Bool) (ss : List ShowTree) (terms : List (Term × Option (List ℕ)))
+        (rest : List Token) → shown_meaning ss ≡ terms → AreShowTrees most ss
         → whole ≡ text title is (show_token hidden ∷ before_shown ss rest)
         → StateStands most form whole rest (record {
           items = cs;
@@ -699,7 +699,7 @@ module _ (most : Limits) (form : Form) (whole : List Token) (some : 0 < most.nes
     shown_on_stands (FunctionTree n ps) v rest own fine e x = tt
     shown_on_stands (CheckedTree h) v rest own fine e x = tt
     shown_on_stands (ShownTree hidden ss) v rest own fine e x =
-        let s : Shown = record { body = x.t; label = None } in
+        let s : ShowTree = record { body = x.t; label = None } in
         let l = length-push ss s in
         show_start hidden (ss ++ s ∷ []) (shown_meaning ss ++ (v, None) ∷ []) rest
         (shown_meaning-push ss s
@@ -785,7 +785,7 @@ module _ (most : Limits) (form : Form) (whole : List Token) (some : 0 < most.nes
         (goes_on_stands b.tree t (expression_step most fs used expected t) rest b.own b.fine
         b.whole_is (step_stands most b.own some t rest fs used expected b.stands))
 
-    ended_item : (i : ItemTree) (c : Clause) (rest : List Token) → IsItem most i
+    ended_item : (i : ItemTree) (c : Clause) (rest : List Token) → IsItemTree most i
         → item_meaning i ≡ c → whole ≡ text title is (spelled_item i rest)
         → StateStands most form whole rest (record { items = cs ++ c ∷ []; part = items.Start })
     ended_item i c rest h e w =
@@ -826,11 +826,11 @@ module _ (most : Limits) (form : Form) (whole : List Token) (some : 0 < most.nes
             (ap (λ (x : Term). Checking (checked h x) (Some n)) b.ended.means) w
     after_as_stands h v _ rest b = tt
 
-    after_show_as_stands : (s : items.Shown) (v : Term) (t : Token) (rest : List Token)
+    after_show_as_stands : (s : items.ShownPart) (v : Term) (t : Token) (rest : List Token)
         → InShowLabel most whole (t ∷ rest) title is s v
         → Result' rest (at cs (after_show_as s v t))
     after_show_as_stands s v (tokens.Name n) rest b =
-        let u : Shown = record { body = b.ended.t; label = Some n } in
+        let u : ShowTree = record { body = b.ended.t; label = Some n } in
         let l = length-push b.ss u in
         in_part rest (AfterShowLabel (shown_also s v (Some n))) (
           fits,
@@ -852,7 +852,7 @@ module _ (most : Limits) (form : Form) (whole : List Token) (some : 0 < most.nes
         )
     after_show_as_stands s v _ rest b = tt
 
-    after_show_label_stands : (s : items.Shown) (t : Token) (rest : List Token)
+    after_show_label_stands : (s : items.ShownPart) (t : Token) (rest : List Token)
         → InShow most whole (t ∷ rest) title is s → Result' rest (after_show_label most form cs s t)
     after_show_label_stands s tokens.Comma rest b =
         show_start s.hidden b.ss s.terms rest b.terms_are b.each (b.whole_is
@@ -879,7 +879,7 @@ module _ (most : Limits) (form : Form) (whole : List Token) (some : 0 < most.nes
 
   step_part_stands : 0 < most.names
       → (cs : List Clause) (p : Part) (t : Token) (rest : List Token) (title : Title)
-      (is : List ItemTree) → TitleFits form title → AreItems most is → items_meaning is ≡ cs
+      (is : List ItemTree) → TitleFits form title → AreItemTrees most is → items_meaning is ≡ cs
       → PartStands most form whole (t ∷ rest) title is (length cs) p
       → Result' rest (step_part most form cs p t)
   step_part_stands one cs items.Title t rest title is title_is each meant h =

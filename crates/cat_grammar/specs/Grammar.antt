@@ -193,7 +193,7 @@ pub record Limits : Type 0 where
 abbrev pub limits : Limits
 limits = record { nesting = 64; operators = 1024; items = 256; names = 64; parameters = 8 }
 
-pub record IsExpression (most : Limits) (t : Tree) : Type 0 where
+pub record IsExpressionTree (most : Limits) (t : Tree) : Type 0 where
   pub grouped : IsGrouped t
   pub shallow : depth t ≤ most.nesting
   pub short : operators t ≤ most.operators
@@ -201,7 +201,7 @@ pub record IsExpression (most : Limits) (t : Tree) : Type 0 where
 -- ---- items
 
 -- one name of a group, with its body
-pub record Bound : Type 0 where
+pub record BindingTree : Type 0 where
   pub name : List ℕ
   pub body : Tree
 
@@ -212,16 +212,16 @@ pub record CheckTree : Type 0 where
   pub body : Tree
 
 -- one expression of a show
-pub record Shown : Type 0 where
+pub record ShowTree : Type 0 where
   pub body : Tree
   pub label : Option (List ℕ)
 
 pub data ItemTree : Type 0 where
-  Let : (recursive : Bool) (group : List Bound) → ItemTree
+  Let : (recursive : Bool) (group : List BindingTree) → ItemTree
   Function : (name : List ℕ) (parameters : List (List ℕ)) (body : Tree) → ItemTree
   Check : (check : CheckTree) (label : Option (List ℕ)) → ItemTree
   Flag : (check : CheckTree) (label : List ℕ) → ItemTree
-  Show : (hidden : Bool) (shown : List Shown) → ItemTree
+  Show : (hidden : Bool) (shown : List ShowTree) → ItemTree
   Include : (path : List ℕ) → ItemTree
 
 abbrev pub spelled_rec : Bool → List Token → List Token
@@ -240,11 +240,11 @@ abbrev pub spelled_label : Option (List ℕ) → List Token → List Token
 spelled_label None rest = rest
 spelled_label (Some n) rest = tokens.As ∷ tokens.Name n ∷ rest
 
-abbrev pub spelled_bound : Bound → List Token → List Token
+abbrev pub spelled_bound : BindingTree → List Token → List Token
 spelled_bound b rest = tokens.Name b.name ∷ tokens.Equals ∷ spelled b.body rest
 
 -- the bindings of a group, with `and` between them
-abbrev pub spelled_group : List Bound → List Token → List Token
+abbrev pub spelled_group : List BindingTree → List Token → List Token
 spelled_group [] rest = rest
 spelled_group (b ∷ []) rest = spelled_bound b rest
 spelled_group (b ∷ c ∷ bs) rest = spelled_bound b (tokens.And ∷ spelled_group (c ∷ bs) rest)
@@ -259,11 +259,11 @@ spelled_parameters (p ∷ q ∷ ps) rest =
 abbrev pub spelled_check : CheckTree → List Token → List Token
 spelled_check c rest = spelled_tilde c.negated (tokens.Check c.word ∷ spelled c.body rest)
 
-abbrev pub spelled_one : Shown → List Token → List Token
+abbrev pub spelled_one : ShowTree → List Token → List Token
 spelled_one s rest = spelled s.body (spelled_label s.label rest)
 
 -- the expressions of a show, with commas between them
-abbrev pub spelled_shown : List Shown → List Token → List Token
+abbrev pub spelled_shown : List ShowTree → List Token → List Token
 spelled_shown [] rest = rest
 spelled_shown (s ∷ []) rest = spelled_one s rest
 spelled_shown (s ∷ u ∷ ss) rest = spelled_one s (tokens.Comma ∷ spelled_shown (u ∷ ss) rest)
@@ -281,14 +281,14 @@ spelled_item (Flag c label) rest =
 spelled_item (Show hidden shown) rest = show_token hidden ∷ spelled_shown shown rest
 spelled_item (Include path) rest = tokens.Include ∷ tokens.Quoted path ∷ rest
 
-abbrev pub group_meaning : List Bound → List (List ℕ × Term)
+abbrev pub group_meaning : List BindingTree → List (List ℕ × Term)
 group_meaning [] = []
 group_meaning (b ∷ bs) = (b.name, meaning b.body) ∷ group_meaning bs
 
 abbrev pub check_meaning : CheckTree → Checked
 check_meaning c = record { negated = c.negated; word = c.word; body = meaning c.body }
 
-abbrev pub shown_meaning : List Shown → List (Term × Option (List ℕ))
+abbrev pub shown_meaning : List ShowTree → List (Term × Option (List ℕ))
 shown_meaning [] = []
 shown_meaning (s ∷ ss) = (meaning s.body, s.label) ∷ shown_meaning ss
 
@@ -300,28 +300,28 @@ item_meaning (Flag c label) = value.Flagging (check_meaning c) label
 item_meaning (Show hidden shown) = value.Showing hidden (shown_meaning shown)
 item_meaning (Include path) = value.Including path
 
-abbrev pub AreBound : Limits → List Bound → Type 0
-AreBound most [] = Unit {0}
-AreBound most (b ∷ bs) = IsExpression most b.body × AreBound most bs
+abbrev pub AreBindingTrees : Limits → List BindingTree → Type 0
+AreBindingTrees most [] = Unit {0}
+AreBindingTrees most (b ∷ bs) = IsExpressionTree most b.body × AreBindingTrees most bs
 
-abbrev pub AreShown : Limits → List Shown → Type 0
-AreShown most [] = Unit {0}
-AreShown most (s ∷ ss) = IsExpression most s.body × AreShown most ss
+abbrev pub AreShowTrees : Limits → List ShowTree → Type 0
+AreShowTrees most [] = Unit {0}
+AreShowTrees most (s ∷ ss) = IsExpressionTree most s.body × AreShowTrees most ss
 
 -- a file that has no effect, whose names need no definition
 abbrev pub has_no_effect : List ℕ → Bool
 has_no_effect path =
     if bytes_eq path (codes "cos.cat") then true else bytes_eq path (codes "stdlib.cat")
 
-abbrev pub IsItem : Limits → ItemTree → Type 0
-IsItem most (Let recursive group) =
-    (0 < length group) × (length group ≤ most.names) × AreBound most group
-IsItem most (Function n parameters body) =
-    (0 < length parameters) × (length parameters ≤ most.parameters) × IsExpression most body
-IsItem most (Check c label) = IsExpression most c.body
-IsItem most (Flag c label) = IsExpression most c.body
-IsItem most (Show hidden shown) = (0 < length shown) × AreShown most shown
-IsItem most (Include path) = has_no_effect path ≡ true
+abbrev pub IsItemTree : Limits → ItemTree → Type 0
+IsItemTree most (Let recursive group) =
+    (0 < length group) × (length group ≤ most.names) × AreBindingTrees most group
+IsItemTree most (Function n parameters body) =
+    (0 < length parameters) × (length parameters ≤ most.parameters) × IsExpressionTree most body
+IsItemTree most (Check c label) = IsExpressionTree most c.body
+IsItemTree most (Flag c label) = IsExpressionTree most c.body
+IsItemTree most (Show hidden shown) = (0 < length shown) × AreShowTrees most shown
+IsItemTree most (Include path) = has_no_effect path ≡ true
 
 -- ---- texts
 
@@ -343,26 +343,26 @@ abbrev pub items_meaning : List ItemTree → List Clause
 items_meaning [] = []
 items_meaning (i ∷ is) = item_meaning i ∷ items_meaning is
 
-abbrev pub AreItems : Limits → List ItemTree → Type 0
-AreItems most [] = Unit {0}
-AreItems most (i ∷ is) = IsItem most i × AreItems most is
+abbrev pub AreItemTrees : Limits → List ItemTree → Type 0
+AreItemTrees most [] = Unit {0}
+AreItemTrees most (i ∷ is) = IsItemTree most i × AreItemTrees most is
 
 -- a model has a title or none, and items; the text of an item is one item alone
-abbrev pub IsText : Form → Limits → Title → List ItemTree → Type 0
-IsText forms.Model most title items = length items ≤ most.items
-IsText forms.Item most title items = (title ≡ NoTitle) × (length items ≡ 1)
+abbrev pub IsFormText : Form → Limits → Title → List ItemTree → Type 0
+IsFormText forms.Model most title items = length items ≤ most.items
+IsFormText forms.Item most title items = (title ≡ NoTitle) × (length items ≡ 1)
 
 -- these tokens are a text that means these items
 pub record Means (most : Limits) (form : Form) (ts : List Token) (v : List Clause) : Type 0 where
   pub title : Title
   pub items : List ItemTree
-  pub form_is : IsText form most title items
-  pub each : AreItems most items
+  pub form_is : IsFormText form most title items
+  pub each : AreItemTrees most items
   pub whole : ts ≡ spelled_title title (spelled_items items (tokens.End ∷ []))
   pub meant : items_meaning items ≡ v
 
 -- some text begins with these tokens
-pub record Begins (most : Limits) (form : Form) (ts : List Token) : Type 0 where
+pub record BeginsForm (most : Limits) (form : Form) (ts : List Token) : Type 0 where
   pub rest : List Token
   pub items : List Clause
   pub text : Means most form (ts ++ rest) items
@@ -389,15 +389,15 @@ pub record AsksForMore (most : Limits) (form : Form) (ts : List Token) : Type 0 
   pub separator : Token
   pub is_one : IsSeparator separator
   pub split : ts ≡ earlier ++ separator ∷ []
-  pub begins : Begins most form earlier
+  pub begins : BeginsForm most form earlier
   pub wider : Limits
   pub same : SameDepths most wider
-  pub more : Begins wider form ts
+  pub more : BeginsForm wider form ts
 
 -- These tokens can stand where they do: some text begins with them. The name that is one too many
 -- is at fault, and not the `and` or the comma before it.
 pub data CanStand (most : Limits) (form : Form) (ts : List Token) : Type 0 where
-  BeginsText : Begins most form ts → CanStand most form ts
+  BeginsText : BeginsForm most form ts → CanStand most form ts
   BeforeAName : AsksForMore most form ts → CanStand most form ts
 
 -- the last token but one and the last, where these came before
@@ -452,34 +452,34 @@ first_offset before here =
     else here.offset
 
 -- The rule that a token breaks, and the offset that is at fault.
-pub data IsRefusal (most : Limits) (form : Form) (before : List TokenAt) (here : TokenAt)
+pub data BreaksRule (most : Limits) (form : Form) (before : List TokenAt) (here : TokenAt)
     (rule : CatRule) (offset : ℕ) : Type 0 where
   -- it stands nowhere
   Nowhere : broken_rule here.token ≡ Some rule → offset ≡ here.offset
-      → IsRefusal most form before here rule offset
+      → BreaksRule most form before here rule offset
   -- it can stand if there may be more items, names or parameters: the first token of what is too
   -- many is at fault
   TooMany : (wider : Limits) → SameDepths most wider
-      → Begins wider form (tokens_of before ++ here.token ∷ []) → rule ≡ rules.TooMany
-      → offset ≡ first_offset before here → IsRefusal most form before here rule offset
+      → BeginsForm wider form (tokens_of before ++ here.token ∷ []) → rule ≡ rules.TooMany
+      → offset ≡ first_offset before here → BreaksRule most form before here rule offset
   -- it can stand if more may be open or joined
   TooDeep : (wider : Limits) → SameCounts most wider
-      → Begins wider form (tokens_of before ++ here.token ∷ []) → rule ≡ rules.TooDeep
-      → offset ≡ here.offset → IsRefusal most form before here rule offset
+      → BeginsForm wider form (tokens_of before ++ here.token ∷ []) → rule ≡ rules.TooDeep
+      → offset ≡ here.offset → BreaksRule most form before here rule offset
   -- it can stand under no limits
-  Plain : ((wider : Limits) → Begins wider form (tokens_of before ++ here.token ∷ []) → ⊥)
+  Plain : ((wider : Limits) → BeginsForm wider form (tokens_of before ++ here.token ∷ []) → ⊥)
       → broken_rule here.token ≡ None
       → rule ≡ plain_rule (last_two tokens.End tokens.End (tokens_of before)) here.token
-      → offset ≡ here.offset → IsRefusal most form before here rule offset
+      → offset ≡ here.offset → BreaksRule most form before here rule offset
 
 -- The tokens before some token can stand, and with it they cannot: this rule is broken, at this
 -- offset.
-pub record IsFault (most : Limits) (form : Form) (ps : List TokenAt) (rule : CatRule) (offset : ℕ)
-    : Type 0 where
+pub record IsFormFault (most : Limits) (form : Form) (ps : List TokenAt) (rule : CatRule)
+    (offset : ℕ) : Type 0 where
   pub before : List TokenAt
   pub here : TokenAt
   pub after : List TokenAt
   pub split : ps ≡ before ++ here ∷ after
   pub stand : CanStand most form (tokens_of before)
   pub ends : CanStand most form (tokens_of before ++ here.token ∷ []) → ⊥
-  pub refusal : IsRefusal most form before here rule offset
+  pub refusal : BreaksRule most form before here rule offset

@@ -19,7 +19,7 @@ pub record Group : Type 0 where
   pub bindings : List (List ℕ × Term)
 
 -- the expressions of a show so far
-pub record Shown : Type 0 where
+pub record ShownPart : Type 0 where
   pub hidden : Bool
   pub terms : List (Term × Option (List ℕ))
 
@@ -37,7 +37,7 @@ pub data Head : Type 0 where
   BoundHead : (group : Group) (name : List ℕ) → Head
   FunctionHead : (name : List ℕ) (parameters : List (List ℕ)) → Head
   CheckedHead : (check : CheckHead) → Head
-  ShownHead : (shown : Shown) → Head
+  ShownHead : (shown : ShownPart) → Head
 
 pub data Part : Type 0 where
   Title : Part
@@ -48,8 +48,8 @@ pub data Part : Type 0 where
   Body : (head : Head) (frames : List machine.Frame) (used : ℕ) (expected : machine.Expectation)
       → Part
   Label : (check : CheckHead) (body : Term) → Part
-  ShowLabel : (shown : Shown) (body : Term) → Part
-  AfterShowLabel : (shown : Shown) → Part
+  ShowLabel : (shown : ShownPart) (body : Term) → Part
+  AfterShowLabel : (shown : ShownPart) → Part
   AfterInclude : Part
   Done : Part
 
@@ -179,13 +179,13 @@ after_let most (Parameters n ps) t = after_parameters n ps t
 abbrev pub checked : CheckHead → Term → Checked
 checked h v = record { negated = h.negated; word = h.word; body = v }
 
-abbrev pub shown_also : Shown → Term → Option (List ℕ) → Shown
+abbrev pub shown_also : ShownPart → Term → Option (List ℕ) → ShownPart
 shown_also s v label = record { hidden = s.hidden; terms = s.terms ++ (v, label) ∷ [] }
 
 abbrev pub group_clause : Group → Clause
 group_clause g = Binding g.recursive g.bindings
 
-abbrev pub shown_clause : Shown → Clause
+abbrev pub shown_clause : ShownPart → Clause
 shown_clause s = Showing s.hidden s.terms
 
 -- The item that ends with this expression. A flag does not end without its label.
@@ -245,11 +245,11 @@ abbrev pub after_as : List Clause → CheckHead → Term → Token → Result St
 after_as is h v (tokens.Name n) = Ok (record { items = is ++ labelled h v n ∷ []; part = Start })
 after_as is h v t = refuses t
 
-abbrev pub after_show_as : Shown → Term → Token → Result Part Fault
+abbrev pub after_show_as : ShownPart → Term → Token → Result Part Fault
 after_show_as s v (tokens.Name n) = Ok (AfterShowLabel (shown_also s v (Some n)))
 after_show_as s v t = refuses t
 
-abbrev pub after_show_label : Limits → Form → List Clause → Shown → Token → Result State Fault
+abbrev pub after_show_label : Limits → Form → List Clause → ShownPart → Token → Result State Fault
 after_show_label most form is s tokens.Comma = at is (Ok (begin_body (ShownHead s)))
 after_show_label most form is s t = added is (Ok (shown_clause s)) (λ n. item_or_end most form n t)
 

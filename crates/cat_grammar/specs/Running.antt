@@ -7,26 +7,26 @@ use Rattle.cat_grammar.specs.Grammar.{Limits}
 use Rattle.cat_tokens.specs.Tokens.{TokenAt}
 use Rattle.cat_grammar.specs.ItemMachine.{Fault, Here, Before, State, step}
 
-abbrev pub Ran : Type 0
-Ran = Result State (CatRule × ℕ)
+abbrev pub ItemsResult : Type 0
+ItemsResult = Result State (CatRule × ℕ)
 
 -- the fault of a token at an offset, where the token before it began at `before`
-abbrev pub with_offset : ℕ → ℕ → Result State Fault → Ran
+abbrev pub with_offset : ℕ → ℕ → Result State Fault → ItemsResult
 with_offset before offset (Ok s) = Ok s
 with_offset before offset (Err (Here r)) = Err (r, offset)
 with_offset before offset (Err (Before r)) = Err (r, before)
 
-abbrev pub and_then : Ran → (State → Ran) → Ran
+abbrev pub and_then : ItemsResult → (State → ItemsResult) → ItemsResult
 and_then (Ok s) f = f s
 and_then (Err e) f = Err e
 
 -- the tokens one after another, with the offset of the first fault
-abbrev pub run : Limits → Form → ℕ → State → List TokenAt → Ran
+abbrev pub run : Limits → Form → ℕ → State → List TokenAt → ItemsResult
 run most form before s [] = Ok s
 run most form before s (p ∷ ps) =
     and_then (with_offset before p.offset (step most form s p.token))
     (λ s'. run most form p.offset s' ps)
 
-abbrev pub items_of : Ran → Result (List Clause) (CatRule × ℕ)
+abbrev pub items_of : ItemsResult → Result (List Clause) (CatRule × ℕ)
 items_of (Ok s) = Ok s.items
 items_of (Err e) = Err e

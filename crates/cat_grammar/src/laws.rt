@@ -7,7 +7,7 @@ ghost use Rattle.cat_tokens.specs.declared.token.Token.TheVariants.{End};
 ghost use Rattle.cat_tokens.specs.declared.rule.CatRule.{CatRule};
 ghost use Rattle.cat_tokens.specs.Tokens.{TokenAt, tokens_of};
 ghost use Rattle.cat_grammar.specs.declared.form.Form.{Form};
-ghost use Rattle.cat_grammar.specs.Grammar.{limits, Means, IsFault};
+ghost use Rattle.cat_grammar.specs.Grammar.{limits, Means, IsFormFault};
 ghost use Rattle.cat_grammar.specs.ItemMachine.{start};
 ghost use Rattle.cat_grammar.specs.Running.{run, items_of};
 
@@ -25,9 +25,9 @@ pub fn reads_the_grammar()
     // What it refuses is at fault there, by the rule that is broken there.
     ensures fault { (form : Form) (ps : List TokenAt) (rule : CatRule) (offset : ℕ)
         → items_of (run limits form 0 (start form) ps) ≡ Err (rule, offset)
-        → IsFault limits form ps rule offset }
+        → IsFormFault limits form ps rule offset }
     // A text that means some items has no fault.
     ensures whole { (form : Form) (ps : List TokenAt) (v : List Clause) (rule : CatRule)
-        (offset : ℕ) → Means limits form (tokens_of ps) v → IsFault limits form ps rule offset
+        (offset : ℕ) → Means limits form (tokens_of ps) v → IsFormFault limits form ps rule offset
         → ⊥ }
 {}

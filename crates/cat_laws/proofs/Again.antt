@@ -3,9 +3,9 @@ use Rattle.std.proofs.Common.{◌≡◌, ℕ, ◌+◌, ◌≤◌, List, [], ◌�
 use Rattle.std.specs.Prelude.{map}
 use Rattle.text_values.specs.ModelValue.{Clause}
 use Rattle.cat_grammar.specs.Grammar as grammar
-use Rattle.cat_grammar.specs.Grammar.{Tree, Trees, Word, Underscore, Zero, Braces, Pair, Post, Prefix, Group, Square, Application, Last, More, meaning, meanings, operators, operators_of, Limits, limits, Bound, ItemTree, Let, Function, Check, Flag, Show, Include, group_meaning, shown_meaning, item_meaning, items_meaning, AreBound, IsItem, AreItems}
+use Rattle.cat_grammar.specs.Grammar.{Tree, Trees, Word, Underscore, Zero, Braces, Pair, Post, Prefix, Group, Square, Application, Last, More, meaning, meanings, operators, operators_of, Limits, limits, BindingTree, ItemTree, Let, Function, Check, Flag, Show, Include, group_meaning, shown_meaning, item_meaning, items_meaning, AreBindingTrees, IsItemTree, AreItemTrees}
 use Rattle.cat_printing.specs.Printing.{printed_item, printed_model}
-use Rattle.cat_laws.specs.Written.{joins, joins_of, deepest, most_joins, bodies, IsWithin, AreWithin, AreShallow, ItemStaysWithin, ModelStaysWithin, ReadsItem, ReadsModel}
+use Rattle.cat_laws.specs.Written.{joins, joins_of, deepest, most_joins, bodies, KeepsLimits, KeepLimits, AreShallow, ItemStaysWithin, ModelStaysWithin, ReadsItem, ReadsModel}
 use Rattle.cat_laws.proofs.Named.{item_was_written, model_was_written}
 use Rattle.cat_laws.proofs.Printed.{item_reads, model_reads}
 use Rattle.cat_grammar.proofs.Groups.{length-group_meaning, length-items_meaning}
@@ -35,7 +35,7 @@ mutual
       let y = all_joins_meant others in
       omega arith
 
-group_joins : (most : Limits) (g : List Bound) → AreBound most g
+group_joins : (most : Limits) (g : List BindingTree) → AreBindingTrees most g
     → most_joins (map (λ b. b.1) (group_meaning g)) ≤ most.operators
 group_joins most [] h = omega arith
 group_joins most (b ∷ bs) h =
@@ -44,7 +44,7 @@ group_joins most (b ∷ bs) h =
     let z = group_joins most bs h.1 in
     omega arith
 
-shown_joins : (most : Limits) (ss : List grammar.Shown) → grammar.AreShown most ss
+shown_joins : (most : Limits) (ss : List grammar.ShowTree) → grammar.AreShowTrees most ss
     → most_joins (map (λ s. s.0) (shown_meaning ss)) ≤ most.operators
 shown_joins most [] h = omega arith
 shown_joins most (s ∷ ss) h =
@@ -54,8 +54,8 @@ shown_joins most (s ∷ ss) h =
     omega arith
 
 -- an item of a text keeps every limit but that of nesting
-item_within : (most : Limits) (i : ItemTree) → IsItem most i
-    → deepest (bodies (item_meaning i)) ≤ most.nesting → IsWithin most (item_meaning i)
+item_within : (most : Limits) (i : ItemTree) → IsItemTree most i
+    → deepest (bodies (item_meaning i)) ≤ most.nesting → KeepsLimits most (item_meaning i)
 item_within most (Let recursive group) h deep =
     let n = length-group_meaning group in
     let few = h.1 in
@@ -77,8 +77,8 @@ item_within most (Show hidden shown) h deep =
 item_within most (Include path) h deep =
     record { shallow = deep; few = omega arith; names = omega arith; parameters = omega arith }
 
-items_within : (is : List ItemTree) → AreItems limits is → AreShallow (items_meaning is)
-    → AreWithin limits (items_meaning is)
+items_within : (is : List ItemTree) → AreItemTrees limits is → AreShallow (items_meaning is)
+    → KeepLimits limits (items_meaning is)
 items_within [] h deep = tt
 items_within (i ∷ is) h deep = (item_within limits i h.0 deep.0, items_within is h.1 deep.1)
 
@@ -86,7 +86,7 @@ pub item_again : (bytes : List ℕ) (c : Clause) → ReadsItem bytes c → ItemS
     → ReadsItem (printed_item c) c
 item_again bytes c r s =
     let m = r.means in
-    let all : AreWithin limits (c ∷ []) = subst (λ (cs : List Clause). AreShallow cs → AreWithin limits cs) m.meant (items_within m.items m.each) s.shallow in
+    let all : KeepLimits limits (c ∷ []) = subst (λ (cs : List Clause). AreShallow cs → KeepLimits limits cs) m.meant (items_within m.items m.each) s.shallow in
     item_reads c (item_was_written bytes c r) (record { short = s.short; fits = all.0 })
 
 pub model_again : (bytes : List ℕ) (cs : List Clause) → ReadsModel bytes cs → ModelStaysWithin cs
@@ -100,6 +100,6 @@ model_again bytes cs r s =
       short = s.short;
       few = omega arith;
       fits =
-          subst (λ (cs : List Clause). AreShallow cs → AreWithin limits cs) m.meant
+          subst (λ (cs : List Clause). AreShallow cs → KeepLimits limits cs) m.meant
           (items_within m.items m.each) s.shallow;
     })

@@ -10,8 +10,8 @@ use Rattle.text_values.specs.declared.model.Postfix.TheVariants as postfix
 use Rattle.text_values.specs.ModelValue.{Clause}
 use Rattle.cat_grammar.specs.declared.form.Form.{Form}
 use Rattle.cat_grammar.specs.Grammar as grammar
-use Rattle.cat_grammar.specs.Grammar.{Tree, Trees, Word, Underscore, Zero, Braces, Pair, Post, Prefix, Group, Square, Application, Last, More, infix_token, postfix_token, spelled, spelled_arguments, Limits, Bound, CheckTree, ItemTree, Let, Check, Flag, Show, Include, show_token, spelled_rec, spelled_tilde, spelled_label, spelled_group, spelled_parameters, spelled_check, spelled_shown, spelled_item, spelled_items, IsItem, AreItems, Title, NoTitle, NameTitle, StringTitle, spelled_title, Means, is_rec_or_and}
-use Rattle.cat_laws.specs.Parts.{IsPath, GoesOn}
+use Rattle.cat_grammar.specs.Grammar.{Tree, Trees, Word, Underscore, Zero, Braces, Pair, Post, Prefix, Group, Square, Application, Last, More, infix_token, postfix_token, spelled, spelled_arguments, Limits, BindingTree, CheckTree, ItemTree, Let, Check, Flag, Show, Include, show_token, spelled_rec, spelled_tilde, spelled_label, spelled_group, spelled_parameters, spelled_check, spelled_shown, spelled_item, spelled_items, IsItemTree, AreItemTrees, Title, NoTitle, NameTitle, StringTitle, spelled_title, Means, is_rec_or_and}
+use Rattle.cat_laws.specs.Parts.{IsPath, TextGoesOn}
 
 abbrev BeginsPath : List Token → Type 0
 BeginsPath [] = ⊥
@@ -78,19 +78,19 @@ check_on : (c : CheckTree) (rest : List Token) → Follows rest → Follows (spe
 check_on c rest h =
     tilde_on c.negated (tokens.Check c.word ∷ spelled c.body rest) (tree_on c.body rest h)
 
-group_begins : (b : Bound) (bs : List Bound) (rest : List Token)
+group_begins : (b : BindingTree) (bs : List BindingTree) (rest : List Token)
     → BeginsBinding (spelled_group (b ∷ bs) rest)
 group_begins b [] rest = refl
 group_begins b (c ∷ bs) rest = refl
 
-group_on : (g : List Bound) (rest : List Token) → Follows rest → Follows (spelled_group g rest)
+group_on : (g : List BindingTree) (rest : List Token) → Follows rest → Follows (spelled_group g rest)
 group_on [] rest h = h
 group_on (b ∷ []) rest h = tree_on b.body rest h
 group_on (b ∷ c ∷ bs) rest h =
     tree_on b.body (tokens.And ∷ spelled_group (c ∷ bs) rest)
     (group_begins c bs rest, group_on (c ∷ bs) rest h)
 
-rec_on : (recursive : Bool) (g : List Bound) (rest : List Token) → 0 < length g → Follows rest
+rec_on : (recursive : Bool) (g : List BindingTree) (rest : List Token) → 0 < length g → Follows rest
     → Follows (spelled_rec recursive (spelled_group g rest))
 rec_on false g rest some h = group_on g rest h
 rec_on true [] rest some h = absurd (omega arith)
@@ -102,7 +102,7 @@ parameters_on [] rest h = h
 parameters_on (p ∷ []) rest h = h
 parameters_on (p ∷ q ∷ ps) rest h = parameters_on (q ∷ ps) rest h
 
-shown_on : (ss : List grammar.Shown) (rest : List Token) → Follows rest
+shown_on : (ss : List grammar.ShowTree) (rest : List Token) → Follows rest
     → Follows (spelled_shown ss rest)
 shown_on [] rest h = h
 shown_on (s ∷ []) rest h = tree_on s.body (spelled_label s.label rest) (label_on s.label rest h)
@@ -114,7 +114,7 @@ show_on : (hidden : Bool) (rest : List Token) → Follows rest → Follows (show
 show_on true rest h = h
 show_on false rest h = h
 
-item_on : (most : Limits) (i : ItemTree) (rest : List Token) → IsItem most i → Follows rest
+item_on : (most : Limits) (i : ItemTree) (rest : List Token) → IsItemTree most i → Follows rest
     → Follows (spelled_item i rest)
 item_on most (Let recursive group) rest is h = rec_on recursive group rest is.0 h
 item_on most (grammar.Function n parameters body) rest is h =
@@ -127,7 +127,7 @@ item_on most (Show hidden shown) rest is h =
     show_on hidden (spelled_shown shown rest) (shown_on shown rest h)
 item_on most (Include path) rest is h = (is, h)
 
-items_on : (most : Limits) (is : List ItemTree) (rest : List Token) → AreItems most is
+items_on : (most : Limits) (is : List ItemTree) (rest : List Token) → AreItemTrees most is
     → Follows rest → Follows (spelled_items is rest)
 items_on most [] rest each h = h
 items_on most (i ∷ is) rest each h =
@@ -154,7 +154,7 @@ behind (tokens.And ∷ xs) ys h = behind xs ys h.1
 behind (t ∷ xs) ys h = behind xs ys h
 
 pub path_behind : (most : Limits) (form : Form) (before : List Token) (here : Token)
-    → GoesOn most form (before ++ tokens.Include ∷ []) here → IsPath here
+    → TextGoesOn most form (before ++ tokens.Include ∷ []) here → IsPath here
 path_behind most form before here g =
     (behind before (tokens.Include ∷ here ∷ g.rest) (subst Follows
     (append_assoc before (tokens.Include ∷ []) (here ∷ g.rest))
@@ -168,7 +168,7 @@ equals_of a n here rest e h = absurd cc
 
 pub equals_behind : (most : Limits) (form : Form) (before : List Token) (a : Token) (n : List ℕ)
     (here : Token) → is_rec_or_and a ≡ true
-    → GoesOn most form (before ++ a ∷ tokens.Name n ∷ []) here → here ≡ tokens.Equals
+    → TextGoesOn most form (before ++ a ∷ tokens.Name n ∷ []) here → here ≡ tokens.Equals
 equals_behind most form before a n here e g =
     equals_of a n here g.rest e (behind before (a ∷ tokens.Name n ∷ here ∷ g.rest)
     (subst Follows (append_assoc before (a ∷ tokens.Name n ∷ []) (here ∷ g.rest))

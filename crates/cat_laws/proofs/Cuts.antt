@@ -17,9 +17,9 @@ use Rattle.cat_tokens.specs.declared.lexer.Front.{Front}
 use Rattle.cat_tokens.specs.declared.lexer.Front.TheVariants as fronts
 use Rattle.cat_tokens.specs.Tokens.{TokenAt}
 use Rattle.cat_tokens.specs.Words.{word_token}
-use Rattle.cat_tokens.specs.Lexer.{is_layout, is_name_byte, ends_name, comment_front, quoted_front, word_front, sign_token, sign_front, front, after_front, tokens_from, lexed}
+use Rattle.cat_tokens.specs.Lexer.{is_layout, is_name_byte, ends_name, comment_front, quoted_front, word_front, sign_token, sign_front, front, after_front, tokens_from, lexing}
 use Rattle.cat_tokens.proofs.Lexed.{tokens_skip}
-use Rattle.cat_laws.specs.Tokens.{IsWord, is_sign, Spells, Word, String, Sign, Inversion, Plusses, begins_line_comment, begins_gap, IsGap, Blank, Comment, Line, IsLongest, SpellsNone, IsLexeme, Spelled, NoToken, OpenComment, OpenString, Piece, Gap, Lexeme, text_of, ArePieces, tokens_at, IsCut, AreRising}
+use Rattle.cat_laws.specs.Tokens.{IsWord, is_sign, Spells, Word, String, Sign, Inversion, Plusses, begins_line_comment, begins_gap, IsModelGap, Blank, Comment, Line, IsLongest, SpellsNone, IsModelLexeme, Spelled, NoToken, OpenComment, OpenString, ModelPiece, Gap, Lexeme, text_of, ArePieces, tokens_at, IsModelCut, AreModelRising}
 use Rattle.text_laws.proofs.Runs.{other, clash, opposite, equals, less, cons_of, next_of, pos_some, pos_le, two_kept, inside_fits, lacks_before, string_text, tested}
 use Rattle.cat_laws.proofs.Named.{first_of, each_of, letter_in_name}
 
@@ -103,9 +103,9 @@ some_byte (b ∷ bs) t h = omega arith
 -- ---- what a text begins with
 
 abbrev IsPiece : List ℕ → Front → Type 0
-IsPiece text (fronts.Layout n) = (0 < n) × (n ≤ length text) × IsGap (take n text) (drop n text)
+IsPiece text (fronts.Layout n) = (0 < n) × (n ≤ length text) × IsModelGap (take n text) (drop n text)
 IsPiece text (fronts.Lexeme t n) =
-    (0 < n) × (n ≤ length text) × IsLexeme t (take n text) (drop n text)
+    (0 < n) × (n ≤ length text) × IsModelLexeme t (take n text) (drop n text)
 
 longest : (n b : ℕ) (bs : List ℕ) → n ≤ length (b ∷ bs) → Bounds n b bs
     → IsLongest (take n (b ∷ bs)) (drop n (b ∷ bs))
@@ -429,7 +429,7 @@ front_piece b bs =
 -- ---- all pieces
 
 record CutAt (n : ℕ) (bs : List ℕ) (ps : List TokenAt) : Type 0 where
-  pieces : List Piece
+  pieces : List ModelPiece
   fine : ArePieces pieces
   whole : text_of pieces ≡ bs
   tokens : tokens_at n pieces ≡ ps
@@ -455,7 +455,7 @@ after_piece n b bs (fronts.Layout (suc j)) h ih =
     let c = ih (n + suc j) (drop j bs) (omega arith) in
     record {
       pieces = Gap (take (suc j) (b ∷ bs)) ∷ c.pieces;
-      fine = (subst (IsGap (take (suc j) (b ∷ bs))) (sym c.whole) h.2, c.fine);
+      fine = (subst (IsModelGap (take (suc j) (b ∷ bs))) (sym c.whole) h.2, c.fine);
       whole =
           ap (λ (xs : List ℕ). take (suc j) (b ∷ bs) ++ xs) c.whole
           ∙ take-append-drop (suc j) (b ∷ bs);
@@ -470,7 +470,7 @@ after_piece n b bs (fronts.Lexeme t (suc j)) h ih =
     let c = ih (n + suc j) (drop j bs) (omega arith) in
     record {
       pieces = Lexeme t (take (suc j) (b ∷ bs)) ∷ c.pieces;
-      fine = (subst (IsLexeme t (take (suc j) (b ∷ bs))) (sym c.whole) h.2, c.fine);
+      fine = (subst (IsModelLexeme t (take (suc j) (b ∷ bs))) (sym c.whole) h.2, c.fine);
       whole =
           ap (λ (xs : List ℕ). take (suc j) (b ∷ bs) ++ xs) c.whole
           ∙ take-append-drop (suc j) (b ∷ bs);
@@ -488,28 +488,28 @@ cut_at (suc most) n (b ∷ bs) le =
     after_piece n b bs (front (b ∷ bs)) (front_piece b bs)
     (λ k xs short. cut_at most k xs (omega arith))
 
-pub is_cut : (bytes : List ℕ) → IsCut bytes (lexed bytes)
+pub is_cut : (bytes : List ℕ) → IsModelCut bytes (lexing bytes)
 is_cut bytes =
     let c = cut_at (length bytes) 0 bytes (omega arith) in
     record { pieces = c.pieces; fine = c.fine; whole = c.whole; tokens = c.tokens }
 
 -- ---- rising
 
-pub lexeme_bytes : (t : Token) (s rest : List ℕ) → IsLexeme t s rest → 0 < length s
+pub lexeme_bytes : (t : Token) (s rest : List ℕ) → IsModelLexeme t s rest → 0 < length s
 lexeme_bytes t s rest (Spelled gap spells longest) = some_byte s t spells
 lexeme_bytes t s rest (NoToken b quote e gap none is) = let l = ap length e in omega arith
 lexeme_bytes t [] rest (OpenComment begins none e is) = absurd cc
 lexeme_bytes t (b ∷ bs) rest (OpenComment begins none e is) = omega arith
 lexeme_bytes t s rest (OpenString inside lacks e end is) = let l = ap length e in omega arith
 
-rise : (m n : ℕ) (ps : List Piece) → m ≤ n → ArePieces ps → AreRising m (tokens_at n ps)
+rise : (m n : ℕ) (ps : List ModelPiece) → m ≤ n → ArePieces ps → AreModelRising m (tokens_at n ps)
 rise m n [] le h = (le, tt)
 rise m n (Gap s ∷ ps) le h = rise m (n + length s) ps (omega arith) h.1
 rise m n (Lexeme t s ∷ ps) le h =
     let some = lexeme_bytes t s (text_of ps) h.0 in
     (le, rise (n + 1) (n + length s) ps (omega arith) h.1)
 
-pub is_rising : (bytes : List ℕ) → AreRising 0 (lexed bytes)
+pub is_rising : (bytes : List ℕ) → AreModelRising 0 (lexing bytes)
 is_rising bytes =
     let c = is_cut bytes in
-    subst (AreRising 0) c.tokens (rise 0 0 c.pieces (omega arith) c.fine)
+    subst (AreModelRising 0) c.tokens (rise 0 0 c.pieces (omega arith) c.fine)

@@ -16,14 +16,14 @@ use Rattle.cat_grammar.specs.declared.form.Form.{Form}
 use Rattle.cat_grammar.specs.declared.form.Form.TheVariants as forms
 use Rattle.text_values.specs.ModelValue.{Terms, NoTerm, OneMore, Clause}
 use Rattle.cat_tokens.specs.Words.{item_word, part_word, is_definition_word, is_other_word, name_or_broken, word_or, word_token}
-use Rattle.cat_tokens.specs.Lexer.{is_layout, is_name_byte, ends_name, comment_front, quoted_front, word_front, sign_token, front, after_front, tokens_from, lexed}
+use Rattle.cat_tokens.specs.Lexer.{is_layout, is_name_byte, ends_name, comment_front, quoted_front, word_front, sign_token, front, after_front, tokens_from, lexing}
 use Rattle.text_values.specs.Letters.{is_letter}
 use Rattle.text_laws.proofs.Runs.{tested}
 use Rattle.cat_grammar.specs.Grammar as grammar
 use Rattle.cat_tokens.specs.Tokens.{TokenAt, tokens_of}
-use Rattle.cat_grammar.specs.Grammar.{Tree, Trees, Word, Underscore, Zero, Braces, Pair, Post, Prefix, Group, Square, Application, Last, More, infix_token, postfix_token, spelled, spelled_arguments, meaning, meanings, Limits, limits, Bound, CheckTree, ItemTree, Let, Check, Flag, Show, Include, spelled_rec, spelled_tilde, spelled_label, spelled_group, spelled_parameters, spelled_check, spelled_shown, spelled_item, spelled_items, group_meaning, shown_meaning, item_meaning, items_meaning, IsItem, AreItems, Title, NoTitle, NameTitle, StringTitle, spelled_title, Means}
+use Rattle.cat_grammar.specs.Grammar.{Tree, Trees, Word, Underscore, Zero, Braces, Pair, Post, Prefix, Group, Square, Application, Last, More, infix_token, postfix_token, spelled, spelled_arguments, meaning, meanings, Limits, limits, BindingTree, CheckTree, ItemTree, Let, Check, Flag, Show, Include, spelled_rec, spelled_tilde, spelled_label, spelled_group, spelled_parameters, spelled_check, spelled_shown, spelled_item, spelled_items, group_meaning, shown_meaning, item_meaning, items_meaning, IsItemTree, AreItemTrees, Title, NoTitle, NameTitle, StringTitle, spelled_title, Means}
 use Rattle.cat_laws.specs.Written as written
-use Rattle.cat_laws.specs.Written.{IsName, IsTerm, AreTerms, AreOthers, AreNames, IsLabel, AreBindings, IsWritten, AreWritten, IsTextOfItem, IsTextOfModel, ReadsItem, ReadsModel}
+use Rattle.cat_laws.specs.Written.{IsName, IsTerm, AreTerms, AreOthers, AreNames, IsOptionalLabel, AreBindings, IsWritable, AreWritable, IsTextOfItem, IsTextOfModel, ReadsItem, ReadsModel}
 use Rattle.cat_grammar.proofs.Groups.{length-group_meaning}
 
 -- ---- tokens
@@ -215,7 +215,7 @@ mutual
 -- ---- items
 
 label_named : (l : Option (List ℕ)) (rest : List Token) → AreNamed (spelled_label l rest)
-    → IsLabel l × AreNamed rest
+    → IsOptionalLabel l × AreNamed rest
 label_named None rest h = (tt, h)
 label_named (Some n) rest h = h.1
 
@@ -234,7 +234,7 @@ check_named : (c : CheckTree) (rest : List Token) → AreNamed (spelled_check c 
 check_named c rest h =
     tree_named c.body rest (tilde_named c.negated (tokens.Check c.word ∷ spelled c.body rest) h).1
 
-group_named : (g : List Bound) (rest : List Token) → AreNamed (spelled_group g rest)
+group_named : (g : List BindingTree) (rest : List Token) → AreNamed (spelled_group g rest)
     → AreBindings (group_meaning g) × AreNamed rest
 group_named [] rest h = (tt, h)
 group_named (b ∷ []) rest h =
@@ -253,8 +253,8 @@ parameters_named (p ∷ q ∷ ps) rest h =
     let x = parameters_named (q ∷ ps) rest h.1.1 in
     ((h.0, x.0), x.1)
 
-shown_named : (ss : List grammar.Shown) (rest : List Token) → AreNamed (spelled_shown ss rest)
-    → written.AreShown (shown_meaning ss) × AreNamed rest
+shown_named : (ss : List grammar.ShowTree) (rest : List Token) → AreNamed (spelled_shown ss rest)
+    → written.AreShownTerms (shown_meaning ss) × AreNamed rest
 shown_named [] rest h = (tt, h)
 shown_named (s ∷ []) rest h =
     let x = tree_named s.body (spelled_label s.label rest) h in
@@ -267,12 +267,12 @@ shown_named (s ∷ u ∷ ss) rest h =
     let z = shown_named (u ∷ ss) rest y.1.1 in
     ((x.0, y.0, z.0), z.1)
 
-shown_length : (ss : List grammar.Shown) → length (shown_meaning ss) ≡ length ss
+shown_length : (ss : List grammar.ShowTree) → length (shown_meaning ss) ≡ length ss
 shown_length [] = refl
 shown_length (s ∷ ss) = ap suc (shown_length ss)
 
-item_named_of : (most : Limits) (i : ItemTree) (rest : List Token) → IsItem most i
-    → AreNamed (spelled_item i rest) → IsWritten (item_meaning i) × AreNamed rest
+item_named_of : (most : Limits) (i : ItemTree) (rest : List Token) → IsItemTree most i
+    → AreNamed (spelled_item i rest) → IsWritable (item_meaning i) × AreNamed rest
 item_named_of most (Let recursive group) rest is h =
     let x = group_named group rest (rec_named recursive (spelled_group group rest) h.1) in
     let l = length-group_meaning group in
@@ -296,8 +296,8 @@ item_named_of most (Show hidden shown) rest is h =
     ((omega arith, x.0), x.1)
 item_named_of most (Include path) rest is h = (is, h.1.1)
 
-items_named : (most : Limits) (is : List ItemTree) (rest : List Token) → AreItems most is
-    → AreNamed (spelled_items is rest) → AreWritten (items_meaning is)
+items_named : (most : Limits) (is : List ItemTree) (rest : List Token) → AreItemTrees most is
+    → AreNamed (spelled_items is rest) → AreWritable (items_meaning is)
 items_named most [] rest each h = tt
 items_named most (i ∷ is) rest each h =
     let x = item_named_of most i (spelled_items is rest) each.0 h in
@@ -310,20 +310,20 @@ title_named (StringTitle s) rest h = h.1
 
 -- what a text means is a value that a text can have
 meant_is_written : (bytes : List ℕ) (most : Limits) (form : Form) (v : List Clause)
-    → Means most form (tokens_of (lexed bytes)) v → AreWritten v
+    → Means most form (tokens_of (lexing bytes)) v → AreWritable v
 meant_is_written bytes most form v m =
     let closing = tokens.End ∷ [] in
-    subst AreWritten m.meant (items_named most m.items closing m.each (title_named m.title
+    subst AreWritable m.meant (items_named most m.items closing m.each (title_named m.title
     (spelled_items m.items closing) (subst AreNamed m.whole (tokens_named 0 0 bytes))))
 
-pub item_is_written : (bytes : List ℕ) (c : Clause) → IsTextOfItem bytes c → IsWritten c
+pub item_is_written : (bytes : List ℕ) (c : Clause) → IsTextOfItem bytes c → IsWritable c
 item_is_written bytes c h = (meant_is_written bytes h.0 forms.Item (c ∷ []) h.1).0
 
-pub model_is_written : (bytes : List ℕ) (cs : List Clause) → IsTextOfModel bytes cs → AreWritten cs
+pub model_is_written : (bytes : List ℕ) (cs : List Clause) → IsTextOfModel bytes cs → AreWritable cs
 model_is_written bytes cs h = meant_is_written bytes h.0 forms.Model cs h.1
 
-pub item_was_written : (bytes : List ℕ) (c : Clause) → ReadsItem bytes c → IsWritten c
+pub item_was_written : (bytes : List ℕ) (c : Clause) → ReadsItem bytes c → IsWritable c
 item_was_written bytes c r = (meant_is_written bytes limits forms.Item (c ∷ []) r.means).0
 
-pub model_was_written : (bytes : List ℕ) (cs : List Clause) → ReadsModel bytes cs → AreWritten cs
+pub model_was_written : (bytes : List ℕ) (cs : List Clause) → ReadsModel bytes cs → AreWritable cs
 model_was_written bytes cs r = meant_is_written bytes limits forms.Model cs r.means

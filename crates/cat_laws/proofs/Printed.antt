@@ -32,7 +32,7 @@ use Rattle.cat_grammar.specs.declared.form.Form.TheVariants as forms
 use Rattle.cat_printing.specs.Printing.{is_binary, is_compound, infix_text, postfix_text, printed_term, printed_terms, label_text, optional_label, tilde_text, word_text, check_text, recursion_text, binding_text, show_text, shown_text, quote, printed_item, printed_model}
 use Rattle.text_values.specs.Joined.{joined, bracketed}
 use Rattle.cat_laws.specs.Written as written
-use Rattle.cat_laws.specs.Written.{IsName, IsTerm, AreTerms, AreNames, IsLabel, AreBindings, IsWritten, AreWritten, IsWithin, AreWithin, IsTextOfItem, IsTextOfModel, IsItemWithinLimits, IsModelWithinLimits, ReadsItem, ReadsModel}
+use Rattle.cat_laws.specs.Written.{IsName, IsTerm, AreTerms, AreNames, IsOptionalLabel, AreBindings, IsWritable, AreWritable, KeepsLimits, KeepLimits, IsTextOfItem, IsTextOfModel, IsItemWithinLimits, IsModelWithinLimits, ReadsItem, ReadsModel}
 use Rattle.cat_laws.proofs.PrintedTrees.{grouped, tree_of, trees_of, bound_of, check_of, shown_of, item_of, items_back, items_fit, enough, is_enough, enough_items}
 use Rattle.text_laws.proofs.Runs.{seam}
 use Rattle.cat_tokens.proofs.Lexed.{tokens_skip}
@@ -447,7 +447,7 @@ mutual
 
 -- ---- items
 
-label_back : (l : Option (List ℕ)) (bs : List ℕ) → IsLabel l → Stops true bs
+label_back : (l : Option (List ℕ)) (bs : List ℕ) → IsOptionalLabel l → Stops true bs
     → read (optional_label l ++ bs) ≡ spelled_label l (read bs)
 label_back None bs h e = refl
 label_back (Some n) bs h e =
@@ -518,7 +518,7 @@ first_parameter (p ∷ []) bs some h = first_name p bs h.0
 first_parameter (p ∷ q ∷ ps) bs some h =
     rw append_assoc (first_name p ((codes ", " ++ joined (codes ", ") (q ∷ ps)) ++ bs) h.0)
 
-one_back : (s : Term × Option (List ℕ)) (bs : List ℕ) → IsTerm s.0 → IsLabel s.1 → Stops true bs
+one_back : (s : Term × Option (List ℕ)) (bs : List ℕ) → IsTerm s.0 → IsOptionalLabel s.1 → Stops true bs
     → read (shown_text s ++ bs) ≡ spelled_one (shown_of s) (read bs)
 one_back s bs h l e =
     ap read (append_assoc (printed_term s.0) (optional_label s.1) bs)
@@ -526,7 +526,7 @@ one_back s bs h l e =
     (any_stops (is_compound s.0) _ (label_stops s.1 bs e))
     ∙ ap (spelled (tree_of s.0)) (label_back s.1 bs l e)
 
-shown_back : (ss : List (Term × Option (List ℕ))) (bs : List ℕ) → written.AreShown ss
+shown_back : (ss : List (Term × Option (List ℕ))) (bs : List ℕ) → written.AreShownTerms ss
     → Stops true bs
     → read (joined (codes ", ") (map shown_text ss) ++ bs)
     ≡ spelled_shown (map shown_of ss) (read bs)
@@ -540,7 +540,7 @@ shown_back (s ∷ u ∷ ss) bs h e =
     ∙ ap (spelled_one (shown_of s)) (comma (J ++ bs)
     ∙ ap (λ (ts : List Token). tokens.Comma ∷ ts) (shown_back (u ∷ ss) bs h.2 e))
 
-item_back : (c : Clause) (bs : List ℕ) → IsWritten c → Stops true bs
+item_back : (c : Clause) (bs : List ℕ) → IsWritable c → Stops true bs
     → read (printed_item c ++ bs) ≡ spelled_item (item_of c) (read bs)
 item_back (Binding recursive group) bs h e =
     let J = joined (codes " and ") (map binding_text group) in
@@ -590,42 +590,42 @@ no_bytes : read [] ≡ tokens.End ∷ []
 unfolding tokens_from
 no_bytes = refl
 
-model_tokens : (cs : List Clause) → AreWritten cs
+model_tokens : (cs : List Clause) → AreWritable cs
     → read (printed_model cs) ≡ spelled_items (map item_of cs) (tokens.End ∷ [])
 model_tokens [] h = no_bytes
 model_tokens (c ∷ cs) h =
     item_back c (10 ∷ printed_model cs) h.0 (byte_stops true 10 _ refl (λ n. absurd (omega arith)))
     ∙ ap (spelled_item (item_of c)) (line_end (printed_model cs) ∙ model_tokens cs h.1)
 
-item_tokens : (c : Clause) → IsWritten c
+item_tokens : (c : Clause) → IsWritable c
     → read (printed_item c) ≡ spelled_items (item_of c ∷ []) (tokens.End ∷ [])
 item_tokens c h =
     ap read (sym (append-nil (printed_item c))) ∙ item_back c [] h (end_stops true)
     ∙ ap (spelled_item (item_of c)) no_bytes
 
 -- a text of these items, where they keep the limits
-item_means : (most : Limits) (c : Clause) → IsWritten c → IsWithin most c
+item_means : (most : Limits) (c : Clause) → IsWritable c → KeepsLimits most c
     → Means most forms.Item (read (printed_item c)) (c ∷ [])
 item_means most c h w =
     record { title = NoTitle; items = item_of c ∷ []; form_is = (refl, refl); each = items_fit most (c ∷ []) (h, tt) (w, tt); whole = item_tokens c h; meant = items_back (c ∷ []) (h, tt) }
 
-model_means : (most : Limits) (cs : List Clause) → AreWritten cs → length cs ≤ most.items
-    → AreWithin most cs → Means most forms.Model (read (printed_model cs)) cs
+model_means : (most : Limits) (cs : List Clause) → AreWritable cs → length cs ≤ most.items
+    → KeepLimits most cs → Means most forms.Model (read (printed_model cs)) cs
 model_means most cs h few w =
     let l = length-map cs item_of in
     record { title = NoTitle; items = map item_of cs; form_is = omega arith; each = items_fit most cs h w; whole = model_tokens cs h; meant = items_back cs h }
 
-pub item_is_read : (c : Clause) → IsWritten c → IsTextOfItem (printed_item c) c
+pub item_is_read : (c : Clause) → IsWritable c → IsTextOfItem (printed_item c) c
 item_is_read c h = (enough (c ∷ []), item_means (enough (c ∷ [])) c h (is_enough (c ∷ [])).0)
 
-pub model_is_read : (cs : List Clause) → AreWritten cs → IsTextOfModel (printed_model cs) cs
+pub model_is_read : (cs : List Clause) → AreWritable cs → IsTextOfModel (printed_model cs) cs
 model_is_read cs h =
     let e = enough_items cs in
     (enough cs, model_means (enough cs) cs h (omega arith) (is_enough cs))
 
-pub item_reads : (c : Clause) → IsWritten c → IsItemWithinLimits c → ReadsItem (printed_item c) c
+pub item_reads : (c : Clause) → IsWritable c → IsItemWithinLimits c → ReadsItem (printed_item c) c
 item_reads c h w = record { short = w.short; means = item_means limits c h w.fits }
 
-pub model_reads : (cs : List Clause) → AreWritten cs → IsModelWithinLimits cs
+pub model_reads : (cs : List Clause) → AreWritable cs → IsModelWithinLimits cs
     → ReadsModel (printed_model cs) cs
 model_reads cs h w = record { short = w.short; means = model_means limits cs h w.few w.fits }

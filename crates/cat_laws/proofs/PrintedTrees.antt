@@ -7,10 +7,10 @@ use Rattle.text_values.specs.declared.model.Infix.TheVariants.{Union, Sequence, 
 use Rattle.text_values.specs.ModelValue as value
 use Rattle.text_values.specs.ModelValue.{Term, Terms, Atom, AllEvents, EmptyRelation, EmptySet, Join, Mark, Not, On, Apply, NoTerm, OneMore, Checked, Clause, Binding, Checking, Flagging, Showing, Including}
 use Rattle.cat_grammar.specs.Grammar as grammar
-use Rattle.cat_grammar.specs.Grammar.{Tree, Trees, Word, Underscore, Zero, Braces, Pair, Post, Prefix, Group, Square, Application, Last, More, meaning, meanings, right_level, tightness, IsGrouped, AreGrouped, depth, depths, operators, operators_of, Limits, IsExpression, Bound, CheckTree, ItemTree, Let, Check, Flag, Show, Include, group_meaning, shown_meaning, item_meaning, items_meaning, AreBound, IsItem, AreItems}
+use Rattle.cat_grammar.specs.Grammar.{Tree, Trees, Word, Underscore, Zero, Braces, Pair, Post, Prefix, Group, Square, Application, Last, More, meaning, meanings, right_level, tightness, IsGrouped, AreGrouped, depth, depths, operators, operators_of, Limits, IsExpressionTree, BindingTree, CheckTree, ItemTree, Let, Check, Flag, Show, Include, group_meaning, shown_meaning, item_meaning, items_meaning, AreBindingTrees, IsItemTree, AreItemTrees}
 use Rattle.cat_printing.specs.Printing.{is_binary, is_compound}
 use Rattle.cat_laws.specs.Written as written
-use Rattle.cat_laws.specs.Written.{IsTerm, AreTerms, AreBindings, IsWritten, AreWritten, one_where, nesting, nestings, joins, joins_of, deepest, most_joins, bodies, name_count, parameter_count, IsWithin, AreWithin}
+use Rattle.cat_laws.specs.Written.{IsTerm, AreTerms, AreBindings, IsWritable, AreWritable, one_where, nesting, nestings, joins, joins_of, deepest, most_joins, bodies, name_count, parameter_count, KeepsLimits, KeepLimits}
 use Rattle.cat_grammar.proofs.Branches.{left_level-le}
 
 abbrev pub grouped : Bool → Tree → Tree
@@ -128,13 +128,13 @@ mutual
 
 -- ---- items
 
-abbrev pub bound_of : List ℕ × Term → Bound
+abbrev pub bound_of : List ℕ × Term → BindingTree
 bound_of b = record { name = b.0; body = tree_of b.1 }
 
 abbrev pub check_of : Checked → CheckTree
 check_of c = record { negated = c.negated; word = c.word; body = tree_of c.body }
 
-abbrev pub shown_of : Term × Option (List ℕ) → grammar.Shown
+abbrev pub shown_of : Term × Option (List ℕ) → grammar.ShowTree
 shown_of s = record { body = tree_of s.0; label = s.1 }
 
 abbrev pub item_of : Clause → ItemTree
@@ -152,7 +152,7 @@ group_back (b ∷ bs) h =
     ap (λ (x : Term). (b.0, x) ∷ group_meaning (map bound_of bs)) (meaning-tree_of b.1 h.1)
     ∙ ap (λ (x : List (List ℕ × Term)). b ∷ x) (group_back bs h.2)
 
-shown_back : (shown : List (Term × Option (List ℕ))) → written.AreShown shown
+shown_back : (shown : List (Term × Option (List ℕ))) → written.AreShownTerms shown
     → shown_meaning (map shown_of shown) ≡ shown
 shown_back [] h = refl
 shown_back (s ∷ ss) h =
@@ -165,7 +165,7 @@ with_body c v = record { negated = c.negated; word = c.word; body = v }
 check_back : (c : Checked) → IsTerm c.body → grammar.check_meaning (check_of c) ≡ c
 check_back c h = ap (with_body c) (meaning-tree_of c.body h)
 
-item_back : (c : Clause) → IsWritten c → item_meaning (item_of c) ≡ c
+item_back : (c : Clause) → IsWritable c → item_meaning (item_of c) ≡ c
 item_back (Binding recursive group) h = ap (Binding recursive) (group_back group h.1)
 item_back (value.Function n parameters body) h =
     ap (value.Function n parameters) (meaning-tree_of body h.3)
@@ -174,7 +174,7 @@ item_back (Flagging check label) h = ap (λ (x : Checked). Flagging x label) (ch
 item_back (Showing hidden shown) h = ap (Showing hidden) (shown_back shown h.1)
 item_back (Including path) h = refl
 
-pub items_back : (cs : List Clause) → AreWritten cs → items_meaning (map item_of cs) ≡ cs
+pub items_back : (cs : List Clause) → AreWritable cs → items_meaning (map item_of cs) ≡ cs
 items_back [] h = refl
 items_back (c ∷ cs) h =
     ap (λ (x : Clause). x ∷ items_meaning (map item_of cs)) (item_back c h.0)
@@ -258,7 +258,7 @@ mutual
       omega arith
 
 fits : (most : Limits) (v : Term) → nesting v ≤ most.nesting → joins v ≤ most.operators
-    → IsExpression most (tree_of v)
+    → IsExpressionTree most (tree_of v)
 fits most v deep many =
     let x = depth_is v in
     let y = operators_are v in
@@ -266,7 +266,7 @@ fits most v deep many =
 
 group_fits : (most : Limits) (group : List (List ℕ × Term))
     → deepest (map (λ b. b.1) group) ≤ most.nesting
-    → most_joins (map (λ b. b.1) group) ≤ most.operators → AreBound most (map bound_of group)
+    → most_joins (map (λ b. b.1) group) ≤ most.operators → AreBindingTrees most (map bound_of group)
 group_fits most [] deep many = tt
 group_fits most (b ∷ bs) deep many =
     (fits most b.1 (omega arith) (omega arith), group_fits most bs (omega arith) (omega arith))
@@ -274,16 +274,16 @@ group_fits most (b ∷ bs) deep many =
 shown_fits : (most : Limits) (shown : List (Term × Option (List ℕ)))
     → deepest (map (λ s. s.0) shown) ≤ most.nesting
     → most_joins (map (λ s. s.0) shown) ≤ most.operators
-    → grammar.AreShown most (map shown_of shown)
+    → grammar.AreShowTrees most (map shown_of shown)
 shown_fits most [] deep many = tt
 shown_fits most (s ∷ ss) deep many =
     (fits most s.0 (omega arith) (omega arith), shown_fits most ss (omega arith) (omega arith))
 
 one_fits : (most : Limits) (v : Term) → deepest (v ∷ []) ≤ most.nesting
-    → most_joins (v ∷ []) ≤ most.operators → IsExpression most (tree_of v)
+    → most_joins (v ∷ []) ≤ most.operators → IsExpressionTree most (tree_of v)
 one_fits most v deep many = fits most v (omega arith) (omega arith)
 
-item_fits : (most : Limits) (c : Clause) → IsWritten c → IsWithin most c → IsItem most (item_of c)
+item_fits : (most : Limits) (c : Clause) → IsWritable c → KeepsLimits most c → IsItemTree most (item_of c)
 item_fits most (Binding recursive group) h w =
     let l = length-map group bound_of in
     let some = h.0 in
@@ -299,8 +299,8 @@ item_fits most (Showing hidden shown) h w =
     (omega arith, shown_fits most shown w.shallow w.few)
 item_fits most (Including path) h w = h
 
-pub items_fit : (most : Limits) (cs : List Clause) → AreWritten cs → AreWithin most cs
-    → AreItems most (map item_of cs)
+pub items_fit : (most : Limits) (cs : List Clause) → AreWritable cs → KeepLimits most cs
+    → AreItemTrees most (map item_of cs)
 items_fit most [] h w = tt
 items_fit most (c ∷ cs) h w = (item_fits most c h.0 w.0, items_fit most cs h.1 w.1)
 
@@ -327,7 +327,7 @@ record IsWider (a b : Limits) : Type 0 where
   names : a.names ≤ b.names
   parameters : a.parameters ≤ b.parameters
 
-within_wider : (a b : Limits) → IsWider a b → (cs : List Clause) → AreWithin a cs → AreWithin b cs
+within_wider : (a b : Limits) → IsWider a b → (cs : List Clause) → KeepLimits a cs → KeepLimits b cs
 within_wider a b h [] w = tt
 within_wider a b h (c ∷ cs) w =
     let w1 = w.0.shallow in
@@ -347,7 +347,7 @@ within_wider a b h (c ∷ cs) w =
       within_wider a b h cs w.1,
     )
 
-pub is_enough : (cs : List Clause) → AreWithin (enough cs) cs
+pub is_enough : (cs : List Clause) → KeepLimits (enough cs) cs
 is_enough [] = tt
 is_enough (c ∷ cs) =
     let wider : IsWider (enough cs) (widened (enough cs) c) = record { nesting = omega arith; operators = omega arith; names = omega arith; parameters = omega arith } in (

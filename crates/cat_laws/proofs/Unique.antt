@@ -18,8 +18,8 @@ use Rattle.cat_tokens.specs.declared.lexer.Front.{Front}
 use Rattle.cat_tokens.specs.declared.lexer.Front.TheVariants as fronts
 use Rattle.cat_tokens.specs.Tokens.{TokenAt}
 use Rattle.cat_tokens.specs.Words.{word_token}
-use Rattle.cat_tokens.specs.Lexer.{is_layout, is_name_byte, ends_name, comment_front, quoted_front, word_front, sign_token, sign_front, front, after_front, tokens_from, lexed}
-use Rattle.cat_laws.specs.Tokens.{IsWord, is_sign, Spells, Word, String, Sign, Inversion, Plusses, begins_line_comment, begins_gap, IsGap, Blank, Comment, Line, IsLongest, SpellsNone, IsLexeme, Spelled, NoToken, OpenComment, OpenString, Piece, Gap, Lexeme, text_of, ArePieces, tokens_at, IsCut}
+use Rattle.cat_tokens.specs.Lexer.{is_layout, is_name_byte, ends_name, comment_front, quoted_front, word_front, sign_token, sign_front, front, after_front, tokens_from, lexing}
+use Rattle.cat_laws.specs.Tokens.{IsWord, is_sign, Spells, Word, String, Sign, Inversion, Plusses, begins_line_comment, begins_gap, IsModelGap, Blank, Comment, Line, IsLongest, SpellsNone, IsModelLexeme, Spelled, NoToken, OpenComment, OpenString, ModelPiece, Gap, Lexeme, text_of, ArePieces, tokens_at, IsModelCut}
 use Rattle.cat_laws.proofs.Named.{letter_in_name}
 use Rattle.cat_laws.proofs.Printed.{front_quote}
 use Rattle.cat_laws.proofs.Cuts.{three_bytes, not_sign, skipped, lexeme_bytes}
@@ -91,7 +91,7 @@ line_length_is s rest each ends =
     (λ k lt. ap is_line_end (get_or_append_left s rest 0 k lt) ∙ each k lt)
     (λ lt. ap is_line_end (seam s rest) ∙ ends (omega arith))
 
-front_gap : (s rest : List ℕ) → IsGap s rest → front (s ++ rest) ≡ fronts.Layout (length s)
+front_gap : (s rest : List ℕ) → IsModelGap s rest → front (s ++ rest) ≡ fronts.Layout (length s)
 front_gap s rest (Blank b layout is) =
     ap (λ (xs : List ℕ). front (xs ++ rest)) is ∙ front_blank b rest layout
     ∙ ap (λ (xs : List ℕ). fronts.Layout (length xs)) (sym is)
@@ -107,7 +107,7 @@ front_gap (b ∷ bs) rest (Line begins each ends) =
     ∙ ap (λ (xs : List ℕ). fronts.Layout (position_or_len is_line_end xs)) (sym are)
     ∙ ap (λ (n : ℕ). fronts.Layout n) (line_length_is (b ∷ bs) rest each ends)
 
-gap_bytes : (s rest : List ℕ) → IsGap s rest → 0 < length s
+gap_bytes : (s rest : List ℕ) → IsModelGap s rest → 0 < length s
 gap_bytes s rest (Blank b layout is) =
     let l = ap length is in
     omega arith
@@ -296,7 +296,7 @@ open_comment_front (b ∷ bs) begins none =
 at_end : (s rest : List ℕ) → rest ≡ [] → s ++ rest ≡ s
 at_end s rest e = ap (λ (xs : List ℕ). s ++ xs) e ∙ append-nil s
 
-front_lexeme : (t : Token) (s rest : List ℕ) → IsLexeme t s rest
+front_lexeme : (t : Token) (s rest : List ℕ) → IsModelLexeme t s rest
     → front (s ++ rest) ≡ fronts.Lexeme t (length s)
 front_lexeme t s rest (Spelled gap spells longest) = spelled_front t s rest gap longest spells
 front_lexeme t s rest (NoToken b quote is gap none k) =
@@ -347,7 +347,7 @@ lexeme_turn n t (b ∷ bs) rest some e =
     (bs ++ rest) (omega arith)
     ∙ ap (tokens_from 0 (n + suc (length bs))) (drop_at bs rest (length bs) refl))
 
-of_pieces : (n : ℕ) (ps : List Piece) → ArePieces ps → tokens_from 0 n (text_of ps) ≡ tokens_at n ps
+of_pieces : (n : ℕ) (ps : List ModelPiece) → ArePieces ps → tokens_from 0 n (text_of ps) ≡ tokens_at n ps
 of_pieces n [] h = end_tokens n
 of_pieces n (Gap s ∷ ps) h =
     gap_turn n s (text_of ps) (gap_bytes s (text_of ps) h.0) (front_gap s (text_of ps) h.0)
@@ -358,5 +358,5 @@ of_pieces n (Lexeme t s ∷ ps) h =
     ∙ ap (λ (qs : List TokenAt). record { token = t; offset = n } ∷ qs)
     (of_pieces (n + length s) ps h.1)
 
-pub only_cut : (bytes : List ℕ) (ps : List TokenAt) → IsCut bytes ps → lexed bytes ≡ ps
-only_cut bytes ps c = ap lexed (sym c.whole) ∙ of_pieces 0 c.pieces c.fine ∙ c.tokens
+pub only_cut : (bytes : List ℕ) (ps : List TokenAt) → IsModelCut bytes ps → lexing bytes ≡ ps
+only_cut bytes ps c = ap lexing (sym c.whole) ∙ of_pieces 0 c.pieces c.fine ∙ c.tokens

@@ -13,7 +13,8 @@ IsPath (tokens.Quoted path) = has_no_effect path ≡ true
 IsPath _ = ⊥
 
 -- some text goes on with this token behind these
-pub record GoesOn (most : Limits) (form : Form) (before : List Token) (here : Token) : Type 0 where
+pub record TextGoesOn (most : Limits) (form : Form) (before : List Token) (here : Token)
+    : Type 0 where
   pub rest : List Token
   pub items : List Clause
   pub text : Means most form (before ++ here ∷ rest) items

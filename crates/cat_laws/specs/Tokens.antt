@@ -48,12 +48,12 @@ abbrev pub begins_gap : List ℕ → Bool
 begins_gap bs = is_layout (slice_index bs 0) || (begins_comment bs || begins_line_comment bs)
 
 -- a blank or a line end, a comment, or a comment to the end of its line
-pub data IsGap (s rest : List ℕ) : Type 0 where
-  Blank : (b : ℕ) → is_layout b ≡ true → s ≡ b ∷ [] → IsGap s rest
-  Comment : BeginsWithComment (s ++ rest) (length s) → IsGap s rest
+pub data IsModelGap (s rest : List ℕ) : Type 0 where
+  Blank : (b : ℕ) → is_layout b ≡ true → s ≡ b ∷ [] → IsModelGap s rest
+  Comment : BeginsWithComment (s ++ rest) (length s) → IsModelGap s rest
   Line : begins_line_comment s ≡ true
       → ((k : ℕ) → k < length s → is_line_end (slice_index s k) ≡ false)
-      → (0 < length rest → is_line_end (slice_index rest 0) ≡ true) → IsGap s rest
+      → (0 < length rest → is_line_end (slice_index rest 0) ≡ true) → IsModelGap s rest
 
 -- no longer beginning of the text spells a token
 abbrev pub IsLongest : List ℕ → List ℕ → Type 0
@@ -66,36 +66,36 @@ abbrev pub SpellsNone : List ℕ → Type 0
 SpellsNone text = (front others : List ℕ) (t : Token) → front ++ others ≡ text → Spells front t → ⊥
 
 -- the token of a piece where no gap begins
-pub data IsLexeme (t : Token) (s rest : List ℕ) : Type 0 where
+pub data IsModelLexeme (t : Token) (s rest : List ℕ) : Type 0 where
   -- the longest piece that spells a token
-  Spelled : begins_gap (s ++ rest) ≡ false → Spells s t → IsLongest s rest → IsLexeme t s rest
+  Spelled : begins_gap (s ++ rest) ≡ false → Spells s t → IsLongest s rest → IsModelLexeme t s rest
   -- a byte that begins none
   NoToken : (b : ℕ) → is_quote b ≡ false → s ≡ b ∷ [] → begins_gap (s ++ rest) ≡ false
       → SpellsNone (s ++ rest)
-      → t ≡ tokens.Broken rules.Token → IsLexeme t s rest
+      → t ≡ tokens.Broken rules.Token → IsModelLexeme t s rest
   -- a comment that does not end, through the end of the text
   OpenComment : begins_comment s ≡ true → ((n : ℕ) → BeginsWithComment s n → ⊥) → rest ≡ []
-      → t ≡ tokens.Broken rules.Syntax → IsLexeme t s rest
+      → t ≡ tokens.Broken rules.Syntax → IsModelLexeme t s rest
   -- a string that does not end
   OpenString : (inside : List ℕ) → LacksQuote inside → s ≡ 34 ∷ inside → rest ≡ []
-      → t ≡ tokens.Broken rules.Syntax → IsLexeme t s rest
+      → t ≡ tokens.Broken rules.Syntax → IsModelLexeme t s rest
 
-pub data Piece : Type 0 where
-  Gap : (text : List ℕ) → Piece
-  Lexeme : (token : Token) (text : List ℕ) → Piece
+pub data ModelPiece : Type 0 where
+  Gap : (text : List ℕ) → ModelPiece
+  Lexeme : (token : Token) (text : List ℕ) → ModelPiece
 
-abbrev pub text_of : List Piece → List ℕ
+abbrev pub text_of : List ModelPiece → List ℕ
 text_of [] = []
 text_of (Gap s ∷ ps) = s ++ text_of ps
 text_of (Lexeme t s ∷ ps) = s ++ text_of ps
 
-abbrev pub ArePieces : List Piece → Type 0
+abbrev pub ArePieces : List ModelPiece → Type 0
 ArePieces [] = Unit {0}
-ArePieces (Gap s ∷ ps) = IsGap s (text_of ps) × ArePieces ps
-ArePieces (Lexeme t s ∷ ps) = IsLexeme t s (text_of ps) × ArePieces ps
+ArePieces (Gap s ∷ ps) = IsModelGap s (text_of ps) × ArePieces ps
+ArePieces (Lexeme t s ∷ ps) = IsModelLexeme t s (text_of ps) × ArePieces ps
 
 -- the tokens of pieces that begin at an offset, and the end
-abbrev pub tokens_at : ℕ → List Piece → List TokenAt
+abbrev pub tokens_at : ℕ → List ModelPiece → List TokenAt
 tokens_at n [] = record { token = tokens.End; offset = n } ∷ []
 tokens_at n (Gap s ∷ ps) = tokens_at (n + length s) ps
 tokens_at n (Lexeme t s ∷ ps) = record { token = t; offset = n } ∷ tokens_at (n + length s) ps
@@ -103,13 +103,13 @@ tokens_at n (Lexeme t s ∷ ps) = record { token = t; offset = n } ∷ tokens_at
 -- ---- a whole text
 
 -- the text is cut into gaps and lexemes, of which these are the tokens
-pub record IsCut (bytes : List ℕ) (ps : List TokenAt) : Type 0 where
-  pub pieces : List Piece
+pub record IsModelCut (bytes : List ℕ) (ps : List TokenAt) : Type 0 where
+  pub pieces : List ModelPiece
   pub fine : ArePieces pieces
   pub whole : text_of pieces ≡ bytes
   pub tokens : tokens_at 0 pieces ≡ ps
 
 -- each token begins behind the one before it, from this offset on
-abbrev pub AreRising : ℕ → List TokenAt → Type 0
-AreRising n [] = Unit {0}
-AreRising n (p ∷ ps) = (n ≤ p.offset) × AreRising (p.offset + 1) ps
+abbrev pub AreModelRising : ℕ → List TokenAt → Type 0
+AreModelRising n [] = Unit {0}
+AreModelRising n (p ∷ ps) = (n ≤ p.offset) × AreModelRising (p.offset + 1) ps

@@ -2,7 +2,7 @@
 use Rattle.std.specs.Prelude.{◌≡◌, ℕ, ◌+◌, ◌<◌, ◌≤◌, max, List, [], ◌∷◌, map, Bool, true, false, Option, Some, None, length, slice_index}
 use Rattle.cat_tokens.specs.declared.token.Token.TheVariants as tokens
 use Rattle.text_values.specs.ModelValue.{Term, Terms, Atom, AllEvents, EmptyRelation, EmptySet, Join, Mark, Not, On, Apply, NoTerm, OneMore, Clause, Binding, Function, Checking, Flagging, Showing, Including}
-use Rattle.cat_tokens.specs.Lexer.{is_name_byte, lexed}
+use Rattle.cat_tokens.specs.Lexer.{is_name_byte, lexing}
 use Rattle.text_values.specs.Letters.{is_letter}
 use Rattle.cat_tokens.specs.Words.{word_token}
 use Rattle.cat_grammar.specs.declared.form.Form.TheVariants as forms
@@ -42,39 +42,39 @@ abbrev pub AreNames : List (List ℕ) → Type 0
 AreNames [] = Unit {0}
 AreNames (n ∷ ns) = IsName n × AreNames ns
 
-abbrev pub IsLabel : Option (List ℕ) → Type 0
-IsLabel None = Unit {0}
-IsLabel (Some n) = IsName n
+abbrev pub IsOptionalLabel : Option (List ℕ) → Type 0
+IsOptionalLabel None = Unit {0}
+IsOptionalLabel (Some n) = IsName n
 
 abbrev pub AreBindings : List (List ℕ × Term) → Type 0
 AreBindings [] = Unit {0}
 AreBindings (b ∷ bs) = IsName b.0 × IsTerm b.1 × AreBindings bs
 
-abbrev pub AreShown : List (Term × Option (List ℕ)) → Type 0
-AreShown [] = Unit {0}
-AreShown (s ∷ ss) = IsTerm s.0 × IsLabel s.1 × AreShown ss
+abbrev pub AreShownTerms : List (Term × Option (List ℕ)) → Type 0
+AreShownTerms [] = Unit {0}
+AreShownTerms (s ∷ ss) = IsTerm s.0 × IsOptionalLabel s.1 × AreShownTerms ss
 
 -- an item with one binding, parameter or shown expression or more, and no file but those without
 -- effect
-abbrev pub IsWritten : Clause → Type 0
-IsWritten (Binding recursive group) = (0 < length group) × AreBindings group
-IsWritten (Function n parameters body) =
+abbrev pub IsWritable : Clause → Type 0
+IsWritable (Binding recursive group) = (0 < length group) × AreBindings group
+IsWritable (Function n parameters body) =
     IsName n × (0 < length parameters) × AreNames parameters × IsTerm body
-IsWritten (Checking check label) = IsTerm check.body × IsLabel label
-IsWritten (Flagging check label) = IsTerm check.body × IsName label
-IsWritten (Showing hidden shown) = (0 < length shown) × AreShown shown
-IsWritten (Including path) = has_no_effect path ≡ true
+IsWritable (Checking check label) = IsTerm check.body × IsOptionalLabel label
+IsWritable (Flagging check label) = IsTerm check.body × IsName label
+IsWritable (Showing hidden shown) = (0 < length shown) × AreShownTerms shown
+IsWritable (Including path) = has_no_effect path ≡ true
 
-abbrev pub AreWritten : List Clause → Type 0
-AreWritten [] = Unit {0}
-AreWritten (c ∷ cs) = IsWritten c × AreWritten cs
+abbrev pub AreWritable : List Clause → Type 0
+AreWritable [] = Unit {0}
+AreWritable (c ∷ cs) = IsWritable c × AreWritable cs
 
 -- the bytes are a text of this item, or of a model with these items, where limits are wide enough
 abbrev pub IsTextOfItem : List ℕ → Clause → Type 0
-IsTextOfItem bytes c = (most : Limits) × Means most forms.Item (tokens_of (lexed bytes)) (c ∷ [])
+IsTextOfItem bytes c = (most : Limits) × Means most forms.Item (tokens_of (lexing bytes)) (c ∷ [])
 
 abbrev pub IsTextOfModel : List ℕ → List Clause → Type 0
-IsTextOfModel bytes cs = (most : Limits) × Means most forms.Model (tokens_of (lexed bytes)) cs
+IsTextOfModel bytes cs = (most : Limits) × Means most forms.Model (tokens_of (lexing bytes)) cs
 
 -- ---- the limits of the format
 
@@ -145,15 +145,15 @@ parameter_count (Function n parameters body) = length parameters
 parameter_count c = 0
 
 -- the item keeps these limits when it is printed
-pub record IsWithin (most : Limits) (c : Clause) : Type 0 where
+pub record KeepsLimits (most : Limits) (c : Clause) : Type 0 where
   pub shallow : deepest (bodies c) ≤ most.nesting
   pub few : most_joins (bodies c) ≤ most.operators
   pub names : name_count c ≤ most.names
   pub parameters : parameter_count c ≤ most.parameters
 
-abbrev pub AreWithin : Limits → List Clause → Type 0
-AreWithin most [] = Unit {0}
-AreWithin most (c ∷ cs) = IsWithin most c × AreWithin most cs
+abbrev pub KeepLimits : Limits → List Clause → Type 0
+KeepLimits most [] = Unit {0}
+KeepLimits most (c ∷ cs) = KeepsLimits most c × KeepLimits most cs
 
 -- no text is longer
 abbrev pub most_bytes : ℕ
@@ -162,13 +162,13 @@ most_bytes = 65536
 -- the printed item is no longer than a text may be, and keeps the limits
 pub record IsItemWithinLimits (c : Clause) : Type 0 where
   pub short : length (printed_item c) ≤ most_bytes
-  pub fits : IsWithin limits c
+  pub fits : KeepsLimits limits c
 
 -- so the printed model, with no more items than a model may have
 pub record IsModelWithinLimits (cs : List Clause) : Type 0 where
   pub short : length (printed_model cs) ≤ most_bytes
   pub few : length cs ≤ limits.items
-  pub fits : AreWithin limits cs
+  pub fits : KeepLimits limits cs
 
 -- ---- what was read before
 

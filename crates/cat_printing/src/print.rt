@@ -1,7 +1,7 @@
 //! Prints items.
 
 ghost use Rattle.std.specs.Prelude.{◌≡◌, ◌++◌, map, OnOk, IfOk, codes};
-ghost use Rattle.text_values.specs.ModelValues.{term_of, binding_of, shown_of, check_of, clause_of, clauses_of};
+ghost use Rattle.text_values.specs.ModelValues.{term_of, binding_of, shown_term, check_of, clause_of, clauses_of};
 ghost use Rattle.cat_printing.specs.Printing.{infix_text, postfix_text, is_binary, is_compound, printed_term, label_text, optional_label, word_text, check_text, recursion_text, binding_text, show_text, shown_text, printed_item, printed_model};
 ghost use Rattle.text_values.specs.Joined.{joined, bracketed};
 
@@ -242,7 +242,7 @@ fn put_function(
 }
 
 fn put_shown_expression(text: &mut Vec<u8>, shown: &ShownExpression) -> Result<(), AllocError>
-    ensures { OnOk result (text.new.items ≡ text.old.items ++ shown_text (shown_of shown.now)) }
+    ensures { OnOk result (text.new.items ≡ text.old.items ++ shown_text (shown_term shown.now)) }
 {
     put_expression(text, &shown.body)?;
     put_optional_label(text, &shown.label)
@@ -251,7 +251,7 @@ fn put_shown_expression(text: &mut Vec<u8>, shown: &ShownExpression) -> Result<(
 // Appends what is shown, with commas between.
 fn put_shown(text: &mut Vec<u8>, shown: &[ShownExpression]) -> Result<(), AllocError>
     ensures { OnOk result (text.new.items
-        ≡ text.old.items ++ joined (codes ", ") (map shown_text (map shown_of shown.now))) }
+        ≡ text.old.items ++ joined (codes ", ") (map shown_text (map shown_term shown.now))) }
 {
     for (i, one) in shown.iter().enumerate() {
         put_between(text, b", ", i)?;
@@ -263,7 +263,7 @@ fn put_shown(text: &mut Vec<u8>, shown: &[ShownExpression]) -> Result<(), AllocE
 fn put_show(text: &mut Vec<u8>, hidden: bool, shown: &[ShownExpression]) -> Result<(), AllocError>
     ensures { OnOk result (text.new.items
         ≡ text.old.items ++ (show_text hidden
-        ++ joined (codes ", ") (map shown_text (map shown_of shown.now)))) }
+        ++ joined (codes ", ") (map shown_text (map shown_term shown.now)))) }
 {
     put_bytes(
         text,

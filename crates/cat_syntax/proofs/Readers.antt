@@ -17,11 +17,11 @@ use Rattle.cat_tokens.specs.declared.token.Token.{Token}
 use Rattle.cat_tokens.specs.declared.token.Token.TheVariants.{End}
 use Rattle.text_values.specs.ModelValue.{Clause}
 use Rattle.cat_tokens.specs.Tokens.{tokens_of}
-use Rattle.cat_tokens.specs.Lexer.{front, after_front, tokens_from, lexed}
-use Rattle.cat_syntax.specs.Faults.{IsMemory}
+use Rattle.cat_tokens.specs.Lexer.{front, after_front, tokens_from, lexing}
+use Rattle.cat_syntax.specs.Faults.{IsCatMemory}
 use Rattle.text_values.specs.ModelValues.{clause_of, clauses_of}
 use Rattle.cat_syntax.specs.ReadingTexts.{reading, ReadsTo}
-use Rattle.cat_syntax.specs.Reads.{Reads, FaultAt, IsLong, InText, IsFaultOf}
+use Rattle.cat_syntax.specs.Reads.{Reads, FaultAt, IsLong, InText, IsCatFaultOf}
 use Rattle.cat_syntax.proofs.Texts.{too_long, fits}
 use Rattle.cat_grammar.proofs.Groups.{length-items_meaning}
 use Rattle.cat_grammar.proofs.Outcomes.{no_fault, fault_found, items_found, items_only, refused_is, not_both}
@@ -56,22 +56,22 @@ module _ (form : Form) (bytes : List ℕ) where
           (sym (too_long form bytes long) ∙ h))
       by_length (inr le) =
           let e = ends_last 0 0 bytes in
-          record { short = le; means = items_found form (lexed bytes) e.0 e.1 (clauses_of v.items) (sym (fits form bytes le) ∙ h) }
+          record { short = le; means = items_found form (lexing bytes) e.0 e.1 (clauses_of v.items) (sym (fits form bytes le) ∙ h) }
   found (Err e) h = tt
 
   pub only : (r : Result (Vec Item Global) CatFault) → ReadsTo r (reading form bytes)
       → (v : List Clause) → Reads form bytes v
-      → MatchResult r (λ w. clauses_of w.items ≡ v) IsMemory
+      → MatchResult r (λ w. clauses_of w.items ≡ v) IsCatMemory
   only (Ok w) h v m =
-      items_only form (lexed bytes) (clauses_of w.items) v (sym (fits form bytes m.short) ∙ h)
+      items_only form (lexing bytes) (clauses_of w.items) v (sym (fits form bytes m.short) ∙ h)
       m.means
   only (Err (faults.OutOfMemory e)) h v m = tt
   only (Err (faults.Refused rule offset)) h v m =
-      no_fault form (lexed bytes) v rule offset m.means (fault_found form (lexed bytes) rule offset
+      no_fault form (lexing bytes) v rule offset m.means (fault_found form (lexing bytes) rule offset
       (sym (fits form bytes m.short) ∙ h))
 
   pub fault : (r : Result (Vec Item Global) CatFault) → ReadsTo r (reading form bytes)
-      → IfErr r (IsFaultOf form bytes)
+      → IfErr r (IsCatFaultOf form bytes)
   fault (Ok v) h = tt
   fault (Err (faults.OutOfMemory e)) h = tt
   fault (Err (faults.Refused rule offset)) h = by_length (cases_lt 65536 (length bytes))
@@ -81,7 +81,7 @@ module _ (form : Form) (bytes : List ℕ) where
           let e : (rule, offset) ≡ (TooLong, 65536) = refused_is (rule, offset) (TooLong, 65536) (sym h ∙ too_long form bytes long) in
           IsLong long (ap (λ (p : CatRule × ℕ). p.0) e) (ap (λ (p : CatRule × ℕ). p.1) e)
       by_length (inr le) =
-          InText le (fault_found form (lexed bytes) rule offset (sym (fits form bytes le) ∙ h))
+          InText le (fault_found form (lexing bytes) rule offset (sym (fits form bytes le) ∙ h))
 
 -- ---- one item
 

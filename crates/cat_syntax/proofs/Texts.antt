@@ -15,7 +15,7 @@ use Rattle.cat_tokens.specs.declared.token.Token.{Token}
 use Rattle.cat_tokens.specs.declared.token.Token.TheVariants as tokens
 use Rattle.cat_tokens.specs.declared.lexer.Front.{Front}
 use Rattle.cat_tokens.specs.declared.lexer.Front.TheVariants.{Layout, Lexeme}
-use Rattle.cat_tokens.specs.Lexer.{front, tokens_from, lexed}
+use Rattle.cat_tokens.specs.Lexer.{front, tokens_from, lexing}
 use Rattle.cat_grammar.specs.Grammar.{Limits, limits}
 use Rattle.cat_grammar.specs.ItemMachine.{State, Fault, step, start}
 use Rattle.cat_syntax.specs.ReadingItems.{Fails}
@@ -23,7 +23,7 @@ use Rattle.cat_syntax.specs.declared.items.Parser.{Parser}
 use Rattle.cat_syntax.specs.ParserState.{state_of}
 use Rattle.cat_syntax.specs.ReadingTexts.{reading, FailsAt, StepsAt}
 use Rattle.cat_tokens.proofs.Lexed.{layout_turn, lexeme_turn, at_end}
-use Rattle.cat_grammar.specs.Running.{Ran, with_offset, and_then, run, items_of}
+use Rattle.cat_grammar.specs.Running.{ItemsResult, with_offset, and_then, run, items_of}
 
 -- one token, at its offset or at the offset before
 module _ (before offset : ℕ) (made : Result State Fault) where
@@ -42,7 +42,7 @@ module _ (before offset : ℕ) (made : Result State Fault) where
 
 -- the reader's turns
 module _ (most : Limits) (form : Form) (bytes : List ℕ) (before : ℕ) (s : State) (p n q : ℕ)
-    (all : Ran) (so_far : all ≡ run most form before s (tokens_from 0 p (drop p bytes))) where
+    (all : ItemsResult) (so_far : all ≡ run most form before s (tokens_from 0 p (drop p bytes))) where
   whole_rest : front (take (length bytes - p) (drop p bytes)) ≡ front (drop p bytes)
   whole_rest =
       ap front (take_all (length bytes - p) (drop p bytes)
@@ -61,7 +61,7 @@ module _ (most : Limits) (form : Form) (bytes : List ℕ) (before : ℕ) (s : St
       → all ≡ run most form p s' (tokens_from 0 q (drop q bytes))
   lexeme_run f t s' lt is e k goes =
       so_far ∙ ap (run most form before s) (lexeme_turn bytes p n q lt is f t (e ∙ whole_rest) k)
-      ∙ ap (λ (r : Ran). and_then r (λ x. run most form p x (tokens_from 0 q (drop q bytes))))
+      ∙ ap (λ (r : ItemsResult). and_then r (λ x. run most form p x (tokens_from 0 q (drop q bytes))))
       goes
 
   pub lexeme_fails : (f : Front) (t : Token) (d : CatFault) → p < length bytes
@@ -71,21 +71,21 @@ module _ (most : Limits) (form : Form) (bytes : List ℕ) (before : ℕ) (s : St
   lexeme_fails f t (faults.Refused rule offset) lt e k fails =
       let r = p + min (max n 1) (length bytes - p) in
       so_far ∙ ap (run most form before s) (lexeme_turn bytes p n r lt refl f t (e ∙ whole_rest) k)
-      ∙ ap (λ (y : Ran). and_then y (λ z. run most form p z (tokens_from 0 r (drop r bytes))))
+      ∙ ap (λ (y : ItemsResult). and_then y (λ z. run most form p z (tokens_from 0 r (drop r bytes))))
       fails
 
   pub end_run : (s' : State) → p ≤ length bytes → length bytes ≤ p
       → with_offset before p (step most form s tokens.End) ≡ Ok s' → all ≡ Ok s'
   end_run s' low high goes =
       so_far ∙ ap (run most form before s) (at_end bytes p low high)
-      ∙ ap (λ (r : Ran). and_then r (λ x. Ok x)) goes
+      ∙ ap (λ (r : ItemsResult). and_then r (λ x. Ok x)) goes
 
   pub end_fails : (d : CatFault) → p ≤ length bytes → length bytes ≤ p
       → FailsAt d (with_offset before p (step most form s tokens.End)) → FailsAt d all
   end_fails (faults.OutOfMemory x) low high fails = tt
   end_fails (faults.Refused rule offset) low high fails =
       so_far ∙ ap (run most form before s) (at_end bytes p low high)
-      ∙ ap (λ (r : Ran). and_then r (λ x. Ok x)) fails
+      ∙ ap (λ (r : ItemsResult). and_then r (λ x. Ok x)) fails
 
   pub end_steps : (r : Result (Unit {0}) CatFault) (parser : Parser) → p ≤ length bytes
       → length bytes ≤ p → StepsAt r parser (with_offset before p (step most form s tokens.End))
@@ -95,8 +95,8 @@ module _ (most : Limits) (form : Form) (bytes : List ℕ) (before : ℕ) (s : St
 
 -- the parser before a text stands at the start
 pub at_start : (form f : Form) (s : State) (bytes : List ℕ) → f ≡ form → s ≡ start form
-    → run limits f 0 s (lexed bytes) ≡ run limits form 0 (start form) (lexed bytes)
-at_start form f s bytes forms states = λ i. run limits (forms i) 0 (states i) (lexed bytes)
+    → run limits f 0 s (lexing bytes) ≡ run limits form 0 (start form) (lexing bytes)
+at_start form f s bytes forms states = λ i. run limits (forms i) 0 (states i) (lexing bytes)
 
 -- the length is looked at first
 pub too_long : (form : Form) (bytes : List ℕ) → 65536 < length bytes
@@ -105,19 +105,19 @@ unfolding reading
 too_long form bytes lt =
     ap
     (λ (b : Bool). if b then Err (TooLong, 65536)
-    else items_of (run limits form 0 (start form) (lexed bytes)))
+    else items_of (run limits form 0 (start form) (lexing bytes)))
     (lt-ltb 65536 (length bytes) lt)
 
 pub fits : (form : Form) (bytes : List ℕ) → length bytes ≤ 65536
-    → reading form bytes ≡ items_of (run limits form 0 (start form) (lexed bytes))
+    → reading form bytes ≡ items_of (run limits form 0 (start form) (lexing bytes))
 unfolding reading
 fits form bytes le =
     ap
     (λ (b : Bool). if b then Err (TooLong, 65536)
-    else items_of (run limits form 0 (start form) (lexed bytes)))
+    else items_of (run limits form 0 (start form) (lexing bytes)))
     (le-ltb 65536 (length bytes) le)
 
 pub refused : (form : Form) (bytes : List ℕ) (d : CatFault) → length bytes ≤ 65536
-    → FailsAt d (run limits form 0 (start form) (lexed bytes)) → FailsAt d (reading form bytes)
+    → FailsAt d (run limits form 0 (start form) (lexing bytes)) → FailsAt d (reading form bytes)
 refused form bytes (faults.OutOfMemory x) le fails = tt
 refused form bytes (faults.Refused rule offset) le fails = fits form bytes le ∙ ap items_of fails

@@ -5,16 +5,16 @@ use Rattle.cat_syntax.specs.declared.fault.CatFault.TheVariants.{Refused, OutOfM
 use Rattle.cat_tokens.specs.declared.rule.CatRule.TheVariants.{TooLong}
 
 -- the offset is at most this
-abbrev pub IsWithin : ℕ → CatFault → Type 0
-IsWithin n (Refused rule offset) = offset ≤ n
-IsWithin n (OutOfMemory e) = Unit {0}
+abbrev pub HasCatOffset : ℕ → CatFault → Type 0
+HasCatOffset n (Refused rule offset) = offset ≤ n
+HasCatOffset n (OutOfMemory e) = Unit {0}
 
 -- the text is longer than any may be
-abbrev pub IsTooLong : CatFault → Type 0
-IsTooLong (Refused rule offset) = (rule ≡ TooLong) × (offset ≡ 65536)
-IsTooLong (OutOfMemory e) = ⊥
+abbrev pub IsCatTooLong : CatFault → Type 0
+IsCatTooLong (Refused rule offset) = (rule ≡ TooLong) × (offset ≡ 65536)
+IsCatTooLong (OutOfMemory e) = ⊥
 
 -- memory ran out
-abbrev pub IsMemory : CatFault → Type 0
-IsMemory (Refused rule offset) = ⊥
-IsMemory (OutOfMemory e) = Unit {0}
+abbrev pub IsCatMemory : CatFault → Type 0
+IsCatMemory (Refused rule offset) = ⊥
+IsCatMemory (OutOfMemory e) = Unit {0}

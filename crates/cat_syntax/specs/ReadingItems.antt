@@ -12,13 +12,13 @@ use Rattle.cat_syntax.specs.declared.parts.Head.TheVariants as heads
 use Rattle.cat_syntax.specs.declared.parts.Part as code_part
 use Rattle.cat_syntax.specs.declared.parts.Part.TheVariants as parts
 use Rattle.cat_grammar.specs.ItemMachine as machine
-use Rattle.text_values.specs.ModelValues.{term_of, binding_of, shown_of, clauses_of}
+use Rattle.text_values.specs.ModelValues.{term_of, binding_of, shown_term, clauses_of}
 
 abbrev pub group_of : code_group.Group → machine.Group
 group_of g = record { recursive = g.recursive; bindings = map binding_of g.bindings.items }
 
-abbrev pub show_of : ShowHead → machine.Shown
-show_of s = record { hidden = s.hidden; terms = map shown_of s.shown.items }
+abbrev pub show_of : ShowHead → machine.ShownPart
+show_of s = record { hidden = s.hidden; terms = map shown_term s.shown.items }
 
 abbrev pub let_of : code_let.LetPart → machine.LetPart
 let_of lets.Keyword = machine.Keyword

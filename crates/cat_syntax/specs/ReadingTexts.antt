@@ -9,11 +9,11 @@ use Rattle.cat_syntax.specs.declared.fault.CatFault.TheVariants as faults
 use Rattle.cat_grammar.specs.declared.form.Form.{Form}
 use Rattle.cat_syntax.specs.declared.items.Parser.{Parser}
 use Rattle.text_values.specs.declared.model.Item.{Item}
-use Rattle.cat_tokens.specs.Lexer.{lexed}
+use Rattle.cat_tokens.specs.Lexer.{lexing}
 use Rattle.text_values.specs.ModelValue.{Clause}
 use Rattle.cat_grammar.specs.Grammar.{limits}
 use Rattle.cat_grammar.specs.ItemMachine.{start}
-use Rattle.cat_grammar.specs.Running.{Ran, run, items_of}
+use Rattle.cat_grammar.specs.Running.{ItemsResult, run, items_of}
 use Rattle.text_values.specs.ModelValues.{clauses_of}
 use Rattle.cat_syntax.specs.ParserState.{state_of}
 
@@ -21,7 +21,7 @@ use Rattle.cat_syntax.specs.ParserState.{state_of}
 unfoldable pub reading : Form → List ℕ → Result (List Clause) (CatRule × ℕ)
 reading form bytes =
     if nat_lt 65536 (length bytes) then Err (TooLong, 65536)
-    else items_of (run limits form 0 (start form) (lexed bytes))
+    else items_of (run limits form 0 (start form) (lexing bytes))
 
 -- ---- what the code answers
 
@@ -29,7 +29,7 @@ abbrev pub FailsAt : {Y : Type 0} → CatFault → Result Y (CatRule × ℕ) →
 FailsAt (faults.OutOfMemory e) made = Unit {0}
 FailsAt (faults.Refused rule offset) made = made ≡ Err (rule, offset)
 
-abbrev pub StepsAt : Result (Unit {0}) CatFault → Parser → Ran → Type 0
+abbrev pub StepsAt : Result (Unit {0}) CatFault → Parser → ItemsResult → Type 0
 StepsAt (Ok _) p made = made ≡ Ok (state_of p)
 StepsAt (Err e) p made = FailsAt e made
 

@@ -1,14 +1,14 @@
 //! Reads a text.
 
 ghost use Rattle.std.specs.Prelude.{◌≡◌, ℕ, ◌<◌, ◌≤◌, List, [], ◌∷◌, length, IfOk, IfErr, MatchResult};
-ghost use Rattle.cat_syntax.specs.Faults.{IsWithin, IsTooLong, IsMemory};
-ghost use Rattle.cat_tokens.specs.Lexer.{lexed};
+ghost use Rattle.cat_syntax.specs.Faults.{HasCatOffset, IsCatTooLong, IsCatMemory};
+ghost use Rattle.cat_tokens.specs.Lexer.{lexing};
 ghost use Rattle.cat_grammar.specs.Grammar.{limits};
 ghost use Rattle.cat_grammar.specs.ItemMachine.{step};
 ghost use Rattle.cat_syntax.specs.ParserState.{state_of};
 ghost use Rattle.text_values.specs.ModelValues.{clause_of, clauses_of};
 ghost use Rattle.cat_syntax.specs.ReadingTexts.{reading, StepsAt, ReadsTo};
-ghost use Rattle.cat_syntax.specs.Reads.{Reads, IsFaultOf};
+ghost use Rattle.cat_syntax.specs.Reads.{Reads, IsCatFaultOf};
 ghost use Rattle.cat_grammar.specs.Running.{run, with_offset};
 ghost use Rattle.text_values.specs.ModelValue.{Clause};
 
@@ -25,7 +25,7 @@ fn step_at(parser: &mut Parser, token: Token, before: usize, offset: usize) -> R
     ensures steps { StepsAt result parser.new (with_offset before offset
         (step limits parser.old.form (state_of parser.old) token)) }
     ensures form { parser.new.form ≡ parser.old.form }
-    ensures within { IfErr result (λ e. (n : ℕ) → before ≤ n → offset ≤ n → IsWithin n e) }
+    ensures within { IfErr result (λ e. (n : ℕ) → before ≤ n → offset ≤ n → HasCatOffset n e) }
 {
     match parser.step(token) {
         Ok(()) => Ok(()),
@@ -41,8 +41,8 @@ fn step_at(parser: &mut Parser, token: Token, before: usize, offset: usize) -> R
 // Gives the parser the tokens of a text and its end.
 fn read_tokens(alloc: Global, bytes: &[u8], parser: &mut Parser) -> Result<(), CatFault>
     ensures steps { StepsAt result parser.new (run limits parser.old.form 0 (state_of parser.old)
-        (lexed bytes.now)) }
-    ensures within { IfErr result (λ e. IsWithin (length bytes.now) e) }
+        (lexing bytes.now)) }
+    ensures within { IfErr result (λ e. HasCatOffset (length bytes.now) e) }
 {
     let mut before = 0;
     let mut offset = 0;
@@ -66,8 +66,8 @@ fn read_tokens(alloc: Global, bytes: &[u8], parser: &mut Parser) -> Result<(), C
 // The items of a text.
 fn read_all(alloc: Global, bytes: &[u8], form: Form) -> Result<Vec<Item>, CatFault>
     ensures reads { ReadsTo result (reading form bytes.now) }
-    ensures within { IfErr result (λ e. IsWithin (length bytes.now) e) }
-    ensures too_long { 65536 < length bytes.now → MatchResult result (λ _. ⊥) IsTooLong }
+    ensures within { IfErr result (λ e. HasCatOffset (length bytes.now) e) }
+    ensures too_long { 65536 < length bytes.now → MatchResult result (λ _. ⊥) IsCatTooLong }
 {
     if bytes.len() > MAX_BYTES {
         return Err(CatFault::Refused {
@@ -86,10 +86,10 @@ fn read_all(alloc: Global, bytes: &[u8], form: Form) -> Result<Vec<Item>, CatFau
 fn read_text(alloc: Global, bytes: &[u8], form: Form) -> Result<Vec<Item>, CatFault>
     ensures found { IfOk result (λ v. Reads form bytes.now (clauses_of v.items)) }
     ensures only { (v : List Clause) → Reads form bytes.now v
-        → MatchResult result (λ w. clauses_of w.items ≡ v) IsMemory }
-    ensures fault { IfErr result (IsFaultOf form bytes.now) }
-    ensures within { IfErr result (λ e. IsWithin (length bytes.now) e) }
-    ensures too_long { 65536 < length bytes.now → MatchResult result (λ _. ⊥) IsTooLong }
+        → MatchResult result (λ w. clauses_of w.items ≡ v) IsCatMemory }
+    ensures fault { IfErr result (IsCatFaultOf form bytes.now) }
+    ensures within { IfErr result (λ e. HasCatOffset (length bytes.now) e) }
+    ensures too_long { 65536 < length bytes.now → MatchResult result (λ _. ⊥) IsCatTooLong }
 {
     read_all(alloc, bytes, form)
 }
@@ -105,14 +105,14 @@ pub fn read_model(alloc: Global, bytes: &[u8]) -> Result<ModelText, CatFault>
     ensures found { IfOk result (λ m. Reads Form.Model bytes.now (clauses_of m.items.items)) }
     // What means some items is read so, unless memory runs out.
     ensures only { (v : List Clause) → Reads Form.Model bytes.now v
-        → MatchResult result (λ m. clauses_of m.items.items ≡ v) IsMemory }
+        → MatchResult result (λ m. clauses_of m.items.items ≡ v) IsCatMemory }
     // A refusal has the offset of the first token that cannot stand, and the rule that is broken
     // there.
-    ensures fault { IfErr result (IsFaultOf Form.Model bytes.now) }
+    ensures fault { IfErr result (IsCatFaultOf Form.Model bytes.now) }
     // It stands within the text, or at its end.
-    ensures within { IfErr result (λ e. IsWithin (length bytes.now) e) }
+    ensures within { IfErr result (λ e. HasCatOffset (length bytes.now) e) }
     // The length is looked at first.
-    ensures too_long { 65536 < length bytes.now → MatchResult result (λ _. ⊥) IsTooLong }
+    ensures too_long { 65536 < length bytes.now → MatchResult result (λ _. ⊥) IsCatTooLong }
 {
     match read_text(alloc, bytes, Form::Model) {
         Ok(items) => Ok(ModelText { items }),
@@ -128,14 +128,14 @@ pub fn read_item(alloc: Global, bytes: &[u8]) -> Result<Item, CatFault>
     ensures found { IfOk result (λ item. Reads Form.Item bytes.now (clause_of item ∷ [])) }
     // What means an item is read so, unless memory runs out.
     ensures only { (v : Clause) → Reads Form.Item bytes.now (v ∷ [])
-        → MatchResult result (λ item. clause_of item ≡ v) IsMemory }
+        → MatchResult result (λ item. clause_of item ≡ v) IsCatMemory }
     // A refusal has the offset of the first token that cannot stand, and the rule that is broken
     // there.
-    ensures fault { IfErr result (IsFaultOf Form.Item bytes.now) }
+    ensures fault { IfErr result (IsCatFaultOf Form.Item bytes.now) }
     // It stands within the text, or at its end.
-    ensures within { IfErr result (λ e. IsWithin (length bytes.now) e) }
+    ensures within { IfErr result (λ e. HasCatOffset (length bytes.now) e) }
     // The length is looked at first.
-    ensures too_long { 65536 < length bytes.now → MatchResult result (λ _. ⊥) IsTooLong }
+    ensures too_long { 65536 < length bytes.now → MatchResult result (λ _. ⊥) IsCatTooLong }
 {
     let mut items = match read_text(alloc, bytes, Form::Item) {
         Ok(items) => items,

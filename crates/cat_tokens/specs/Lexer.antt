@@ -92,5 +92,5 @@ tokens_from (suc skip) offset (b ∷ bs) = tokens_from skip (offset + 1) bs
 tokens_from zero offset (b ∷ bs) =
     after_front offset (front (b ∷ bs)) (λ skip. tokens_from skip (offset + 1) bs)
 
-abbrev pub lexed : List ℕ → List TokenAt
-lexed bytes = tokens_from 0 0 bytes
+abbrev pub lexing : List ℕ → List TokenAt
+lexing bytes = tokens_from 0 0 bytes

@@ -1,4 +1,4 @@
-//! The tokens of models in the cat language. Read specs/Lexer.antt first: `lexed` is the list of
+//! The tokens of models in the cat language. Read specs/Lexer.antt first: `lexing` is the list of
 //! the tokens of a text with their offsets.
 #![tactic(auto)]
 

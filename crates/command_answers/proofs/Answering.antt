@@ -17,7 +17,7 @@ use Rattle.text_values.specs.TestValue.{Content}
 use Rattle.text_values.specs.ModelValue.{Clause}
 use Rattle.cat_grammar.specs.declared.form.Form.TheVariants.{Model}
 use Rattle.cat_syntax.specs.Faults as models
-use Rattle.cat_syntax.specs.Reads.{Reads, IsFaultOf}
+use Rattle.cat_syntax.specs.Reads.{Reads, IsCatFaultOf}
 use Rattle.cat_syntax.specs.declared.fault.CatFault.{CatFault}
 use Rattle.cat_syntax.specs.declared.fault.CatFault.TheVariants as model_faults
 use Rattle.command_answers.specs.declared.fault.EvalFault.{EvalFault}
@@ -46,21 +46,21 @@ log_said (Err f) test model o name said e h = tt
 -- a refusal of `read_model`, and one of `read_test`
 pub model_refused : (bytes : List ℕ) (e : CatFault) (rule : CatRule) (offset : ℕ)
     → e ≡ model_faults.Refused rule offset
-    → ((v : List Clause) → Reads Model bytes v → models.IsMemory e) → IsFaultOf Model bytes e
+    → ((v : List Clause) → Reads Model bytes v → models.IsCatMemory e) → IsCatFaultOf Model bytes e
     → IsModelRefused bytes rule offset
 model_refused bytes e rule offset is only fault =
     record {
-      unread = λ v h. subst (λ (f : CatFault). models.IsMemory f) is (only v h);
-      fault = subst (λ (f : CatFault). IsFaultOf Model bytes f) is fault;
+      unread = λ v h. subst (λ (f : CatFault). models.IsCatMemory f) is (only v h);
+      fault = subst (λ (f : CatFault). IsCatFaultOf Model bytes f) is fault;
     }
 
 pub test_refused : (bytes : List ℕ) (e : LitmusFault) (rule : LitmusRule) (offset : ℕ)
-    → e ≡ test_faults.Refused rule offset → ((v : Content) → ReadsTest bytes v → tests.IsMemory e)
-    → tests.IsFaultOf (IsTestFault bytes) e → IsTestRefused bytes rule offset
+    → e ≡ test_faults.Refused rule offset → ((v : Content) → ReadsTest bytes v → tests.IsLitmusMemory e)
+    → tests.IsLitmusFaultOf (IsTestFault bytes) e → IsTestRefused bytes rule offset
 test_refused bytes e rule offset is only fault =
     record {
-      unread = λ v h. subst (λ (f : LitmusFault). tests.IsMemory f) is (only v h);
-      fault = subst (λ (f : LitmusFault). tests.IsFaultOf (IsTestFault bytes) f) is fault;
+      unread = λ v h. subst (λ (f : LitmusFault). tests.IsLitmusMemory f) is (only v h);
+      fault = subst (λ (f : LitmusFault). tests.IsLitmusFaultOf (IsTestFault bytes) f) is fault;
     }
 
 -- the line of a refused text is what is said of the report

@@ -8,8 +8,8 @@ use Rattle.thread_runs.specs.declared.value.Value.TheVariants.{Number}
 use Rattle.thread_runs.specs.declared.instruction.Instruction.{Instruction}
 use Rattle.thread_runs.specs.declared.instruction.Instruction.TheVariants.{Immediate, Move, AddImmediate, Operate, Load, LoadIndexed, Store, StoreIndexed, Compare, CompareImmediate, Branch, Jump, Barrier}
 use Rattle.thread_runs.specs.declared.state.State.{State}
-use Rattle.thread_runs.specs.Machine.{after, register, with_register, is_load, cancels, outcome_of, sum_of}
-use Rattle.dataflow.specs.Chains.{Executed, Place, Register, Chain, FeedsOnward, Reaches, IsLastWriter, IsWritten, IsOperand, is_narrow}
+use Rattle.thread_runs.specs.Machine.{state_after, register, with_register, is_load, cancels, outcome_of, sum_of}
+use Rattle.dataflow.specs.Chains.{Executed, Resource, Register, Chain, FeedsOnward, WriteReaches, IsLastWriter, WritesTo, IsOperand, is_narrow}
 use Rattle.dataflow.specs.Law.{state_at, StoresTheSame}
 
 -- both lists, written at the same place
@@ -46,11 +46,11 @@ chosen_same false z x y e = e refl
 -- load
 one_step : (i : Instruction) (v w : Value) (t u : State) (r : ℕ)
     → length t.registers ≡ length u.registers
-    → ((IsWritten i (Register r) → ⊥) → register t r ≡ register u r)
-    → (IsWritten i (Register r) → IsTrue (is_narrow i) → (a : ℕ) → IsOperand i (Register a)
+    → ((WritesTo i (Register r) → ⊥) → register t r ≡ register u r)
+    → (WritesTo i (Register r) → IsTrue (is_narrow i) → (a : ℕ) → IsOperand i (Register a)
     → register t a ≡ register u a)
-    → (IsWritten i (Register r) → IsTrue (is_load i) → v ≡ w)
-    → register (after i v t) r ≡ register (after i w u) r
+    → (WritesTo i (Register r) → IsTrue (is_load i) → v ≡ w)
+    → register (state_after i v t) r ≡ register (state_after i w u) r
 one_step (Immediate d n) v w t u r long other operands own =
     register_same t u d r _ _ long (λ ne. other (λ e. ne (register_is r d e))) (λ e. refl)
 one_step (Move d a) v w t u r long other operands own =
@@ -81,7 +81,7 @@ one_step (Barrier f) v w t u r long other operands own = other (λ e. e)
 
 -- no instruction changes how many registers there are
 after-long : (i : Instruction) (v : Value) (t : State)
-    → length (after i v t).registers ≡ length t.registers
+    → length (state_after i v t).registers ≡ length t.registers
 after-long (Immediate d n) v t = length-set _ _ _
 after-long (Move d a) v t = length-set _ _ _
 after-long (AddImmediate d a n) v t = length-set _ _ _
@@ -104,8 +104,8 @@ Chain-push F i (x ∷ xs) j k c f = (c.0, Chain-push F x xs j k c.1 f)
 
 module _ (passes : Instruction → Bool) (at : Executed) where
   -- a place that is not written is reached as before
-  pub reaches_more : (i : ℕ) (p : Place) (n : ℕ) → (IsWritten (at n) p → ⊥)
-      → Reaches passes at i p n → Reaches passes at i p (suc n)
+  pub reaches_more : (i : ℕ) (p : Resource) (n : ℕ) → (WritesTo (at n) p → ⊥)
+      → WriteReaches passes at i p n → WriteReaches passes at i p (suc n)
   reaches_more i p n not_here x = record {
     writer = x.writer;
     through = x.through;
@@ -114,21 +114,21 @@ module _ (passes : Instruction → Bool) (at : Executed) where
       before = omega (arith, x.writes.before);
       writes = x.writes.writes;
       last = λ k after before. elim (cases_eq k n) [
-        | inl e ↦ (λ w. not_here (subst (λ (y : ℕ). IsWritten (at y) p) e w))
+        | inl e ↦ (λ w. not_here (subst (λ (y : ℕ). WritesTo (at y) p) e w))
         | inr ne ↦ x.writes.last k after (omega arith)
       ];
     };
   }
 
   -- the place that an instruction writes was last written there
-  just_written : (p : Place) (n : ℕ) → IsWritten (at n) p → IsLastWriter at p n (suc n)
+  just_written : (p : Resource) (n : ℕ) → WritesTo (at n) p → IsLastWriter at p n (suc n)
   just_written p n w =
       record { before = omega arith; writes = w; last = λ k after before. absurd (omega arith) }
 
   -- what reaches an operand reaches what is written
-  pub reaches_through : (i : ℕ) (a p : Place) (n : ℕ) → IsTrue (passes (at n)) → IsOperand (at n) a
-      → IsWritten (at n) p
-      → Reaches passes at i a n → Reaches passes at i p (suc n)
+  pub reaches_through : (i : ℕ) (a p : Resource) (n : ℕ) → IsTrue (passes (at n)) → IsOperand (at n) a
+      → WritesTo (at n) p
+      → WriteReaches passes at i a n → WriteReaches passes at i p (suc n)
   reaches_through i a p n ok operand w x = record {
     writer = n;
     through = x.through ++ n ∷ [];
@@ -138,7 +138,7 @@ module _ (passes : Instruction → Bool) (at : Executed) where
     writes = just_written p n w;
   }
 
-  pub reaches_own : (n : ℕ) (p : Place) → IsWritten (at n) p → Reaches passes at n p (suc n)
+  pub reaches_own : (n : ℕ) (p : Resource) → WritesTo (at n) p → WriteReaches passes at n p (suc n)
   reaches_own n p w = record { writer = n; through = []; chain = refl; writes = just_written p n w }
 
 module _ (at : Executed) (s : State) (loaded loaded' : ℕ → Value) where
@@ -149,7 +149,7 @@ module _ (at : Executed) (s : State) (loaded loaded' : ℕ → Value) where
       after-long (at n) (loaded n) _ ∙ same_long n ∙ sym (after-long (at n) (loaded' n) _)
 
   pub agree : (n r : ℕ)
-      → ((i : ℕ) → IsTrue (is_load (at i)) → Reaches is_narrow at i (Register r) n
+      → ((i : ℕ) → IsTrue (is_load (at i)) → WriteReaches is_narrow at i (Register r) n
       → loaded i ≡ loaded' i)
       → register (state_at at loaded s n) r ≡ register (state_at at loaded' s n) r
   agree zero r same = refl

@@ -5,12 +5,12 @@ use Rattle.std.proofs.lemmas.Bool.{cases_eq}
 use Rattle.std.proofs.lemmas.Grind.{same_number_lists}
 use Rattle.thread_runs.specs.declared.instruction.Instruction.{Instruction}
 use Rattle.dataflow.specs.declared.taints.Taints.{Taints}
-use Rattle.dataflow.specs.Chains.{Executed, Place, Register, Cr0, IsWritten}
-use Rattle.dataflow.specs.Taints.{IsPlace, IsWrittenBetween, word_of, with_word, clean_taints}
+use Rattle.dataflow.specs.Chains.{Executed, Resource, Register, Cr0, WritesTo}
+use Rattle.dataflow.specs.Taints.{IsInFile, IsWrittenBetween, word_of, with_word, clean_taints}
 use Rattle.dataflow.proofs.Inversion.{is_written}
 use Rattle.dataflow.proofs.TaintSteps.{with_word-written, with_word-kept, with_word_long}
 
-pub no_word : (p : Place) → IsPlace p → word_of clean_taints p ≡ 0
+pub no_word : (p : Resource) → IsInFile p → word_of clean_taints p ≡ 0
 no_word (Register r) lt = get_or-replicate 256 r 0 0 lt
 no_word Cr0 lt = refl
 
@@ -30,7 +30,7 @@ written_next f n i word t same old = record {
       n,
       omega arith,
       omega arith,
-      subst (λ (j : Instruction). IsWritten j p) same here,
+      subst (λ (j : Instruction). WritesTo j p) same here,
     )
     | inr not_here ↦ elim (old.writers p within) [
       | inl none ↦ inl (with_word-kept i word t p not_here ∙ none)
@@ -49,15 +49,15 @@ cleaned_next f k n i t same old = record {
     | inr not_here ↦ elim (old.writers p within) [
       | inl none ↦ inl (with_word-kept i 0 t p not_here ∙ none)
       | inr x ↦ let (j, from, to, writes) = x in elim (cases_eq j k) [
-        | inl e ↦ absurd (not_here (subst (λ (a : Instruction). IsWritten a p) (sym same)
-            (subst (λ (m : ℕ). IsWritten (f m) p) e writes)))
+        | inl e ↦ absurd (not_here (subst (λ (a : Instruction). WritesTo a p) (sym same)
+            (subst (λ (m : ℕ). WritesTo (f m) p) e writes)))
         | inr ne ↦ inr (j, omega (arith, from, ne), to, writes)
       ]
     ]
   ];
 }
 
-zero_word : (f : Executed) (n : ℕ) (t : Taints) → IsWrittenBetween f n n t → (p : Place) → IsPlace p
+zero_word : (f : Executed) (n : ℕ) (t : Taints) → IsWrittenBetween f n n t → (p : Resource) → IsInFile p
     → word_of t p ≡ 0
 zero_word f n t x p within = elim (x.writers p within) [
   | inl none ↦ none

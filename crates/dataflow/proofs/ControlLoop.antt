@@ -8,10 +8,10 @@ use Rattle.thread_runs.specs.declared.instruction.Instruction.TheVariants.{Immed
 use Rattle.dataflow.specs.declared.taints.Taints.{Taints}
 use Rattle.dataflow.specs.declared.pass.Control.{Control}
 use Rattle.thread_runs.specs.Machine.{is_load, is_branch}
-use Rattle.dataflow.specs.Chains.{Executed, Place, IsOperand, event_place, is_event, is_plain, is_isync, LoadReaches, IsCtrl}
+use Rattle.dataflow.specs.Chains.{Executed, Resource, IsOperand, event_index, is_event, is_no_access, is_isync, LoadReaches, IsCtrl}
 use Rattle.bit_relations.specs.Relation.{Bit}
 use Rattle.bit_relations.proofs.Bits.{Bit-zero, Bit-or}
-use Rattle.dataflow.specs.Taints.{IsPlace, AreTaints, AreColumnsOf, IsWithinFile, IsWrittenBetween, passes_of, operand_word}
+use Rattle.dataflow.specs.Taints.{IsInFile, AreTaints, AreLoadWordsOf, HasRegistersInFile, IsWrittenBetween, passes_of, operand_word}
 use Rattle.dataflow.specs.Control.{branched_after, synchronised_after, steered, control_of, control_word, clean_control}
 use Rattle.dataflow.proofs.TaintSteps.{operand_word-union, taints_first}
 use Rattle.dataflow.proofs.Cleaning.{no_word, written_first, written_next}
@@ -20,7 +20,7 @@ use Rattle.dataflow.proofs.ReachLoop.{Found, union_found, taints_next, columns_f
 -- the load reaches the CR0 of a conditional branch before the place
 abbrev pub BehindBranch : Executed → ℕ → ℕ → Type 0
 BehindBranch f i n =
-    (b : ℕ) × (b < n) × IsTrue (is_branch (f b)) × LoadReaches is_plain IsOperand f i b
+    (b : ℕ) × (b < n) × IsTrue (is_branch (f b)) × LoadReaches is_no_access IsOperand f i b
 
 -- an `isync` before the place is so behind the load
 abbrev pub BehindIsync : Executed → ℕ → ℕ → Type 0
@@ -37,11 +37,11 @@ pub record IsSteered (f : Executed) (n : ℕ) (c : Control) : Type 0 where
   pub synchronised : Has BehindIsync f n c.synchronised
 
 branched_next : (f : Executed) (n : ℕ) (t : Taints) (word : ℕ)
-    → ((p : Place) → IsOperand (f n) p → IsPlace p) → AreTaints (passes_of false) f n t
+    → ((p : Resource) → IsOperand (f n) p → IsInFile p) → AreTaints (passes_of false) f n t
     → Has BehindBranch f n word → Has BehindBranch f (suc n) (branched_after (f n) t word)
 branched_next f n t word inside taints old e = go (is_branch (f n)) refl
   where
-    here : Bit (operand_word (f n) t) e ↔ Found (LoadReaches is_plain IsOperand) f n e
+    here : Bit (operand_word (f n) t) e ↔ Found (LoadReaches is_no_access IsOperand) f n e
     here =
         union_found false IsOperand f n t (operand_word (f n) t) inside taints
         (operand_word-union (f n) t) e
@@ -65,7 +65,7 @@ branched_next f n t word inside taints old e = go (is_branch (f n)) refl
             | inl same ↦ inr (here.1 (
               i,
               index,
-              subst (λ (k : ℕ). LoadReaches is_plain IsOperand f i k) same z,
+              subst (λ (k : ℕ). LoadReaches is_no_access IsOperand f i k) same z,
             ))
             | inr ne ↦ inl ((old e).1 (i, index, (b, omega (arith, lt), br, z)))
           ])),
@@ -144,7 +144,7 @@ steered_first f = record {
 }
 
 steered_next : (f : Executed) (n : ℕ) (c : Control) (index : ℕ) (i : Instruction) → i ≡ f n
-    → IsWithinFile i → (is_load i ≡ true → index < 128) → index ≡ event_place f n → IsSteered f n c
+    → HasRegistersInFile i → (is_load i ≡ true → index < 128) → index ≡ event_index f n → IsSteered f n c
     → IsSteered f (suc n) (steered i index c)
 steered_next f n c index i same inside fits here x = record {
   taints = taints_next false f n c.taints index i same inside fits here x.written.height x.taints;
@@ -181,8 +181,8 @@ pub record IsControlled (synchronised : Bool) (f : Executed) (n : ℕ) (c : Cont
     (index : ℕ) : Type 0 where
   pub steered : IsSteered f n c
   pub width : length words ≡ 128
-  pub here : index ≡ event_place f n
-  pub columns : AreColumnsOf (control_of synchronised) f n words
+  pub here : index ≡ event_index f n
+  pub columns : AreLoadWordsOf (control_of synchronised) f n words
 
 pub controlled_first : (synchronised : Bool) (f : Executed) (c : Control) (words : List ℕ)
     → c ≡ clean_control → length words ≡ 128 → IsControlled synchronised f 0 c words 0
@@ -195,8 +195,8 @@ controlled_first synchronised f c words none width =
     })
 
 pub controlled_event : (synchronised : Bool) (f : Executed) (n : ℕ) (c : Control) (words : List ℕ)
-    (index : ℕ) (i : Instruction) → i ≡ f n → is_event i ≡ true → event_place f n < 128
-    → IsWithinFile i
+    (index : ℕ) (i : Instruction) → i ≡ f n → is_event i ≡ true → event_index f n < 128
+    → HasRegistersInFile i
     → IsControlled synchronised f n c words index
     → IsControlled synchronised f (n + 1) (steered i index c)
     (set words index (control_word synchronised c)) (index + 1)
@@ -210,7 +210,7 @@ controlled_event synchronised f n c words index i same event lt inside x =
       here = omega (arith, x.here, place_event f n event_here);
       columns =
           subst
-          (λ (k : ℕ). AreColumnsOf (control_of synchronised) f (suc n)
+          (λ (k : ℕ). AreLoadWordsOf (control_of synchronised) f (suc n)
           (set words k (control_word synchronised c)))
           (sym x.here)
           (columns_event (control_of synchronised) f n words (control_word synchronised c)
@@ -219,7 +219,7 @@ controlled_event synchronised f n c words index i same event lt inside x =
     })
 
 pub controlled_other : (synchronised : Bool) (f : Executed) (n : ℕ) (c : Control) (words : List ℕ)
-    (index : ℕ) (i : Instruction) → i ≡ f n → is_event i ≡ false → IsWithinFile i
+    (index : ℕ) (i : Instruction) → i ≡ f n → is_event i ≡ false → HasRegistersInFile i
     → IsControlled synchronised f n c words index
     → IsControlled synchronised f (n + 1) (steered i index c) words index
 controlled_other synchronised f n c words index i same event inside x =

@@ -14,10 +14,10 @@ use Rattle.thread_runs.specs.declared.instruction.Event.{Event}
 use Rattle.thread_runs.specs.declared.instruction.Event.TheVariants.{Writes}
 use Rattle.thread_runs.specs.declared.state.State.{State}
 use Rattle.thread_runs.specs.Machine.{register, event_of, is_load, sum_of}
-use Rattle.thread_runs.specs.Runs.{Walk, Outcome, Thread, started, run_of, executed, loaded_at, nothing, StoresFreely, InDomain}
+use Rattle.thread_runs.specs.Runs.{Walk, Outcome, Thread, walk_at, run_of, executed, loaded_at, no_step, StoresFreely, InDomain}
 use Rattle.dataflow.specs.Chains.{Executed, Register, IsNeed, IsStoredRegister}
-use Rattle.dataflow.specs.Law.{state_at, events_before, IsWalk, IsPicked}
-use Rattle.dataflow.specs.Execution.{Source, Initial, From, Execution, IsExecution, Node, LoadNode, StoreNode, Leads, Way, Precedes, IsReadFrom, value_read, executed_by, loaded_by}
+use Rattle.dataflow.specs.Law.{state_at, events_before, IsWalkFrom, IsPicked}
+use Rattle.dataflow.specs.Execution.{LoadSource, Initial, From, FreeExecution, IsFreeExecution, Node, LoadNode, StoreNode, IsEdge, EdgePath, LoadNeedsLoad, IsReadValue, loaded_value, executed_by, loaded_by}
 use Rattle.dataflow.proofs.Agreement.{stores_the_same}
 use Rattle.dataflow.proofs.Walks.{follow, IsWalk-started, state_prefix}
 use Rattle.dataflow.proofs.Inversion.{Decision, decide_need}
@@ -25,11 +25,11 @@ use Rattle.dataflow.proofs.Inversion.{Decision, decide_need}
 -- Each element comes after as many rounds as there are elements, if it comes a round after those
 -- that precede it.
 module _ (n : ℕ) (R : ℕ → ℕ → Type 0) (In : ℕ → ℕ → Type 0)
-    (acyclic : (l : ℕ) (through : List ℕ) → Way R l through l → ⊥)
+    (acyclic : (l : ℕ) (through : List ℕ) → EdgePath R l through l → ⊥)
     (round : (k l : ℕ) → l < n → ((m : ℕ) → m < n → R m l → In k m) → In (suc k) l) where
   abbrev Passed : ℕ → List ℕ → Type 0
   Passed l [] = Unit {0}
-  Passed l (x ∷ xs) = (x < n) × ((through : List ℕ) × Way R l through x) × Passed l xs
+  Passed l (x ∷ xs) = (x < n) × ((through : List ℕ) × EdgePath R l through x) × Passed l xs
 
   pass : (m l : ℕ) (xs : List ℕ) → R m l → Passed l xs → Passed m xs
   pass m l [] r p = tt
@@ -38,7 +38,7 @@ module _ (n : ℕ) (R : ℕ → ℕ → Type 0) (In : ℕ → ℕ → Type 0)
   apart : (l : ℕ) (xs : List ℕ) → Passed l xs → AllByRecursion (λ y. eqb l y ≡ false) xs
   apart l [] p = tt
   apart l (x ∷ xs) p = (
-    other l x (λ same. acyclic l p.1.0 (subst (λ y. Way R l p.1.0 y) (sym same) p.1.1)),
+    other l x (λ same. acyclic l p.1.0 (subst (λ y. EdgePath R l p.1.0 y) (sym same) p.1.1)),
     apart l xs p.2,
   )
     where
@@ -77,7 +77,7 @@ module _ (n : ℕ) (R : ℕ → ℕ → Type 0) (In : ℕ → ℕ → Type 0)
 in_run : (steps : List RunStep) (j : ℕ) → (executed steps j ≡ Jump 0 → ⊥) → j < length steps
 in_run steps j other = elim (cases_lt j (length steps)) [
   | inl lt ↦ lt
-  | inr ge ↦ absurd (other (ap (λ (x : RunStep). x.instruction) (get_or_past steps j nothing ge)))
+  | inr ge ↦ absurd (other (ap (λ (x : RunStep). x.instruction) (get_or_past steps j no_step ge)))
 ]
 
 not_jump : (i : Instruction) (q : ℕ) → IsStoredRegister i (Register q) → i ≡ Jump 0 → ⊥
@@ -162,7 +162,7 @@ same_store s r d j q f p stored =
     ∙ chosen-needed (decide_need (executed r.walk.steps) i j) (loaded_at r.walk.steps i) d need)) q
     stored)
 
-stored_in : (s : State) (r : Outcome) (d : Value) (j q : ℕ) (f : Walk) → IsWalk s f
+stored_in : (s : State) (r : Outcome) (d : Value) (j q : ℕ) (f : Walk) → IsWalkFrom s f
     → IsPicked (picked_value r j d) r.walk f
     → IsStoredRegister (executed r.walk.steps j) (Register q)
     → (a : Value)
@@ -195,7 +195,7 @@ stored_freely threads t vs r P d j q there ran stored default_ok needed_ok =
     let free = follow P (picked_value r j d) t.first
     (λ i. chosen-allowed P (decide_need (executed r.walk.steps) i j) (loaded_at r.walk.steps i) d
     (needed_ok i) default_ok)
-    t.lines (started t.first) (started t.first) vs r ran (IsWalk-started t.first) refl refl
+    t.lines (walk_at t.first) (walk_at t.first) vs r ran (IsWalk-started t.first) refl refl
     (record {
       long = omega arith;
       same = λ n lt. absurd (omega arith);
@@ -205,8 +205,8 @@ stored_freely threads t vs r P d j q there ran stored default_ok needed_ok =
     (t, there, free.choices, free.values, free.allowed, free.outcome, free.free, found.0, found.1)
 
 -- a way by loads is a way by loads and stores
-longer_way : (e : Execution) (a : ℕ) (through : List ℕ) (b : ℕ) → Way (Precedes e) a through b
-    → (nodes : List Node) × Way (Leads e) (LoadNode a) nodes (LoadNode b)
+longer_way : (e : FreeExecution) (a : ℕ) (through : List ℕ) (b : ℕ) → EdgePath (LoadNeedsLoad e) a through b
+    → (nodes : List Node) × EdgePath (IsEdge e) (LoadNode a) nodes (LoadNode b)
 longer_way e a [] b w =
     let (j, source, need) = w in
     (StoreNode (e.load a).thread j ∷ [], ((refl, need), source))
@@ -220,13 +220,13 @@ in_every : (initial : List Value) (threads : List Thread) (k : ℕ) (v : Value) 
 in_every initial threads zero v c = c
 in_every initial threads (suc k) v c = inl (in_every initial threads k v c)
 
-module _ (initial : List Value) (threads : List Thread) (e : Execution)
-    (x : IsExecution initial threads e) where
-  from_source : (s : Source) (k l : ℕ) → l < e.count → (e.load l).source ≡ s
-      → IsReadFrom e initial threads s (value_read e l)
-      → ((m : ℕ) → m < e.count → Precedes e m l → InDomain initial threads k (value_read e m))
-      → InDomain initial threads (suc k) (value_read e l)
-  from_source Initial k l lt is c before = inl (in_every initial threads k (value_read e l) c)
+module _ (initial : List Value) (threads : List Thread) (e : FreeExecution)
+    (x : IsFreeExecution initial threads e) where
+  from_source : (s : LoadSource) (k l : ℕ) → l < e.count → (e.load l).source ≡ s
+      → IsReadValue e initial threads s (loaded_value e l)
+      → ((m : ℕ) → m < e.count → LoadNeedsLoad e m l → InDomain initial threads k (loaded_value e m))
+      → InDomain initial threads (suc k) (loaded_value e l)
+  from_source Initial k l lt is c before = inl (in_every initial threads k (loaded_value e l) c)
   from_source (From t j) k l lt is c before =
       inr (
         subst (λ (v : Value). StoresFreely threads (InDomain initial threads k) v) (sym c.1.2)
@@ -250,8 +250,8 @@ module _ (initial : List Value) (threads : List Thread) (e : Execution)
                 (subst (λ (p : ℕ). IsNeed (executed_by e t) p j) (sym same_place) need),
           )))
 
-  pub nothing_lost : (l : ℕ) → l < e.count → InDomain initial threads e.count (value_read e l)
-  nothing_lost = all_there e.count (Precedes e) (λ k l. InDomain initial threads k (value_read e l))
+  pub nothing_lost : (l : ℕ) → l < e.count → InDomain initial threads e.count (loaded_value e l)
+  nothing_lost = all_there e.count (LoadNeedsLoad e) (λ k l. InDomain initial threads k (loaded_value e l))
       (λ l through w.
       let (nodes, way) = longer_way e l through l w in x.acyclic (LoadNode l) nodes way)
       (λ k l lt before. from_source (e.load l).source k l lt refl (x.reads l lt) before)

@@ -7,11 +7,11 @@ use Rattle.thread_runs.specs.declared.instruction.Instruction.{Instruction}
 use Rattle.thread_runs.specs.declared.instruction.Instruction.TheVariants.{Immediate, Move, AddImmediate, Operate, Load, LoadIndexed, Store, StoreIndexed, Compare, CompareImmediate, Branch, Jump, Barrier}
 use Rattle.thread_runs.specs.declared.instruction.RunStep.{RunStep}
 use Rattle.thread_runs.specs.Machine.{is_load}
-use Rattle.thread_runs.specs.Runs.{executed, nothing}
-use Rattle.dataflow.specs.Chains.{Executed, Place, event_place, is_event, LoadReaches, IsCtrl, IsCtrlIsync, IsListOf, OfEvents}
-use Rattle.dataflow.specs.Taints.{AreColumnsOf, reads_of}
+use Rattle.thread_runs.specs.Runs.{executed, no_step}
+use Rattle.dataflow.specs.Chains.{Executed, Resource, event_index, is_event, LoadReaches, IsCtrl, IsCtrlIsync, IsPairListOf, OfEvents}
+use Rattle.dataflow.specs.Taints.{AreLoadWordsOf, reads_of}
 use Rattle.bit_relations.specs.Relation.{Bit}
-use Rattle.dataflow.specs.Dependencies.{ArePairs}
+use Rattle.dataflow.specs.Dependencies.{ArePairsOfWords}
 use Rattle.dataflow.proofs.ReachLoop.{place_lt}
 
 -- past the end of a run nothing is an event
@@ -20,26 +20,26 @@ pub event_within : (steps : List RunStep) (i : ℕ) → is_event (executed steps
 event_within steps i event = elim (cases_lt i (length steps)) [
   | inl lt ↦ lt
   | inr ge ↦ absurd (false≢true (sym (ap (λ (x : RunStep). is_event x.instruction)
-      (get_or_past steps i nothing ge)) ∙ event))
+      (get_or_past steps i no_step ge)) ∙ event))
 ]
 
 -- each place below the number of events is that of an event
 abbrev pub EventAt : Executed → ℕ → ℕ → Type 0
-EventAt f n e = (j : ℕ) × (j < n) × IsTrue (is_event (f j)) × (event_place f j ≡ e)
+EventAt f n e = (j : ℕ) × (j < n) × IsTrue (is_event (f j)) × (event_index f j ≡ e)
 
 event_later : (f : Executed) (n e : ℕ) → EventAt f n e → EventAt f (suc n) e
 event_later f n e x = let (j, before, event, index) = x in (j, omega (arith, before), event, index)
 
 event_here : (f : Executed) (n e : ℕ) (b : Bool) → is_event (f n) ≡ b
-    → (e < event_place f n → EventAt f n e)
-    → e < (if b then event_place f n + 1 else event_place f n) → EventAt f (suc n) e
-event_here f n e true is earlier less = elim (cases_lt e (event_place f n)) [
+    → (e < event_index f n → EventAt f n e)
+    → e < (if b then event_index f n + 1 else event_index f n) → EventAt f (suc n) e
+event_here f n e true is earlier less = elim (cases_lt e (event_index f n)) [
   | inl before ↦ event_later f n e (earlier before)
   | inr ge ↦ (n, omega arith, is, omega (arith, ge, less))
 ]
 event_here f n e false is earlier less = event_later f n e (earlier less)
 
-event_at : (f : Executed) (n e : ℕ) → e < event_place f n → EventAt f n e
+event_at : (f : Executed) (n e : ℕ) → e < event_index f n → EventAt f n e
 event_at f zero e lt = absurd (omega (arith, lt))
 event_at f (suc n) e lt = event_here f n e (is_event (f n)) refl (event_at f n e) lt
 
@@ -49,9 +49,9 @@ OfLoads R f = (i j : ℕ) → R f i j → IsTrue (is_event (f i)) × IsTrue (is_
 
 pub listed : (R : Executed → ℕ → ℕ → Type 0) (steps : List RunStep) (words : List ℕ)
     (ps : List (ℕ × ℕ)) → OfLoads R (executed steps)
-    → AreColumnsOf R (executed steps) (length steps) words
-    → ArePairs words (event_place (executed steps) (length steps)) ps
-    → IsListOf R (executed steps) ps
+    → AreLoadWordsOf R (executed steps) (length steps) words
+    → ArePairsOfWords words (event_index (executed steps) (length steps)) ps
+    → IsPairListOf R (executed steps) ps
 listed R steps words ps loads columns found =
     record { rising = found.rising; exact = λ p. (forth p, back p) }
   where
@@ -71,9 +71,9 @@ listed R steps words ps loads columns found =
         let (load, event) = loads i j related in
         let inside : j < length steps = event_within steps j event in
         (found.exact p).1 (
-          subst (λ (k : ℕ). k < event_place f (length steps)) (sym from)
+          subst (λ (k : ℕ). k < event_index f (length steps)) (sym from)
               (place_lt f i (length steps) load (event_within steps i load)),
-          subst (λ (k : ℕ). k < event_place f (length steps)) (sym to)
+          subst (λ (k : ℕ). k < event_index f (length steps)) (sym to)
               (place_lt f j (length steps) event inside),
           subst (λ (k : ℕ). Bit (get_or words k 0) p.0) (sym to)
               ((columns j inside event p.0).1 (i, sym from, related)),
@@ -83,15 +83,15 @@ listed R steps words ps loads columns found =
 pub list_of : (R : Executed → ℕ → ℕ → Type 0) (steps counted given : List RunStep) (words : List ℕ)
     (count : ℕ) (ps : List (ℕ × ℕ)) → ((f : Executed) → OfLoads R f) → counted ≡ steps
     → given ≡ steps
-    → count ≡ event_place (executed counted) (length counted)
-    → AreColumnsOf R (executed given) (length given) words → ArePairs words count ps
-    → IsListOf R (executed steps) ps
+    → count ≡ event_index (executed counted) (length counted)
+    → AreLoadWordsOf R (executed given) (length given) words → ArePairsOfWords words count ps
+    → IsPairListOf R (executed steps) ps
 list_of R steps counted given words count ps loads same_counted same_given many columns found =
     listed R steps words ps (loads (executed steps))
-    (subst (λ (xs : List RunStep). AreColumnsOf R (executed xs) (length xs) words) same_given
+    (subst (λ (xs : List RunStep). AreLoadWordsOf R (executed xs) (length xs) words) same_given
     columns)
-    (subst (λ (n : ℕ). ArePairs words n ps)
-    (many ∙ ap (λ (xs : List RunStep). event_place (executed xs) (length xs)) same_counted)
+    (subst (λ (n : ℕ). ArePairsOfWords words n ps)
+    (many ∙ ap (λ (xs : List RunStep). event_index (executed xs) (length xs)) same_counted)
     found)
 
 load_event : (i : Instruction) → is_load i ≡ true → is_event i ≡ true
@@ -109,7 +109,7 @@ load_event (Branch c m) l = absurd (false≢true l)
 load_event (Jump m) l = absurd (false≢true l)
 load_event (Barrier f) l = refl
 
-access_event : (stored : Bool) (i : Instruction) (p : Place) → reads_of stored i p
+access_event : (stored : Bool) (i : Instruction) (p : Resource) → reads_of stored i p
     → is_event i ≡ true
 access_event stored (Load d a) p r = refl
 access_event stored (LoadIndexed d a b) p r = refl

@@ -5,10 +5,10 @@ use Rattle.std.proofs.lemmas.List.{length-append, get_or_append_left}
 use Rattle.std.proofs.lemmas.List.Elements.{Contains-append_left, Contains-append_right, Contains-append_cases, Contains-get_or}
 use Rattle.std.proofs.Math.Seq.{get_or-append_seam}
 use Rattle.std.proofs.lemmas.Bool.{cases_eq}
-use Rattle.dataflow.specs.Chains.{IsPairBefore, IsRising}
+use Rattle.dataflow.specs.Chains.{IsPairBefore, ArePairsRising}
 use Rattle.bit_relations.specs.Relation.{Bit}
-use Rattle.dataflow.specs.Dependencies.{ArePairs}
-use Rattle.dataflow.specs.Within.{IsPairWithin}
+use Rattle.dataflow.specs.Dependencies.{ArePairsOfWords}
+use Rattle.dataflow.specs.Within.{IsPairBelow}
 
 -- before the pair of these places
 abbrev pub IsEarlier : ℕ → ℕ → ℕ × ℕ → Type 0
@@ -16,12 +16,12 @@ IsEarlier from to p = (p.0 < from) ⊎ ((p.0 ≡ from) × (p.1 < to))
 
 -- the pairs that come before a pair
 pub record UpTo (words : List ℕ) (count from to : ℕ) (ps : List (ℕ × ℕ)) : Type 0 where
-  pub rising : IsRising ps
+  pub rising : ArePairsRising ps
   pub exact : (p : ℕ × ℕ)
       → Contains ps p ↔ (IsEarlier from to p × (p.1 < count) × Bit (get_or words p.1 0) p.0)
 
 rising_more : (ps : List (ℕ × ℕ)) (q : ℕ × ℕ) → ((p : ℕ × ℕ) → Contains ps p → IsPairBefore p q)
-    → IsRising ps → IsRising (ps ++ q ∷ [])
+    → ArePairsRising ps → ArePairsRising (ps ++ q ∷ [])
 rising_more ps q before old i j lt inside = elim (cases_eq j (length ps)) [
   | inl same ↦
       subst (λ (x : ℕ × ℕ). IsPairBefore (get_or (ps ++ q ∷ []) i (0, 0)) x) (sym
@@ -130,7 +130,7 @@ row_done words count from ps old = record {
     sooner p (inr x) r = absurd (omega (arith, x.1))
 
 pub all_done : (words : List ℕ) (count : ℕ) (ps : List (ℕ × ℕ)) → UpTo words count count 0 ps
-    → ArePairs words count ps
+    → ArePairsOfWords words count ps
 all_done words count ps old = record {
   rising = old.rising;
   exact =
@@ -145,7 +145,7 @@ all_done words count ps old = record {
     below p (inr x) = absurd (omega (arith, x.1))
 
 -- the places of the pairs are below the count
-pub all_within : (words : List ℕ) (count : ℕ) (ps : List (ℕ × ℕ)) → ArePairs words count ps
-    → All (IsPairWithin count) ps
+pub all_within : (words : List ℕ) (count : ℕ) (ps : List (ℕ × ℕ)) → ArePairsOfWords words count ps
+    → All (IsPairBelow count) ps
 all_within words count ps found k d lt =
     let (l, r, b) = (found.exact (get_or ps k d)).0 (Contains-get_or ps k d lt) in (l, r)

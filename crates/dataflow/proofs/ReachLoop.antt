@@ -7,9 +7,9 @@ use Rattle.thread_runs.specs.declared.instruction.Instruction.TheVariants.{Immed
 use Rattle.thread_runs.specs.declared.instruction.RunStep.{RunStep}
 use Rattle.dataflow.specs.declared.taints.Taints.{Taints}
 use Rattle.thread_runs.specs.Machine.{is_load}
-use Rattle.thread_runs.specs.Runs.{executed, nothing}
-use Rattle.dataflow.specs.Chains.{Executed, Place, IsOperand, event_place, is_event, LoadReaches}
-use Rattle.dataflow.specs.Taints.{IsPlace, AreTaints, AreColumns, AreColumnsOf, IsUnion, IsWithinFile, IsStep, IsWrittenBetween, clean_taints, passes_of, reads_of, read_word, noted}
+use Rattle.thread_runs.specs.Runs.{executed, no_step}
+use Rattle.dataflow.specs.Chains.{Executed, Resource, IsOperand, event_index, is_event, LoadReaches}
+use Rattle.dataflow.specs.Taints.{IsInFile, AreTaints, AreLoadWords, AreLoadWordsOf, IsUnion, HasRegistersInFile, IsTaintStep, IsWrittenBetween, clean_taints, passes_of, reads_of, read_word, taints_after}
 use Rattle.bit_relations.specs.Relation.{Bit}
 use Rattle.dataflow.proofs.TaintSteps.{read_word-union, noted-step, taints_more, taints_first}
 use Rattle.dataflow.proofs.Cleaning.{no_word, written_first, written_next}
@@ -20,39 +20,39 @@ same_element [] k d e lt = absurd (omega arith)
 same_element (x ∷ xs) zero d e lt = refl
 same_element (x ∷ xs) (suc k) d e lt = same_element xs k d e (omega arith)
 
-pub place_suc : (f : Executed) (n : ℕ) → event_place f n ≤ event_place f (suc n)
+pub place_suc : (f : Executed) (n : ℕ) → event_index f n ≤ event_index f (suc n)
 place_suc f n = go (is_event (f n))
   where
-    go : (b : Bool) → event_place f n ≤ (if b then event_place f n + 1 else event_place f n)
+    go : (b : Bool) → event_index f n ≤ (if b then event_index f n + 1 else event_index f n)
     go true = omega arith
     go false = omega arith
 
 pub place_event : (f : Executed) (n : ℕ) → is_event (f n) ≡ true
-    → event_place f (suc n) ≡ event_place f n + 1
-place_event f n e = ap (λ (b : Bool). if b then event_place f n + 1 else event_place f n) e
+    → event_index f (suc n) ≡ event_index f n + 1
+place_event f n e = ap (λ (b : Bool). if b then event_index f n + 1 else event_index f n) e
 
 pub place_other : (f : Executed) (n : ℕ) → is_event (f n) ≡ false
-    → event_place f (suc n) ≡ event_place f n
-place_other f n e = ap (λ (b : Bool). if b then event_place f n + 1 else event_place f n) e
+    → event_index f (suc n) ≡ event_index f n
+place_other f n e = ap (λ (b : Bool). if b then event_index f n + 1 else event_index f n) e
 
 -- an event has a smaller place than what is behind it
 pub place_lt : (f : Executed) (j n : ℕ) → is_event (f j) ≡ true → j < n
-    → event_place f j < event_place f n
+    → event_index f j < event_index f n
 place_lt f j zero e lt = absurd (omega arith)
 place_lt f j (suc n) e lt = elim (cases_eq j n) [
-  | inl same ↦ subst (λ (k : ℕ). event_place f j < event_place f (suc k)) same
+  | inl same ↦ subst (λ (k : ℕ). event_index f j < event_index f (suc k)) same
       (omega (arith, place_event f j e))
   | inr ne ↦
-      let before : event_place f j < event_place f n = place_lt f j n e (omega arith) in
+      let before : event_index f j < event_index f n = place_lt f j n e (omega arith) in
       omega (arith, place_suc f n)
 ]
 
 pub columns_first : (R : Executed → ℕ → ℕ → Type 0) (f : Executed) (words : List ℕ)
-    → AreColumnsOf R f zero words
+    → AreLoadWordsOf R f zero words
 columns_first R f words j lt = absurd (omega arith)
 
 pub columns_other : (R : Executed → ℕ → ℕ → Type 0) (f : Executed) (n : ℕ) (words : List ℕ)
-    → is_event (f n) ≡ false → AreColumnsOf R f n words → AreColumnsOf R f (suc n) words
+    → is_event (f n) ≡ false → AreLoadWordsOf R f n words → AreLoadWordsOf R f (suc n) words
 columns_other R f n words none old j lt ev e = elim (cases_eq j n) [
   | inl same ↦ absurd (false≢true (sym none ∙ subst (λ (k : ℕ). is_event (f k) ≡ true) same ev))
   | inr ne ↦ old j (omega arith) ev e
@@ -60,30 +60,30 @@ columns_other R f n words none old j lt ev e = elim (cases_eq j n) [
 
 -- the loads of which the relation holds at an event, by their places
 abbrev pub Found : (Executed → ℕ → ℕ → Type 0) → Executed → ℕ → ℕ → Type 0
-Found R f j e = (i : ℕ) × (event_place f i ≡ e) × R f i j
+Found R f j e = (i : ℕ) × (event_index f i ≡ e) × R f i j
 
 pub columns_event : (R : Executed → ℕ → ℕ → Type 0) (f : Executed) (n : ℕ) (words : List ℕ) (w : ℕ)
-    → is_event (f n) ≡ true → event_place f n < length words
-    → ((e : ℕ) → Bit w e ↔ Found R f n e) → AreColumnsOf R f n words
-    → AreColumnsOf R f (suc n) (set words (event_place f n) w)
+    → is_event (f n) ≡ true → event_index f n < length words
+    → ((e : ℕ) → Bit w e ↔ Found R f n e) → AreLoadWordsOf R f n words
+    → AreLoadWordsOf R f (suc n) (set words (event_index f n) w)
 columns_event R f n words w event lt here old j j_lt ev e = elim (cases_eq j n) [
   | inl same ↦ subst
-      (λ (k : ℕ). Bit (get_or (set words (event_place f n) w) (event_place f k) 0) e
+      (λ (k : ℕ). Bit (get_or (set words (event_index f n) w) (event_index f k) 0) e
       ↔ Found R f k e)
       (sym same)
       (subst (λ (x : ℕ). Bit x e ↔ Found R f n e)
-      (sym (get_or-set_same words (event_place f n) w 0 lt)) (here e))
+      (sym (get_or-set_same words (event_index f n) w 0 lt)) (here e))
   | inr ne ↦
-      let less : event_place f j < event_place f n = place_lt f j n ev (omega arith) in
+      let less : event_index f j < event_index f n = place_lt f j n ev (omega arith) in
       subst (λ (x : ℕ). Bit x e ↔ Found R f j e)
-      (sym (get_or-set_other words (event_place f n) (event_place f j) w 0
+      (sym (get_or-set_other words (event_index f n) (event_index f j) w 0
       (λ eq. absurd (omega arith))))
       (old j (omega arith) ev e)
 ]
 
 -- the word of those places that an instruction reads so has the loads that reach one of them
-pub union_found : (narrow : Bool) (Reads : Instruction → Place → Type 0) (f : Executed) (n : ℕ)
-    (t : Taints) (w : ℕ) → ((p : Place) → Reads (f n) p → IsPlace p)
+pub union_found : (narrow : Bool) (Reads : Instruction → Resource → Type 0) (f : Executed) (n : ℕ)
+    (t : Taints) (w : ℕ) → ((p : Resource) → Reads (f n) p → IsInFile p)
     → AreTaints (passes_of narrow) f n t → IsUnion Reads (f n) t w → (e : ℕ)
     → Bit w e ↔ Found (LoadReaches (passes_of narrow) Reads) f n e
 union_found narrow Reads f n t w inside taints u e = (forth, back)
@@ -101,8 +101,8 @@ union_found narrow Reads f n t w inside taints u e = (forth, back)
         let (a, reads, x) = rest in
         (u e).1 (a, reads, (taints a (inside a reads) e).1 (i, load, index, x))
 
-within : (stored : Bool) (i : Instruction) → IsWithinFile i → (p : Place) → reads_of stored i p
-    → IsPlace p
+within : (stored : Bool) (i : Instruction) → HasRegistersInFile i → (p : Resource) → reads_of stored i p
+    → IsInFile p
 within true i w p r = w.stored p r
 within false i w p r = w.addresses p r
 
@@ -126,16 +126,16 @@ load_place i index e l = absurd (load_is_event i l e)
 
 -- what reaches each place, behind one instruction more
 pub taints_next : (narrow : Bool) (f : Executed) (n : ℕ) (t : Taints) (index : ℕ) (i : Instruction)
-    → i ≡ f n → IsWithinFile i → (is_load i ≡ true → index < 128) → index ≡ event_place f n
+    → i ≡ f n → HasRegistersInFile i → (is_load i ≡ true → index < 128) → index ≡ event_index f n
     → length t.registers ≡ 256
     → AreTaints (passes_of narrow) f n t
-    → AreTaints (passes_of narrow) f (suc n) (noted narrow i index t)
+    → AreTaints (passes_of narrow) f (suc n) (taints_after narrow i index t)
 taints_next narrow f n t index i same inside fits here height old =
-    taints_more narrow f n t (noted narrow i index t)
+    taints_more narrow f n t (taints_after narrow i index t)
     (λ a operand. inside.operands a (subst (λ (j : Instruction). IsOperand j a) (sym same) operand))
     old
-    (subst (λ (j : Instruction). IsStep narrow j (event_place f n) t (noted narrow i index t)) same
-    (subst (λ (k : ℕ). IsStep narrow i k t (noted narrow i index t)) here
+    (subst (λ (j : Instruction). IsTaintStep narrow j (event_index f n) t (taints_after narrow i index t)) same
+    (subst (λ (k : ℕ). IsTaintStep narrow i k t (taints_after narrow i index t)) here
     (noted-step narrow i index t fits height)))
 
 -- what holds in the loop
@@ -144,8 +144,8 @@ pub record IsReached (narrow stored : Bool) (f : Executed) (n : ℕ) (t : Taints
   pub taints : AreTaints (passes_of narrow) f n t
   pub written : IsWrittenBetween f 0 n t
   pub width : length words ≡ 128
-  pub here : index ≡ event_place f n
-  pub columns : AreColumns narrow stored f n words
+  pub here : index ≡ event_index f n
+  pub columns : AreLoadWords narrow stored f n words
 
 pub reached_first : (narrow stored : Bool) (f : Executed) (t : Taints) (words : List ℕ)
     → t ≡ clean_taints → length words ≡ 128 → IsReached narrow stored f 0 t words 0
@@ -159,10 +159,10 @@ reached_first narrow stored f t words none width =
     })
 
 pub reached_event : (narrow stored : Bool) (f : Executed) (n : ℕ) (t : Taints) (words : List ℕ)
-    (index : ℕ) (i : Instruction) → i ≡ f n → is_event i ≡ true → event_place f n < 128
-    → IsWithinFile i
+    (index : ℕ) (i : Instruction) → i ≡ f n → is_event i ≡ true → event_index f n < 128
+    → HasRegistersInFile i
     → IsReached narrow stored f n t words index
-    → IsReached narrow stored f (n + 1) (noted narrow i index t)
+    → IsReached narrow stored f (n + 1) (taints_after narrow i index t)
     (set words index (read_word stored i t)) (index + 1)
 reached_event narrow stored f n t words index i same event lt inside x = rw add-one (record {
   taints =
@@ -177,22 +177,22 @@ reached_event narrow stored f n t words index i same event lt inside x = rw add-
         place_event f n (subst (λ (j : Instruction). is_event j ≡ true) same event),
       );
   columns =
-      subst (λ (k : ℕ). AreColumns narrow stored f (suc n) (set words k (read_word stored i t)))
+      subst (λ (k : ℕ). AreLoadWords narrow stored f (suc n) (set words k (read_word stored i t)))
       (sym x.here)
       (columns_event (LoadReaches (passes_of narrow) (reads_of stored)) f n words
       (read_word stored i t) (subst (λ (j : Instruction). is_event j ≡ true) same event)
       (omega (arith, lt, x.width))
       (union_found narrow (reads_of stored) f n t (read_word stored i t)
-      (within stored (f n) (subst (λ (j : Instruction). IsWithinFile j) same inside)) x.taints
+      (within stored (f n) (subst (λ (j : Instruction). HasRegistersInFile j) same inside)) x.taints
       (subst (λ (j : Instruction). IsUnion (reads_of stored) j t (read_word stored i t)) same
       (read_word-union stored i t)))
       x.columns);
 })
 
 pub reached_other : (narrow stored : Bool) (f : Executed) (n : ℕ) (t : Taints) (words : List ℕ)
-    (index : ℕ) (i : Instruction) → i ≡ f n → is_event i ≡ false → IsWithinFile i
+    (index : ℕ) (i : Instruction) → i ≡ f n → is_event i ≡ false → HasRegistersInFile i
     → IsReached narrow stored f n t words index
-    → IsReached narrow stored f (n + 1) (noted narrow i index t) words index
+    → IsReached narrow stored f (n + 1) (taints_after narrow i index t) words index
 reached_other narrow stored f n t words index i same event inside x = rw add-one (record {
   taints =
       taints_next narrow f n t index i same inside (load_place i index event) x.here
@@ -214,13 +214,13 @@ reached_other narrow stored f n t words index i same event inside x = rw add-one
 pub instruction_at : (steps : List RunStep) (n : ℕ) (d : RunStep) → n < length steps
     → (get_or steps n d).instruction ≡ executed steps n
 instruction_at steps n d lt =
-    ap (λ (x : RunStep). x.instruction) (same_element steps n d nothing lt)
+    ap (λ (x : RunStep). x.instruction) (same_element steps n d no_step lt)
 
 pub below_128 : (steps : List RunStep) (n : ℕ) (i : Instruction) → i ≡ executed steps n
-    → is_event i ≡ true → n < length steps → event_place (executed steps) (length steps) ≤ 128
-    → event_place (executed steps) n < 128
+    → is_event i ≡ true → n < length steps → event_index (executed steps) (length steps) ≤ 128
+    → event_index (executed steps) n < 128
 below_128 steps n i same event lt few =
-    let less : event_place (executed steps) n < event_place (executed steps) (length steps) = place_lt (executed steps) n (length steps) (subst (λ (j : Instruction). is_event j ≡ true) same event) lt in
+    let less : event_index (executed steps) n < event_index (executed steps) (length steps) = place_lt (executed steps) n (length steps) (subst (λ (j : Instruction). is_event j ≡ true) same event) lt in
     omega arith
 
 pub reached_as : (narrow stored : Bool) (f : Executed) (n : ℕ) (t u : Taints) (xs ys : List ℕ)

@@ -9,46 +9,46 @@ use Rattle.thread_runs.specs.declared.instruction.Instruction.TheVariants.{Immed
 use Rattle.std.proofs.lemmas.Bool.{false≢true, cases_eq}
 use Rattle.dataflow.specs.declared.taints.Taints.{Taints}
 use Rattle.thread_runs.specs.Machine.{is_load}
-use Rattle.dataflow.specs.Chains.{Executed, Place, Register, Cr0, IsOperand, IsWritten, event_place}
+use Rattle.dataflow.specs.Chains.{Executed, Resource, Register, Cr0, IsOperand, WritesTo, event_index}
 use Rattle.bit_relations.specs.Relation.{Bit}
 use Rattle.bit_relations.proofs.Bits.{Bit-zero, Bit-or, zero_or_one}
-use Rattle.dataflow.specs.Taints.{TaintOf, IsStep, IsUnion, IsOrigin, IsPlace, AreTaints, word_of, passes_of, operand_word, bit_word, origin_word, with_word, noted, reads_of, read_word}
+use Rattle.dataflow.specs.Taints.{TaintOf, IsTaintStep, IsUnion, IsOrigin, IsInFile, AreTaints, word_of, passes_of, operand_word, bit_word, origin_word, with_word, taints_after, reads_of, read_word}
 use Rattle.dataflow.proofs.Agreement.{reaches_more}
 use Rattle.dataflow.proofs.Inversion.{through_last, before_last, from_through, none_first, is_written, Through}
 
 module _ (passes : Instruction → Bool) (at : Executed) where
   -- what reaches the place that the last instruction wrote
-  taint_written : (n : ℕ) (p : Place) (e : ℕ) → IsWritten (at n) p
+  taint_written : (n : ℕ) (p : Resource) (e : ℕ) → WritesTo (at n) p
       → TaintOf passes at (suc n) p e
-      ↔ ((IsTrue (is_load (at n)) × (event_place at n ≡ e))
+      ↔ ((IsTrue (is_load (at n)) × (event_index at n ≡ e))
       ⊎ (IsTrue (passes (at n))
-      × ((a : Place) × IsOperand (at n) a × TaintOf passes at n a e)))
+      × ((a : Resource) × IsOperand (at n) a × TaintOf passes at n a e)))
   taint_written n p e here = (forth, back)
     where
-      split : (i : ℕ) → IsTrue (is_load (at i)) → event_place at i ≡ e → Through passes at i n
-          → (IsTrue (is_load (at n)) × (event_place at n ≡ e))
+      split : (i : ℕ) → IsTrue (is_load (at i)) → event_index at i ≡ e → Through passes at i n
+          → (IsTrue (is_load (at n)) × (event_index at n ≡ e))
           ⊎ (IsTrue (passes (at n))
-          × ((a : Place) × IsOperand (at n) a × TaintOf passes at n a e))
+          × ((a : Resource) × IsOperand (at n) a × TaintOf passes at n a e))
       split i load here_is (inl same) =
           inl (
             subst (λ (k : ℕ). IsTrue (is_load (at k))) same load,
-            subst (λ (k : ℕ). event_place at k ≡ e) same here_is,
+            subst (λ (k : ℕ). event_index at k ≡ e) same here_is,
           )
       split i load here_is (inr t) =
           let (ok, rest) = t in
           let (a, operand, y) = rest in inr (ok, (a, operand, (i, load, here_is, y)))
 
       forth : TaintOf passes at (suc n) p e
-          → (IsTrue (is_load (at n)) × (event_place at n ≡ e))
+          → (IsTrue (is_load (at n)) × (event_index at n ≡ e))
           ⊎ (IsTrue (passes (at n))
-          × ((a : Place) × IsOperand (at n) a × TaintOf passes at n a e))
+          × ((a : Resource) × IsOperand (at n) a × TaintOf passes at n a e))
       forth t =
           let (i, load, here_is, x) = t in
           split i load here_is (through_last passes at i p n here x)
 
-      back : (IsTrue (is_load (at n)) × (event_place at n ≡ e))
+      back : (IsTrue (is_load (at n)) × (event_index at n ≡ e))
           ⊎ (IsTrue (passes (at n))
-          × ((a : Place) × IsOperand (at n) a × TaintOf passes at n a e))
+          × ((a : Resource) × IsOperand (at n) a × TaintOf passes at n a e))
           → TaintOf passes at (suc n) p e
       back (inl t) = (n, t.0, t.1, from_through passes at n p n here (inl refl))
       back (inr t) =
@@ -56,7 +56,7 @@ module _ (passes : Instruction → Bool) (at : Executed) where
           let (a, operand, taint) = rest in let (i, load, here_is, x) = taint in
           (i, load, here_is, from_through passes at i p n here (inr (ok, (a, operand, x))))
 
-  taint_kept : (n : ℕ) (p : Place) (e : ℕ) → (IsWritten (at n) p → ⊥)
+  taint_kept : (n : ℕ) (p : Resource) (e : ℕ) → (WritesTo (at n) p → ⊥)
       → TaintOf passes at (suc n) p e ↔ TaintOf passes at n p e
   taint_kept n p e not_here = (
     (λ t.
@@ -67,7 +67,7 @@ module _ (passes : Instruction → Bool) (at : Executed) where
         (i, load, here_is, reaches_more passes at i p n not_here x)),
   )
 
-  pub taints_first : (t : Taints) → ((p : Place) → IsPlace p → word_of t p ≡ 0)
+  pub taints_first : (t : Taints) → ((p : Resource) → IsInFile p → word_of t p ≡ 0)
       → AreTaints passes at zero t
   taints_first t empty p within e = (
     (λ bit. absurd (Bit-zero e (subst (λ (w : ℕ). Bit w e) (empty p within) bit))),
@@ -76,12 +76,12 @@ module _ (passes : Instruction → Bool) (at : Executed) where
 
 -- one instruction more, whose operands are within the file of registers
 module _ (narrow : Bool) (at : Executed) where
-  pub taints_more : (n : ℕ) (t u : Taints) → ((a : Place) → IsOperand (at n) a → IsPlace a)
-      → AreTaints (passes_of narrow) at n t → IsStep narrow (at n) (event_place at n) t u
+  pub taints_more : (n : ℕ) (t u : Taints) → ((a : Resource) → IsOperand (at n) a → IsInFile a)
+      → AreTaints (passes_of narrow) at n t → IsTaintStep narrow (at n) (event_index at n) t u
       → AreTaints (passes_of narrow) at (suc n) u
   taints_more n t u inside old step p within e = go (is_written (at n) p)
     where
-      go : IsWritten (at n) p ⊎ (IsWritten (at n) p → ⊥)
+      go : WritesTo (at n) p ⊎ (WritesTo (at n) p → ⊥)
           → Bit (word_of u p) e ↔ TaintOf (passes_of narrow) at (suc n) p e
       go (inl here) =
           let (f, g) = step.written p within here e in
@@ -109,23 +109,23 @@ module _ (narrow : Bool) (at : Executed) where
           )
 
 -- the bits of the places that an instruction reads
-pub one_place : (t : Taints) (a : Place) (e : ℕ)
-    → Bit (word_of t a) e ↔ ((p : Place) × (p ≡ a) × Bit (word_of t p) e)
-one_place t a e = ((λ b. (a, refl, b)), (λ x. subst (λ (p : Place). Bit (word_of t p) e) x.1 x.2))
+pub one_place : (t : Taints) (a : Resource) (e : ℕ)
+    → Bit (word_of t a) e ↔ ((p : Resource) × (p ≡ a) × Bit (word_of t p) e)
+one_place t a e = ((λ b. (a, refl, b)), (λ x. subst (λ (p : Resource). Bit (word_of t p) e) x.1 x.2))
 
-pub two_places : (t : Taints) (a b : Place) (e : ℕ)
+pub two_places : (t : Taints) (a b : Resource) (e : ℕ)
     → Bit (bit_or (word_of t a) (word_of t b)) e
-    ↔ ((p : Place) × ((p ≡ a) ⊎ (p ≡ b)) × Bit (word_of t p) e)
+    ↔ ((p : Resource) × ((p ≡ a) ⊎ (p ≡ b)) × Bit (word_of t p) e)
 two_places t a b e = (
   (λ x. elim ((Bit-or (word_of t a) (word_of t b) e).0 x)
       [ inl y ↦ (a, inl refl, y) | inr y ↦ (b, inr refl, y) ]),
   (λ x. (Bit-or (word_of t a) (word_of t b) e).1 (elim x.1 [
-    | inl same ↦ inl (subst (λ (p : Place). Bit (word_of t p) e) same x.2)
-    | inr same ↦ inr (subst (λ (p : Place). Bit (word_of t p) e) same x.2)
+    | inl same ↦ inl (subst (λ (p : Resource). Bit (word_of t p) e) same x.2)
+    | inr same ↦ inr (subst (λ (p : Resource). Bit (word_of t p) e) same x.2)
   ])),
 )
 
-pub no_places : (t : Taints) (e : ℕ) → Bit 0 e ↔ ((p : Place) × ⊥ × Bit (word_of t p) e)
+pub no_places : (t : Taints) (e : ℕ) → Bit 0 e ↔ ((p : Resource) × ⊥ × Bit (word_of t p) e)
 no_places t e = ((λ x. absurd (Bit-zero e x)), (λ x. absurd x.1))
 
 -- an instruction that is a load, or passes its operands' bits on, or none
@@ -222,7 +222,7 @@ origin_word-origin narrow i k t lt e = go (is_load i) (passes_of narrow i) refl 
         of_operands narrow i k t (operand_word i t) load p (operand_word-union i t) e
     go false false load p = of_none narrow i k t load (λ q. false≢true (sym p ∙ q)) e
 
-register_word : (t : Taints) (d : ℕ) (w : ℕ) (p : Place) → length t.registers ≡ 256 → IsPlace p
+register_word : (t : Taints) (d : ℕ) (w : ℕ) (p : Resource) → length t.registers ≡ 256 → IsInFile p
     → p ≡ Register d → word_of (record t { registers = set t.registers d w }) p ≡ w
 register_word t d w (Register r) long within e = go r d within (inside r d e)
   where
@@ -235,23 +235,23 @@ register_word t d w (Register r) long within e = go r d within (inside r d e)
         (get_or-set_same t.registers d w 0 (omega arith))
 register_word t d w Cr0 long within e = absurd cc
 
-register_kept : (t : Taints) (d : ℕ) (w : ℕ) (p : Place) → (p ≡ Register d → ⊥)
+register_kept : (t : Taints) (d : ℕ) (w : ℕ) (p : Resource) → (p ≡ Register d → ⊥)
     → word_of (record t { registers = set t.registers d w }) p ≡ word_of t p
 register_kept t d w (Register r) ne = get_or-set_other t.registers d r w 0 (λ e. ne (ap Register e))
 register_kept t d w Cr0 ne = refl
 
-compared_word : (t : Taints) (w : ℕ) (p : Place) → p ≡ Cr0
+compared_word : (t : Taints) (w : ℕ) (p : Resource) → p ≡ Cr0
     → word_of (record t { compared = w }) p ≡ w
 compared_word t w (Register r) e = absurd cc
 compared_word t w Cr0 e = refl
 
-compared_kept : (t : Taints) (w : ℕ) (p : Place) → (p ≡ Cr0 → ⊥)
+compared_kept : (t : Taints) (w : ℕ) (p : Resource) → (p ≡ Cr0 → ⊥)
     → word_of (record t { compared = w }) p ≡ word_of t p
 compared_kept t w (Register r) ne = refl
 compared_kept t w Cr0 ne = absurd (ne refl)
 
-pub with_word-written : (i : Instruction) (w : ℕ) (t : Taints) (p : Place)
-    → length t.registers ≡ 256 → IsPlace p → IsWritten i p → word_of (with_word i w t) p ≡ w
+pub with_word-written : (i : Instruction) (w : ℕ) (t : Taints) (p : Resource)
+    → length t.registers ≡ 256 → IsInFile p → WritesTo i p → word_of (with_word i w t) p ≡ w
 with_word-written (Immediate d n) w t p long within e = register_word t d w p long within e
 with_word-written (Move d a) w t p long within e = register_word t d w p long within e
 with_word-written (AddImmediate d a n) w t p long within e = register_word t d w p long within e
@@ -266,7 +266,7 @@ with_word-written (Branch c l) w t p long within e = absurd e
 with_word-written (Jump l) w t p long within e = absurd e
 with_word-written (Barrier f) w t p long within e = absurd e
 
-pub with_word-kept : (i : Instruction) (w : ℕ) (t : Taints) (p : Place) → (IsWritten i p → ⊥)
+pub with_word-kept : (i : Instruction) (w : ℕ) (t : Taints) (p : Resource) → (WritesTo i p → ⊥)
     → word_of (with_word i w t) p ≡ word_of t p
 with_word-kept (Immediate d n) w t p ne = register_kept t d w p ne
 with_word-kept (Move d a) w t p ne = register_kept t d w p ne
@@ -284,7 +284,7 @@ with_word-kept (Barrier f) w t p ne = refl
 
 pub noted-step : (narrow : Bool) (i : Instruction) (k : ℕ) (t : Taints)
     → (is_load i ≡ true → k < 128) → length t.registers ≡ 256
-    → IsStep narrow i k t (noted narrow i k t)
+    → IsTaintStep narrow i k t (taints_after narrow i k t)
 noted-step narrow i k t lt long = record {
   written =
       λ p within here e. subst (λ (w : ℕ). Bit w e ↔ IsOrigin narrow i k t e)

@@ -3,7 +3,7 @@ use Rattle.std.specs.Prelude.{ℕ, bit_or, Bool, true, false, if◌then◌else�
 use Rattle.thread_runs.specs.declared.instruction.Instruction.{Instruction}
 use Rattle.thread_runs.specs.Machine.{is_branch}
 use Rattle.dataflow.specs.declared.taints.Taints.{Taints}
-use Rattle.dataflow.specs.Taints.{operand_word, noted, clean_taints}
+use Rattle.dataflow.specs.Taints.{operand_word, taints_after, clean_taints}
 use Rattle.dataflow.specs.declared.pass.Control.{Control}
 use Rattle.dataflow.specs.Chains.{Executed, IsCtrl, IsCtrlIsync, is_isync}
 
@@ -18,7 +18,7 @@ synchronised_after i branched synchronised =
 
 abbrev pub steered : Instruction → ℕ → Control → Control
 steered i index c = record {
-  taints = noted false i index c.taints;
+  taints = taints_after false i index c.taints;
   branched = branched_after i c.taints c.branched;
   synchronised = synchronised_after i c.branched c.synchronised;
 }

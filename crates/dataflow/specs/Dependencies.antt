@@ -2,16 +2,16 @@
 use Rattle.std.specs.Prelude.{◌≡◌, ℕ, ◌<◌, ◌↔◌, List, [], Contains, slice_index}
 use Rattle.dataflow.specs.declared.lists.Links.{Links}
 use Rattle.dataflow.specs.DependencyLists.{dependency_lists, no_dependencies}
-use Rattle.dataflow.specs.Chains.{Executed, IsAddr, IsData, IsCtrl, IsCtrlIsync, IsNeed, IsRising, IsListOf}
+use Rattle.dataflow.specs.Chains.{Executed, IsAddr, IsData, IsCtrl, IsCtrlIsync, IsNeed, ArePairsRising, IsPairListOf}
 use Rattle.bit_relations.specs.Relation.{Bit}
 
 -- each list has just the pairs of its dependency, in rising order
 pub record AreLinks (at : Executed) (links : Links) : Type 0 where
-  pub addr : IsListOf IsAddr at links.dependencies.addr_pairs.items
-  pub «data» : IsListOf IsData at links.dependencies.data_pairs.items
-  pub ctrl : IsListOf IsCtrl at links.dependencies.ctrl_pairs.items
-  pub ctrlisync : IsListOf IsCtrlIsync at links.dependencies.ctrlisync_pairs.items
-  pub need : IsListOf IsNeed at links.need_pairs.items
+  pub addr : IsPairListOf IsAddr at links.dependencies.addr_pairs.items
+  pub «data» : IsPairListOf IsData at links.dependencies.data_pairs.items
+  pub ctrl : IsPairListOf IsCtrl at links.dependencies.ctrl_pairs.items
+  pub ctrlisync : IsPairListOf IsCtrlIsync at links.dependencies.ctrlisync_pairs.items
+  pub need : IsPairListOf IsNeed at links.need_pairs.items
 
 -- there are none
 pub record HasNoLinks (links : Links) : Type 0 where
@@ -19,7 +19,7 @@ pub record HasNoLinks (links : Links) : Type 0 where
   pub need : links.need_pairs.items ≡ []
 
 -- the pairs of an index whose bit a word has, and the index of the word
-pub record ArePairs (words : List ℕ) (count : ℕ) (ps : List (ℕ × ℕ)) : Type 0 where
-  pub rising : IsRising ps
+pub record ArePairsOfWords (words : List ℕ) (count : ℕ) (ps : List (ℕ × ℕ)) : Type 0 where
+  pub rising : ArePairsRising ps
   pub exact : (p : ℕ × ℕ)
       → Contains ps p ↔ ((p.0 < count) × (p.1 < count) × Bit (slice_index words p.1) p.0)

@@ -3,7 +3,7 @@ use Rattle.std.specs.Prelude.{ℕ, zero, suc, ◌≡◌, ◌<◌, ◌≤◌, Lis
 use Rattle.thread_runs.specs.declared.value.Value.{Value}
 use Rattle.thread_runs.specs.declared.instruction.Event.{Event}
 use Rattle.thread_runs.specs.declared.state.State.{State}
-use Rattle.thread_runs.specs.Machine.{after, event_of, register, is_load}
+use Rattle.thread_runs.specs.Machine.{state_after, event_of, register, is_load}
 use Rattle.thread_runs.specs.Runs.{Walk, executed, loaded_at}
 use Rattle.dataflow.specs.Chains.{Executed, Register, IsNeed, IsStoredRegister}
 
@@ -11,7 +11,7 @@ use Rattle.dataflow.specs.Chains.{Executed, Register, IsNeed, IsStoredRegister}
 -- index
 abbrev pub state_at : Executed → (ℕ → Value) → State → ℕ → State
 state_at at loaded s zero = s
-state_at at loaded s (suc n) = after (at n) (loaded n) (state_at at loaded s n)
+state_at at loaded s (suc n) = state_after (at n) (loaded n) (state_at at loaded s n)
 
 -- a stored register has the same value where the loads that the store needs have the same values
 abbrev pub StoresTheSame : Executed → State → (ℕ → Value) → (ℕ → Value) → ℕ → Type 0
@@ -27,7 +27,7 @@ events_before at loaded s (suc n) =
     events_before at loaded s n ++ event_of (at n) (loaded n) (state_at at loaded s n)
 
 -- the walk's state and events are those of its steps
-pub record IsWalk (s : State) (w : Walk) : Type 0 where
+pub record IsWalkFrom (s : State) (w : Walk) : Type 0 where
   pub state : w.state ≡ state_at (executed w.steps) (loaded_at w.steps) s (length w.steps)
   pub events : w.events ≡ events_before (executed w.steps) (loaded_at w.steps) s (length w.steps)
 

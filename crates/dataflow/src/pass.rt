@@ -6,7 +6,7 @@ ghost use Rattle.dataflow.specs.Dependencies as found;
 ghost use Rattle.thread_runs.specs.Machine as machine;
 ghost use Rattle.bit_relations.specs.Relation.{Bit};
 ghost use Rattle.dataflow.specs.Taints as taint;
-ghost use Rattle.dataflow.specs.Within.{IsPairWithin, IsWithin};
+ghost use Rattle.dataflow.specs.Within.{IsPairBelow, HasBound};
 ghost use Rattle.thread_runs.specs.Runs as runs;
 
 use crate::lists::{Dependencies, Links};
@@ -19,7 +19,7 @@ use thread_runs::{Instruction, Run, RunStep};
 
 /// How many of the steps are events.
 fn event_count(steps: &[RunStep]) -> usize
-    ensures { result ≡ chains.event_place (runs.executed steps.now) (length steps.now) }
+    ensures { result ≡ chains.event_index (runs.executed steps.now) (length steps.now) }
 {
     let mut count = 0;
     for step in steps {
@@ -88,9 +88,9 @@ fn control_columns(
     steps: &[RunStep],
     synchronised: bool,
 )
-    requires few { chains.event_place (runs.executed steps.now) (length steps.now) ≤ 128 }
+    requires few { chains.event_index (runs.executed steps.now) (length steps.now) ≤ 128 }
     requires clean { control.old ≡ steering.clean_control }
-    ensures columns { taint.AreColumnsOf (steering.control_of synchronised)
+    ensures columns { taint.AreLoadWordsOf (steering.control_of synchronised)
         (runs.executed steps.now) (length steps.now) columns.new }
     ensures clean { control.new ≡ steering.clean_control }
 {
@@ -122,8 +122,8 @@ fn has(word: u128, index: usize) -> bool
 /// The pairs of a load and an event that it reaches, by rising loads.
 fn pairs(alloc: Global, columns: &Columns, count: usize) -> Result<Vec<(usize, usize)>, AllocError>
     requires { count ≤ 128 }
-    ensures within { IfOk result (λ v. All (IsPairWithin count) v.items) }
-    ensures exact { IfOk result (λ v. found.ArePairs columns.now count v.items) }
+    ensures within { IfOk result (λ v. All (IsPairBelow count) v.items) }
+    ensures exact { IfOk result (λ v. found.ArePairsOfWords columns.now count v.items) }
 {
     let mut pairs = Vec::new(alloc);
     for from in 0..count {
@@ -137,7 +137,7 @@ fn pairs(alloc: Global, columns: &Columns, count: usize) -> Result<Vec<(usize, u
 }
 
 fn no_links(alloc: Global) -> Links
-    ensures within { (n : ℕ) → IsWithin n result }
+    ensures within { (n : ℕ) → HasBound n result }
     ensures none { found.HasNoLinks result }
 {
     Links {
@@ -170,13 +170,13 @@ impl Workspace {
     /// An exclusive or, or a difference, of a register with itself carries all but `need`. A run of
     /// over 128 events has no links. Errors: want of memory.
     pub fn links(&mut self, alloc: Global, run: &Run) -> Result<Links, AllocError>
-        ensures within { IfOk result (IsWithin (chains.event_place
+        ensures within { IfOk result (HasBound (chains.event_index
             (runs.executed run.now.steps.items) (length run.now.steps.items))) }
-        ensures exact { chains.event_place (runs.executed run.now.steps.items)
+        ensures exact { chains.event_index (runs.executed run.now.steps.items)
             (length run.now.steps.items) ≤ 128
             → IfOk result (found.AreLinks (runs.executed run.now.steps.items)) }
         ensures none { 128
-            < chains.event_place (runs.executed run.now.steps.items)
+            < chains.event_index (runs.executed run.now.steps.items)
             (length run.now.steps.items) → IfOk result found.HasNoLinks }
     {
         let steps = &run.steps;
@@ -208,13 +208,13 @@ impl Workspace {
 
 /// The links of a run, in a workspace of its own. Errors: want of memory.
 pub fn links(alloc: Global, run: &Run) -> Result<Links, AllocError>
-    ensures within { IfOk result (IsWithin (chains.event_place (runs.executed run.now.steps.items)
+    ensures within { IfOk result (HasBound (chains.event_index (runs.executed run.now.steps.items)
         (length run.now.steps.items))) }
-    ensures exact { chains.event_place (runs.executed run.now.steps.items)
+    ensures exact { chains.event_index (runs.executed run.now.steps.items)
         (length run.now.steps.items) ≤ 128
         → IfOk result (found.AreLinks (runs.executed run.now.steps.items)) }
     ensures none { 128
-        < chains.event_place (runs.executed run.now.steps.items) (length run.now.steps.items)
+        < chains.event_index (runs.executed run.now.steps.items) (length run.now.steps.items)
         → IfOk result found.HasNoLinks }
 {
     let mut workspace = Workspace::new();

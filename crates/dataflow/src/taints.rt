@@ -107,7 +107,7 @@ fn write(taints: &mut Taints, instruction: Instruction, word: u128)
 /// Notes what the instruction writes.
 pub fn note(taints: &mut Taints, instruction: Instruction, narrow: bool, index: u32)
     requires { machine.is_load instruction ≡ true → index < 128 }
-    ensures { taints.new ≡ taint.noted narrow instruction index taints.old }
+    ensures { taints.new ≡ taint.taints_after narrow instruction index taints.old }
 {
     let word = origin(taints, instruction, narrow, index);
     write(taints, instruction, word);
@@ -159,10 +159,11 @@ pub fn is_event(instruction: Instruction) -> bool
 
 /// Every register is within the file of registers: nothing is done, and the contract says it.
 pub fn registers_fit(instruction: Instruction)
-    ensures operands { (p : chains.Place) → chains.IsOperand instruction p → taint.IsPlace p }
-    ensures addresses { (p : chains.Place) → chains.IsAddressRegister instruction p
-        → taint.IsPlace p }
-    ensures stored { (p : chains.Place) → chains.IsStoredRegister instruction p → taint.IsPlace p }
+    ensures operands { (p : chains.Resource) → chains.IsOperand instruction p → taint.IsInFile p }
+    ensures addresses { (p : chains.Resource) → chains.IsAddressRegister instruction p
+        → taint.IsInFile p }
+    ensures stored { (p : chains.Resource) → chains.IsStoredRegister instruction p
+        → taint.IsInFile p }
 {
     match instruction {
         Instruction::Move(_, _a) => {}
@@ -190,9 +191,9 @@ pub fn reach(
     narrow: bool,
     stored: bool,
 )
-    requires few { chains.event_place (runs.executed steps.now) (length steps.now) ≤ 128 }
+    requires few { chains.event_index (runs.executed steps.now) (length steps.now) ≤ 128 }
     requires clean { taints.old ≡ taint.clean_taints }
-    ensures columns { taint.AreColumns narrow stored (runs.executed steps.now) (length steps.now)
+    ensures columns { taint.AreLoadWords narrow stored (runs.executed steps.now) (length steps.now)
         columns.new }
     ensures clean { taints.new ≡ taint.clean_taints }
 {

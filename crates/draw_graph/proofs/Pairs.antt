@@ -5,10 +5,10 @@ use Rattle.std.proofs.lemmas.List.{length-append, get_or_append_left}
 use Rattle.std.proofs.lemmas.List.Elements.{Contains-append_left, Contains-append_right, Contains-append_cases, Contains-get_or}
 use Rattle.std.proofs.Math.Seq.{get_or-append_seam}
 use Rattle.std.proofs.lemmas.Bool.{cases_eq}
-use Rattle.dataflow.specs.Chains.{IsPairBefore, IsRising}
+use Rattle.dataflow.specs.Chains.{IsPairBefore, ArePairsRising}
 use Rattle.std.specs.Prelude.{Bool, IsTrue, slice_index}
 use Rattle.std.specs.Int.{bit_at}
-use Rattle.bit_relations.specs.Pairs.{Composed, Minus, Restricted, IsEmpty}
+use Rattle.bit_relations.specs.Pairs.{Composite, Minus, Restriction, IsEmpty}
 use Rattle.bit_relations.specs.Relation.{Relation, Bit, Has, IsRelation, IsRegular}
 use Rattle.draw_graph.specs.Drawn.{AreEdges, Drawn, DrawnAmong, IsOrder, IsTransitive}
 
@@ -18,11 +18,11 @@ IsEarlier from to p = (p.0 < from) ⊎ ((p.0 ≡ from) × (p.1 < to))
 
 -- the pairs that come before a pair
 pub record UpTo (R : ℕ → ℕ → Type 0) (from to : ℕ) (ps : List (ℕ × ℕ)) : Type 0 where
-  pub rising : IsRising ps
+  pub rising : ArePairsRising ps
   pub exact : (p : ℕ × ℕ) → Contains ps p ↔ (IsEarlier from to p × R p.0 p.1)
 
 rising_more : (ps : List (ℕ × ℕ)) (q : ℕ × ℕ) → ((p : ℕ × ℕ) → Contains ps p → IsPairBefore p q)
-    → IsRising ps → IsRising (ps ++ q ∷ [])
+    → ArePairsRising ps → ArePairsRising (ps ++ q ∷ [])
 rising_more ps q before old i j lt inside = elim (cases_eq j (length ps)) [
   | inl same ↦
       subst (λ (x : ℕ × ℕ). IsPairBefore (get_or (ps ++ q ∷ []) i (0, 0)) x) (sym
@@ -155,7 +155,7 @@ unset word k =
     elim (cases_eq (bit_at word k) 1) [ inl same ↦ inr same | inr ne ↦ inl (λ same. ne same) ]
 
 pub transitive_is : (r c o : Relation) (n m : ℕ) (b : Bool)
-    → IsRelation c n (Composed (Has r) (Has r)) → IsRelation o m (Minus (Has c) (Has r))
+    → IsRelation c n (Composite (Has r) (Has r)) → IsRelation o m (Minus (Has c) (Has r))
     → IsTrue b ↔ IsEmpty (Has o) → IsTrue b ↔ IsTransitive (Has r)
 transitive_is r c o n m b composed outside told = ((λ t. forth (told.0 t)), (λ t. told.1 (back t)))
   where
@@ -171,7 +171,7 @@ transitive_is r c o n m b composed outside told = ((λ t. forth (told.0 t)), (λ
         bare (closed x y ((composed.pairs x y).0 both))
 
 pub drawn_of_order : (r c m : Relation) (n : ℕ) → IsOrder (Has r)
-    → IsRelation c n (Composed (Has r) (Has r)) → IsRelation m r.count (Minus (Has r) (Has c))
+    → IsRelation c n (Composite (Has r) (Has r)) → IsRelation m r.count (Minus (Has r) (Has c))
     → IsRelation m r.count (Drawn (Has r))
 drawn_of_order r c m n order composed between = record {
   count = between.count;
@@ -228,10 +228,10 @@ same_drawn R S same a b = (
     )
 
 pub among_edges : (r d a : Relation) (S : ℕ → Type 0) (n m : ℕ) (ps : List (ℕ × ℕ))
-    → IsRelation a n (Restricted (Has r) S) → IsRelation d m (Drawn (Has a)) → AreEdges (Has d) ps
+    → IsRelation a n (Restriction (Has r) S) → IsRelation d m (Drawn (Has a)) → AreEdges (Has d) ps
     → AreEdges (DrawnAmong S (Has r)) ps
 among_edges r d a S n m ps among drawn listed =
-    let same = same_drawn (Has a) (Restricted (Has r) S) among.pairs in
+    let same = same_drawn (Has a) (Restriction (Has r) S) among.pairs in
     same_edges (Has d) (DrawnAmong S (Has r)) ps
     (λ x y. (
       (λ h. (same x y).0 ((drawn.pairs x y).0 h)),

@@ -2,7 +2,7 @@
 
 ghost use Rattle.std.specs.Prelude.{◌≡◌, IfOk, filter, map};
 ghost use Rattle.std.specs.Option.{option_map};
-ghost use Rattle.text_values.specs.ModelValues.{clause_of, clauses_of, shown_of};
+ghost use Rattle.text_values.specs.ModelValues.{clause_of, clauses_of, shown_term};
 ghost use Rattle.draw_relations.specs.Shown.{after_clause, after_name, after_named, after_show, is_other, name_of, names_shown};
 
 use std::alloc::{AllocError, Global};
@@ -21,7 +21,7 @@ pub struct ShownName {
 
 // The name of a shown expression.
 fn name_of(shown: &ShownExpression) -> Option<&Name>
-    ensures { option_map (λ n. n.now) result ≡ name_of (shown_of shown.now) }
+    ensures { option_map (λ n. n.now) result ≡ name_of (shown_term shown.now) }
 {
     match &shown.label {
         Some(label) => Some(label),
@@ -100,7 +100,7 @@ fn after_expression(
     expression: &ShownExpression,
 ) -> Result<Vec<ShownName>, AllocError>
     ensures { IfOk result (λ v. v.items
-        ≡ after_named hidden item position (name_of (shown_of expression.now)) shown.items) }
+        ≡ after_named hidden item position (name_of (shown_term expression.now)) shown.items) }
 {
     match name_of(expression) {
         Some(name) => after_name(alloc, &shown, hidden, item, position, name),
@@ -117,7 +117,7 @@ fn after_show(
     expressions: &[ShownExpression],
 ) -> Result<Vec<ShownName>, AllocError>
     ensures { IfOk result (λ v. v.items
-        ≡ after_show hidden item 0 (map shown_of expressions.now) shown.items) }
+        ≡ after_show hidden item 0 (map shown_term expressions.now) shown.items) }
 {
     let mut shown = shown;
     for position in 0..expressions.len() {

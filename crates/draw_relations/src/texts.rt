@@ -2,7 +2,7 @@
 
 ghost use Rattle.std.specs.Prelude.{◌≡◌, IfOk, MatchOption, None, filter, map, slice_get};
 ghost use Rattle.std.specs.Option.{option_map};
-ghost use Rattle.text_values.specs.ModelValues.{clause_of, clauses_of, shown_of, term_of};
+ghost use Rattle.text_values.specs.ModelValues.{clause_of, clauses_of, shown_term, term_of};
 ghost use Rattle.draw_relations.specs.Shown.{IsTextFor, body_at, body_of, check_on, is_binding};
 
 use crate::names::ShownName;
@@ -38,7 +38,7 @@ fn bindings(alloc: Global, items: &[Item]) -> Result<Vec<Item>, AllocError>
 
 fn body_in(shown: Vec<ShownExpression>, position: usize) -> Option<Expression>
     ensures { option_map term_of result
-        ≡ option_map (λ e. e.0) (slice_get (map shown_of shown.items) position) }
+        ≡ option_map (λ e. e.0) (slice_get (map shown_term shown.items) position) }
 {
     let mut shown = shown;
     if position < shown.len() {

@@ -7,18 +7,18 @@ use Rattle.std.proofs.lemmas.List.{get_or-map, length-map}
 use Rattle.text_values.specs.declared.test.Step.{Step}
 use Rattle.text_values.specs.declared.test.Thread.{Thread}
 use Rattle.text_values.specs.declared.test.Test.{Test}
-use Rattle.text_values.specs.TestValue.{Content, steps_of, content_of}
+use Rattle.text_values.specs.TestValue.{Content, thread_steps, content_of}
 use Rattle.litmus_printing.specs.Printing.{condition_text}
 use Rattle.text_values.specs.declared.model.ModelText.{ModelText}
 use Rattle.thread_runs.specs.declared.instruction.Line.{Line}
 use Rattle.thread_runs.specs.declared.instruction.Program.{Program}
 use Rattle.thread_runs.specs.declared.value.Value.{Value}
-use Rattle.ppc_semantics.specs.Lowering.{AreNames, AreInitial, AreFiles, AreLines, AreThreads, IsProgram, entry_names, place_names, formula_names}
+use Rattle.ppc_semantics.specs.Lowering.{AreNamesOf, AreInitial, AreFiles, LowersTo, AreThreadLines, IsProgram, entry_names, place_names, formula_names}
 use Rattle.candidates.specs.declared.candidate.Space.{Space}
 use Rattle.candidates.specs.declared.fault.EvalRefusal.{EvalRefusal}
 use Rattle.candidates.specs.declared.fault.EvalRefusal.TheVariants.{TooManyEvents, TooManyValues, TooManyRuns, TooManyCandidates, AddressFault, TooManyCombinations}
 use Rattle.candidates.specs.Executions.{Execution}
-use Rattle.candidates.specs.Listed.{AreTestExecutions, ListsExecutions, IsRefusal}
+use Rattle.candidates.specs.Listed.{AreTestExecutions, ListsExecutions, IsSpaceRefusal}
 use Rattle.binding_graph.specs.declared.resolved.ResolvedItem.{ResolvedItem}
 use Rattle.verdict.specs.declared.answer.Evaluation.{Evaluation}
 use Rattle.verdict.specs.declared.answer.OutcomeResult.{OutcomeResult}
@@ -35,37 +35,37 @@ abbrev names_in : Content → List (List ℕ)
 names_in c =
     (flat_map entry_names c.init ++ formula_names c.condition) ++ flat_map place_names c.observed
 
-steps_at : (threads others : List Thread) → map steps_of threads ≡ map steps_of others
+steps_at : (threads others : List Thread) → map thread_steps threads ≡ map thread_steps others
     → (k : ℕ) (thread : Thread) → k < length others
     → (slice_index_or threads k thread).steps.items ≡ (slice_index_or others k thread).steps.items
 steps_at threads others same k thread lt =
-    let many : length threads ≡ length others = sym (length-map threads steps_of) ∙ (ap length same ∙ length-map others steps_of) in
-    sym (get_or-map steps_of threads k thread [] (omega arith))
+    let many : length threads ≡ length others = sym (length-map threads thread_steps) ∙ (ap length same ∙ length-map others thread_steps) in
+    sym (get_or-map thread_steps threads k thread [] (omega arith))
     ∙ (ap (λ (l : List (List Step)). slice_index_or l k []) same
-    ∙ get_or-map steps_of others k thread [] lt)
+    ∙ get_or-map thread_steps others k thread [] lt)
 
 threads_kept : (threads others : List Thread) (lines : List (Vec Line Global))
-    → map steps_of threads ≡ map steps_of others → AreThreads threads lines
-    → AreThreads others lines
+    → map thread_steps threads ≡ map thread_steps others → AreThreadLines threads lines
+    → AreThreadLines others lines
 threads_kept threads others lines same h =
-    let many : length threads ≡ length others = sym (length-map threads steps_of) ∙ (ap length same ∙ length-map others steps_of) in
+    let many : length threads ≡ length others = sym (length-map threads thread_steps) ∙ (ap length same ∙ length-map others thread_steps) in
     record {
       each_one = h.each_one ∙ many;
       each =
           λ k thread made lt. subst
-          (λ (steps : List Step). AreLines steps (slice_index_or lines k made).items)
+          (λ (steps : List Step). LowersTo steps (slice_index_or lines k made).items)
           (steps_at threads others same k thread lt) (h.each k thread made (omega arith));
     }
 
 module _ (test other : Test) (same : content_of test ≡ content_of other) where
   count_kept : vec_len test.threads ≡ vec_len other.threads
   count_kept =
-      let many : length test.threads.items ≡ length other.threads.items = sym (length-map test.threads.items steps_of) ∙ (ap (λ (c : Content). length c.threads) same ∙ length-map other.threads.items steps_of) in
+      let many : length test.threads.items ≡ length other.threads.items = sym (length-map test.threads.items thread_steps) ∙ (ap (λ (c : Content). length c.threads) same ∙ length-map other.threads.items thread_steps) in
       omega (arith, test.threads.ok.0, other.threads.ok.0)
 
   program_kept : (p : Program) → IsProgram test p → IsProgram other p
   program_kept p h = record {
-    locations = subst (λ (c : Content). AreNames (names_in c) p.locations.items) same h.locations;
+    locations = subst (λ (c : Content). AreNamesOf (names_in c) p.locations.items) same h.locations;
     initial =
         subst (λ (c : Content). AreInitial c.init p.locations.items p.initial.items) same h.initial;
     threads =
@@ -100,10 +100,10 @@ module _ (test other : Test) (same : content_of test ≡ content_of other) where
     sound = h.sound;
     shown = h.shown;
     locations =
-        subst (λ (c : Content). AreNames (names_in c) space.locations.items) same h.locations;
+        subst (λ (c : Content). AreNamesOf (names_in c) space.locations.items) same h.locations;
   }
 
-  pub refusal_kept : (r : EvalRefusal) → IsRefusal test r → IsRefusal other r
+  pub refusal_kept : (r : EvalRefusal) → IsSpaceRefusal test r → IsSpaceRefusal other r
   refusal_kept TooManyEvents h = (h.0, program_kept h.0 h.1, h.2)
   refusal_kept TooManyValues h = (h.0, program_kept h.0 h.1, h.2)
   refusal_kept TooManyRuns h = (h.0, program_kept h.0 h.1, h.2)

@@ -5,7 +5,7 @@ use Rattle.text_values.specs.TestValue.{formula_of}
 use Rattle.litmus_printing.specs.Printing.{condition_text}
 use Rattle.candidates.specs.Space.{shown_in}
 use Rattle.candidates.specs.declared.candidate.Space.{Space}
-use Rattle.candidates.specs.Listed.{ListsExecutions, IsRefusal}
+use Rattle.candidates.specs.Listed.{ListsExecutions, IsSpaceRefusal}
 use Rattle.binding_kinds.specs.declared.fault.ModelFault.{ModelFault}
 use Rattle.binding_graph.specs.declared.resolved.ResolvedItem.{ResolvedItem}
 use Rattle.verdict.specs.Evaluated.{IsEvaluation, IsOutcome}
@@ -39,7 +39,7 @@ IsSaid space test o =
 -- answers over its own space
 abbrev pub IsResult : Test → OutcomeResult → Type 0
 IsResult test (Refused (refusals.Model k)) = Unit {0}
-IsResult test (Refused (refusals.Space r)) = IsRefusal test r
+IsResult test (Refused (refusals.Space r)) = IsSpaceRefusal test r
 IsResult test (Evaluated e) =
     (space : Space) × ListsExecutions test space × (checks : List (List Bool)) × (flags : List Flag)
     × IsEvaluationFrom space test checks flags e

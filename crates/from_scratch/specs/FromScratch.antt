@@ -7,7 +7,7 @@ use Rattle.text_values.specs.declared.test.Test.{Test}
 use Rattle.text_values.specs.TestValue.{formula_of}
 use Rattle.litmus_printing.specs.Printing.{condition_text}
 use Rattle.candidates.specs.declared.candidate.Space.{Space}
-use Rattle.candidates.specs.Listed.{ListsExecutions, IsRefusal}
+use Rattle.candidates.specs.Listed.{ListsExecutions, IsSpaceRefusal}
 use Rattle.text_values.specs.declared.model.ModelText.{ModelText}
 use Rattle.text_values.specs.declared.predefined.TheConstants.{PREDEFINED}
 use Rattle.binding_kinds.specs.declared.fault.ModelFault.{ModelFault}
@@ -53,7 +53,7 @@ IsEvaluationOf test model e =
 -- evaluation
 abbrev pub IsResultOf : Test → ModelText → OutcomeResult → Type 0
 IsResultOf test model (Refused (refusals.Model k)) = IsFaultOf model k
-IsResultOf test model (Refused (refusals.Space r)) = IsFaultless model × IsRefusal test r
+IsResultOf test model (Refused (refusals.Space r)) = IsFaultless model × IsSpaceRefusal test r
 IsResultOf test model (Evaluated e) = IsFaultless model × IsEvaluationOf test model e
 
 -- the outcome: the kind of the test's condition, the condition as it is printed, and that result

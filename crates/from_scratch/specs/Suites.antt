@@ -6,7 +6,7 @@ use denote.Ref.{Bor}
 use Rattle.text_values.specs.declared.test.Test.{Test}
 use Rattle.candidates.specs.declared.candidate.Space.{Space}
 use Rattle.candidates.specs.declared.fault.EvalRefusal.{EvalRefusal}
-use Rattle.candidates.specs.Listed.{ListsExecutions, IsRefusal}
+use Rattle.candidates.specs.Listed.{ListsExecutions, IsSpaceRefusal}
 use Rattle.text_values.specs.declared.model.ModelText.{ModelText}
 use Rattle.binding_kinds.specs.declared.fault.ModelFault.{ModelFault}
 use Rattle.binding_graph.specs.declared.resolved.Resolved.{Resolved}
@@ -26,7 +26,7 @@ AreRows models tests rows = AllZip (λ test row. AreOutcomes models test row.ite
 -- the candidates of the test, or why it has none
 abbrev pub IsSpaceFor : Test → Result Space EvalRefusal → Type 0
 IsSpaceFor test (Ok space) = ListsExecutions test space
-IsSpaceFor test (Err r) = IsRefusal test r
+IsSpaceFor test (Err r) = IsSpaceRefusal test r
 
 -- the items of a model without fault, or the first fault
 abbrev pub IsResolvedAs : ModelText → Result Resolved ModelFault → Type 0

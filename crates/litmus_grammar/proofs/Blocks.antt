@@ -11,7 +11,7 @@ use Rattle.litmus_tokens.specs.Stage.{after}
 use Rattle.litmus_tokens.specs.Texts.{TokenAt, tokens_of, stage_after, StandsAt}
 use Rattle.litmus_tokens.specs.Words.{column_name}
 use Rattle.litmus_tokens.specs.Faults.{Begins}
-use Rattle.litmus_tokens.specs.Conditions.{PlaceTree, Location, Register, place_meaning, meaning}
+use Rattle.litmus_tokens.specs.Conditions.{PlaceTree, Location, Register, place_meaning, formula_meaning}
 use Rattle.litmus_table.specs.Grammar.{spelled_header, spelled_names, columns_meaning}
 use Rattle.litmus_table.specs.Late.{columns_notes}
 use Rattle.litmus_table.specs.Machine as table
@@ -20,7 +20,7 @@ use Rattle.litmus_grammar.specs.declared.parts.InitExpectation.TheVariants as ex
 use Rattle.litmus_grammar.specs.declared.parts.InitStep.{InitStep}
 use Rattle.litmus_grammar.specs.declared.parts.InitStep.TheVariants as init_steps
 use Rattle.litmus_grammar.specs.declared.parts.TextKind.TheVariants as kinds
-use Rattle.litmus_grammar.specs.Grammar.{Listed, EntryTree, spelled_entry, spelled_end, spelled_others, spelled_init, members, AreEntries, IsInitText}
+use Rattle.litmus_grammar.specs.Grammar.{Listed, EntryTree, spelled_entry, spelled_end, spelled_others, spelled_init, members, AreEntryTrees, IsInitText}
 use Rattle.litmus_grammar.specs.InitMachine as init
 use Rattle.litmus_grammar.specs.TextMachine as text
 use Rattle.litmus_grammar.specs.TextMachine.{Part, Draft, Next, State, part_step, nothing, start, run}
@@ -138,7 +138,7 @@ module _ (pre q r1 r2 : List TokenAt) (closed : Bool) where
 -- the init block, and what stands behind it
 pub record IsBody (ts : List Token) : Type 0 where
   pub entries : Option (Listed EntryTree)
-  pub are_entries : AreEntries [] (members entries)
+  pub are_entries : AreEntryTrees [] (members entries)
   pub others : ℕ
   pub behind : List Token
   pub rows : IsRows others behind
@@ -192,7 +192,7 @@ module _ (name : List ℕ) where
         → IsBrokenOff IsInitText (stages.Init true false) (tokens_of (brace_at n ∷ ps) ++ rest)
         → Opened ps n s
 
-  pub body_of : (ts us : List Token) (es : Option (Listed EntryTree)) → AreEntries [] (members es)
+  pub body_of : (ts us : List Token) (es : Option (Listed EntryTree)) → AreEntryTrees [] (members es)
       → ts ≡ spelled_init es [] → IsName 0 us → IsBody (ts ++ us)
   body_of ts us es fine e x =
       let z : 0 + x.more ≡ x.more = omega arith in
@@ -211,7 +211,7 @@ module _ (name : List ℕ) where
   block_text : (ps : List TokenAt) (n : ℕ) (f : Stage) (h : Draft)
       → run (text_at kinds.Init 0 first (text.Init expectations.WantsEntry) first_draft) ps
       ≡ Ok (text_at kinds.Init 0 f text.WantsEnd h)
-      → (es : Option (Listed EntryTree)) × AreEntries [] (members es)
+      → (es : Option (Listed EntryTree)) × AreEntryTrees [] (members es)
       × (tokens_of (brace_at n ∷ ps) ≡ spelled_init es [])
   block_text ps n f h e =
       let all = brace_at n ∷ (ps ++ last_at 0 ∷ []) in
@@ -239,7 +239,7 @@ module _ (name : List ℕ) where
 
       by_rest : (h : Draft) (p : Part) (f : Stage) → in_block p ≡ true
           → run (start kinds.Init 0) (brace_at n ∷ ps) ≡ Ok (text_at kinds.Init 0 f p h)
-          → (es : Option (Listed EntryTree)) → AreEntries [] (members es) → (rest : List Token)
+          → (es : Option (Listed EntryTree)) → AreEntryTrees [] (members es) → (rest : List Token)
           → Rest ts rest (spelled_init es []) tokens.End → Opened ps n s
       by_rest h p f i r es fine rest (Nothing k) =
           let cut = split (brace_at n ∷ ps) (spelled_init es []) (tokens.End ∷ []) k in
@@ -295,7 +295,7 @@ module _ (name : List ℕ) where
     pub by : run (block_at g) ps
         ≡ Ok (test_at stage text.Done (with_all name block reached
         (map place_meaning (members x.rows.tail.observed)) x.rows.tail.quantifier
-        (meaning x.rows.tail.condition)))
+        (formula_meaning x.rows.tail.condition)))
     pub entries : block.entries ≡ map entry_kept (members x.entries)
     pub stand : AreStarts (pre ++ brace_at n ∷ ps)
         (tokens_of pre ++ tokens.Mark marks.OpenBrace ∷ []) (members x.entries) block.starts
@@ -316,7 +316,7 @@ module _ (name : List ℕ) where
         (members es) block.starts
 
   pub entries_led : (es : Option (Listed EntryTree)) (q : List TokenAt) (n : ℕ) (g : Stage)
-      → AreEntries [] (members es) → tokens_of (brace_at n ∷ q) ≡ spelled_init es []
+      → AreEntryTrees [] (members es) → tokens_of (brace_at n ∷ q) ≡ spelled_init es []
       → TakesEntries es q n g
   entries_led es q n g fine e =
       let all = brace_at n ∷ (q ++ last_at 0 ∷ []) in
@@ -355,13 +355,13 @@ module _ (name : List ℕ) where
 
   pub body_led : (pre q b : List TokenAt) (w : TokenAt) (n : ℕ) (es : Option (Listed EntryTree))
       (others : ℕ) (behind : List Token) (x : IsRows others behind) (g : Stage)
-      → others + 1 < 18446744073709551616 → AreEntries [] (members es)
+      → others + 1 < 18446744073709551616 → AreEntryTrees [] (members es)
       → tokens_of (brace_at n ∷ q) ≡ spelled_init es [] → w.token ≡ tokens.Word (column_name 0)
       → tokens_of b ≡ spelled_names 1 others behind
       →
       (whole : tokens_of (brace_at n ∷ (q ++ w ∷ b))
       ≡ spelled_init es (spelled_header others behind))
-      (are : AreEntries [] (members es))
+      (are : AreEntryTrees [] (members es))
       → TakesBlock pre (q ++ w ∷ b) n
       (record {
         entries = es;

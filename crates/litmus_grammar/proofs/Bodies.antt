@@ -14,8 +14,8 @@ use Rattle.litmus_tokens.specs.Texts.{TokenAt, tokens_of, stage_after, begins_ta
 use Rattle.litmus_tokens.specs.Words.{column_name, names_column}
 use Rattle.litmus_tokens.specs.Faults.{Begins}
 use Rattle.text_values.specs.declared.test.Step.{Step}
-use Rattle.litmus_tokens.specs.Conditions.{limits, place_meaning, meaning, IsFormula}
-use Rattle.litmus_table.specs.Grammar.{RowTree, spelled_rows, spelled_names, AreRows, columns_meaning}
+use Rattle.litmus_tokens.specs.Conditions.{limits, place_meaning, formula_meaning, IsFormulaTree}
+use Rattle.litmus_table.specs.Grammar.{RowTree, spelled_rows, spelled_names, AreRowTrees, columns_meaning}
 use Rattle.litmus_table.specs.Late.{columns_notes}
 use Rattle.litmus_table.specs.Machine as table
 use Rattle.litmus_table.specs.Laws as laws
@@ -23,10 +23,10 @@ use Rattle.litmus_table.specs.Laws.{IsTable, columns, then_on, steps_of, AreNote
 use Rattle.litmus_table.proofs.Rules.{apart}
 use Rattle.litmus_table.proofs.Sound.{table_sound, columns-length}
 use Rattle.litmus_table.proofs.Tables.{table_complete, table_begins}
-use Rattle.litmus_grammar.specs.Grammar.{members, AreItems}
+use Rattle.litmus_grammar.specs.Grammar.{members, ArePlaceTrees}
 use Rattle.litmus_grammar.specs.InitMachine as init
 use Rattle.litmus_grammar.specs.TextMachine as text
-use Rattle.litmus_grammar.specs.TextMachine.{Draft, Next, State, Ran, with_offset, and_then, stepped, run}
+use Rattle.litmus_grammar.specs.TextMachine.{Draft, Next, State, TextResult, with_offset, and_then, stepped, run}
 use Rattle.litmus_grammar.proofs.Equations.{no_first, same_first, same_others}
 use Rattle.litmus_grammar.proofs.Outcomes.{not_both}
 use Rattle.litmus_grammar.proofs.Passing.{test_at}
@@ -39,7 +39,7 @@ use Rattle.litmus_grammar.proofs.Tails.{early, with_all, IsTail, any_tail, tail_
 pub record IsRows (others : ℕ) (ts : List Token) : Type 0 where
   pub few : others + 1 < 18446744073709551616
   pub rows : List RowTree
-  pub fine : AreRows others rows
+  pub fine : AreRowTrees others rows
   pub behind : List Token
   pub tail : IsTail (others + 1) behind
   pub whole : ts ≡ spelled_rows rows behind
@@ -124,7 +124,7 @@ module _ (name : List ℕ) (block : init.Block) where
   abbrev pub rows_at : Stage → table.State → State
   rows_at g u = test_at g text.Rows (draft_at u)
 
-  abbrev row_step : Stage → table.State → TokenAt → List TokenAt → Option Next → Ran
+  abbrev row_step : Stage → table.State → TokenAt → List TokenAt → Option Next → TextResult
   row_step g u p ps o =
       and_then (with_offset p.offset (stepped (rows_at g u) p.token o)) (λ x. run x ps)
 
@@ -299,7 +299,7 @@ module _ (name : List ℕ) (block : init.Block) where
     pub by : run (rows_at g (columns n)) ps
         ≡ Ok (test_at stage text.Done (with_all name block reached
         (map place_meaning (members x.tail.observed)) x.tail.quantifier
-        (meaning x.tail.condition)))
+        (formula_meaning x.tail.condition)))
     pub meant : steps_of reached.threads ≡ columns_meaning 0 (n + 1) x.rows
     pub noted : AreNoted (pre ++ ps) (columns_notes 0 (n + 1) (tokens_of pre) x.rows)
         reached.threads
@@ -314,8 +314,8 @@ module _ (name : List ℕ) (block : init.Block) where
       let g' = stage_after g (tokens_of cut.before) in
       let o = x.tail.observed in
       let l = tail_led name block r.after few_there r.ended cut.behind g' o x.tail.quantifier x.tail.condition
-      (subst (λ (m : ℕ). AreItems m (members o)) (sym k) x.tail.are_items)
-      (subst (λ (m : ℕ). IsFormula limits m x.tail.condition) (sym k) x.tail.fine)
+      (subst (λ (m : ℕ). ArePlaceTrees m (members o)) (sym k) x.tail.are_items)
+      (subst (λ (m : ℕ). IsFormulaTree limits m x.tail.condition) (sym k) x.tail.fine)
       (cut.are_behind ∙ x.tail.whole) in
       record {
         stage = l.stage;

@@ -9,7 +9,7 @@ use Rattle.litmus_tokens.specs.declared.token.Mark.TheVariants as marks
 use Rattle.litmus_tokens.specs.declared.lexer.Front.{Front}
 use Rattle.litmus_tokens.specs.declared.lexer.Front.TheVariants.{Layout, Lexeme}
 use Rattle.litmus_tokens.specs.Lexer.{front}
-use Rattle.litmus_tokens.specs.Texts.{TokenAt, after_front, tokens_from, lexed, is_end, begins_tail}
+use Rattle.litmus_tokens.specs.Texts.{TokenAt, after_front, tokens_from, lexing, is_end, begins_tail}
 use Rattle.litmus_tokens.specs.Words.{is_test_name, names_column}
 use Rattle.text_values.specs.declared.test.InitEntry.{InitEntry}
 use Rattle.text_values.specs.declared.test.Place.{Place}
@@ -23,7 +23,7 @@ use Rattle.litmus_tokens.specs.Conditions.{limits}
 use Rattle.litmus_tokens.specs.PlaceMachine.{place_step, value_read, is_there}
 use Rattle.litmus_tokens.specs.ConditionMachine as condition
 use Rattle.litmus_table.specs.Machine as table
-use Rattle.litmus_table.specs.Within.{AreWithin}
+use Rattle.litmus_table.specs.Within.{AreThreadsUpTo}
 use Rattle.litmus_table.proofs.Places.{expectation_within, widened_within}
 use Rattle.litmus_grammar.specs.declared.parts.TextKind.{TextKind}
 use Rattle.litmus_grammar.specs.declared.parts.TextKind.TheVariants as kinds
@@ -35,7 +35,7 @@ use Rattle.litmus_grammar.specs.InitMachine as init
 use Rattle.litmus_grammar.specs.InitMachine.{Block, Did, missing, lacks_thread}
 use Rattle.litmus_grammar.specs.TextMachine as text
 use Rattle.litmus_grammar.specs.TextMachine.{Part, Draft, Next, State, with_name, at, next_at, stepped, and_then, run, start, nothing, first_stage}
-use Rattle.litmus_grammar.specs.Kept.{AreAtMost, AreKept, IsKept}
+use Rattle.litmus_grammar.specs.Kept.{AreAtMost, AreDraftUpTo, StandsUpTo}
 
 pushed : (n p : ℕ) (ps : List ℕ) → p ≤ n → AreAtMost n ps → AreAtMost n (ps ++ p ∷ [])
 pushed n p [] le h = (le, tt)
@@ -130,9 +130,9 @@ missing_within n threads (x ∷ es) (s ∷ ss) p h e =
 
 abbrev InNext : ℕ → Option Next → Type 0
 InNext n None = Unit {0}
-InNext n (Some x) = AreKept n x.draft
+InNext n (Some x) = AreDraftUpTo n x.draft
 
-module _ (n p : ℕ) (le : p ≤ n) (kind : TextKind) (h : Draft) (k : AreKept n h) where
+module _ (n p : ℕ) (le : p ≤ n) (kind : TextKind) (h : Draft) (k : AreDraftUpTo n h) where
   led : (o : Option Part) → InNext n (next_at h o)
   led (Some q) = k
   led None = tt
@@ -152,7 +152,7 @@ module _ (n p : ℕ) (le : p ≤ n) (kind : TextKind) (h : Draft) (k : AreKept n
   init_kept None w = tt
 
   table_kept : (q : Part) (o : Option table.State)
-      → ((s : table.State) → o ≡ Some s → AreWithin n s.threads)
+      → ((s : table.State) → o ≡ Some s → AreThreadsUpTo n s.threads)
       → InNext n (text.table_result h q o)
   table_kept q (Some s) f = (k.0, f s refl)
   table_kept q None f = tt
@@ -238,8 +238,8 @@ abbrev AreBefore : ℕ → List TokenAt → Type 0
 AreBefore n [] = Unit {0}
 AreBefore n (q ∷ qs) = (q.offset ≤ n) × AreBefore n qs
 
-run_kept : (n : ℕ) (s : State) (ps : List TokenAt) → AreBefore n ps → AreKept n s.draft
-    → IsKept n (run s ps)
+run_kept : (n : ℕ) (s : State) (ps : List TokenAt) → AreBefore n ps → AreDraftUpTo n s.draft
+    → StandsUpTo n (run s ps)
 run_kept n s [] h k = k
 run_kept n s (q ∷ ps) h k =
     by_next (text.part_step s.kind s.threads s.draft s.part q.token q.offset)
@@ -247,8 +247,8 @@ run_kept n s (q ∷ ps) h k =
     (λ x j. run_kept n x ps h.1 j)
   where
     by_next : (o : Option Next) → InNext n o
-        → ((x : State) → AreKept n x.draft → IsKept n (run x ps))
-        → IsKept n (and_then (text.with_offset q.offset (stepped s q.token o)) (λ x. run x ps))
+        → ((x : State) → AreDraftUpTo n x.draft → StandsUpTo n (run x ps))
+        → StandsUpTo n (and_then (text.with_offset q.offset (stepped s q.token o)) (λ x. run x ps))
     by_next (Some x) j f = f _ j
     by_next None j f = h.0
 
@@ -269,7 +269,7 @@ tokens_before n s fresh zero offset (b ∷ bs) le =
     by_front (Layout k) r = r _ _ _
     by_front (Lexeme t k) r = (omega arith, r _ _ _)
 
-start_kept : (n : ℕ) (kind : TextKind) → AreKept n (nothing kind)
+start_kept : (n : ℕ) (kind : TextKind) → AreDraftUpTo n (nothing kind)
 start_kept n kinds.Test = (tt, tt)
 start_kept n kinds.Thread = (tt, widened_within n [] tt)
 start_kept n kinds.Init = (tt, tt)
@@ -277,17 +277,17 @@ start_kept n kinds.Condition = (tt, tt)
 start_kept n kinds.Locations = (tt, tt)
 
 module _ (kind : TextKind) (threads : ℕ) (bytes : List ℕ) where
-  pub all_kept : IsKept (length bytes) (run (start kind threads) (lexed (first_stage kind) bytes))
+  pub all_kept : StandsUpTo (length bytes) (run (start kind threads) (lexing (first_stage kind) bytes))
   all_kept =
-      run_kept (length bytes) (start kind threads) (lexed (first_stage kind) bytes)
+      run_kept (length bytes) (start kind threads) (lexing (first_stage kind) bytes)
       (tokens_before (length bytes) (first_stage kind) false 0 0 bytes (omega arith))
       (start_kept (length bytes) kind)
 
-  kept : (s : State) → run (start kind threads) (lexed (first_stage kind) bytes) ≡ Ok s
-      → AreKept (length bytes) s.draft
-  kept s h = subst (IsKept (length bytes)) h all_kept
+  kept : (s : State) → run (start kind threads) (lexing (first_stage kind) bytes) ≡ Ok s
+      → AreDraftUpTo (length bytes) s.draft
+  kept s h = subst (StandsUpTo (length bytes)) h all_kept
 
-pub missing_kept : (n threads p : ℕ) (h : Draft) → AreKept n h
+pub missing_kept : (n threads p : ℕ) (h : Draft) → AreDraftUpTo n h
     → missing threads h.init.entries h.init.starts ≡ Some p → p ≤ n
 missing_kept n threads p h k e = missing_within n threads h.init.entries h.init.starts p k.0 e
 
@@ -299,6 +299,6 @@ is_short bytes bounded = choose (cases_lt 65536 (length bytes))
     choose (inr le) = le
 
 pub kept_short : (kind : TextKind) (threads : ℕ) (bytes : List ℕ) (s : State)
-    → (length bytes ≤ 65536 → run (start kind threads) (lexed (first_stage kind) bytes) ≡ Ok s)
-    → (65536 < length bytes → ⊥) → AreKept (length bytes) s.draft
+    → (length bytes ≤ 65536 → run (start kind threads) (lexing (first_stage kind) bytes) ≡ Ok s)
+    → (65536 < length bytes → ⊥) → AreDraftUpTo (length bytes) s.draft
 kept_short kind threads bytes s h bounded = kept kind threads bytes s (h (is_short bytes bounded))

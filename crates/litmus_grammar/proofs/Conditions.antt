@@ -14,11 +14,11 @@ use Rattle.litmus_tokens.specs.declared.token.Mark.TheVariants as marks
 use Rattle.litmus_tokens.specs.Stage.{after}
 use Rattle.litmus_tokens.specs.Texts.{TokenAt, tokens_of, stage_after, are_none}
 use Rattle.litmus_tokens.specs.Words.{is_filter}
-use Rattle.litmus_tokens.specs.Faults.{Begins, CanFollow, Always, ruling, Says}
+use Rattle.litmus_tokens.specs.Faults.{Begins, CanFollow, Always, ruling, RulingSays}
 use Rattle.text_values.specs.declared.test.Quantifier.{Quantifier}
 use Rattle.text_values.specs.declared.test.Quantifier.TheVariants.{Exists, NotExists, Forall}
 use Rattle.text_values.specs.TestValue.{Formula}
-use Rattle.litmus_tokens.specs.Conditions.{limits, meaning, spelled, spelled_quantifier, IsConditionText}
+use Rattle.litmus_tokens.specs.Conditions.{limits, formula_meaning, spelled, spelled_quantifier, IsConditionText}
 use Rattle.litmus_tokens.specs.ConditionMachine.{Frame, Expectation, Wants, StepResult, Goes, Ends, Refuses, proposition_step, whole_at, go_on, proposition}
 use Rattle.litmus_tokens.specs.ConditionLaws.{takes_on, takes, IsPropositionText}
 use Rattle.litmus_tokens.proofs.Sound.{sound}
@@ -28,7 +28,7 @@ use Rattle.litmus_table.specs.Machine as table
 use Rattle.litmus_grammar.specs.declared.parts.TextKind.{TextKind}
 use Rattle.litmus_grammar.specs.declared.parts.TextKind.TheVariants as kinds
 use Rattle.litmus_grammar.specs.TextMachine as text
-use Rattle.litmus_grammar.specs.TextMachine.{Part, Draft, State, Ran, with_offset, and_then, stepped, proposition_result, with_condition, nothing, start, run, rule_at}
+use Rattle.litmus_grammar.specs.TextMachine.{Part, Draft, State, TextResult, with_offset, and_then, stepped, proposition_result, with_condition, nothing, start, run, rule_at}
 use Rattle.litmus_grammar.proofs.Equations.{no_first, same_first, same_others}
 use Rattle.litmus_grammar.proofs.Runs.{follows}
 use Rattle.litmus_grammar.proofs.Outcomes.{Reading, not_both}
@@ -40,12 +40,12 @@ tail_stays [] = refl
 tail_stays (t ∷ ts) = tail_stays ts
 
 pub tail_says : (C : Token → Type 0) (kind : TextKind) (rows : table.State) (t : Token)
-    → Says C Tail (ruling Tail t) (rule_at kind rows Tail t)
+    → RulingSays C Tail (ruling Tail t) (rule_at kind rows Tail t)
 tail_says C kind rows (tokens.Broken rule) = refl
 tail_says C kind rows (tokens.Word w) = choose (is_filter w)
   where
     choose : (b : Bool)
-        → Says C Tail (if b then Always rules.Filter else Always rules.Condition)
+        → RulingSays C Tail (if b then Always rules.Filter else Always rules.Condition)
         (if b then rules.Filter else rules.Condition)
     choose true = refl
     choose false = refl
@@ -56,7 +56,7 @@ module _ (threads : ℕ) (few : threads < 18446744073709551616) where
   standing g p h =
       record { kind = kinds.Condition; threads = threads; stage = g; part = p; draft = h }
 
-  abbrev went_on : Stage → Quantifier → Draft → Token → ℕ → StepResult → Ran
+  abbrev went_on : Stage → Quantifier → Draft → Token → ℕ → StepResult → TextResult
   went_on g q h t n f =
       with_offset n (stepped (standing g text.Done h) t (proposition_result h q f))
 
@@ -95,7 +95,7 @@ module _ (threads : ℕ) (few : threads < 18446744073709551616) where
   is_done text.Done = true
   is_done p = false
 
-  abbrev done_in : Ran → Bool
+  abbrev done_in : TextResult → Bool
   done_in (Ok s) = is_done s.part
   done_in (Err e) = false
 
@@ -188,7 +188,7 @@ module _ (threads : ℕ) (few : threads < 18446744073709551616) where
   same_word : (w v : List ℕ) → bytes_eq w v ≡ true → w ≡ v
   same_word w v e = (bytes_eq-Decides w v).0 e
 
-  abbrev part_in : Ran → Part
+  abbrev part_in : TextResult → Part
   part_in (Ok s) = s.part
   part_in (Err e) = text.Magic
 
@@ -337,11 +337,11 @@ module _ (threads : ℕ) (few : threads < 18446744073709551616) where
 
   pub condition_taken : (ps : List TokenAt) (x : IsText (tokens_of ps))
       → (s : State) × (run (start kinds.Condition threads) ps ≡ Ok s)
-      × (s.draft.quantifier ≡ x.quantifier) × (s.draft.formula ≡ meaning x.condition)
+      × (s.draft.quantifier ≡ x.quantifier) × (s.draft.formula ≡ formula_meaning x.condition)
   condition_taken ps x =
       let b = quantifier_runs x.quantifier ps (spelled x.condition (tokens.End ∷ [])) x.whole in
-      let m = complete limits threads few (tokens_of b.1) (meaning x.condition) (record { tree = x.condition; fine = x.fine; whole = b.2; meant = refl }) in
-      let r = prop_runs b.1 b.0 x.quantifier [] 0 Wants nothing_yet (meaning x.condition) m in
+      let m = complete limits threads few (tokens_of b.1) (formula_meaning x.condition) (record { tree = x.condition; fine = x.fine; whole = b.2; meant = refl }) in
+      let r = prop_runs b.1 b.0 x.quantifier [] 0 Wants nothing_yet (formula_meaning x.condition) m in
       (r.state, b.3 ∙ r.by, r.quantifier, r.formula)
 
   pub condition_reading : Reading IsText kinds.Condition threads
@@ -352,8 +352,8 @@ module _ (threads : ℕ) (few : threads < 18446744073709551616) where
         let f = follows (start kinds.Condition threads) s ps e in
         let stage : s.stage ≡ Tail = f.stage ∙ tail_stays (tokens_of ps) in
         let C = CanFollow IsText (tokens_of ps) in
-        subst (λ (g : Stage). Says C g (ruling g t) (rule_at s.kind s.draft.table s.stage t))
+        subst (λ (g : Stage). RulingSays C g (ruling g t) (rule_at s.kind s.draft.table s.stage t))
         (sym (tail_stays (tokens_of ps))) (subst
-        (λ (g : Stage). Says C Tail (ruling Tail t) (rule_at s.kind s.draft.table g t))
+        (λ (g : Stage). RulingSays C Tail (ruling Tail t) (rule_at s.kind s.draft.table g t))
         (sym stage) (tail_says C s.kind s.draft.table t));
   }

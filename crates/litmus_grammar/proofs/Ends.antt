@@ -21,7 +21,7 @@ use Rattle.litmus_grammar.specs.declared.parts.ItemExpectation.TheVariants as it
 use Rattle.litmus_grammar.specs.declared.parts.TextKind.{TextKind}
 use Rattle.litmus_grammar.specs.InitMachine as init
 use Rattle.litmus_grammar.specs.TextMachine as text
-use Rattle.litmus_grammar.specs.TextMachine.{Part, Draft, Next, State, Ran, stepped, and_then, part_step, run}
+use Rattle.litmus_grammar.specs.TextMachine.{Part, Draft, Next, State, TextResult, stepped, and_then, part_step, run}
 use Rattle.litmus_grammar.proofs.Runs.{run-split}
 
 no_place : (expected : PlaceExpectation) → place_step expected End ≡ None
@@ -140,7 +140,7 @@ module _ (kind : TextKind) (given : ℕ) (h : Draft) (offset : ℕ) where
   part_done text.WantsEnd = refl
   part_done text.Done = tt
 
-abbrev part_in : Ran → Part
+abbrev part_in : TextResult → Part
 part_in (Ok x) = x.part
 part_in (Err d) = text.Done
 
@@ -154,7 +154,7 @@ ends_done s s' ps n e =
     by_end x (Some y) d k = sym (ap part_in k) ∙ d
     by_end x None d k = absurd cc
 
-    by_run : (r : Ran) → and_then r (λ x. run x (record { token = End; offset = n } ∷ [])) ≡ Ok s'
+    by_run : (r : TextResult) → and_then r (λ x. run x (record { token = End; offset = n } ∷ [])) ≡ Ok s'
         → s'.part ≡ text.Done
     by_run (Ok x) k =
         by_end x (part_step x.kind x.threads x.draft x.part End n)

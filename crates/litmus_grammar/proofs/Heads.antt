@@ -14,13 +14,13 @@ use Rattle.litmus_tokens.specs.Stage.{after}
 use Rattle.litmus_tokens.specs.Texts.{TokenAt, tokens_of}
 use Rattle.litmus_tokens.specs.Words.{column_name, is_test_name}
 use Rattle.litmus_tokens.specs.Faults.{Begins}
-use Rattle.litmus_tokens.specs.Conditions.{limits, place_meaning, meaning}
+use Rattle.litmus_tokens.specs.Conditions.{limits, place_meaning, formula_meaning}
 use Rattle.litmus_table.specs.Grammar.{spelled_header, spelled_names, spelled_rows, columns_meaning}
 use Rattle.litmus_table.specs.Late.{columns_notes}
 use Rattle.litmus_table.specs.Machine as table
 use Rattle.litmus_table.specs.Laws.{steps_of, AreNoted}
 use Rattle.litmus_grammar.specs.declared.parts.TextKind.TheVariants as kinds
-use Rattle.litmus_grammar.specs.Grammar.{spelled_init, members, TestTree, spelled_text, spelled_keylines, spelled_head, spelled_observed, spelled_condition, spelled_test, IsTest}
+use Rattle.litmus_grammar.specs.Grammar.{spelled_init, members, TestTree, spelled_text, spelled_keylines, spelled_head, spelled_observed, spelled_condition, spelled_test, IsTestTree}
 use Rattle.litmus_grammar.specs.InitMachine as init
 use Rattle.litmus_grammar.specs.TextMachine as text
 use Rattle.litmus_grammar.specs.TextMachine.{Part, State, with_offset, and_then, stepped, start, run}
@@ -362,7 +362,7 @@ pub record TakesTest (ps : List TokenAt) (t : TestTree) : Type 0 where
   pub reached : table.State
   pub by : run (start kinds.Test 0) ps
       ≡ Ok (test_at stage text.Done (with_all t.name block reached
-      (map place_meaning (members t.observed)) t.quantifier (meaning t.condition)))
+      (map place_meaning (members t.observed)) t.quantifier (formula_meaning t.condition)))
   pub entries : block.entries ≡ map entry_kept (members t.init)
   pub stand : AreStarts ps (before_entries t) (members t.init) block.starts
   pub meant : steps_of reached.threads ≡ columns_meaning 0 (t.others + 1) t.rows
@@ -383,7 +383,7 @@ head-append t ys =
     ap (λ (l : List Token). tokens.Word (codes "PPC") ∷ tokens.Word t.name ∷ tokens.LineEnd ∷ l)
     (text-append t.text t.keylines ys)
 
-module _ (t : TestTree) (fine : IsTest limits t) (few : t.others + 1 < 18446744073709551616) where
+module _ (t : TestTree) (fine : IsTestTree limits t) (few : t.others + 1 < 18446744073709551616) where
   abbrev behind_header : List Token
   behind_header =
       spelled_rows t.rows (spelled_observed t.observed (spelled_condition t.quantifier t.condition))
@@ -503,7 +503,7 @@ any_body =
 -- a test of as many threads as can be told apart
 pub record IsFewTest (ts : List Token) : Type 0 where
   pub tree : TestTree
-  pub fine : IsTest limits tree
+  pub fine : IsTestTree limits tree
   pub few : tree.others + 1 < 18446744073709551616
   pub whole : ts ≡ spelled_test tree
 

@@ -14,12 +14,12 @@ use Rattle.text_values.specs.declared.test.Place.{Place}
 use Rattle.litmus_tokens.specs.declared.place.PlaceExpectation.TheVariants as places
 use Rattle.litmus_tokens.specs.declared.place.WrittenPlace.{WrittenPlace}
 use Rattle.litmus_tokens.specs.declared.place.WrittenPlace.TheVariants as written
-use Rattle.litmus_tokens.specs.Conditions.{PlaceTree, Location, Register, ValueTree, Number, Address, spelled_place, spelled_value, value_meaning, IsPlace, IsValue, written_place}
+use Rattle.litmus_tokens.specs.Conditions.{PlaceTree, Location, Register, ValueTree, Number, Address, spelled_place, spelled_value, value_meaning, IsPlaceTree, IsValueTree, written_place}
 use Rattle.litmus_tokens.specs.PlaceMachine.{place_step, place_of, register_ends, number_read}
 use Rattle.litmus_grammar.specs.declared.parts.InitExpectation.{InitExpectation}
 use Rattle.litmus_grammar.specs.declared.parts.InitExpectation.TheVariants as expectations
 use Rattle.litmus_grammar.specs.declared.parts.TextKind.TheVariants as kinds
-use Rattle.litmus_grammar.specs.Grammar.{Listed, EntryTree, spelled_entry, spelled_others, spelled_init, members, Lacks, AreEntries}
+use Rattle.litmus_grammar.specs.Grammar.{Listed, EntryTree, spelled_entry, spelled_others, spelled_init, members, LacksPlace, AreEntryTrees}
 use Rattle.litmus_grammar.specs.InitMachine as init
 use Rattle.litmus_grammar.specs.InitMachine.{Block, has_key, with_key, with_start, with_entry, and_place, valued}
 use Rattle.litmus_grammar.specs.Laws.{entry_kept, AreStarts}
@@ -161,7 +161,7 @@ module _ (threads : ℕ) where
   named_at b n p = with_key (with_start b n) (key_of (written_place p))
 
   place_taken : (g : Stage) (b : Block) (p : PlaceTree) (x : TokenAt) (ps : List TokenAt)
-      (ts : List Token) → has_key b.named (key_of (written_place p)) ≡ false → IsPlace p
+      (ts : List Token) → has_key b.named (key_of (written_place p)) ≡ false → IsPlaceTree p
       → x.token ∷ tokens_of ps ≡ spelled_place p ts
       → Leads g (text.Init expectations.WantsEntry) b (x ∷ ps) (equals_of p) (named_at b x.offset p)
       (spelled_place p []) ts
@@ -210,7 +210,7 @@ module _ (threads : ℕ) where
       (λ n. register_step t w c n (register_of w) refl fine new) j))
 
   value_step : (q : Place) (b : Block) (negative : Bool) (ds : List ℕ) (n : ℕ)
-      → IsValue (Number negative ds)
+      → IsValueTree (Number negative ds)
       → part_step kinds.Init threads (draft b) (text.Init (expectations.WantsValue q))
       (tokens.Number negative ds) n
       ≡ text.at (draft (with_entry b q (value_meaning (Number negative ds))))
@@ -221,7 +221,7 @@ module _ (threads : ℕ) where
       (if x then Some (signed negative (decimal ds)) else None)))) fine
 
   value_taken : (g : Stage) (q : Place) (b : Block) (v : ValueTree) (ps : List TokenAt)
-      (ts : List Token) → IsValue v → tokens_of ps ≡ spelled_value v ts
+      (ts : List Token) → IsValueTree v → tokens_of ps ≡ spelled_value v ts
       → Leads g (text.Init (expectations.WantsValue q)) b ps (text.Init expectations.HasEntry)
       (with_entry b q (value_meaning v)) (spelled_value v []) ts
   value_taken g q b (Number negative ds) ps ts fine e =
@@ -238,8 +238,8 @@ module _ (threads : ℕ) where
       (place_of (written_place e.place)) (value_meaning e.value)
 
   entry_taken : (g : Stage) (b : Block) (before : List WrittenPlace) (e : EntryTree) (x : TokenAt)
-      (ps : List TokenAt) (ts : List Token) → Keeps b.named before → IsPlace e.place
-      → IsValue e.value → Lacks before (written_place e.place)
+      (ps : List TokenAt) (ts : List Token) → Keeps b.named before → IsPlaceTree e.place
+      → IsValueTree e.value → LacksPlace before (written_place e.place)
       → x.token ∷ tokens_of ps ≡ spelled_entry e ts
       → Leads g (text.Init expectations.WantsEntry) b (x ∷ ps) (text.Init expectations.HasEntry)
       (entered b x.offset e) (spelled_entry e []) ts
@@ -302,14 +302,14 @@ module _ (threads : ℕ) where
   abbrev OthersTaken : List EntryTree → Bool → Type 0
   OthersTaken os closed =
       (g : Stage) (b : Block) (before : List WrittenPlace) (qs ps : List TokenAt)
-      → Keeps b.named before → AreEntries before os
+      → Keeps b.named before → AreEntryTrees before os
       → tokens_of ps ≡ spelled_others spelled_entry closed os closing
       → IsAccepted (qs ++ ps) (tokens_of qs ++ semicolon) g (text.Init expectations.HasEntry) b ps
       os
 
   entry_then : (e : EntryTree) (os : List EntryTree) (closed : Bool) → OthersTaken os closed
       → (g : Stage) (b : Block) (before : List WrittenPlace) (qs ps : List TokenAt)
-      → Keeps b.named before → AreEntries before (e ∷ os)
+      → Keeps b.named before → AreEntryTrees before (e ∷ os)
       → tokens_of ps ≡ spelled_entry e (spelled_others spelled_entry closed os closing)
       → IsAccepted (qs ++ ps) (tokens_of qs) g (text.Init expectations.WantsEntry) b ps (e ∷ os)
   entry_then e os closed others g b before qs [] keeps fine k = absurd (no_place e.place _ k)
@@ -375,7 +375,7 @@ module _ (threads : ℕ) where
     pub entries : state.draft.init.entries ≡ map entry_kept es
     pub stand : AreStarts ps (tokens.Mark marks.OpenBrace ∷ []) es state.draft.init.starts
 
-  pub init_taken : (es : Option (Listed EntryTree)) (ps : List TokenAt) → AreEntries [] (members es)
+  pub init_taken : (es : Option (Listed EntryTree)) (ps : List TokenAt) → AreEntryTrees [] (members es)
       → tokens_of ps ≡ spelled_init es (tokens.End ∷ []) → InitTaken ps (members es)
   init_taken None ps fine k =
       let l = one (text.first_stage kinds.Init) (text.Init expectations.WantsOpen) (text.Init expectations.WantsEntry) init.start init.start (tokens.Mark marks.OpenBrace) ps closing (λ n. refl) k in

@@ -11,7 +11,7 @@ use Rattle.std.proofs.lemmas.Map.Text.{is_eq-slice_cmp}
 use Rattle.std.proofs.lemmas.Slice.Eq.{bytes_eq-Decides}
 use Rattle.litmus_tokens.specs.declared.place.WrittenPlace.{WrittenPlace}
 use Rattle.litmus_tokens.specs.declared.place.WrittenPlace.TheVariants as written
-use Rattle.litmus_grammar.specs.Grammar.{Lacks}
+use Rattle.litmus_grammar.specs.Grammar.{LacksPlace}
 use Rattle.litmus_grammar.specs.InitMachine.{Block, location_key, register_key, has_key, with_key, added}
 use Rattle.std.proofs.lemmas.Bool.{false_from_ne_true, or_from}
 
@@ -71,7 +71,7 @@ same_place (written.Register t r) (written.Register u q) e =
 abbrev pub Keeps : List (List ℕ) → List WrittenPlace → Type 0
 Keeps ks ws =
     (w : WrittenPlace)
-    → (has_key ks (key_of w) ≡ false → Lacks ws w) × (Lacks ws w → has_key ks (key_of w) ≡ false)
+    → (has_key ks (key_of w) ≡ false → LacksPlace ws w) × (LacksPlace ws w → has_key ks (key_of w) ≡ false)
 
 pub keeps_none : Keeps [] []
 keeps_none w = (λ e. tt, λ l. refl)
@@ -92,7 +92,7 @@ keeps_more ks ws w keeps v = (lacks, has_none)
         ≡ has_key (with_keys ks (key_of w)) (key_of v)
     split = sym (has_insert ks (key_of w) (key_of v))
 
-    lacks : has_key (with_keys ks (key_of w)) (key_of v) ≡ false → (w ≡ v → ⊥) × Lacks ws v
+    lacks : has_key (with_keys ks (key_of w)) (key_of v) ≡ false → (w ≡ v → ⊥) × LacksPlace ws v
     lacks e =
         let apart : bytes_eq (key_of v) (key_of w) ≡ false = left_false (bytes_eq (key_of v) (key_of w)) (has_key ks (key_of v)) (split ∙ e) in (
           λ same.
@@ -103,7 +103,7 @@ keeps_more ks ws w keeps v = (lacks, has_none)
               (split ∙ e)),
         )
 
-    has_none : (w ≡ v → ⊥) × Lacks ws v → has_key (with_keys ks (key_of w)) (key_of v) ≡ false
+    has_none : (w ≡ v → ⊥) × LacksPlace ws v → has_key (with_keys ks (key_of w)) (key_of v) ≡ false
     has_none l =
         sym split ∙ or_from (bytes_eq (key_of v) (key_of w)) (has_key ks (key_of v))
         (false_from_ne_true (bytes_eq (key_of v) (key_of w)) (λ e.
@@ -139,7 +139,7 @@ is_location (written.Location n) = true
 is_location (written.Register t r) = false
 
 lacks_longer : (ws : List WrittenPlace) (k : ℕ) → size ws ≤ k
-    → Lacks ws (written.Location (zeros k))
+    → LacksPlace ws (written.Location (zeros k))
 lacks_longer [] k h = tt
 lacks_longer (written.Location n ∷ ws) k h = (
   λ e.
@@ -153,5 +153,5 @@ lacks_longer (written.Register t r ∷ ws) k h =
 abbrev pub fresh : List WrittenPlace → List ℕ
 fresh ws = zeros (size ws)
 
-pub lacks_fresh : (ws : List WrittenPlace) → Lacks ws (written.Location (fresh ws))
+pub lacks_fresh : (ws : List WrittenPlace) → LacksPlace ws (written.Location (fresh ws))
 lacks_fresh ws = lacks_longer ws (size ws) (omega arith)

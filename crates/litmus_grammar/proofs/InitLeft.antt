@@ -16,16 +16,16 @@ use Rattle.litmus_tokens.specs.declared.place.PlaceExpectation.TheVariants as pl
 use Rattle.litmus_tokens.specs.declared.place.PlaceStep.{PlaceStep}
 use Rattle.litmus_tokens.specs.declared.place.WrittenPlace.{WrittenPlace}
 use Rattle.litmus_tokens.specs.declared.place.WrittenPlace.TheVariants as written
-use Rattle.litmus_tokens.specs.Conditions.{PlaceTree, Location, Register, ValueTree, Number, Address, spelled_place, spelled_value, IsPlace, IsValue, written_place}
+use Rattle.litmus_tokens.specs.Conditions.{PlaceTree, Location, Register, ValueTree, Number, Address, spelled_place, spelled_value, IsPlaceTree, IsValueTree, written_place}
 use Rattle.litmus_tokens.specs.PlaceMachine.{place_step, place_of, register_ends, number_read}
 use Rattle.litmus_grammar.specs.declared.parts.InitExpectation.{InitExpectation}
 use Rattle.litmus_grammar.specs.declared.parts.InitExpectation.TheVariants as expectations
 use Rattle.litmus_grammar.specs.declared.parts.TextKind.TheVariants as kinds
-use Rattle.litmus_grammar.specs.Grammar.{EntryTree, spelled_entry, spelled_others, Lacks, AreEntries, IsInitText}
+use Rattle.litmus_grammar.specs.Grammar.{EntryTree, spelled_entry, spelled_others, LacksPlace, AreEntryTrees, IsInitText}
 use Rattle.litmus_grammar.specs.InitMachine as init
 use Rattle.litmus_grammar.specs.InitMachine.{Block, Did, has_key, with_key, with_start, with_entry, place_result, and_place, valued}
 use Rattle.litmus_grammar.specs.TextMachine as text
-use Rattle.litmus_grammar.specs.TextMachine.{Part, Draft, State, Ran, with_offset, and_then, stepped, with_init, nothing, start, run, init_result}
+use Rattle.litmus_grammar.specs.TextMachine.{Part, Draft, State, TextResult, with_offset, and_then, stepped, with_init, nothing, start, run, init_result}
 use Rattle.litmus_grammar.proofs.InitKeys.{key_of, Keeps, keeps_none, keeps_more}
 use Rattle.litmus_grammar.proofs.Outcomes.{not_both}
 
@@ -36,7 +36,7 @@ abbrev pub is_done : Part → Bool
 is_done text.Done = true
 is_done p = false
 
-abbrev done_in : Ran → Bool
+abbrev done_in : TextResult → Bool
 done_in (Ok s) = is_done s.part
 done_in r = false
 
@@ -55,14 +55,14 @@ more t ts us e = ap (λ (xs : List Token). t ∷ xs) e
 record Behind (before : List WrittenPlace) (ts : List Token) : Type 0 where
   others : List EntryTree
   closed : Bool
-  fine : AreEntries before others
+  fine : AreEntryTrees before others
   whole : ts ≡ spelled_others spelled_entry closed others closing
 
 record Following (before : List WrittenPlace) (ts : List Token) : Type 0 where
   first : EntryTree
   others : List EntryTree
   closed : Bool
-  fine : AreEntries before (first ∷ others)
+  fine : AreEntryTrees before (first ∷ others)
   whole : ts ≡ spelled_entry first (spelled_others spelled_entry closed others closing)
 
 data EntryLeft (before : List WrittenPlace) (ts : List Token) : Type 0 where
@@ -72,7 +72,7 @@ data EntryLeft (before : List WrittenPlace) (ts : List Token) : Type 0 where
 record ValueLeft (before : List WrittenPlace) (ts : List Token) : Type 0 where
   value : ValueTree
   rest : List Token
-  fine : IsValue value
+  fine : IsValueTree value
   whole : ts ≡ spelled_value value rest
   behind : Behind before rest
 
@@ -84,16 +84,16 @@ record EqualsLeft (before : List WrittenPlace) (ts : List Token) : Type 0 where
 record PlaceLeft (before : List WrittenPlace) (ts : List Token) : Type 0 where
   place : PlaceTree
   rest : List Token
-  fine : IsPlace place
+  fine : IsPlaceTree place
   whole : ts ≡ spelled_place place rest
-  once : Lacks before (written_place place)
+  once : LacksPlace before (written_place place)
   equals : EqualsLeft (written_place place ∷ before) rest
 
 record NameLeft (before : List WrittenPlace) (ts : List Token) : Type 0 where
   name : List ℕ
   rest : List Token
   whole : ts ≡ tokens.Word name ∷ tokens.Mark marks.CloseBracket ∷ rest
-  once : Lacks before (written.Location name)
+  once : LacksPlace before (written.Location name)
   equals : EqualsLeft (written.Location name ∷ before) rest
 
 record BracketLeft (before : List WrittenPlace) (ts : List Token) : Type 0 where
@@ -106,7 +106,7 @@ record RegisterLeft (before : List WrittenPlace) (d : List ℕ) (ts : List Token
   rest : List Token
   fine : IsTrue (is_register word)
   whole : ts ≡ tokens.Word word ∷ rest
-  once : Lacks before (written.Register d (or_zero (register_of word)))
+  once : LacksPlace before (written.Register d (or_zero (register_of word)))
   equals : EqualsLeft (written.Register d (or_zero (register_of word)) ∷ before) rest
 
 record ColonLeft (before : List WrittenPlace) (d : List ℕ) (ts : List Token) : Type 0 where
@@ -191,7 +191,7 @@ module _ (threads : ℕ) where
       (again : (expected : InitExpectation) (g : Stage) (b : Block) (before : List WrittenPlace)
       → Keeps b.named before → run (standing threads g (text.Init expected) b) ps ≡ Ok s
       → Left before expected (tokens_of ps)) where
-    abbrev went_on : Stage → InitExpectation → Block → Token → ℕ → Option Did → Ran
+    abbrev went_on : Stage → InitExpectation → Block → Token → ℕ → Option Did → TextResult
     went_on g expected b t n o =
         and_then
         (with_offset n (stepped (standing threads g (text.Init expected) b) t
@@ -211,7 +211,7 @@ module _ (threads : ℕ) where
     named : (g : Stage) (b : Block) (before : List WrittenPlace) (w : WrittenPlace) (p : Place)
         → Keeps b.named before → has_key b.named (key_of w) ≡ false
         → run (standing threads g (text.Init (expectations.WantsEquals p)) (with_key b (key_of w)))
-        ps ≡ Ok s → Lacks before w × EqualsLeft (w ∷ before) (tokens_of ps)
+        ps ≡ Ok s → LacksPlace before w × EqualsLeft (w ∷ before) (tokens_of ps)
     named g b before w p keeps e h = (
       (keeps w).0 e,
       again (expectations.WantsEquals p) g (with_key b (key_of w)) (w ∷ before)
@@ -234,7 +234,7 @@ module _ (threads : ℕ) where
           rest = tokens_of ps;
           fine = ap is_known e;
           whole = refl;
-          once = subst (Lacks before) same k.0;
+          once = subst (LacksPlace before) same k.0;
           equals = subst (λ (x : WrittenPlace). EqualsLeft (x ∷ before) (tokens_of ps)) same k.1;
         }
     register_left g expected b before d w n None e keeps h = absurd (not_both _ _ h)

@@ -7,7 +7,7 @@ use Rattle.litmus_tokens.specs.declared.stage.Stage.TheVariants as stages
 use Rattle.litmus_tokens.specs.declared.token.Token.{Token}
 use Rattle.litmus_tokens.specs.declared.token.Token.TheVariants as tokens
 use Rattle.litmus_tokens.specs.declared.token.Mark.TheVariants as marks
-use Rattle.litmus_tokens.specs.Faults.{Begins, CanFollow, ruling, Says}
+use Rattle.litmus_tokens.specs.Faults.{Begins, CanFollow, ruling, RulingSays}
 use Rattle.litmus_tokens.specs.Stage.{after}
 use Rattle.litmus_tokens.specs.Texts.{TokenAt, tokens_of, stage_after}
 use Rattle.litmus_tokens.specs.Words.{signed, decimal, is_int, register_of}
@@ -29,7 +29,7 @@ use Rattle.litmus_grammar.specs.InitMachine as init
 use Rattle.litmus_grammar.specs.InitMachine.{Block, has_key, with_key, with_start, with_entry, place_result, and_place, valued}
 use Rattle.litmus_grammar.specs.Texts.{spelled_colon, is_init, IsBrokenOff, IsStart, IsWhole, BreaksOff}
 use Rattle.litmus_grammar.specs.TextMachine as text
-use Rattle.litmus_grammar.specs.TextMachine.{Part, Draft, Next, State, Ran, with_offset, and_then, stepped, part_step, start, run, rule_at, init_result}
+use Rattle.litmus_grammar.specs.TextMachine.{Part, Draft, Next, State, TextResult, with_offset, and_then, stepped, part_step, start, run, rule_at, init_result}
 use Rattle.litmus_grammar.proofs.Equations.{no_first, same_first, same_others}
 use Rattle.litmus_grammar.proofs.InitKeys.{key_of, Keeps, keeps_none, keeps_more, added_new, fresh, lacks_fresh}
 use Rattle.litmus_grammar.proofs.InitLeft.{closing, draft, standing, init_whole}
@@ -478,7 +478,7 @@ module _ (threads : ℕ) where
       by_run (run (start kinds.Init threads) front) refl
       (sym (run-split (start kinds.Init threads) front rest) ∙ e)
     where
-      by_run : (r : Ran) → run (start kinds.Init threads) front ≡ r
+      by_run : (r : TextResult) → run (start kinds.Init threads) front ≡ r
           → and_then r (λ x. run x rest) ≡ Ok s
           → (x : State) × (run (start kinds.Init threads) front ≡ Ok x) × (run x rest ≡ Ok s)
       by_run (Ok x) k h = (x, k, h)
@@ -519,7 +519,7 @@ module _ (threads : ℕ) where
   init_takes ps (BreaksOff x) = broken_taken ps x
 
   init_says : (C : Token → Type 0) (kind : TextKind) (rows : table.State) (x : Bool) (t : Token)
-      → Says C (stages.Init true x) (ruling (stages.Init true x) t)
+      → RulingSays C (stages.Init true x) (ruling (stages.Init true x) t)
       (rule_at kind rows (stages.Init true x) t)
   init_says C kind rows x (tokens.Broken rule) = refl
   init_says C kind rows true t = refl
@@ -533,9 +533,9 @@ module _ (threads : ℕ) where
         let f = follows (start kinds.Init threads) s ps e in
         let y = stays false (tokens_of ps) in
         let C = CanFollow (IsStart IsInitText first_stage) (tokens_of ps) in
-        subst (λ (g : Stage). Says C g (ruling g t) (rule_at s.kind s.draft.table s.stage t))
+        subst (λ (g : Stage). RulingSays C g (ruling g t) (rule_at s.kind s.draft.table s.stage t))
         (sym y.1) (subst
-        (λ (g : Stage). Says C (stages.Init true y.0) (ruling (stages.Init true y.0) t)
+        (λ (g : Stage). RulingSays C (stages.Init true y.0) (ruling (stages.Init true y.0) t)
         (rule_at s.kind s.draft.table g t))
         (sym (f.stage ∙ y.1))
         (init_says C s.kind s.draft.table y.0 t));

@@ -14,7 +14,7 @@ use Rattle.litmus_tokens.specs.declared.lexer.Front.{Front}
 use Rattle.litmus_tokens.specs.declared.lexer.Front.TheVariants.{Layout, Lexeme}
 use Rattle.litmus_tokens.specs.Lexer.{front, is_not_ascii, begins_comment, is_equals, ends_word, gap_from, raw_from, raw_front, comment_front, quoted_front, line_front, word_front, mark_of, mark_front, sign_front, plain_front, head_front, stage_front}
 use Rattle.litmus_tokens.specs.Stage.{after}
-use Rattle.litmus_tokens.specs.Texts.{TokenAt, tokens_of, ends_line, after_front, tokens_from, lexed}
+use Rattle.litmus_tokens.specs.Texts.{TokenAt, tokens_of, ends_line, after_front, tokens_from, lexing}
 use Rattle.text_values.specs.Letters.{is_letter, is_digit}
 
 abbrev pub IsInner : Token → Type 0
@@ -145,7 +145,7 @@ from_ends s fresh zero offset (b ∷ bs) =
           are_inner = (i, q.are_inner);
         }
 
-pub lexed_ends : (s : Stage) (bytes : List ℕ) → EndsOnce (lexed s bytes)
+pub lexed_ends : (s : Stage) (bytes : List ℕ) → EndsOnce (lexing s bytes)
 lexed_ends s bytes = from_ends s false 0 0 bytes
 
 nothing_behind : (bs : List TokenAt) (p : TokenAt) (cs : List TokenAt) → bs ++ p ∷ cs ≡ [] → ⊥
@@ -166,7 +166,7 @@ before_inner (q ∷ qs) e (b ∷ before) p behind same i =
     )
 
 pub lexed_inner : (s : Stage) (bytes : List ℕ) (before : List TokenAt) (p : TokenAt)
-    (behind : List TokenAt) → lexed s bytes ≡ before ++ p ∷ behind → AreInner (tokens_of before)
+    (behind : List TokenAt) → lexing s bytes ≡ before ++ p ∷ behind → AreInner (tokens_of before)
 lexed_inner s bytes before p behind e =
     let l = lexed_ends s bytes in
     before_inner l.inner (record { token = tokens.End; offset = l.offset }) before p behind
@@ -193,5 +193,5 @@ from_length s fresh zero offset (b ∷ bs) =
         omega (arith, m)
     by_front (Lexeme t k) r = let h = r (after s t) (ends_line t) (k - 1) in omega (arith, h)
 
-pub lexed_length : (s : Stage) (bytes : List ℕ) → length (lexed s bytes) ≤ length bytes + 1
+pub lexed_length : (s : Stage) (bytes : List ℕ) → length (lexing s bytes) ≤ length bytes + 1
 lexed_length s bytes = from_length s false 0 0 bytes

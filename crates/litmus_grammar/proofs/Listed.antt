@@ -8,7 +8,7 @@ use Rattle.litmus_tokens.specs.declared.stage.Stage.TheVariants.{Tail}
 use Rattle.litmus_tokens.specs.declared.token.Token.{Token}
 use Rattle.litmus_tokens.specs.declared.token.Token.TheVariants as tokens
 use Rattle.litmus_tokens.specs.declared.token.Mark.TheVariants as marks
-use Rattle.litmus_tokens.specs.Faults.{Begins, CanFollow, ruling, Says}
+use Rattle.litmus_tokens.specs.Faults.{Begins, CanFollow, ruling, RulingSays}
 use Rattle.litmus_tokens.specs.Stage.{after}
 use Rattle.litmus_tokens.specs.Texts.{TokenAt, tokens_of}
 use Rattle.litmus_tokens.specs.Words.{decimal, register_of, is_known, or_zero}
@@ -18,13 +18,13 @@ use Rattle.litmus_tokens.specs.declared.place.PlaceExpectation.TheVariants as pl
 use Rattle.litmus_tokens.specs.declared.place.PlaceStep.{PlaceStep}
 use Rattle.litmus_tokens.specs.declared.place.PlaceStep.TheVariants as place_steps
 use Rattle.litmus_tokens.specs.declared.place.WrittenPlace.TheVariants as written
-use Rattle.litmus_tokens.specs.Conditions.{PlaceTree, Location, Register, spelled_place, place_meaning, IsPlace, HasThread}
+use Rattle.litmus_tokens.specs.Conditions.{PlaceTree, Location, Register, spelled_place, place_meaning, IsPlaceTree, HasThread}
 use Rattle.litmus_tokens.specs.PlaceMachine.{place_step, place_of, register_ends, is_there}
 use Rattle.litmus_tokens.proofs.Places.{place_of_written}
 use Rattle.litmus_grammar.specs.declared.parts.ItemExpectation.{ItemExpectation}
 use Rattle.litmus_grammar.specs.declared.parts.ItemExpectation.TheVariants as items
 use Rattle.litmus_grammar.specs.declared.parts.TextKind.TheVariants as kinds
-use Rattle.litmus_grammar.specs.Grammar.{Listed, spelled_others, members, spelled_observed, AreItems, IsLocationsText}
+use Rattle.litmus_grammar.specs.Grammar.{Listed, spelled_others, members, spelled_observed, ArePlaceTrees, IsLocationsText}
 use Rattle.litmus_grammar.specs.TextMachine as text
 use Rattle.litmus_grammar.specs.TextMachine.{Part, Draft, Next, State, with_offset, and_then, stepped, part_step, with_place, nothing, start, run, rule_at, item_result}
 use Rattle.litmus_grammar.proofs.Conditions.{tail_stays, tail_says}
@@ -131,7 +131,7 @@ module _ (threads : ℕ) (few : threads < 18446744073709551616) where
   register_last d w h offset None e k = absurd cc
 
   place_taken : (next : Bool) (p : PlaceTree) (h : Draft) (ps : List TokenAt) (ts : List Token)
-      → IsPlace p → HasThread threads p → tokens_of ps ≡ spelled_place p ts
+      → IsPlaceTree p → HasThread threads p → tokens_of ps ≡ spelled_place p ts
       → Leads (standing Tail (text.Item (wants next)) h) ps (has (place_meaning p) h) ts
   place_taken next (Location false n) h ps ts i t e =
       one (text.Item (wants next)) (text.Item items.HasItem) h
@@ -204,7 +204,7 @@ module _ (threads : ℕ) (few : threads < 18446744073709551616) where
       (end_taken h)
 
   others_taken : (os : List PlaceTree) (closed : Bool) (h : Draft) (ps : List TokenAt)
-      → AreItems threads os → tokens_of ps ≡ spelled_others spelled_place closed os closing
+      → ArePlaceTrees threads os → tokens_of ps ≡ spelled_others spelled_place closed os closing
       → IsAccepted (standing Tail (text.Item items.HasItem) h) ps
       (h.observed ++ map place_meaning os)
   others_taken [] false h ps fine e =
@@ -231,7 +231,7 @@ module _ (threads : ℕ) (few : threads < 18446744073709551616) where
   abbrev nothing_yet : Draft
   nothing_yet = nothing kinds.Locations
 
-  text_taken : (l : Option (Listed PlaceTree)) (ps : List TokenAt) → AreItems threads (members l)
+  text_taken : (l : Option (Listed PlaceTree)) (ps : List TokenAt) → ArePlaceTrees threads (members l)
       → tokens_of ps ≡ spelled_observed l (tokens.End ∷ [])
       → IsAccepted (start kinds.Locations threads) ps (map place_meaning (members l))
   text_taken None ps fine e =
@@ -416,8 +416,8 @@ module _ (threads : ℕ) (few : threads < 18446744073709551616) where
         let f = follows (start kinds.Locations threads) s ps e in
         let stage : s.stage ≡ Tail = f.stage ∙ tail_stays (tokens_of ps) in
         let C = CanFollow (IsLocationsText threads) (tokens_of ps) in
-        subst (λ (g : Stage). Says C g (ruling g t) (rule_at s.kind s.draft.table s.stage t))
+        subst (λ (g : Stage). RulingSays C g (ruling g t) (rule_at s.kind s.draft.table s.stage t))
         (sym (tail_stays (tokens_of ps))) (subst
-        (λ (g : Stage). Says C Tail (ruling Tail t) (rule_at s.kind s.draft.table g t))
+        (λ (g : Stage). RulingSays C Tail (ruling Tail t) (rule_at s.kind s.draft.table g t))
         (sym stage) (tail_says C s.kind s.draft.table t));
   }

@@ -16,21 +16,21 @@ use Rattle.litmus_tokens.specs.declared.place.PlaceExpectation.{PlaceExpectation
 use Rattle.litmus_tokens.specs.declared.place.PlaceExpectation.TheVariants as places
 use Rattle.litmus_tokens.specs.declared.place.PlaceStep.{PlaceStep}
 use Rattle.litmus_tokens.specs.declared.place.PlaceStep.TheVariants as place_steps
-use Rattle.litmus_tokens.specs.Conditions.{PlaceTree, Location, Register, spelled_place, IsPlace, HasThread}
+use Rattle.litmus_tokens.specs.Conditions.{PlaceTree, Location, Register, spelled_place, IsPlaceTree, HasThread}
 use Rattle.litmus_tokens.specs.PlaceMachine.{place_step, place_of, register_ends, is_there}
 use Rattle.litmus_grammar.specs.declared.parts.ItemExpectation.{ItemExpectation}
 use Rattle.litmus_grammar.specs.declared.parts.ItemExpectation.TheVariants as items
 use Rattle.litmus_grammar.specs.declared.parts.TextKind.TheVariants as kinds
-use Rattle.litmus_grammar.specs.Grammar.{spelled_others, AreItems, IsLocationsText}
+use Rattle.litmus_grammar.specs.Grammar.{spelled_others, ArePlaceTrees, IsLocationsText}
 use Rattle.litmus_grammar.specs.TextMachine as text
-use Rattle.litmus_grammar.specs.TextMachine.{Part, Draft, State, Ran, with_offset, and_then, stepped, with_place, run, item_result}
+use Rattle.litmus_grammar.specs.TextMachine.{Part, Draft, State, TextResult, with_offset, and_then, stepped, with_place, run, item_result}
 use Rattle.litmus_grammar.proofs.InitLeft.{is_done}
 use Rattle.litmus_grammar.proofs.Outcomes.{not_both}
 
 abbrev pub closing : List Token
 closing = tokens.Mark marks.CloseBracket ∷ tokens.End ∷ []
 
-abbrev done_in : Ran → Bool
+abbrev done_in : TextResult → Bool
 done_in (Ok s) = is_done s.part
 done_in (Err e) = false
 
@@ -45,16 +45,16 @@ module _ (threads : ℕ) where
   record Behind (ts : List Token) : Type 0 where
     others : List PlaceTree
     closed : Bool
-    fine : AreItems threads others
+    fine : ArePlaceTrees threads others
     whole : ts ≡ spelled_others spelled_place closed others closing
 
   record Following (ts : List Token) : Type 0 where
     first : PlaceTree
     others : List PlaceTree
     closed : Bool
-    is_place : IsPlace first
+    is_place : IsPlaceTree first
     there : HasThread threads first
-    fine : AreItems threads others
+    fine : ArePlaceTrees threads others
     whole : ts ≡ spelled_place first (spelled_others spelled_place closed others closing)
 
   data AfterSemicolon (ts : List Token) : Type 0 where
@@ -63,7 +63,7 @@ module _ (threads : ℕ) where
 
   abbrev PlaceLeft : PlaceExpectation → List Token → Type 0
   PlaceLeft places.Begins ts =
-      (p : PlaceTree) × (rest : List Token) × IsPlace p × (ts ≡ spelled_place p rest) × Behind rest
+      (p : PlaceTree) × (rest : List Token) × IsPlaceTree p × (ts ≡ spelled_place p rest) × Behind rest
   PlaceLeft places.WantsName ts =
       (n : List ℕ) × (rest : List Token)
       × (ts ≡ tokens.Word n ∷ tokens.Mark marks.CloseBracket ∷ rest) × Behind rest

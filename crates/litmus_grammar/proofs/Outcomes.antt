@@ -3,9 +3,9 @@ use Rattle.std.proofs.Common.{◌≡◌, ℕ, List, [], ◌∷◌, ◌++◌, Opt
 use Rattle.litmus_tokens.specs.declared.rule.LitmusRule.{LitmusRule}
 use Rattle.litmus_tokens.specs.declared.token.Token.{Token}
 use Rattle.litmus_tokens.specs.Texts.{TokenAt, tokens_of, stage_after}
-use Rattle.litmus_tokens.specs.Faults.{Begins, CanFollow, ruling, Says, IsFault}
+use Rattle.litmus_tokens.specs.Faults.{Begins, CanFollow, ruling, RulingSays, IsFault}
 use Rattle.litmus_grammar.specs.declared.parts.TextKind.{TextKind}
-use Rattle.litmus_grammar.specs.TextMachine.{Next, State, Ran, stepped, with_offset, and_then, part_step, run, rule_at, start, first_stage}
+use Rattle.litmus_grammar.specs.TextMachine.{Next, State, TextResult, stepped, with_offset, and_then, part_step, run, rule_at, start, first_stage}
 use Rattle.litmus_grammar.proofs.Runs.{tokens_of-append, anywhere, tokens_of-anywhere, went, run-append, run_one}
 
 -- what is known of a machine and a grammar
@@ -20,7 +20,7 @@ pub record Reading (IsText : List Token → Type 0) (kind : TextKind) (threads :
   pub says : (ps : List TokenAt) (s : State) (t : Token) (offset : ℕ)
       → run (start kind threads) ps ≡ Ok s
       → part_step s.kind s.threads s.draft s.part t offset ≡ None
-      → Says (CanFollow IsText (tokens_of ps)) (stage_after (first_stage kind) (tokens_of ps))
+      → RulingSays (CanFollow IsText (tokens_of ps)) (stage_after (first_stage kind) (tokens_of ps))
       (ruling (stage_after (first_stage kind) (tokens_of ps)) t)
       (rule_at s.kind s.draft.table s.stage t)
 
@@ -34,7 +34,7 @@ pub record ReadingWhere (Fine : List Token → Type 0) (IsText : List Token → 
   pub says : (ps : List TokenAt) (s : State) (t : Token) (offset : ℕ) → Fine (tokens_of ps)
       → run (start kind threads) ps ≡ Ok s
       → part_step s.kind s.threads s.draft s.part t offset ≡ None
-      → Says (CanFollow IsText (tokens_of ps)) (stage_after (first_stage kind) (tokens_of ps))
+      → RulingSays (CanFollow IsText (tokens_of ps)) (stage_after (first_stage kind) (tokens_of ps))
       (ruling (stage_after (first_stage kind) (tokens_of ps)) t)
       (rule_at s.kind s.draft.table s.stage t)
 
@@ -50,7 +50,7 @@ in_general IsText kind threads known =
       says = λ ps s t offset fine e none. known.says ps s t offset e none;
     }
 
-abbrev pub stopped : LitmusRule × ℕ → Ran
+abbrev pub stopped : LitmusRule × ℕ → TextResult
 stopped e = Err e
 
 pub stopped_is : (a b : LitmusRule × ℕ) → stopped a ≡ stopped b → a ≡ b
@@ -117,7 +117,7 @@ module _ (Fine : List Token → Type 0) (IsText : List Token → Type 0) (kind :
             ends = refused IsText kind threads known.takes before s p reached q;
             at_place = ap (λ (x : LitmusRule × ℕ). x.1) same;
             number =
-                subst (Says (CanFollow IsText (tokens_of before)) stage (ruling stage p.token))
+                subst (RulingSays (CanFollow IsText (tokens_of before)) stage (ruling stage p.token))
                 (ap (λ (x : LitmusRule × ℕ). x.0) same) (known.says before s p.token p.offset
                 (fine before p rest whole) reached q);
           }

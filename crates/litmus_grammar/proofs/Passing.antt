@@ -7,7 +7,7 @@ use Rattle.litmus_tokens.specs.Stage.{after}
 use Rattle.litmus_tokens.specs.Texts.{TokenAt, tokens_of, stage_after}
 use Rattle.litmus_grammar.specs.declared.parts.TextKind.{TextKind}
 use Rattle.litmus_grammar.specs.declared.parts.TextKind.TheVariants as kinds
-use Rattle.litmus_grammar.specs.TextMachine.{Part, Draft, Next, State, Ran, with_offset, and_then, stepped, part_step, run}
+use Rattle.litmus_grammar.specs.TextMachine.{Part, Draft, Next, State, TextResult, with_offset, and_then, stepped, part_step, run}
 use Rattle.litmus_grammar.proofs.Outcomes.{not_both}
 use Rattle.litmus_grammar.proofs.Runs.{same_state}
 
@@ -55,11 +55,11 @@ module _ (kind : TextKind) (threads : ℕ) (lift : Draft → Draft) (exit next :
     pub by : run (alone f p h) before ≡ Ok (alone (stage_after f (tokens_of before)) exit draft)
     pub on : run (test_at (stage_after g (tokens_of before)) next (lift draft)) behind ≡ Ok s
 
-  abbrev one_step : Stage → Part → Draft → TokenAt → List TokenAt → Option Next → Ran
+  abbrev one_step : Stage → Part → Draft → TokenAt → List TokenAt → Option Next → TextResult
   one_step g p h q ps o =
       and_then (with_offset q.offset (stepped (alone g p h) q.token o)) (λ x. run x ps)
 
-  abbrev test_step : Stage → Part → Draft → TokenAt → List TokenAt → Option Next → Ran
+  abbrev test_step : Stage → Part → Draft → TokenAt → List TokenAt → Option Next → TextResult
   test_step g p h q ps o =
       and_then (with_offset q.offset (stepped (test_at g p h) q.token o)) (λ x. run x ps)
 

@@ -8,9 +8,9 @@ use Rattle.litmus_tokens.specs.declared.lexer.Front.TheVariants.{Layout, Lexeme}
 use Rattle.litmus_tokens.specs.Lexer.{front}
 use Rattle.litmus_tokens.specs.Stage.{after}
 use Rattle.litmus_tokens.specs.Texts.{TokenAt, tokens_of, stage_after, ends_line, after_front, tokens_from}
-use Rattle.litmus_grammar.specs.TextMachine.{Next, State, Ran, stepped, with_offset, and_then, part_step, run}
+use Rattle.litmus_grammar.specs.TextMachine.{Next, State, TextResult, stepped, with_offset, and_then, part_step, run}
 
-abbrev ran : State → Ran
+abbrev ran : State → TextResult
 ran s = Ok s
 
 pub same_state : (a b : State) → ran a ≡ ran b → a ≡ b
@@ -55,7 +55,7 @@ run-split s (p ∷ ps) qs =
 
 pub run-append : (s s' : State) (ps qs : List TokenAt) → run s ps ≡ Ok s'
     → run s (ps ++ qs) ≡ run s' qs
-run-append s s' ps qs e = run-split s ps qs ∙ ap (λ (r : Ran). and_then r (λ x. run x qs)) e
+run-append s s' ps qs e = run-split s ps qs ∙ ap (λ (r : TextResult). and_then r (λ x. run x qs)) e
 
 -- one token more
 pub run_one : (s s' : State) (ps : List TokenAt) (p : TokenAt) (n : Next) → run s ps ≡ Ok s'

@@ -21,15 +21,15 @@ use Rattle.litmus_tokens.specs.declared.place.PlaceStep.{PlaceStep}
 use Rattle.litmus_tokens.specs.declared.place.PlaceStep.TheVariants as place_steps
 use Rattle.litmus_tokens.specs.PlaceMachine.{place_step, is_there}
 use Rattle.litmus_tokens.specs.ConditionMachine as condition
-use Rattle.litmus_tokens.specs.Conditions.{limits, PlaceTree, FormulaTree, place_meaning, meaning, spelled, spelled_quantifier, IsFormula, IsConditionText}
+use Rattle.litmus_tokens.specs.Conditions.{limits, PlaceTree, FormulaTree, place_meaning, formula_meaning, spelled, spelled_quantifier, IsFormulaTree, IsConditionText}
 use Rattle.litmus_table.specs.Machine as table
 use Rattle.litmus_grammar.specs.declared.parts.ItemExpectation.TheVariants as items
 use Rattle.litmus_grammar.specs.declared.parts.TextKind.{TextKind}
 use Rattle.litmus_grammar.specs.declared.parts.TextKind.TheVariants as kinds
-use Rattle.litmus_grammar.specs.Grammar.{Listed, members, spelled_items, spelled_observed, spelled_condition, AreItems}
+use Rattle.litmus_grammar.specs.Grammar.{Listed, members, spelled_items, spelled_observed, spelled_condition, ArePlaceTrees}
 use Rattle.litmus_grammar.specs.InitMachine as init
 use Rattle.litmus_grammar.specs.TextMachine as text
-use Rattle.litmus_grammar.specs.TextMachine.{Part, Draft, Next, State, Ran, with_offset, and_then, stepped, part_step, nothing, start, run}
+use Rattle.litmus_grammar.specs.TextMachine.{Part, Draft, Next, State, TextResult, with_offset, and_then, stepped, part_step, nothing, start, run}
 use Rattle.litmus_grammar.proofs.Conditions.{condition_taken, condition_reading}
 use Rattle.litmus_grammar.proofs.Ends.{ends_done}
 use Rattle.litmus_grammar.proofs.Equations.{no_first, same_first}
@@ -66,8 +66,8 @@ pub record IsTail (threads : ℕ) (ts : List Token) : Type 0 where
   pub observed : Option (Listed PlaceTree)
   pub quantifier : Quantifier
   pub condition : FormulaTree
-  pub are_items : AreItems threads (members observed)
-  pub fine : IsFormula limits threads condition
+  pub are_items : ArePlaceTrees threads (members observed)
+  pub fine : IsFormulaTree limits threads condition
   pub whole : ts ≡ spelled_observed observed (spelled_condition quantifier condition)
 
 pub done_behind : (kind : TextKind) (n : ℕ) (g : Stage) (h : Draft) (ps : List TokenAt) (s : State)
@@ -196,7 +196,7 @@ module _ (name : List ℕ) (block : init.Block) (t : table.State)
 
   pub condition_led : (o : List Place) (ps : List TokenAt) (g : Stage)
       (x : IsCondition (tokens_of ps))
-      → TakesCondition o ps x.quantifier (meaning x.condition) g
+      → TakesCondition o ps x.quantifier (formula_meaning x.condition) g
   condition_led o ps g x =
       let r = condition_taken threads few ps x in
       let cut = split ps (spelled_quantifier x.quantifier (spelled x.condition [])) (tokens.End ∷ []) (x.whole ∙ sym (condition-append x.quantifier x.condition)) in
@@ -209,7 +209,7 @@ module _ (name : List ℕ) (block : init.Block) (t : table.State)
       let same : ps ≡ m.before = m.whole ∙ ap (λ (l : List TokenAt). m.before ++ l) b.0 ∙ append-nil m.before in
       let draft : r.0.draft ≡ m.draft = ap (λ (y : State). y.draft) b.1 in
       let q : m.draft.quantifier ≡ x.quantifier = ap (λ (y : Draft). y.quantifier) (sym draft) ∙ r.2 in
-      let a : m.draft.formula ≡ meaning x.condition = ap (λ (y : Draft). y.formula) (sym draft) ∙ r.3 in
+      let a : m.draft.formula ≡ formula_meaning x.condition = ap (λ (y : Draft). y.formula) (sym draft) ∙ r.3 in
       record {
         stage = stage_after g (tokens_of m.before);
         by =
@@ -292,7 +292,7 @@ module _ (name : List ℕ) (block : init.Block) (t : table.State)
   any_condition = (condition_reading threads few).begins [] _ refl
 
   tail_of : (ts : List Token) (l : Listed PlaceTree) (c : List Token)
-      → AreItems threads (members (Some l)) → ts ≡ spelled_items l [] → IsCondition c
+      → ArePlaceTrees threads (members (Some l)) → ts ≡ spelled_items l [] → IsCondition c
       → IsTail threads (ts ++ c)
   tail_of ts l c fine e x =
       record {
@@ -311,7 +311,7 @@ module _ (name : List ℕ) (block : init.Block) (t : table.State)
       (text_at kinds.Locations threads (after stages.Tail (tokens.Word (codes "locations")))
       text.WantsList first_draft) ps
       ≡ Ok (text_at kinds.Locations threads f text.WantsEnd h)
-      → (l : Listed PlaceTree) × AreItems threads (members (Some l))
+      → (l : Listed PlaceTree) × ArePlaceTrees threads (members (Some l))
       × (tokens_of (word_at n ∷ ps) ≡ spelled_items l [])
   list_text ps n f h e =
       let all = word_at n ∷ (ps ++ last_at 0 ∷ []) in
@@ -320,9 +320,9 @@ module _ (name : List ℕ) (block : init.Block) (t : table.State)
       by_items x.items x.fine (sym (ap (λ (l : List Token). tokens.Word (codes "locations") ∷ l)
       (tokens_of-append ps (last_at 0 ∷ []))) ∙ x.whole)
     where
-      by_items : (o : Option (Listed PlaceTree)) → AreItems threads (members o)
+      by_items : (o : Option (Listed PlaceTree)) → ArePlaceTrees threads (members o)
           → tokens_of (word_at n ∷ ps) ++ tokens.End ∷ [] ≡ spelled_observed o (tokens.End ∷ [])
-          → (l : Listed PlaceTree) × AreItems threads (members (Some l))
+          → (l : Listed PlaceTree) × ArePlaceTrees threads (members (Some l))
           × (tokens_of (word_at n ∷ ps) ≡ spelled_items l [])
       by_items None fine k = absurd (true≢false (ap text.is_word (same_first k)))
       by_items (Some l) fine k = (
@@ -349,7 +349,7 @@ module _ (name : List ℕ) (block : init.Block) (t : table.State)
       by_rest : (h : Draft) (p : Part) (f : Stage) → in_list p ≡ true
           → run (start kinds.Locations threads) (word_at n ∷ ps)
           ≡ Ok (text_at kinds.Locations threads f p h) → (l : Listed PlaceTree)
-          → AreItems threads (members (Some l)) → (rest : List Token)
+          → ArePlaceTrees threads (members (Some l)) → (rest : List Token)
           → Rest ts rest (spelled_items l []) tokens.End → Begins (IsTail threads) ts
       by_rest h p f i r l fine rest (Nothing k) =
           let cut = split (word_at n ∷ ps) (spelled_items l []) (tokens.End ∷ []) k in
@@ -367,7 +367,7 @@ module _ (name : List ℕ) (block : init.Block) (t : table.State)
       by_items : (h : Draft) (p : Part) (f : Stage) → in_list p ≡ true
           → run (start kinds.Locations threads) (word_at n ∷ ps)
           ≡ Ok (text_at kinds.Locations threads f p h) → (o : Option (Listed PlaceTree))
-          → AreItems threads (members o) → (rest : List Token)
+          → ArePlaceTrees threads (members o) → (rest : List Token)
           → ts ++ rest ≡ spelled_observed o (tokens.End ∷ []) → Begins (IsTail threads) ts
       by_items h p f i r None fine rest k = absurd (true≢false (ap text.is_word (same_first k)))
       by_items h p f i r (Some l) fine rest k =
@@ -402,7 +402,7 @@ module _ (name : List ℕ) (block : init.Block) (t : table.State)
   abbrev there : Draft
   there = early name block t []
 
-  abbrev first_step : Stage → Part → TokenAt → List TokenAt → Option Next → Ran
+  abbrev first_step : Stage → Part → TokenAt → List TokenAt → Option Next → TextResult
   first_step g p q ps o =
       and_then (with_offset q.offset (stepped (test_at g p there) q.token o)) (λ x. run x ps)
 
@@ -472,7 +472,7 @@ module _ (name : List ℕ) (block : init.Block) (t : table.State)
         ≡ Ok (test_at stage text.WantsQuantifier (early name block t o))
 
   list_led : (l : Listed PlaceTree) (n : ℕ) (ps : List TokenAt) (g : Stage)
-      → AreItems threads (members (Some l)) → tokens_of (word_at n ∷ ps) ≡ spelled_items l []
+      → ArePlaceTrees threads (members (Some l)) → tokens_of (word_at n ∷ ps) ≡ spelled_items l []
       → TakesList ps (map place_meaning (members (Some l))) g
   list_led l n ps g fine e =
       let all = word_at n ∷ (ps ++ last_at 0 ∷ []) in
@@ -562,9 +562,9 @@ module _ (name : List ℕ) (block : init.Block) (t : table.State)
           ≡ Ok (test_at stage text.Done (with_all name block t (map place_meaning (members o)) q a))
 
     list_first : (l : Listed PlaceTree) (before behind : List TokenAt) (g : Stage) (q : Quantifier)
-        (a : FormulaTree) → AreItems threads (members (Some l)) → IsFormula limits threads a
+        (a : FormulaTree) → ArePlaceTrees threads (members (Some l)) → IsFormulaTree limits threads a
         → tokens_of before ≡ spelled_items l [] → tokens_of behind ≡ spelled_condition q a
-        → TakesTail (before ++ behind) (Some l) q (meaning a) g
+        → TakesTail (before ++ behind) (Some l) q (formula_meaning a) g
     list_first l [] behind g q a fine f e k = absurd (no_first e)
     list_first l (p ∷ before) behind g q a fine f e k =
         let x : tokens.Word (codes "locations") ≡ p.token = sym (same_first e) in
@@ -586,8 +586,8 @@ module _ (name : List ℕ) (block : init.Block) (t : table.State)
         }
 
     pub tail_led : (ps : List TokenAt) (g : Stage) (o : Option (Listed PlaceTree)) (q : Quantifier)
-        (a : FormulaTree) → AreItems threads (members o) → IsFormula limits threads a
-        → tokens_of ps ≡ spelled_observed o (spelled_condition q a) → TakesTail ps o q (meaning a) g
+        (a : FormulaTree) → ArePlaceTrees threads (members o) → IsFormulaTree limits threads a
+        → tokens_of ps ≡ spelled_observed o (spelled_condition q a) → TakesTail ps o q (formula_meaning a) g
     tail_led ps g None q a fine f e =
         let c = condition_led [] ps g (record { quantifier = q; condition = a; fine = f; whole = e }) in
         record { stage = c.stage; by = quantifier_first q ps (spelled a (tokens.End ∷ [])) g e ∙ c.by }

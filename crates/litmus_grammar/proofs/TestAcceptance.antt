@@ -20,10 +20,10 @@ use Rattle.litmus_table.specs.Machine as table
 use Rattle.litmus_grammar.specs.declared.parts.InitExpectation.{InitExpectation}
 use Rattle.litmus_grammar.specs.declared.parts.InitExpectation.TheVariants as expectations
 use Rattle.litmus_grammar.specs.declared.parts.TextKind.TheVariants as kinds
-use Rattle.litmus_grammar.specs.Grammar.{spelled_init, members, AreEntries, TestTree, spelled_head, spelled_observed, spelled_condition, spelled_test, IsTest, IsTestText}
+use Rattle.litmus_grammar.specs.Grammar.{spelled_init, members, AreEntryTrees, TestTree, spelled_head, spelled_observed, spelled_condition, spelled_test, IsTestTree, IsTestText}
 use Rattle.litmus_grammar.specs.InitMachine as init
 use Rattle.litmus_grammar.specs.TextMachine as text
-use Rattle.litmus_grammar.specs.TextMachine.{Part, Draft, Next, State, Ran, with_offset, and_then, stepped, part_step, start, run, rule_at}
+use Rattle.litmus_grammar.specs.TextMachine.{Part, Draft, Next, State, TextResult, with_offset, and_then, stepped, part_step, start, run, rule_at}
 use Rattle.litmus_grammar.specs.Texts.{spelled_colon, is_init, IsBrokenOff, IsStart, IsWhole, BreaksOff}
 use Rattle.litmus_grammar.proofs.Blocks.{brace_at, block_at, entries_led}
 use Rattle.litmus_grammar.proofs.Bodies.{header_at, rows_at, name_step, names_led}
@@ -68,7 +68,7 @@ part_run : (s : State) (front rest : List TokenAt) (z : State) → run s (front 
     → (x : State) × (run s front ≡ Ok x) × (run x rest ≡ Ok z)
 part_run s front rest z e = by_run (run s front) refl (sym (run-split s front rest) ∙ e)
   where
-    by_run : (r : Ran) → run s front ≡ r → and_then r (λ x. run x rest) ≡ Ok z
+    by_run : (r : TextResult) → run s front ≡ r → and_then r (λ x. run x rest) ≡ Ok z
         → (x : State) × (run s front ≡ Ok x) × (run x rest ≡ Ok z)
     by_run (Ok x) k h = (x, k, h)
     by_run (Err d) k h = absurd (not_both _ _ h)
@@ -88,7 +88,7 @@ abbrev front_of : TestTree → List Token
 front_of t = spelled_head t (spelled_init t.init (header_of t))
 
 body_front : (t : TestTree) (g : Stage) (may : Bool) (before behind : List TokenAt)
-    → AreEntries [] (members t.init) → tokens_of before ≡ spelled_init t.init []
+    → AreEntryTrees [] (members t.init) → tokens_of before ≡ spelled_init t.init []
     → tokens_of behind ≡ header_of t
     → (s : State) × (run (in_head t.name g (text.Head may)) (before ++ behind) ≡ Ok s)
 body_front t g may [] behind fine e k = absurd (no_first e)
@@ -119,7 +119,7 @@ body_front t g may (p ∷ q) (w ∷ b) fine e k =
     )
 
 front_led : (t : TestTree) (ps : List TokenAt) → is_test_name t.name ≡ true
-    → AreEntries [] (members t.init) → tokens_of ps ≡ front_of t
+    → AreEntryTrees [] (members t.init) → tokens_of ps ≡ front_of t
     → (s : State) × (run first_draft ps ≡ Ok s)
 front_led t ps i fine e =
     let h = head_led t.name t.text t.keylines ps (spelled_init t.init (header_of t)) i e in
@@ -156,7 +156,7 @@ front_length t =
     ∙ length-append (spelled_head t []) (spelled_init t.init (header_of t)) in
     omega (arith, many, a, b)
 
-pub prefix_taken : (t : TestTree) → IsTest limits t → (ps : List TokenAt) (rest : List Token)
+pub prefix_taken : (t : TestTree) → IsTestTree limits t → (ps : List TokenAt) (rest : List Token)
     → length ps < 18446744073709551616 → tokens_of ps ++ rest ≡ spelled_test t
     → (s : State) × (run first_draft ps ≡ Ok s)
 prefix_taken t fine ps rest few e = choose (cases_lt (t.others + 1) 18446744073709551616)

@@ -11,7 +11,7 @@ use Rattle.litmus_tokens.specs.declared.stage.Stage.TheVariants as stages
 use Rattle.litmus_tokens.specs.declared.token.Token.{Token}
 use Rattle.litmus_tokens.specs.declared.token.Token.TheVariants as tokens
 use Rattle.litmus_tokens.specs.declared.token.Mark.TheVariants as marks
-use Rattle.litmus_tokens.specs.Faults.{Begins, CanFollow, cell_ruling, ruling, Says, IsFault}
+use Rattle.litmus_tokens.specs.Faults.{Begins, CanFollow, cell_ruling, ruling, RulingSays, IsFault}
 use Rattle.litmus_tokens.specs.Stage.{after}
 use Rattle.litmus_tokens.specs.Texts.{TokenAt, tokens_of, stage_after, begins_tail}
 use Rattle.litmus_tokens.specs.Words.{is_test_name}
@@ -21,7 +21,7 @@ use Rattle.litmus_table.specs.Laws.{IsInCell, stands, is_taken}
 use Rattle.litmus_table.specs.Machine as table
 use Rattle.litmus_table.proofs.Rules.{rules_given}
 use Rattle.litmus_grammar.specs.declared.parts.TextKind.TheVariants as kinds
-use Rattle.litmus_grammar.specs.Grammar.{Listed, EntryTree, spelled_entry, spelled_others, spelled_listed, spelled_init, members, AreEntries, IsInitText, spelled_text, spelled_keylines}
+use Rattle.litmus_grammar.specs.Grammar.{Listed, EntryTree, spelled_entry, spelled_others, spelled_listed, spelled_init, members, AreEntryTrees, IsInitText, spelled_text, spelled_keylines}
 use Rattle.litmus_grammar.specs.InitMachine as init
 use Rattle.litmus_grammar.specs.TextMachine as text
 use Rattle.litmus_grammar.specs.TextMachine.{Part, Draft, Next, State, with_offset, and_then, stepped, part_step, start, run, rule_at}
@@ -184,7 +184,7 @@ module _ (name : List ℕ) (i : is_test_name name ≡ true) (t : Bool) (k : ℕ)
       (spelled_listed spelled_entry es (tokens.Mark marks.CloseBrace ∷ [])) bracket us
       (listed_hold es false) (sym (append_assoc before (bracket ∷ []) us) ∙ others))
 
-  broken_by : (es : Option (Listed EntryTree)) → AreEntries [] (members es)
+  broken_by : (es : Option (Listed EntryTree)) → AreEntryTrees [] (members es)
       → Rest (x.before ++ bracket ∷ []) x.entry.rest (spelled_init es []) tokens.End
       → IsBrokenOff IsText stages.Magic (head_of name t k behind)
   broken_by es fine (Nothing e) = absurd (not_last x.before (spelled_init es []) e)
@@ -342,15 +342,15 @@ module _ (ps : List TokenAt) (few : length ps + 1 < 18446744073709551616) (g : S
       choose false e = e
 
   cell_says : (f : Stage) (t : Token) (offset : ℕ) → IsInCell f → text.row_read h t offset ≡ None
-      → Says Can f (cell_ruling f t) (table.rule_at false h.table t)
+      → RulingSays Can f (cell_ruling f t) (table.rule_at false h.table t)
   cell_says f t offset i none =
       says_so (λ x. stands false h.table x ≡ true) Can f (cell_ruling f t)
       (table.rule_at false h.table t) can_by by_can
       (rules_given false h.table f t i (out t offset none))
 
 by_stage : (C : Token → Type 0) (u : table.State) (g : Stage) (t : Token) → IsInCell g
-    → Says C g (cell_ruling g t) (table.rule_at false u t)
-    → Says C g (ruling g t) (rule_at kinds.Test u g t)
+    → RulingSays C g (cell_ruling g t) (table.rule_at false u t)
+    → RulingSays C g (ruling g t) (rule_at kinds.Test u g t)
 by_stage C u stages.CellBegins (tokens.Broken rule) i x = refl
 by_stage C u stages.CellBegins t i x = x
 by_stage C u stages.InCell (tokens.Broken rule) i x = refl
@@ -359,31 +359,31 @@ by_stage C u g t i x = absurd i
 
 module _ (C : Token → Type 0) (u : table.State) where
   magic_says : (t : Token)
-      → Says C stages.Magic (ruling stages.Magic t) (rule_at kinds.Test u stages.Magic t)
+      → RulingSays C stages.Magic (ruling stages.Magic t) (rule_at kinds.Test u stages.Magic t)
   magic_says (tokens.Broken rule) = refl
   magic_says (tokens.Word w) = refl
   magic_says t = refl
 
   title_says : (t : Token)
-      → Says C stages.Title (ruling stages.Title t) (rule_at kinds.Test u stages.Title t)
+      → RulingSays C stages.Title (ruling stages.Title t) (rule_at kinds.Test u stages.Title t)
   title_says (tokens.Broken rule) = refl
   title_says (tokens.Word w) = refl
   title_says t = refl
 
   title_end_says : (t : Token)
-      → Says C stages.TitleEnd (ruling stages.TitleEnd t) (rule_at kinds.Test u stages.TitleEnd t)
+      → RulingSays C stages.TitleEnd (ruling stages.TitleEnd t) (rule_at kinds.Test u stages.TitleEnd t)
   title_end_says (tokens.Broken rule) = refl
   title_end_says (tokens.Word w) = refl
   title_end_says t = refl
 
   head_says : (t : Token)
-      → Says C stages.Head (ruling stages.Head t) (rule_at kinds.Test u stages.Head t)
+      → RulingSays C stages.Head (ruling stages.Head t) (rule_at kinds.Test u stages.Head t)
   head_says (tokens.Broken rule) = refl
   head_says (tokens.Word w) = refl
   head_says t = refl
 
   init_says : (a x : Bool) (t : Token)
-      → Says C (stages.Init a x) (ruling (stages.Init a x) t)
+      → RulingSays C (stages.Init a x) (ruling (stages.Init a x) t)
       (rule_at kinds.Test u (stages.Init a x) t)
   init_says a x (tokens.Broken rule) = refl
   init_says a true (tokens.Word w) = refl
@@ -392,7 +392,7 @@ module _ (C : Token → Type 0) (u : table.State) where
   init_says a false t = refl
 
   header_says : (k : ℕ) (t : Token)
-      → Says C (stages.Header k) (ruling (stages.Header k) t)
+      → RulingSays C (stages.Header k) (ruling (stages.Header k) t)
       (rule_at kinds.Test u (stages.Header k) t)
   header_says k (tokens.Broken rule) = refl
   header_says k (tokens.Word w) = refl
@@ -405,18 +405,18 @@ module _ (ps : List TokenAt) (few : length ps + 1 < 18446744073709551616) (g : S
 
   rows_say : (f : Stage) → IsInCell f → AgreesRows f p h.table.expected
       → part_step kinds.Test 0 h p t offset ≡ None
-      → Says Follows f (ruling f t) (rule_at kinds.Test h.table f t)
+      → RulingSays Follows f (ruling f t) (rule_at kinds.Test h.table f t)
   rows_say f i a none = by_part p reached a none
     where
       by_part : (q : Part) → run first_draft ps ≡ Ok (test_at g q h)
           → AgreesRows f q h.table.expected → part_step kinds.Test 0 h q t offset ≡ None
-          → Says Follows f (ruling f t) (rule_at kinds.Test h.table f t)
+          → RulingSays Follows f (ruling f t) (rule_at kinds.Test h.table f t)
       by_part text.Rows r b n =
           by_stage Follows h.table f t i (cell_says ps few g h r f t offset i n)
       by_part q r b n = absurd b
 
   all_say : (f : Stage) → Agrees f p h.table.expected → part_step kinds.Test 0 h p t offset ≡ None
-      → Says Follows f (ruling f t) (rule_at kinds.Test h.table f t)
+      → RulingSays Follows f (ruling f t) (rule_at kinds.Test h.table f t)
   all_say stages.Magic a none = magic_says Follows h.table t
   all_say stages.Title a none = title_says Follows h.table t
   all_say stages.TitleEnd a none = title_end_says Follows h.table t
@@ -430,7 +430,7 @@ module _ (ps : List TokenAt) (few : length ps + 1 < 18446744073709551616) (g : S
 pub test_says : (ps : List TokenAt) (s : State) (t : Token) (offset : ℕ)
     → length ps + 1 < 18446744073709551616 → run first_draft ps ≡ Ok s
     → part_step s.kind s.threads s.draft s.part t offset ≡ None
-    → Says (CanFollow IsBegun (tokens_of ps)) (stage_after stages.Magic (tokens_of ps))
+    → RulingSays (CanFollow IsBegun (tokens_of ps)) (stage_after stages.Magic (tokens_of ps))
     (ruling (stage_after stages.Magic (tokens_of ps)) t)
     (rule_at s.kind s.draft.table s.stage t)
 test_says ps s t offset few e none =
@@ -438,7 +438,7 @@ test_says ps s t offset few e none =
     let g = stage_after stages.Magic (tokens_of ps) in
     let still : part_step kinds.Test 0 y.draft y.part t offset ≡ None = ap (λ (x : State). part_step x.kind x.threads x.draft x.part t offset) (sym y.same) ∙ none in
     subst
-    (λ (x : State). Says (CanFollow IsBegun (tokens_of ps)) g (ruling g t)
+    (λ (x : State). RulingSays (CanFollow IsBegun (tokens_of ps)) g (ruling g t)
     (rule_at x.kind x.draft.table x.stage t))
     (sym y.same)
     (all_say ps few g y.part y.draft (e ∙ ap (λ (x : State). Ok x) y.same) t offset g y.agrees
@@ -486,7 +486,7 @@ go before s (p ∷ rest) r n few reached e =
           ends = test_refused before s p short reached q;
           at_place = ap (λ (x : LitmusRule × ℕ). x.1) same;
           number =
-              subst (Says (CanFollow IsBegun (tokens_of before)) stage (ruling stage p.token))
+              subst (RulingSays (CanFollow IsBegun (tokens_of before)) stage (ruling stage p.token))
               (ap (λ (x : LitmusRule × ℕ). x.0) same)
               (test_says before s p.token p.offset short reached q);
         }

@@ -11,7 +11,7 @@ use Rattle.litmus_tokens.specs.declared.token.Mark.TheVariants as marks
 use Rattle.litmus_tokens.specs.Stage.{after}
 use Rattle.litmus_tokens.specs.Texts.{TokenAt, tokens_of, stage_after, is_end}
 use Rattle.litmus_tokens.specs.Words.{ends_table}
-use Rattle.litmus_tokens.specs.Faults.{Begins, CanFollow, Ruling, Always, Where, cell_ruling, ruling, Says}
+use Rattle.litmus_tokens.specs.Faults.{Begins, CanFollow, Ruling, Always, Where, cell_ruling, ruling, RulingSays}
 use Rattle.litmus_table.specs.declared.opcode.Opcode.{Opcode}
 use Rattle.litmus_table.specs.declared.opcode.Opcode.TheVariants as opcodes
 use Rattle.litmus_table.specs.declared.opcode.Want.{Want}
@@ -191,7 +191,7 @@ table_one ps s u v p e m =
 -- ---- what can stand, as tables know it and as texts do
 
 pub says_so : (C D : Token → Type 0) (g : Stage) (r : Ruling) (k : LitmusRule)
-    → ((t : Token) → C t → D t) → ((t : Token) → D t → C t) → Says C g r k → Says D g r k
+    → ((t : Token) → C t → D t) → ((t : Token) → D t → C t) → RulingSays C g r k → RulingSays D g r k
 says_so C D g (Always n) k to from e = e
 says_so C D g (Where other n) k to from (inl x) = inl (to other x.0, x.1)
 says_so C D g (Where other n) k to from (inr x) = inr (λ d. x.0 (from other d), x.1)
@@ -506,14 +506,14 @@ module _ (threads : ℕ) where
 
     cell_says : (t : Token) (offset : ℕ) (there : IsInCell g)
         → text.cell_read (with_table first_draft u) t offset ≡ None
-        → Says Can g (cell_ruling g t) (table.rule_at true u t)
+        → RulingSays Can g (cell_ruling g t) (table.rule_at true u t)
     cell_says t offset there none =
         says_so (λ x. stands true u x ≡ true) Can g (cell_ruling g t) (table.rule_at true u t)
         can_by by_can (rules_given true u g t there (out t offset none))
 
   by_stage : (C : Token → Type 0) (u : table.State) (g : Stage) (t : Token) → IsInCell g
-      → Says C g (cell_ruling g t) (table.rule_at true u t)
-      → Says C g (ruling g t) (rule_at kinds.Thread u g t)
+      → RulingSays C g (cell_ruling g t) (table.rule_at true u t)
+      → RulingSays C g (ruling g t) (rule_at kinds.Thread u g t)
   by_stage C u stages.CellBegins (tokens.Broken rule) i x = refl
   by_stage C u stages.CellBegins t i x = x
   by_stage C u stages.InCell (tokens.Broken rule) i x = refl
@@ -524,7 +524,7 @@ module _ (threads : ℕ) where
       → run (start kinds.Thread threads) ps ≡ Ok s
       → part_step s.kind s.threads s.draft s.part t offset ≡ None
       → Standing stages.CellBegins first_draft ps s
-      → Says (CanFollow IsThreadText (tokens_of ps)) (stage_after stages.CellBegins (tokens_of ps))
+      → RulingSays (CanFollow IsThreadText (tokens_of ps)) (stage_after stages.CellBegins (tokens_of ps))
       (ruling (stage_after stages.CellBegins (tokens_of ps)) t)
       (rule_at s.kind s.draft.table s.stage t)
   says_by ps s t offset fine e none (Inside u r same m) =
@@ -532,7 +532,7 @@ module _ (threads : ℕ) where
       let there = in_cell g u.expected m in
       let still : text.cell_read (with_table first_draft u) t offset ≡ None = ap (λ (x : State). part_step x.kind x.threads x.draft x.part t offset) (sym same) ∙ none in
       subst
-      (λ (x : State). Says (CanFollow IsThreadText (tokens_of ps)) g (ruling g t)
+      (λ (x : State). RulingSays (CanFollow IsThreadText (tokens_of ps)) g (ruling g t)
       (rule_at x.kind x.draft.table x.stage t))
       (sym same)
       (by_stage (CanFollow IsThreadText (tokens_of ps)) u g t there (cell_says ps u r g

@@ -9,8 +9,8 @@ use Rattle.text_values.specs.declared.test.InitEntry.{InitEntry}
 use Rattle.text_values.specs.declared.test.Quantifier.{Quantifier}
 use Rattle.text_values.specs.TestValue.{Content}
 use Rattle.litmus_tokens.specs.declared.place.WrittenPlace.{WrittenPlace}
-use Rattle.litmus_tokens.specs.Conditions.{PlaceTree, ValueTree, spelled_place, spelled_value, place_meaning, value_meaning, IsPlace, HasThread, IsValue, FormulaTree, spelled, meaning, Limits, IsFormula, spelled_quantifier, written_place}
-use Rattle.litmus_table.specs.Grammar.{RowTree, ThreadTree, AreCells, AreRows, spelled_header, spelled_rows, spelled_thread, columns_meaning}
+use Rattle.litmus_tokens.specs.Conditions.{PlaceTree, ValueTree, spelled_place, spelled_value, place_meaning, value_meaning, IsPlaceTree, HasThread, IsValueTree, FormulaTree, spelled, formula_meaning, Limits, IsFormulaTree, spelled_quantifier, written_place}
+use Rattle.litmus_table.specs.Grammar.{RowTree, ThreadTree, AreCells, AreRowTrees, spelled_header, spelled_rows, spelled_thread, columns_meaning}
 
 -- ---- lists with semicolons between, and one behind the last or none
 
@@ -54,16 +54,16 @@ abbrev pub spelled_init : Option (Listed EntryTree) → List Token → List Toke
 spelled_init es rest =
     tokens.Mark OpenBrace ∷ spelled_listed spelled_entry es (tokens.Mark CloseBrace ∷ rest)
 
-abbrev pub Lacks : List WrittenPlace → WrittenPlace → Type 0
-Lacks [] p = Unit {0}
-Lacks (q ∷ qs) p = (q ≡ p → ⊥) × Lacks qs p
+abbrev pub LacksPlace : List WrittenPlace → WrittenPlace → Type 0
+LacksPlace [] p = Unit {0}
+LacksPlace (q ∷ qs) p = (q ≡ p → ⊥) × LacksPlace qs p
 
 -- Each entry is one, for a place that no entry before it has. Its thread need not be there yet.
-abbrev pub AreEntries : List WrittenPlace → List EntryTree → Type 0
-AreEntries before [] = Unit {0}
-AreEntries before (e ∷ es) =
-    IsPlace e.place × IsValue e.value × Lacks before (written_place e.place)
-    × AreEntries (written_place e.place ∷ before) es
+abbrev pub AreEntryTrees : List WrittenPlace → List EntryTree → Type 0
+AreEntryTrees before [] = Unit {0}
+AreEntryTrees before (e ∷ es) =
+    IsPlaceTree e.place × IsValueTree e.value × LacksPlace before (written_place e.place)
+    × AreEntryTrees (written_place e.place ∷ before) es
 
 -- ---- `locations`
 
@@ -78,9 +78,9 @@ abbrev pub spelled_observed : Option (Listed PlaceTree) → List Token → List 
 spelled_observed None rest = rest
 spelled_observed (Some l) rest = spelled_items l rest
 
-abbrev pub AreItems : ℕ → List PlaceTree → Type 0
-AreItems threads [] = Unit {0}
-AreItems threads (p ∷ ps) = IsPlace p × HasThread threads p × AreItems threads ps
+abbrev pub ArePlaceTrees : ℕ → List PlaceTree → Type 0
+ArePlaceTrees threads [] = Unit {0}
+ArePlaceTrees threads (p ∷ ps) = IsPlaceTree p × HasThread threads p × ArePlaceTrees threads ps
 
 -- ---- tests
 
@@ -118,12 +118,12 @@ spelled_test t =
     spelled_observed t.observed (spelled_condition t.quantifier t.condition)))))
 
 -- a test has at most eight threads: the name of the ninth is no word
-pub record IsTest (most : Limits) (t : TestTree) : Type 0 where
+pub record IsTestTree (most : Limits) (t : TestTree) : Type 0 where
   pub name : is_test_name t.name ≡ true
-  pub init : AreEntries [] (members t.init)
-  pub rows : AreRows t.others t.rows
-  pub observed : AreItems (t.others + 1) (members t.observed)
-  pub condition : IsFormula most (t.others + 1) t.condition
+  pub init : AreEntryTrees [] (members t.init)
+  pub rows : AreRowTrees t.others t.rows
+  pub observed : ArePlaceTrees (t.others + 1) (members t.observed)
+  pub condition : IsFormulaTree most (t.others + 1) t.condition
 
 abbrev pub test_meaning : TestTree → Content
 test_meaning t = record {
@@ -132,20 +132,20 @@ test_meaning t = record {
   threads = columns_meaning 0 (t.others + 1) t.rows;
   observed = map place_meaning (members t.observed);
   quantifier = t.quantifier;
-  condition = meaning t.condition;
+  condition = formula_meaning t.condition;
 }
 
 -- ---- what is a text
 
 pub record IsTestText (most : Limits) (ts : List Token) : Type 0 where
   pub tree : TestTree
-  pub fine : IsTest most tree
+  pub fine : IsTestTree most tree
   pub whole : ts ≡ spelled_test tree
 
 -- the text of an init block alone
 pub record IsInitText (ts : List Token) : Type 0 where
   pub entries : Option (Listed EntryTree)
-  pub fine : AreEntries [] (members entries)
+  pub fine : AreEntryTrees [] (members entries)
   pub whole : ts ≡ spelled_init entries (tokens.End ∷ [])
 
 -- the text of a thread alone
@@ -157,5 +157,5 @@ pub record IsThreadText (ts : List Token) : Type 0 where
 -- the text of `locations` alone, which may be empty
 pub record IsLocationsText (threads : ℕ) (ts : List Token) : Type 0 where
   pub items : Option (Listed PlaceTree)
-  pub fine : AreItems threads (members items)
+  pub fine : ArePlaceTrees threads (members items)
   pub whole : ts ≡ spelled_observed items (tokens.End ∷ [])

@@ -8,7 +8,7 @@ use Rattle.text_values.specs.declared.test.InitEntry.{InitEntry}
 use Rattle.text_values.specs.declared.test.Place.{Place}
 use Rattle.text_values.specs.declared.test.Quantifier.{Quantifier}
 use Rattle.text_values.specs.TestValue.{Formula}
-use Rattle.litmus_tokens.specs.Conditions.{place_meaning, value_meaning, meaning, written_place}
+use Rattle.litmus_tokens.specs.Conditions.{place_meaning, value_meaning, formula_meaning, written_place}
 use Rattle.litmus_tokens.specs.PlaceMachine.{place_of}
 use Rattle.litmus_table.specs.Grammar.{ThreadTree, columns_meaning, thread_meaning}
 use Rattle.litmus_table.specs.Late.{thread_notes, columns_notes}
@@ -66,4 +66,4 @@ pub record HoldsTest (ps : List TokenAt) (t : TestTree) (h : Draft) : Type 0 whe
   pub meant : steps_of h.table.threads ≡ columns_meaning 0 (t.others + 1) t.rows
   pub noted : AreNoted ps (columns_notes 0 (t.others + 1) (before_rows t) t.rows) h.table.threads
   pub observed : HoldsPlaces (map place_meaning (members t.observed)) h
-  pub condition : HoldsCondition t.quantifier (meaning t.condition) h
+  pub condition : HoldsCondition t.quantifier (formula_meaning t.condition) h

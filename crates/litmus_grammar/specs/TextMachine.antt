@@ -8,7 +8,7 @@ use Rattle.litmus_tokens.specs.declared.stage.Stage.TheVariants as stages
 use Rattle.litmus_tokens.specs.declared.token.Token.{Token}
 use Rattle.litmus_tokens.specs.declared.token.Token.TheVariants as tokens
 use Rattle.litmus_tokens.specs.declared.token.Mark.TheVariants as marks
-use Rattle.litmus_tokens.specs.Stage.{after, rule_of}
+use Rattle.litmus_tokens.specs.Stage.{after, part_rule}
 use Rattle.litmus_tokens.specs.Texts.{TokenAt, is_end, begins_tail}
 use Rattle.litmus_tokens.specs.Words.{is_test_name, is_filter}
 use Rattle.text_values.specs.declared.test.Place.{Place}
@@ -316,7 +316,7 @@ stage_rule kind rows stages.InCell t = table.rule_at (is_thread kind) rows t
 stage_rule kind rows (stages.Init alone true) t =
     if is_word t then rules.TypedDeclaration else rules.Init
 stage_rule kind rows stages.Tail t = if is_filter_word t then rules.Filter else rules.Condition
-stage_rule kind rows s t = rule_of s
+stage_rule kind rows s t = part_rule s
 
 abbrev pub rule_at : TextKind → table.State → Stage → Token → LitmusRule
 rule_at kind rows s (tokens.Broken rule) = rule
@@ -384,18 +384,18 @@ start kind threads =
       draft = nothing kind;
     }
 
-abbrev pub Ran : Type 0
-Ran = Result State (LitmusRule × ℕ)
+abbrev pub TextResult : Type 0
+TextResult = Result State (LitmusRule × ℕ)
 
-abbrev pub with_offset : ℕ → Result State LitmusRule → Ran
+abbrev pub with_offset : ℕ → Result State LitmusRule → TextResult
 with_offset offset (Ok s) = Ok s
 with_offset offset (Err r) = Err (r, offset)
 
-abbrev pub and_then : Ran → (State → Ran) → Ran
+abbrev pub and_then : TextResult → (State → TextResult) → TextResult
 and_then (Ok s) f = f s
 and_then (Err e) f = Err e
 
 -- the tokens one after another, with the offset of the first that is refused
-abbrev pub run : State → List TokenAt → Ran
+abbrev pub run : State → List TokenAt → TextResult
 run s [] = Ok s
 run s (p ∷ ps) = and_then (with_offset p.offset (step s p.token p.offset)) (λ s'. run s' ps)

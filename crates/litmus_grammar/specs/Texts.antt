@@ -8,14 +8,14 @@ use Rattle.litmus_tokens.specs.declared.token.Token.{Token}
 use Rattle.litmus_tokens.specs.declared.token.Token.TheVariants as tokens
 use Rattle.litmus_tokens.specs.declared.token.Mark.TheVariants.{OpenBrace, OpenBracket, Colon, Semicolon}
 use Rattle.litmus_tokens.specs.Words.{decimal}
-use Rattle.litmus_tokens.specs.Texts.{tokens_of, stage_after, lexed, StandsAt}
+use Rattle.litmus_tokens.specs.Texts.{tokens_of, stage_after, lexing, StandsAt}
 use Rattle.litmus_tokens.specs.Faults.{CanFollow, IsFault}
 use Rattle.text_values.specs.declared.test.Place.{Place}
 use Rattle.text_values.specs.declared.test.InitEntry.{InitEntry}
 use Rattle.text_values.specs.declared.test.Step.{Step}
 use Rattle.text_values.specs.declared.test.Quantifier.{Quantifier}
 use Rattle.text_values.specs.TestValue.{Content, Formula}
-use Rattle.litmus_tokens.specs.Conditions.{PlaceTree, Location, Register, limits, place_meaning, meaning, IsConditionText}
+use Rattle.litmus_tokens.specs.Conditions.{PlaceTree, Location, Register, limits, place_meaning, formula_meaning, IsConditionText}
 use Rattle.litmus_table.specs.Grammar.{spelled_header, thread_meaning}
 use Rattle.litmus_table.specs.Late.{Late, or_else, late_notes, late_columns, thread_notes}
 use Rattle.litmus_grammar.specs.Grammar.{EntryTree, spelled_entry, spelled_init, spelled_head, members, entry_meaning, TestTree, test_meaning, IsTestText, IsInitText, IsThreadText, IsLocationsText}
@@ -26,14 +26,14 @@ most_bytes = 65536
 -- ---- what the later checks find in a text that is one
 
 -- an entry for a thread that is not there
-abbrev pub is_there : ℕ → PlaceTree → Bool
-is_there threads (Location b n) = true
-is_there threads (Register t r) = nat_lt (decimal t) threads
+abbrev pub names_thread : ℕ → PlaceTree → Bool
+names_thread threads (Location b n) = true
+names_thread threads (Register t r) = nat_lt (decimal t) threads
 
 abbrev pub late_entries : ℕ → List Token → List EntryTree → Option Late
 late_entries threads before [] = None
 late_entries threads before (e ∷ es) =
-    if is_there threads e.place
+    if names_thread threads e.place
     then late_entries threads (before ++ spelled_entry e (tokens.Mark Semicolon ∷ [])) es
     else Some (record { rule = rules.Init; before = before })
 
@@ -96,18 +96,18 @@ pub record Reads {V : Type 0} (IsText : List Token → Type 0) (start : Stage)
     (late : (ts : List Token) → IsText ts → Option Late) (value : (ts : List Token) → IsText ts → V)
     (bytes : List ℕ) (v : V) : Type 0 where
   pub short : length bytes ≤ most_bytes
-  pub text : IsText (tokens_of (lexed start bytes))
-  pub in_time : late (tokens_of (lexed start bytes)) text ≡ None
-  pub meant : value (tokens_of (lexed start bytes)) text ≡ v
+  pub text : IsText (tokens_of (lexing start bytes))
+  pub in_time : late (tokens_of (lexing start bytes)) text ≡ None
+  pub meant : value (tokens_of (lexing start bytes)) text ≡ v
 
 pub record IsLateFault (IsText : List Token → Type 0) (start : Stage)
     (late : (ts : List Token) → IsText ts → Option Late) (bytes : List ℕ) (rule : LitmusRule)
     (offset : ℕ) : Type 0 where
-  pub text : IsText (tokens_of (lexed start bytes))
+  pub text : IsText (tokens_of (lexing start bytes))
   pub found : Late
-  pub is_found : late (tokens_of (lexed start bytes)) text ≡ Some found
+  pub is_found : late (tokens_of (lexing start bytes)) text ≡ Some found
   pub rule_is : found.rule ≡ rule
-  pub stands : StandsAt (lexed start bytes) found.before offset
+  pub stands : StandsAt (lexing start bytes) found.before offset
 
 -- the fault of bytes: too long, else at the first token that no text could have there, else the
 -- first of the later checks
@@ -116,7 +116,7 @@ pub data IsFaultAt (IsText : List Token → Type 0) (start : Stage)
     (bytes : List ℕ) (rule : LitmusRule) (offset : ℕ) : Type 0 where
   IsTooLong : most_bytes < length bytes → rule ≡ rules.TooLong → offset ≡ most_bytes
       → IsFaultAt IsText start late bytes rule offset
-  IsGrammar : length bytes ≤ most_bytes → IsFault IsText start (lexed start bytes) rule offset
+  IsGrammar : length bytes ≤ most_bytes → IsFault IsText start (lexing start bytes) rule offset
       → IsFaultAt IsText start late bytes rule offset
   IsLater : length bytes ≤ most_bytes → IsLateFault IsText start late bytes rule offset
       → IsFaultAt IsText start late bytes rule offset
@@ -152,7 +152,7 @@ IsThreadFault bytes rule offset = IsFaultAt IsThreadText CellBegins late_of_thre
 abbrev pub ReadsCondition : ℕ → List ℕ → Quantifier × Formula → Type 0
 ReadsCondition threads bytes v =
     Reads (IsConditionText limits threads) Tail (λ ts t. None)
-    (λ ts t. (t.quantifier, meaning t.condition)) bytes v
+    (λ ts t. (t.quantifier, formula_meaning t.condition)) bytes v
 
 abbrev pub IsConditionFault : ℕ → List ℕ → LitmusRule → ℕ → Type 0
 IsConditionFault threads bytes rule offset =

@@ -7,12 +7,12 @@ ghost use Rattle.litmus_tokens.specs.declared.stage.Stage.TheVariants as stages;
 ghost use Rattle.litmus_tokens.specs.declared.token.Token.TheVariants as tokens;
 ghost use Rattle.litmus_tokens.specs.declared.token.Mark.TheVariants.{OpenBrace};
 ghost use Rattle.litmus_tokens.specs.Faults.{IsFault};
-ghost use Rattle.litmus_tokens.specs.Texts.{TokenAt, tokens_of, lexed};
-ghost use Rattle.litmus_tokens.specs.Conditions.{limits, place_meaning, meaning, IsConditionText};
+ghost use Rattle.litmus_tokens.specs.Texts.{TokenAt, tokens_of, lexing};
+ghost use Rattle.litmus_tokens.specs.Conditions.{limits, place_meaning, formula_meaning, IsConditionText};
 ghost use Rattle.litmus_grammar.specs.declared.parts.TextKind.{TextKind};
 ghost use Rattle.litmus_grammar.specs.declared.parts.TextKind.TheVariants.{Test, Thread, Init, Condition, Locations};
 ghost use Rattle.litmus_grammar.specs.Grammar.{members, IsTestText, IsInitText, IsThreadText, IsLocationsText};
-ghost use Rattle.litmus_grammar.specs.Kept.{IsKept};
+ghost use Rattle.litmus_grammar.specs.Kept.{StandsUpTo};
 ghost use Rattle.litmus_grammar.specs.Laws.{Takes, HoldsCondition, HoldsPlaces, HoldsEntries, HoldsThread, HoldsTest};
 ghost use Rattle.litmus_grammar.specs.TextMachine.{State, Done, start, first_stage, run};
 ghost use Rattle.litmus_grammar.specs.Texts.{IsStart};
@@ -27,7 +27,7 @@ pub fn reads_conditions()
     // It takes each condition, and holds what it means.
     ensures complete { (threads : ℕ) (ps : List TokenAt)
         (x : IsConditionText limits threads (tokens_of ps)) → threads < 18446744073709551616
-        → Takes Condition threads ps (HoldsCondition x.quantifier (meaning x.condition)) }
+        → Takes Condition threads ps (HoldsCondition x.quantifier (formula_meaning x.condition)) }
     // What it refuses is at fault there, by the rule that is broken there.
     ensures fault { (threads : ℕ) (ps : List TokenAt) (rule : LitmusRule) (offset : ℕ)
         → threads < 18446744073709551616 → run (start Condition threads) ps ≡ Err (rule, offset)
@@ -67,8 +67,8 @@ pub fn reads_threads()
     ensures complete { (threads : ℕ) (ps : List TokenAt) (x : IsThreadText (tokens_of ps))
         → Takes Thread threads ps (HoldsThread ps x.tree) }
     ensures fault { (threads : ℕ) (bytes : List ℕ) (rule : LitmusRule) (offset : ℕ)
-        → run (start Thread threads) (lexed CellBegins bytes) ≡ Err (rule, offset)
-        → IsFault IsThreadText CellBegins (lexed CellBegins bytes) rule offset }
+        → run (start Thread threads) (lexing CellBegins bytes) ≡ Err (rule, offset)
+        → IsFault IsThreadText CellBegins (lexing CellBegins bytes) rule offset }
 {}
 
 /// The same for tests. It keeps the bytes of the entries and of the labels.
@@ -86,5 +86,5 @@ pub fn reads_tests()
 /// its end.
 pub fn stays_in_the_text()
     ensures { (kind : TextKind) (threads : ℕ) (bytes : List ℕ)
-        → IsKept (length bytes) (run (start kind threads) (lexed (first_stage kind) bytes)) }
+        → StandsUpTo (length bytes) (run (start kind threads) (lexing (first_stage kind) bytes)) }
 {}

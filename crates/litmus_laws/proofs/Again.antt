@@ -2,16 +2,16 @@
 use Rattle.std.proofs.Common.{◌≡◌, ℕ, ◌+◌, ◌<◌, ◌≤◌, List, refl, ap, arith}
 use Rattle.text_values.specs.declared.test.Quantifier.{Quantifier}
 use Rattle.text_values.specs.TestValue.{Formula, Content}
-use Rattle.litmus_tokens.specs.Conditions.{FormulaTree, Word, Atom, Prefix, Pair, Group, meaning, operators, limits, IsFormula}
+use Rattle.litmus_tokens.specs.Conditions.{FormulaTree, Word, Atom, Prefix, Pair, Group, formula_meaning, operators, limits, IsFormulaTree}
 use Rattle.litmus_grammar.specs.Texts.{ReadsCondition, ReadsTest}
 use Rattle.litmus_printing.specs.Printing.{condition_text, printed}
-use Rattle.litmus_laws.specs.Written.{joins, IsWithinLimits, StaysWithin}
+use Rattle.litmus_laws.specs.Written.{joins, IsFormulaWithinLimits, StaysWithin}
 use Rattle.litmus_laws.proofs.Conditions.{condition_reads}
 use Rattle.litmus_laws.proofs.Meant.{condition_reads_written}
 use Rattle.litmus_laws.proofs.MeantTests.{test_reads_written}
 use Rattle.litmus_laws.proofs.Whole.{test_reads}
 
-joins_meant : (t : FormulaTree) → joins (meaning t) ≡ operators t
+joins_meant : (t : FormulaTree) → joins (formula_meaning t) ≡ operators t
 joins_meant (Word b) = refl
 joins_meant (Atom p v) = refl
 joins_meant (Prefix tilde a) = joins_meant a
@@ -21,15 +21,15 @@ joins_meant (Pair op a b) =
     omega arith
 joins_meant (Group a) = joins_meant a
 
-few_joins : (threads : ℕ) (t : FormulaTree) → IsFormula limits threads t
-    → joins (meaning t) ≤ limits.operators
+few_joins : (threads : ℕ) (t : FormulaTree) → IsFormulaTree limits threads t
+    → joins (formula_meaning t) ≤ limits.operators
 few_joins threads t h =
     let x = joins_meant t in
     let y = h.short in
     omega arith
 
 within : (bytes : List ℕ) (f : Formula) → StaysWithin bytes f → joins f ≤ limits.operators
-    → IsWithinLimits bytes f
+    → IsFormulaWithinLimits bytes f
 within bytes f s few = record { short = s.short; shallow = s.shallow; few = few }
 
 pub test_again : (bytes : List ℕ) (v : Content) → ReadsTest bytes v

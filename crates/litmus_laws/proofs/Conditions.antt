@@ -22,11 +22,11 @@ use Rattle.text_values.specs.declared.test.Connective.{Connective}
 use Rattle.text_values.specs.declared.test.Connective.TheVariants as connectives
 use Rattle.text_values.specs.TestValue.{Formula, Constant, Holds, Not, Join, level}
 use Rattle.litmus_tokens.specs.Conditions as grammar
-use Rattle.litmus_tokens.specs.Conditions.{FormulaTree, Word, Atom, Prefix, Pair, Group, connective_token, spelled, spelled_quantifier, meaning, tightness, IsGrouped, HasAtoms, depth, operators, Limits, limits}
+use Rattle.litmus_tokens.specs.Conditions.{FormulaTree, Word, Atom, Prefix, Pair, Group, connective_token, spelled, spelled_quantifier, formula_meaning, tightness, IsGrouped, HasAtoms, depth, operators, Limits, limits}
 use Rattle.litmus_printing.specs.Printing.{place_text, value_text, connective_text, is_loose, formula_text, condition_text}
 use Rattle.text_values.specs.Joined.{bracketed}
 use Rattle.litmus_grammar.specs.Texts.{ReadsCondition}
-use Rattle.litmus_laws.specs.Written.{begins_word, IsWord, IsPlace, IsFormula, IsTextOfCondition, one_where, nesting, joins, IsWithinLimits}
+use Rattle.litmus_laws.specs.Written.{begins_word, IsWord, IsPlace, IsFormula, IsTextOfCondition, one_where, nesting, joins, IsFormulaWithinLimits}
 use Rattle.litmus_laws.proofs.Read.{Within, Entries, Operands, Condition, part, core, free, inner, inner_turn}
 use Rattle.litmus_laws.proofs.Numbers.{digits_first, word, are_back}
 use Rattle.litmus_laws.proofs.Places.{equals, Stops, value, value_tree, value_back, value_fine, value_first, place_tree, square_place, place_back, place_fine, place_there}
@@ -129,7 +129,7 @@ tree_of (Join op a b) =
     Pair op (grouped (is_loose (level op + 1) a) (tree_of a))
     (grouped (is_loose (level op) b) (tree_of b))
 
-meaning-grouped : (b : Bool) (t : FormulaTree) → meaning (grouped b t) ≡ meaning t
+meaning-grouped : (b : Bool) (t : FormulaTree) → formula_meaning (grouped b t) ≡ formula_meaning t
 meaning-grouped true t = refl
 meaning-grouped false t = refl
 
@@ -279,14 +279,14 @@ module _ (threads : ℕ) (few : threads < 18446744073709551616) where
     HasAtoms-grouped threads (is_loose (level op) b) (tree_of b) (atoms b h.1),
   )
 
-  pub meaning_back : (f : Formula) → IsFormula threads f → meaning (tree_of f) ≡ f
+  pub meaning_back : (f : Formula) → IsFormula threads f → formula_meaning (tree_of f) ≡ f
   meaning_back (Constant b) h = refl
   meaning_back (Holds p v) h =
       ap (λ (x : Place). Holds x (grammar.value_meaning (value_tree v)))
       (place_back threads few true p h.0) ∙ ap (Holds p) (value_back v h.1)
   meaning_back (Not a) h = ap Not (meaning_back a h)
   meaning_back (Join op a b) h =
-      ap (λ (x : Formula). Join op x (meaning (grouped (is_loose (level op) b) (tree_of b))))
+      ap (λ (x : Formula). Join op x (formula_meaning (grouped (is_loose (level op) b) (tree_of b))))
       (meaning-grouped (is_loose (level op + 1) a) (tree_of a) ∙ meaning_back a h.0)
       ∙ ap (Join op a) (meaning-grouped (is_loose (level op) b) (tree_of b) ∙ meaning_back b h.1)
 
@@ -325,7 +325,7 @@ module _ (threads : ℕ) (few : threads < 18446744073709551616) where
   enough f = record { nesting = nesting f + 1; operators = joins f }
 
   pub fine : (most : Limits) (f : Formula) → IsFormula threads f → nesting f + 1 ≤ most.nesting
-      → joins f ≤ most.operators → grammar.IsFormula most threads (Group (tree_of f))
+      → joins f ≤ most.operators → grammar.IsFormulaTree most threads (Group (tree_of f))
   fine most f h deep many =
       let d = depth_is f in
       let o = operators_are f in
@@ -354,7 +354,7 @@ module _ (threads : ℕ) (few : threads < 18446744073709551616) where
   }
 
   pub condition_reads : (q : Quantifier) (f : Formula) → IsFormula threads f
-      → IsWithinLimits (condition_text q f) f → ReadsCondition threads (condition_text q f) (q, f)
+      → IsFormulaWithinLimits (condition_text q f) f → ReadsCondition threads (condition_text q f) (q, f)
   condition_reads q f h w = record {
     short = w.short;
     text =

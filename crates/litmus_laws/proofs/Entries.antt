@@ -24,7 +24,7 @@ use Rattle.litmus_tokens.specs.Conditions.{spelled_place, spelled_value, value_m
 use Rattle.litmus_table.specs.Grammar.{spelled_names}
 use Rattle.litmus_grammar.specs.Grammar as grammar
 use Rattle.litmus_grammar.specs.Grammar.{Listed, spelled_others, spelled_listed, members, EntryTree, spelled_entry, entry_meaning}
-use Rattle.litmus_grammar.specs.Texts.{is_there, late_entries}
+use Rattle.litmus_grammar.specs.Texts.{names_thread, late_entries}
 use Rattle.litmus_printing.specs.Printing.{register_text, bare_text, value_text, all_of, entry_text, entry_line, names}
 use Rattle.text_values.specs.Joined.{joined}
 use Rattle.litmus_laws.specs.Written.{IsWord, IsPlace, Lacks, AreEntries}
@@ -137,7 +137,7 @@ module _ (threads : ℕ) (few : threads < 18446744073709551616) where
   AreAll (p ∷ ps) = IsPlace threads p × AreAll ps
 
   lacks_back : (before : List Place) (p : Place) → AreAll before → IsPlace threads p
-      → Lacks before p → grammar.Lacks (map written_as before) (written_as p)
+      → Lacks before p → grammar.LacksPlace (map written_as before) (written_as p)
   lacks_back [] p all h l = tt
   lacks_back (q ∷ qs) p all h l = (
     λ e. l.0 (sym (back_again q all.0) ∙ ap unwritten e ∙ back_again p h),
@@ -146,7 +146,7 @@ module _ (threads : ℕ) (few : threads < 18446744073709551616) where
 
   pub entries_fine : (es : List InitEntry) (before : List Place) → AreAll before
       → AreEntries threads before es
-      → grammar.AreEntries (map written_as before) (map entry_tree es)
+      → grammar.AreEntryTrees (map written_as before) (map entry_tree es)
   entries_fine [] before all h = tt
   entries_fine (e ∷ es) before all h = (
     place_fine threads few false e.place h.0,
@@ -155,7 +155,7 @@ module _ (threads : ℕ) (few : threads < 18446744073709551616) where
     entries_fine es (e.place ∷ before) (h.0, all) h.3,
   )
 
-  there : (p : Place) → IsPlace threads p → is_there threads (place_tree false p) ≡ true
+  there : (p : Place) → IsPlace threads p → names_thread threads (place_tree false p) ≡ true
   there (places.Location x) h = refl
   there (places.Register t r) h =
       let x = h.0 in

@@ -7,7 +7,7 @@ use Rattle.text_laws.specs.Comments.{BeginsWithComment}
 use Rattle.text_laws.proofs.Nesting as nesting
 use Rattle.litmus_tokens.specs.declared.stage.Stage.TheVariants.{CellBegins}
 use Rattle.litmus_tokens.specs.Lexer.{is_space, begins_comment, over, gap_from}
-use Rattle.litmus_laws.specs.Tokens.{IsGap, Blank, LineEnd, Comment, gaps_text, AreGaps}
+use Rattle.litmus_laws.specs.Tokens.{IsTestGap, Blank, LineEnd, Comment, gaps_text, AreGaps}
 use Rattle.std.proofs.lemmas.Bool.{or_right}
 use Rattle.litmus_tokens.proofs.Turns.{skipped}
 
@@ -94,7 +94,7 @@ no_gaps n bs e =
 
 -- one gap, and those behind it
 more_gaps : (n : ℕ) (bs : List ℕ) (j : ℕ) → j ≤ length bs → (b : ℕ)
-    → ((rest : List ℕ) → rest ≡ drop j bs → IsGap CellBegins (b ∷ take j bs) rest)
+    → ((rest : List ℕ) → rest ≡ drop j bs → IsTestGap CellBegins (b ∷ take j bs) rest)
     → gap_from 0 n (b ∷ bs) ≡ gap_from 0 (n + suc j) (drop j bs) → Found (n + suc j) (drop j bs)
     → Found n (b ∷ bs)
 more_gaps n bs j le b gap goes f =
@@ -120,7 +120,7 @@ abbrev Finds : ℕ → Type 0
 Finds most = (n : ℕ) (bs : List ℕ) → length bs ≤ most → Found n bs
 
 space_of : (b : ℕ) (rest : List ℕ) (x : Bool) → is_blank b ≡ x → is_space b ≡ true
-    → IsGap CellBegins (b ∷ []) rest
+    → IsTestGap CellBegins (b ∷ []) rest
 space_of b rest true e s = Blank b e refl
 space_of b rest false e s =
     LineEnd (λ k. absurd cc) b (sym (ap (λ (x : Bool). x || is_line_end b) e) ∙ s) refl
@@ -174,7 +174,7 @@ colon_stops n rest = gap_none n 58 rest refl refl
 blank_space : (b : ℕ) → is_blank b ≡ true → is_space b ≡ true
 blank_space b e = ap (λ (x : Bool). x || is_line_end b) e
 
-one_gap : (n : ℕ) (g rest : List ℕ) → IsGap CellBegins g rest
+one_gap : (n : ℕ) (g rest : List ℕ) → IsTestGap CellBegins g rest
     → gap_from 0 n (g ++ rest) ≡ gap_from 0 (n + length g) rest
 one_gap n g rest (Blank b e is) =
     ap (λ (xs : List ℕ). gap_from 0 n (xs ++ rest)) is ∙ gap_space n b rest (blank_space b e)

@@ -38,7 +38,7 @@ use Rattle.litmus_table.specs.Words.{computing_of, accessing_of, fence_of, branc
 use Rattle.litmus_table.specs.Grammar.{InstructionTree, IsOperation}
 use Rattle.litmus_printing.specs.Printing.{register_text, operation_text, branch_text, fence_text, operands_text, based_text, instruction_text}
 use Rattle.text_values.specs.Joined.{joined}
-use Rattle.litmus_laws.specs.Written.{begins_word, IsWord, IsNumber, IsBase, IsInstruction}
+use Rattle.litmus_laws.specs.Written.{begins_word, IsWord, IsNumber, IsBase, IsTestInstruction}
 use Rattle.litmus_laws.proofs.Read.{Operands, core, read, free, turn, inner, first_of, word_byte}
 use Rattle.litmus_laws.proofs.Numbers.{second_test, word_len, word, number, signed_number, is_negative, digits_of, signed_back, is_int_back, register_back, register_word}
 use Rattle.litmus_laws.proofs.Places.{Stops}
@@ -560,7 +560,7 @@ fence_read f = record {
       ∙ ap (λ (ts : List Token). tokens.Word (fence_text f) ∷ ts) (sym (blank Operands bs));
 }
 
-pub instruction_read : (i : Instruction) → IsInstruction i
+pub instruction_read : (i : Instruction) → IsTestInstruction i
     → IsReadAs (instruction_text i) (tree_of i) i
 instruction_read (instructions.LoadImmediate d n) h =
     data_read data_opcodes.LoadImmediate d (Num n ∷ []) _ (h.0, (h.1, tt)) refl refl refl

@@ -14,7 +14,7 @@ use Rattle.litmus_table.specs.declared.opcode.Opcode.{Opcode}
 use Rattle.litmus_table.specs.Grammar.{spelled_cell, spelled_rows}
 use Rattle.litmus_table.specs.Late.{Late, or_else, Note, Defines, Branches, branch_notes, cell_notes, nth_notes, column_notes, columns_notes, is_in, defined, late_notes, first_late, late_columns}
 use Rattle.litmus_printing.specs.Printing.{longest}
-use Rattle.litmus_laws.specs.Written.{IsStep, AreSteps, target, labels, IsBelow, AreLabelled}
+use Rattle.litmus_laws.specs.Written.{IsTestStep, AreTestSteps, step_target, labels, IsBelow, AreLabelled}
 use Rattle.litmus_laws.proofs.Instructions.{tree_of, opcode, instruction_read}
 use Rattle.litmus_laws.proofs.Rows.{step_tree, cell_tree, AreAllSteps, row_tree, rows_of, AreShort, all_short}
 
@@ -39,7 +39,7 @@ gone (Some l) = Go l ∷ []
 
 abbrev pub step_marks : Step → List Mark
 step_marks (steps.Label l) = Put l ∷ []
-step_marks (steps.Instruction i) = gone (target i)
+step_marks (steps.Instruction i) = gone (step_target i)
 
 abbrev pub all_marks : List Step → List Mark
 all_marks [] = []
@@ -53,7 +53,7 @@ puts (Go l ∷ ms) = puts ms
 -- ---- the notes of a column
 
 opcode_marks : (i : Instruction) (before : List Token)
-    → marks_of (branch_notes (Some (opcode i)) (tree_of i).operands before) ≡ gone (target i)
+    → marks_of (branch_notes (Some (opcode i)) (tree_of i).operands before) ≡ gone (step_target i)
 opcode_marks (instructions.LoadImmediate d n) before = refl
 opcode_marks (instructions.Move d s) before = refl
 opcode_marks (instructions.AddImmediate d a n) before = refl
@@ -68,7 +68,7 @@ opcode_marks (instructions.BranchIf c l) before = refl
 opcode_marks (instructions.Branch l) before = refl
 opcode_marks (instructions.Fence f) before = refl
 
-step_noted : (s : Step) (before : List Token) → IsStep s
+step_noted : (s : Step) (before : List Token) → IsTestStep s
     → marks_of (cell_notes (step_tree s) before) ≡ step_marks s
 step_noted (steps.Label l) before h = refl
 step_noted (steps.Instruction i) before h =
@@ -84,14 +84,14 @@ nth_marks k [] = []
 nth_marks zero (s ∷ ss) = step_marks s
 nth_marks (suc k) (s ∷ ss) = nth_marks k ss
 
-cell_noted : (k : ℕ) (ss : List Step) (before : List Token) → AreSteps ss
+cell_noted : (k : ℕ) (ss : List Step) (before : List Token) → AreTestSteps ss
     → marks_of (cell_notes (cell_tree k ss) before) ≡ nth_marks k ss
 cell_noted k [] before h = refl
 cell_noted zero (s ∷ ss) before h = step_noted s before h.0
 cell_noted (suc k) (s ∷ ss) before h = cell_noted k ss before h.1
 
 nth_noted : (k : ℕ) (left : List (List Step)) (s : List Step) (right : List (List Step))
-    (before : List Token) → AreSteps s
+    (before : List Token) → AreTestSteps s
     → marks_of (nth_notes (length left) before (map (cell_tree k) (left ++ s ∷ right)))
     ≡ nth_marks k s
 nth_noted k [] s right before h = cell_noted k s before h
@@ -157,7 +157,7 @@ puts_gone (Some l) ms = refl
 pub labels_put : (ss : List Step) → labels ss ≡ puts (all_marks ss)
 labels_put [] = refl
 labels_put (steps.Label l ∷ ss) = ap (λ (x : List (List ℕ)). l ∷ x) (labels_put ss)
-labels_put (steps.Instruction i ∷ ss) = labels_put ss ∙ sym (puts_gone (target i) (all_marks ss))
+labels_put (steps.Instruction i ∷ ss) = labels_put ss ∙ sym (puts_gone (step_target i) (all_marks ss))
 
 fine_gone : (above : List (List ℕ)) (o : Option (List ℕ)) (ss : List Step)
     → IsBelow above (labels ss) o → AreFine above (all_marks ss)
@@ -170,7 +170,7 @@ fine_marks : (above : List (List ℕ)) (ss : List Step) → AreLabelled above ss
 fine_marks above [] h = tt
 fine_marks above (steps.Label l ∷ ss) h = (h.0, fine_marks (l ∷ above) ss h.1)
 fine_marks above (steps.Instruction i ∷ ss) h =
-    fine_gone above (target i) ss h.0 (fine_marks above ss h.1)
+    fine_gone above (step_target i) ss h.0 (fine_marks above ss h.1)
 
 -- ---- all columns
 
@@ -180,7 +180,7 @@ AreAllLabelled (t ∷ ts) = AreLabelled [] t × AreAllLabelled ts
 
 module _ (t : List Step) (ts : List (List Step)) (h : AreAllSteps (t ∷ ts)) where
   column_noted : (left : List (List Step)) (s : List Step) (right : List (List Step))
-      → left ++ s ∷ right ≡ t ∷ ts → AreSteps s → (k n : ℕ) (before : List Token)
+      → left ++ s ∷ right ≡ t ∷ ts → AreTestSteps s → (k n : ℕ) (before : List Token)
       → marks_of (column_notes (length left) before (rows_of t ts h k n)) ≡ column_marks k n s
   column_noted left s right e a k zero before = refl
   column_noted left s right e a k (suc n) before =
@@ -196,7 +196,7 @@ module _ (t : List Step) (ts : List (List Step)) (h : AreAllSteps (t ∷ ts)) wh
       (column_noted left s right e a (k + 1) n behind)
 
   column_in_time : (left : List (List Step)) (s : List Step) (right : List (List Step))
-      → left ++ s ∷ right ≡ t ∷ ts → AreSteps s → AreLabelled [] s → (n : ℕ) → length s ≤ n
+      → left ++ s ∷ right ≡ t ∷ ts → AreTestSteps s → AreLabelled [] s → (n : ℕ) → length s ≤ n
       → (before : List Token)
       → late_notes [] (column_notes (length left) before (rows_of t ts h 0 n)) ≡ None
   column_in_time left s right e a l n le before =

@@ -25,10 +25,10 @@ use Rattle.litmus_table.specs.declared.opcode.Want.TheVariants as wants
 use Rattle.litmus_table.specs.Words as words
 use Rattle.litmus_table.specs.Words.{data_form, fits, all_fit, is_label, takes, registers, immediate, data_meaning, branch_meaning, instruction_meaning}
 use Rattle.litmus_table.specs.Grammar as grammar
-use Rattle.litmus_table.specs.Grammar.{InstructionTree, CellTree, RowTree, AreCells, AreRows, spelled_label, spelled_instruction, spelled_cell, spelled_cells, spelled_rows, label_steps, operation_steps, instruction_steps, cell_steps, cells_steps, nth_cell, column, columns_meaning}
+use Rattle.litmus_table.specs.Grammar.{InstructionTree, CellTree, RowTree, AreCells, AreRowTrees, spelled_label, spelled_instruction, spelled_cell, spelled_cells, spelled_rows, label_steps, operation_steps, instruction_steps, cell_steps, cells_steps, nth_cell, column, columns_meaning}
 use Rattle.litmus_table.specs.Late.{Late, or_else, Note, Defines, Branches, branch_notes, instruction_notes, label_notes, nth_notes, column_notes, columns_notes, is_in, defined, late_notes, first_late}
 use Rattle.litmus_printing.specs.Printing.{register_text}
-use Rattle.litmus_laws.specs.Written.{IsWord, IsNumber, IsBase, IsInstruction, AreSteps, target, labels, IsBelow, AreLabelled, AreThreads}
+use Rattle.litmus_laws.specs.Written.{IsWord, IsNumber, IsBase, IsTestInstruction, AreTestSteps, step_target, labels, IsBelow, AreLabelled, AreThreads}
 use Rattle.litmus_laws.proofs.Numbers.{own}
 use Rattle.litmus_laws.proofs.Tokens.{AllFine}
 use Rattle.litmus_laws.proofs.Meant.{number_is, register_small}
@@ -248,7 +248,7 @@ register_at (b ∷ bs) (r ∷ rs) (suc k) h = register_at bs rs k h.1
 -- ---- instructions
 
 data_meant : (op : DataOpcode) (ts : List Token) → all_fit (data_form op) ts ≡ true
-    → IsInstruction (data_meaning op (registers ts) (immediate ts))
+    → IsTestInstruction (data_meaning op (registers ts) (immediate ts))
 data_meant data_opcodes.LoadImmediate ts e =
     let r = register_at (wanted (data_form data_opcodes.LoadImmediate)) (registers ts) in
     let h = registers_fit (data_form data_opcodes.LoadImmediate) ts e in
@@ -291,12 +291,12 @@ data_meant data_opcodes.CompareImmediate ts e =
     (r 0 h, number_fits (data_form data_opcodes.CompareImmediate) ts e)
 
 branch_meant : (c : Option BranchCondition) (l : List ℕ) → IsWord l
-    → IsInstruction (branch_meaning c l)
+    → IsTestInstruction (branch_meaning c l)
 branch_meant (Some c) l h = h
 branch_meant None l h = h
 
 operation_meant : (op : Opcode) (ts : List Token) → takes op ts ≡ true → AllFine ts
-    → IsInstruction (instruction_meaning op ts)
+    → IsTestInstruction (instruction_meaning op ts)
 operation_meant (opcodes.Data op) ts e a = data_meant op ts e
 operation_meant (opcodes.Branch c) ts e a = branch_meant c (words.target ts) (label_is ts e a)
 operation_meant (opcodes.Fence f) ts e a = tt
@@ -308,18 +308,18 @@ fine_parts (u ∷ us) ts a =
     ((a.0, rest.0), rest.1)
 
 instruction_meant : (i : Option InstructionTree) (rest : List Token) → grammar.IsInstruction i
-    → AllFine (spelled_instruction i rest) → AreSteps (instruction_steps i) × AllFine rest
+    → AllFine (spelled_instruction i rest) → AreTestSteps (instruction_steps i) × AllFine rest
 instruction_meant None rest h a = (tt, a)
 instruction_meant (Some i) rest h a =
     let parts = fine_parts i.operands rest a.1 in (
-      subst (λ (o : Option Opcode). AreSteps (operation_steps o i.operands)) (sym h.known)
+      subst (λ (o : Option Opcode). AreTestSteps (operation_steps o i.operands)) (sym h.known)
           (operation_meant h.opcode i.operands h.fit parts.0, tt),
       parts.1,
     )
 
 cell_meant : (l : Option (List ℕ)) (i : Option InstructionTree) (rest : List Token)
     → grammar.IsInstruction i → AllFine (spelled_label l (spelled_instruction i rest))
-    → AreSteps (label_steps l ++ instruction_steps i) × AllFine rest
+    → AreTestSteps (label_steps l ++ instruction_steps i) × AllFine rest
 cell_meant None i rest h a = instruction_meant i rest h a
 cell_meant (Some n) i rest h a =
     let one = instruction_meant i rest h a.1 in
@@ -327,7 +327,7 @@ cell_meant (Some n) i rest h a =
 
 abbrev AreMeant : List CellTree → Type 0
 AreMeant [] = Unit {0}
-AreMeant (c ∷ cs) = AreSteps (cell_steps c) × AreMeant cs
+AreMeant (c ∷ cs) = AreTestSteps (cell_steps c) × AreMeant cs
 
 cells_meant : (cs : List CellTree) (rest : List Token) → AreCells cs
     → AllFine (spelled_cells cs rest) → AreMeant cs × AllFine rest
@@ -341,7 +341,7 @@ abbrev AreAllMeant : List RowTree → Type 0
 AreAllMeant [] = Unit {0}
 AreAllMeant (r ∷ rs) = AreMeant (r.first ∷ r.others) × AreAllMeant rs
 
-pub rows_meant : (n : ℕ) (rs : List RowTree) (rest : List Token) → AreRows n rs
+pub rows_meant : (n : ℕ) (rs : List RowTree) (rest : List Token) → AreRowTrees n rs
     → AllFine (spelled_rows rs rest) → AreAllMeant rs × AllFine rest
 rows_meant n [] rest h a = (tt, a)
 rows_meant n (r ∷ rs) rest h a =
@@ -350,7 +350,7 @@ rows_meant n (r ∷ rs) rest h a =
     let three = rows_meant n rs rest h.3 two.1 in
     (((one.0, two.0), three.0), three.1)
 
-steps-append : (xs ys : List Step) → AreSteps xs → AreSteps ys → AreSteps (xs ++ ys)
+steps-append : (xs ys : List Step) → AreTestSteps xs → AreTestSteps ys → AreTestSteps (xs ++ ys)
 steps-append [] ys h g = g
 steps-append (x ∷ xs) ys h g = (h.0, steps-append xs ys h.1 g)
 
@@ -369,7 +369,7 @@ column_meant k (r ∷ rs) h =
     meant-append (nth_cell k (r.first ∷ r.others)) (column k rs)
     (nth_meant k (r.first ∷ r.others) h.0) (column_meant k rs h.1)
 
-cells_are_steps : (cs : List CellTree) → AreMeant cs → AreSteps (cells_steps cs)
+cells_are_steps : (cs : List CellTree) → AreMeant cs → AreTestSteps (cells_steps cs)
 cells_are_steps [] h = tt
 cells_are_steps (c ∷ cs) h =
     steps-append (cell_steps c) (cells_steps cs) h.0 (cells_are_steps cs h.1)
@@ -383,7 +383,7 @@ all_marks-append (x ∷ xs) ys =
     ∙ sym (append_assoc (step_marks x) (all_marks xs) (all_marks ys))
 
 data_marks : (op : DataOpcode) (ts : List Token)
-    → gone (target (data_meaning op (registers ts) (immediate ts))) ≡ []
+    → gone (step_target (data_meaning op (registers ts) (immediate ts))) ≡ []
 data_marks data_opcodes.LoadImmediate ts = refl
 data_marks data_opcodes.Move ts = refl
 data_marks data_opcodes.AddImmediate ts = refl
@@ -396,12 +396,12 @@ data_marks data_opcodes.Compare ts = refl
 data_marks data_opcodes.CompareImmediate ts = refl
 
 branch_marks : (c : Option BranchCondition) (l : List ℕ)
-    → gone (target (branch_meaning c l)) ≡ Go l ∷ []
+    → gone (step_target (branch_meaning c l)) ≡ Go l ∷ []
 branch_marks (Some c) l = refl
 branch_marks None l = refl
 
 opcode_noted : (op : Opcode) (ts before : List Token)
-    → marks_of (branch_notes (Some op) ts before) ≡ gone (target (instruction_meaning op ts))
+    → marks_of (branch_notes (Some op) ts before) ≡ gone (step_target (instruction_meaning op ts))
 opcode_noted (opcodes.Data op) ts before = sym (data_marks op ts)
 opcode_noted (opcodes.Branch c) ts before = sym (branch_marks c (words.target ts))
 opcode_noted (opcodes.Fence f) ts before = refl
@@ -414,7 +414,7 @@ instruction_noted (Some i) before h =
     (λ (o : Option Opcode).
     marks_of (branch_notes o i.operands (before ++ tokens.Word i.word ∷ []))) h.known
     ∙ opcode_noted h.opcode i.operands (before ++ tokens.Word i.word ∷ [])
-    ∙ sym (append-nil (gone (target (instruction_meaning h.opcode i.operands))))
+    ∙ sym (append-nil (gone (step_target (instruction_meaning h.opcode i.operands))))
     ∙ ap (λ (o : Option Opcode). all_marks (operation_steps o i.operands)) (sym h.known)
 
 cell_noted : (l : Option (List ℕ)) (i : Option InstructionTree) (before : List Token)
@@ -440,7 +440,7 @@ cells_steps-append (x ∷ xs) ys =
     ap (λ (l : List Step). cell_steps x ++ l) (cells_steps-append xs ys)
     ∙ sym (append_assoc (cell_steps x) (cells_steps xs) (cells_steps ys))
 
-column_noted : (k n : ℕ) (rs : List RowTree) (before : List Token) → AreRows n rs
+column_noted : (k n : ℕ) (rs : List RowTree) (before : List Token) → AreRowTrees n rs
     → marks_of (column_notes k before rs) ≡ all_marks (cells_steps (column k rs))
 column_noted k n [] before h = refl
 column_noted k n (r ∷ rs) before h =
@@ -486,7 +486,7 @@ labelled_back : (above : List (List ℕ)) (ss : List Step) → AreFine above (al
 labelled_back above [] h = tt
 labelled_back above (steps.Label l ∷ ss) h = (h.0, labelled_back (l ∷ above) ss h.1)
 labelled_back above (steps.Instruction i ∷ ss) h =
-    let parts = gone_below above (target i) ss h in
+    let parts = gone_below above (step_target i) ss h in
     (parts.0, labelled_back above ss parts.1)
 
 pub in_both : (a b : Option Late) → or_else a b ≡ None → (a ≡ None) × (b ≡ None)
@@ -495,7 +495,7 @@ in_both (Some x) b e = absurd cc
 
 -- ---- threads
 
-pub columns_written : (k n others : ℕ) (rs : List RowTree) (before : List Token) → AreRows others rs
+pub columns_written : (k n others : ℕ) (rs : List RowTree) (before : List Token) → AreRowTrees others rs
     → AreAllMeant rs → first_late (columns_notes k n before rs) ≡ None
     → AreThreads (columns_meaning k n rs)
 columns_written k zero others rs before r h e = tt

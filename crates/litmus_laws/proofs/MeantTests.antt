@@ -22,8 +22,8 @@ use Rattle.litmus_tokens.specs.Conditions.{Limits, limits, PlaceTree, Location, 
 use Rattle.litmus_table.specs.Grammar.{spelled_names, spelled_header, spelled_rows, columns_meaning}
 use Rattle.litmus_table.specs.Late.{late_columns}
 use Rattle.litmus_grammar.specs.Grammar as grammar
-use Rattle.litmus_grammar.specs.Grammar.{Listed, spelled_others, spelled_listed, members, EntryTree, spelled_entry, entry_meaning, spelled_init, spelled_observed, AreItems, TestTree, spelled_text, spelled_keylines, spelled_condition, spelled_test, test_meaning}
-use Rattle.litmus_grammar.specs.Texts.{ReadsTest, is_there, late_entries, late_test, before_entries, before_rows}
+use Rattle.litmus_grammar.specs.Grammar.{Listed, spelled_others, spelled_listed, members, EntryTree, spelled_entry, entry_meaning, spelled_init, spelled_observed, ArePlaceTrees, TestTree, spelled_text, spelled_keylines, spelled_condition, spelled_test, test_meaning}
+use Rattle.litmus_grammar.specs.Texts.{ReadsTest, names_thread, late_entries, late_test, before_entries, before_rows}
 use Rattle.litmus_laws.specs.Written.{IsFormula, Lacks, AreEntries, ArePlaces, IsTest, IsTextOfTest}
 use Rattle.litmus_laws.proofs.Numbers.{own}
 use Rattle.litmus_laws.proofs.Tokens.{AreDigits, AreFine, AllFine, tokens_fine, all_fine}
@@ -54,7 +54,7 @@ AreCanon [] = Unit {0}
 AreCanon (p ∷ ps) = IsCanon p × AreCanon ps
 
 lacks_meant : (before : List PlaceTree) (p : PlaceTree) → AreCanon before → IsCanon p
-    → grammar.Lacks (map written_place before) (written_place p)
+    → grammar.LacksPlace (map written_place before) (written_place p)
     → Lacks (map place_meaning before) (place_meaning p)
 lacks_meant [] p all h l = tt
 lacks_meant (q ∷ qs) p all h l =
@@ -63,7 +63,7 @@ lacks_meant (q ∷ qs) p all h l =
 -- ---- entries
 
 module _ (threads : ℕ) (few : threads ≤ 8) where
-  has_thread : (p : PlaceTree) → is_there threads p ≡ true → HasThread threads p
+  has_thread : (p : PlaceTree) → names_thread threads p ≡ true → HasThread threads p
   has_thread (Location b n) e = tt
   has_thread (Register t r) e = ltb-true (words.decimal t) threads e
 
@@ -77,13 +77,13 @@ module _ (threads : ℕ) (few : threads ≤ 8) where
   others_written : (closed : Bool) (es : List EntryTree) (rest ts : List Token)
       (before : List PlaceTree) → AreCanon before
       → AllFine (spelled_others spelled_entry closed es rest)
-      → grammar.AreEntries (map written_place before) es → late_entries threads ts es ≡ None
+      → grammar.AreEntryTrees (map written_place before) es → late_entries threads ts es ≡ None
       → AreEntries threads (map place_meaning before) (map entry_meaning es) × AllFine rest
   others_written true [] rest ts before all a h late = (tt, a.1)
   others_written false [] rest ts before all a h late = (tt, a)
   others_written closed (e ∷ es) rest ts before all a h late =
       let behind = ts ++ spelled_entry e (tokens.Mark Semicolon ∷ []) in
-      let there = in_second (is_there threads e.place) (record { rule = rules.Init; before = ts }) (late_entries threads behind es) late in
+      let there = in_second (names_thread threads e.place) (record { rule = rules.Init; before = ts }) (late_entries threads behind es) late in
       let thread = has_thread e.place there.0 in
       let one = place_meant threads e.place _ h.0 thread a.1 in
       let two = value_meant threads e.value _ h.1 one.1.1 in
@@ -92,14 +92,14 @@ module _ (threads : ℕ) (few : threads ≤ 8) where
       ((one.0, two.0, lacks_meant before e.place all same h.2, more.0), more.1)
 
   entries_written : (o : Option (Listed EntryTree)) (rest ts : List Token)
-      → AllFine (spelled_listed spelled_entry o rest) → grammar.AreEntries [] (members o)
+      → AllFine (spelled_listed spelled_entry o rest) → grammar.AreEntryTrees [] (members o)
       → late_entries threads ts (members o) ≡ None
       → AreEntries threads [] (map entry_meaning (members o)) × AllFine rest
   entries_written None rest ts a h late = (tt, a)
   entries_written (Some l) rest ts a h late =
       others_written l.closed (l.first ∷ l.others) rest ts [] tt (tt, a) h late
 
-  places_written : (closed : Bool) (ps : List PlaceTree) (rest : List Token) → AreItems threads ps
+  places_written : (closed : Bool) (ps : List PlaceTree) (rest : List Token) → ArePlaceTrees threads ps
       → AllFine (spelled_others spelled_place closed ps rest)
       → ArePlaces threads (map place_meaning ps) × AllFine rest
   places_written true [] rest h a = (tt, a.1)
@@ -110,7 +110,7 @@ module _ (threads : ℕ) (few : threads ≤ 8) where
       ((one.0, more.0), more.1)
 
   observed_written : (o : Option (Listed PlaceTree)) (rest : List Token)
-      → AreItems threads (members o) → AllFine (spelled_observed o rest)
+      → ArePlaceTrees threads (members o) → AllFine (spelled_observed o rest)
       → ArePlaces threads (map place_meaning (members o)) × AllFine rest
   observed_written None rest h a = (tt, a)
   observed_written (Some l) rest h a =
@@ -189,7 +189,7 @@ behind_keylines : (n : ℕ) (rest : List Token) → AreFine Head (spelled_keylin
 behind_keylines zero rest a = a
 behind_keylines (suc n) rest a = behind_keylines n rest a.1
 
-test_written : (most : Limits) (t : TestTree) → grammar.IsTest most t
+test_written : (most : Limits) (t : TestTree) → grammar.IsTestTree most t
     → AreFine Magic (spelled_test t) → late_test t ≡ None → IsTest (test_meaning t)
 test_written most t h a late =
     let Tail = spelled_observed t.observed (spelled_condition t.quantifier t.condition) in

@@ -12,8 +12,8 @@ use Rattle.litmus_tokens.specs.declared.stage.Stage.TheVariants as stages
 use Rattle.litmus_tokens.specs.declared.token.Token.{Token}
 use Rattle.litmus_tokens.specs.declared.token.Token.TheVariants as tokens
 use Rattle.litmus_tokens.specs.declared.token.Mark.TheVariants as marks
-use Rattle.litmus_tokens.specs.Faults.{IsFault, Ruling, Always, Where, Says, ruling, part_ruling, cell_ruling, word_ruling}
-use Rattle.litmus_tokens.specs.Stage.{rule_of, after}
+use Rattle.litmus_tokens.specs.Faults.{IsFault, Ruling, Always, Where, RulingSays, ruling, part_ruling, cell_ruling, word_ruling}
+use Rattle.litmus_tokens.specs.Stage.{part_rule, after}
 use Rattle.litmus_tokens.specs.Texts.{TokenAt, tokens_of, stage_after, are_none}
 use Rattle.litmus_tokens.specs.Words.{ends_table, is_filter, is_int, column_name}
 use Rattle.text_values.specs.declared.test.Quantifier.{Quantifier}
@@ -24,11 +24,11 @@ use Rattle.litmus_table.specs.declared.opcode.Opcode.TheVariants as opcodes
 use Rattle.litmus_table.specs.declared.opcode.Want.{Want}
 use Rattle.litmus_table.specs.declared.opcode.Want.TheVariants as wants
 use Rattle.litmus_table.specs.Words.{opcode_of, fits, all_fit, data_form, is_label, takes}
-use Rattle.litmus_table.specs.Grammar.{InstructionTree, CellTree, RowTree, ThreadTree, spelled_steps, spelled_thread, spelled_label, spelled_instruction, spelled_cells, spelled_rows, spelled_names, spelled_header, IsInstruction, AreCells, AreRows}
-use Rattle.litmus_grammar.specs.Grammar.{Listed, EntryTree, TestTree, spelled_entry, spelled_end, spelled_others, spelled_listed, spelled_init, spelled_observed, spelled_text, spelled_keylines, spelled_test, IsTest, IsInitText, IsThreadText, IsLocationsText}
+use Rattle.litmus_table.specs.Grammar.{InstructionTree, CellTree, RowTree, ThreadTree, spelled_steps, spelled_thread, spelled_label, spelled_instruction, spelled_cells, spelled_rows, spelled_names, spelled_header, IsInstruction, AreCells, AreRowTrees}
+use Rattle.litmus_grammar.specs.Grammar.{Listed, EntryTree, TestTree, spelled_entry, spelled_end, spelled_others, spelled_listed, spelled_init, spelled_observed, spelled_text, spelled_keylines, spelled_test, IsTestTree, IsInitText, IsThreadText, IsLocationsText}
 use Rattle.litmus_grammar.specs.Texts.{IsStart}
 use Rattle.litmus_grammar.proofs.Spelled.{init-append, names-append, rows-append}
-use Rattle.litmus_laws.specs.Parts.{Part, tokens_in, tail_of, test_parts, StandsIn, is_named, IsNumbered, OfToken, Named, OfPart, IsRefusal, IsOfItsPart, IsOfPart}
+use Rattle.litmus_laws.specs.Parts.{RulePart, tokens_in, tail_of, test_parts, StandsIn, is_named, IsNumbered, OfToken, Named, OfPart, IsTestTokenFault, IsOfItsPart, IsOfPart}
 use Rattle.litmus_grammar.proofs.Heads.{keylines-append}
 use Rattle.litmus_table.proofs.Rules.{no_opcode_exists, no_opcode_forall, no_opcode_locations}
 
@@ -37,7 +37,7 @@ use Rattle.litmus_table.proofs.Rules.{no_opcode_exists, no_opcode_forall, no_opc
 -- these tokens lead from one part to another, and all of them stand where this rule holds
 abbrev Walks : Stage → LitmusRule → Stage → List Token → Type 0
 Walks s r s' [] = s ≡ s'
-Walks s r s' (t ∷ ts) = (rule_of s ≡ r) × Walks (after s t) r s' ts
+Walks s r s' (t ∷ ts) = (part_rule s ≡ r) × Walks (after s t) r s' ts
 
 walk_on : (s : Stage) (r : LitmusRule) (s' : Stage) (ts rest : List Token) → Walks s r s' ts
     → stage_after s (ts ++ rest) ≡ stage_after s' rest
@@ -46,25 +46,25 @@ walk_on s r s' (t ∷ ts) rest w = walk_on (after s t) r s' ts rest w.1
 
 walk_at : (s : Stage) (r : LitmusRule) (s' : Stage) (inner : List Token) (here : Token)
     (others : List Token) → Walks s r s' (inner ++ here ∷ others)
-    → rule_of (stage_after s inner) ≡ r
+    → part_rule (stage_after s inner) ≡ r
 walk_at s r s' [] here others w = w.0
 walk_at s r s' (t ∷ ts) here others w = walk_at (after s t) r s' ts here others w.1
 
 -- each part leads to the next
-abbrev AreWalked : Stage → List Part → Type 0
+abbrev AreWalked : Stage → List RulePart → Type 0
 AreWalked s [] = Unit {0}
 AreWalked s (p ∷ ps) = (s' : Stage) × Walks s p.rule s' p.tokens × AreWalked s' ps
 
-stands : (s : Stage) (earlier : List Part) (p : Part) (later : List Part) (inner : List Token)
+stands : (s : Stage) (earlier : List RulePart) (p : RulePart) (later : List RulePart) (inner : List Token)
     (here : Token) (others : List Token) → AreWalked s (earlier ++ p ∷ later)
     → p.tokens ≡ inner ++ here ∷ others
-    → rule_of (stage_after s (tokens_in earlier ++ inner)) ≡ p.rule
+    → part_rule (stage_after s (tokens_in earlier ++ inner)) ≡ p.rule
 stands s [] p later inner here others w inside =
     walk_at s p.rule w.0 inner here others (subst (Walks s p.rule w.0) inside w.1)
 stands s (q ∷ qs) p later inner here others w inside =
-    ap (λ (ts : List Token). rule_of (stage_after s ts))
+    ap (λ (ts : List Token). part_rule (stage_after s ts))
     (append_assoc q.tokens (tokens_in qs) inner)
-    ∙ ap rule_of (walk_on s q.rule w.0 q.tokens (tokens_in qs ++ inner) w.1)
+    ∙ ap part_rule (walk_on s q.rule w.0 q.tokens (tokens_in qs ++ inner) w.1)
     ∙ stands w.0 qs p later inner here others w.2 inside
 
 -- ---- what stands before the header
@@ -238,7 +238,7 @@ cells_walk (c ∷ cs) rest s h w =
     let x = cell_walk c.label c.instruction (spelled_cells cs rest) s h.0 (cells_walk cs rest s h.1 w) in
     record { begins = (refl, x); within = (refl, x) }
 
-rows_walk : (n : ℕ) (rs : List RowTree) (rest : List Token) (s : Stage) → AreRows n rs
+rows_walk : (n : ℕ) (rs : List RowTree) (rest : List Token) (s : Stage) → AreRowTrees n rs
     → InRow stages.CellBegins s rest → InRow stages.CellBegins s (spelled_rows rs rest)
 rows_walk n [] rest s h w = w
 rows_walk n (r ∷ rs) rest s h w =
@@ -264,7 +264,7 @@ tail_walk (t ∷ ts) = (refl, tail_walk ts)
 
 -- ---- tests
 
-test_walk : (most : Limits) (t : TestTree) → IsTest most t → AreWalked stages.Magic (test_parts t)
+test_walk : (most : Limits) (t : TestTree) → IsTestTree most t → AreWalked stages.Magic (test_parts t)
 test_walk most t h = (
   stages.Title,
   (refl, refl),
@@ -290,10 +290,10 @@ test_walk most t h = (
 )
 
 pub stage_of_part : (most : Limits) (t : TestTree) (before : List Token) (here : Token)
-    (rule : LitmusRule) → IsTest most t → StandsIn (test_parts t) before here rule
-    → rule_of (stage_after stages.Magic before) ≡ rule
+    (rule : LitmusRule) → IsTestTree most t → StandsIn (test_parts t) before here rule
+    → part_rule (stage_after stages.Magic before) ≡ rule
 stage_of_part most t before here rule h x =
-    ap (λ (ts : List Token). rule_of (stage_after stages.Magic ts)) x.behind
+    ap (λ (ts : List Token). part_rule (stage_after stages.Magic ts)) x.behind
     ∙ stands stages.Magic x.earlier x.its x.later x.inner here x.others
     (subst (AreWalked stages.Magic) x.split (test_walk most t h)) x.inside
     ∙ x.rule_is
@@ -333,7 +333,7 @@ parts_whole t =
 
 -- a ruling names a rule of its own, or that of the part
 abbrev IsRight : Stage → Ruling → Type 0
-IsRight s (Always n) = (is_named n ≡ true) ⊎ (n ≡ rule_of s)
+IsRight s (Always n) = (is_named n ≡ true) ⊎ (n ≡ part_rule s)
 IsRight s (Where other n) = is_named n ≡ true
 
 right_if : (s : Stage) (b : Bool) (x y : Ruling) → IsRight s x → IsRight s y
@@ -356,7 +356,7 @@ word_right s w = inr refl
 
 other_right : (s : Stage) (t : Token)
     → (part_ruling s t ≡ cell_ruling s t)
-    ⊎ ((part_ruling s t ≡ Always (rule_of s))
+    ⊎ ((part_ruling s t ≡ Always (part_rule s))
     ⊎ ((w : List ℕ) × (part_ruling s t ≡ word_ruling s w)))
 other_right stages.CellBegins t = inl refl
 other_right stages.InCell t = inl refl
@@ -367,7 +367,7 @@ part_right : (s : Stage) (t : Token) → IsRight s (part_ruling s t)
 part_right s t = by_case (other_right s t)
   where
     by_case : (part_ruling s t ≡ cell_ruling s t)
-        ⊎ ((part_ruling s t ≡ Always (rule_of s))
+        ⊎ ((part_ruling s t ≡ Always (part_rule s))
         ⊎ ((w : List ℕ) × (part_ruling s t ≡ word_ruling s w)))
         → IsRight s (part_ruling s t)
     by_case (inl e) = subst (IsRight s) (sym e) (cell_right s t)
@@ -375,19 +375,19 @@ part_right s t = by_case (other_right s t)
     by_case (inr (inr (w, e))) = subst (IsRight s) (sym e) (word_right s w)
 
 said : (C : Token → Type 0) (s : Stage) (x : Ruling) (t : Token) (k : LitmusRule) → IsRight s x
-    → Says C s x k → IsNumbered t (rule_of s) k
+    → RulingSays C s x k → IsNumbered t (part_rule s) k
 said C s (Always n) t k (inl named) e = Named (ap is_named e ∙ named)
 said C s (Always n) t k (inr same) e = OfPart (e ∙ same)
 said C s (Where other n) t k named (inl x) = Named (ap is_named x.1 ∙ named)
 said C s (Where other n) t k named (inr x) = OfPart x.1
 
-numbered : (C : Token → Type 0) (s : Stage) (t : Token) (k : LitmusRule) → Says C s (ruling s t) k
-    → IsNumbered t (rule_of s) k
+numbered : (C : Token → Type 0) (s : Stage) (t : Token) (k : LitmusRule) → RulingSays C s (ruling s t) k
+    → IsNumbered t (part_rule s) k
 numbered C s (tokens.Broken r) k e = OfToken (ap tokens.Broken (sym e))
 numbered C s t k e = said C s (part_ruling s t) t k (part_right s t) e
 
 pub refusal_of_part : (most : Limits) (t : TestTree) (ps : List TokenAt) (rule : LitmusRule)
-    (offset : ℕ) → IsTest most t → (f : IsRefusal ps rule offset)
+    (offset : ℕ) → IsTestTree most t → (f : IsTestTokenFault ps rule offset)
     → IsOfItsPart ps rule offset f t
 refusal_of_part most t ps rule offset h f there of_part x =
     subst (λ (r : LitmusRule). IsNumbered f.here.token r rule) (stage_of_part most t
@@ -397,13 +397,13 @@ refusal_of_part most t ps rule offset h f there of_part x =
 -- ---- parts that are read alone
 
 init_stays : (word : Bool) (ts : List Token)
-    → rule_of (stage_after (stages.Init true word) ts) ≡ rules.Init
+    → part_rule (stage_after (stages.Init true word) ts) ≡ rules.Init
 init_stays word [] = refl
 init_stays word (tokens.Word w ∷ ts) = init_stays true ts
 init_stays word (tokens.Mark marks.CloseBrace ∷ ts) = init_stays false ts
 init_stays word (t ∷ ts) = init_stays false ts
 
-tail_stays : (ts : List Token) → rule_of (stage_after stages.Tail ts) ≡ rules.Condition
+tail_stays : (ts : List Token) → part_rule (stage_after stages.Tail ts) ≡ rules.Condition
 tail_stays [] = refl
 tail_stays (t ∷ ts) = tail_stays ts
 
@@ -415,14 +415,14 @@ steps_walk (c ∷ cs) h =
     record { begins = (refl, x); within = (refl, x) }
 
 front_stands : (s : Stage) (before rest : List Token) → InRow s stages.InCell (before ++ rest)
-    → rule_of (stage_after s before) ≡ rules.Instruction
-front_stands s [] [] w = ap rule_of w
+    → part_rule (stage_after s before) ≡ rules.Instruction
+front_stands s [] [] w = ap part_rule w
 front_stands s [] (t ∷ ts) w = w.0
 front_stands s (t ∷ ts) rest w = front_stands (after s t) ts rest w.1
 
 thread_stays : (before rest : List Token) (t : ThreadTree) → AreCells (t.first ∷ t.others)
     → before ++ rest ≡ spelled_thread t (tokens.End ∷ [])
-    → rule_of (stage_after stages.CellBegins before) ≡ rules.Instruction
+    → part_rule (stage_after stages.CellBegins before) ≡ rules.Instruction
 thread_stays before rest t h e =
     front_stands stages.CellBegins before rest (subst (InRow stages.CellBegins stages.InCell)
     (sym e)
@@ -432,7 +432,7 @@ thread_stays before rest t h e =
 module _ (ps : List TokenAt) (rule : LitmusRule) (offset : ℕ) where
   of_rule : (IsText : List Token → Type 0) (start : Stage) (of_part : LitmusRule)
       (f : IsFault IsText start ps rule offset)
-      → rule_of (stage_after start (tokens_of f.before)) ≡ of_part
+      → part_rule (stage_after start (tokens_of f.before)) ≡ of_part
       → IsNumbered f.here.token of_part rule
   of_rule IsText start of_part f e =
       subst (λ (r : LitmusRule). IsNumbered f.here.token r rule) e (numbered _

@@ -22,21 +22,21 @@ use Rattle.litmus_tokens.specs.declared.lexer.Front.{Front}
 use Rattle.litmus_tokens.specs.declared.lexer.Front.TheVariants as fronts
 use Rattle.litmus_tokens.specs.Lexer.{is_not_ascii, is_word_byte, ends_word, ends_digits, is_equals, is_space, begins_comment, gap_from, comment_front, ends_raw, raw_from, raw_front, quoted_front, line_front, word_token, word_front, significant, number_front, minus_front, mark_of, mark_front, sign_front, plain_front, head_front, stage_front, front}
 use Rattle.litmus_tokens.specs.Stage.{after}
-use Rattle.litmus_tokens.specs.Texts.{TokenAt, ends_line, fresh_after, after_front, tokens_from, lexed}
-use Rattle.litmus_laws.specs.Tokens.{IsGap, Blank, LineEnd, Comment, begins_gap, IsRun, IsWord, gaps_text, AreGaps, IsLabel, IsLine, IsKeyline, is_first, is_plain, double_of, IsLexeme, FirstWord, NameEnd, Keyline, Quoted, Word, Label, Number, Negative, Double, Single, NotAscii, OpenComment, NoNameEnd, NoKeyline, NoQuoted, NoToken, Piece, Gap, Lexeme, text_of, ArePieces, tokens_at, IsCut, AreRising}
+use Rattle.litmus_tokens.specs.Texts.{TokenAt, ends_line, fresh_after, after_front, tokens_from, lexing}
+use Rattle.litmus_laws.specs.Tokens.{IsTestGap, Blank, LineEnd, Comment, begins_gap, IsByteRun, IsWordLexeme, gaps_text, AreGaps, IsLabelLexeme, IsLine, IsKeyline, is_first, is_plain, double_of, IsTestLexeme, FirstWord, NameEnd, Keyline, Quoted, Word, Label, Number, Negative, Double, Single, NotAscii, OpenComment, NoNameEnd, NoKeyline, NoQuoted, NoToken, TestPiece, Gap, Lexeme, text_of, ArePieces, tokens_at, IsTestCut, AreTestRising}
 use Rattle.litmus_grammar.proofs.Lexed.{tokens_skip}
 use Rattle.litmus_laws.proofs.Gaps.{gaps_of, all_gaps}
 
 abbrev IsPiece : Stage → Bool → List ℕ → Front → Type 0
 IsPiece s fresh text (fronts.Layout n) =
-    (0 < n) × (n ≤ length text) × IsGap s (take n text) (drop n text)
+    (0 < n) × (n ≤ length text) × IsTestGap s (take n text) (drop n text)
 IsPiece s fresh text (fronts.Lexeme t n) =
-    (0 < n) × (n ≤ length text) × IsLexeme s fresh t (take n text) (drop n text)
+    (0 < n) × (n ≤ length text) × IsTestLexeme s fresh t (take n text) (drop n text)
 
 -- ---- runs
 
 run_of : (p : ℕ → Bool) (xs : List ℕ)
-    → IsRun p (take (position_or_len (λ b. not (p b)) xs) xs)
+    → IsByteRun p (take (position_or_len (λ b. not (p b)) xs) xs)
     (drop (position_or_len (λ b. not (p b)) xs) xs)
 run_of p xs = record { each = each; ends = ends }
   where
@@ -236,7 +236,7 @@ module _ (s : Stage) (fresh : Bool) (b : ℕ) (bs : List ℕ) (apart : s ≡ Tit
     word_some : 0 < position_or_len ends_word (b ∷ bs)
     word_some = pos_some ends_word b bs (ap not (word_start b starts))
 
-    is_word : IsWord (take (position_or_len ends_word (b ∷ bs)) (b ∷ bs))
+    is_word : IsWordLexeme (take (position_or_len ends_word (b ∷ bs)) (b ∷ bs))
         (drop (position_or_len ends_word (b ∷ bs)) (b ∷ bs))
     is_word = record {
       first =
@@ -251,7 +251,7 @@ module _ (s : Stage) (fresh : Bool) (b : ℕ) (bs : List ℕ) (apart : s ≡ Tit
         → label ++ others
         ≡ take (position_or_len ends_word (b ∷ bs)) (b ∷ bs)
         ++ drop (position_or_len ends_word (b ∷ bs)) (b ∷ bs)
-        → IsLabel (take (position_or_len ends_word (b ∷ bs)) (b ∷ bs)) label others → ⊥
+        → IsLabelLexeme (take (position_or_len ends_word (b ∷ bs)) (b ∷ bs)) label others → ⊥
 
     word_piece : NoLabel
         → IsPiece s fresh (b ∷ bs) (fronts.Lexeme
@@ -408,13 +408,13 @@ module _ (fresh : Bool) (b : ℕ) (bs : List ℕ) (o : IsOpen b bs)
       let spelled_front : take (n + gap + 1) (b ∷ bs) ≡ W ++ (g ++ 58 ∷ []) = ap (take (n + gap + 1)) whole ∙ take_at (W ++ (g ++ 58 ∷ [])) others (n + gap + 1) long in
       let dropped : drop (n + gap + 1) (b ∷ bs) ≡ others = ap (drop (n + gap + 1)) whole ∙ drop_at (W ++ (g ++ 58 ∷ [])) others (n + gap + 1) long in
       let behind : drop n (b ∷ bs) ≡ g ++ 58 ∷ others = f.whole ∙ ap (λ (xs : List ℕ). g ++ xs) rest in
-      let word : IsWord W (drop n (b ∷ bs)) = subst (λ (k : ℕ). IsWord (take k (b ∷ bs)) (drop k (b ∷ bs))) (sym size) (is_word CellBegins fresh b bs (λ k. absurd cc) refl o starts) in (
+      let word : IsWordLexeme W (drop n (b ∷ bs)) = subst (λ (k : ℕ). IsWordLexeme (take k (b ∷ bs)) (drop k (b ∷ bs))) (sym size) (is_word CellBegins fresh b bs (λ k. absurd cc) refl o starts) in (
         omega arith,
         omega arith,
-        Label refl W (subst (λ (xs : List ℕ). IsLabel W (take (n + gap + 1) (b ∷ bs)) xs)
+        Label refl W (subst (λ (xs : List ℕ). IsLabelLexeme W (take (n + gap + 1) (b ∷ bs)) xs)
             (sym dropped) (record {
               gaps = f.gaps;
-              is_word = subst (IsWord W) behind word;
+              is_word = subst (IsWordLexeme W) behind word;
               between = subst (AreGaps f.gaps) rest f.are;
               whole = spelled_front;
             })) refl,
@@ -422,7 +422,7 @@ module _ (fresh : Bool) (b : ℕ) (bs : List ℕ) (o : IsOpen b bs)
   label_piece n gap size gaps false e =
       let W = take n (b ∷ bs) in
       let R = drop n (b ∷ bs) in
-      let none : (label others : List ℕ) → label ++ others ≡ W ++ R → IsLabel W label others → ⊥ = λ label others is x.
+      let none : (label others : List ℕ) → label ++ others ≡ W ++ R → IsLabelLexeme W label others → ⊥ = λ label others is x.
       (let g = gaps_text x.gaps in
       let same : g ++ 58 ∷ others ≡ R =
       behind_same W (g ++ 58 ∷ others) R
@@ -439,7 +439,7 @@ module _ (fresh : Bool) (b : ℕ) (bs : List ℕ) (o : IsOpen b bs)
       (word_piece CellBegins fresh b bs (λ k. absurd cc) refl o starts (λ _. subst
       (λ (k : ℕ). (label others : List ℕ)
       → label ++ others ≡ take k (b ∷ bs) ++ drop k (b ∷ bs)
-      → IsLabel (take k (b ∷ bs)) label others → ⊥) size none))
+      → IsLabelLexeme (take k (b ∷ bs)) label others → ⊥) size none))
 
   cell_words : IsPiece CellBegins fresh (b ∷ bs) (word_front CellBegins (b ∷ bs)
       (position_or_len ends_word (b ∷ bs)))
@@ -604,7 +604,7 @@ front_piece s fresh b bs =
 -- ---- all pieces
 
 record CutAt (s : Stage) (fresh : Bool) (n : ℕ) (bs : List ℕ) (ps : List TokenAt) : Type 0 where
-  pieces : List Piece
+  pieces : List TestPiece
   fine : ArePieces s fresh pieces
   whole : text_of pieces ≡ bs
   tokens : tokens_at n pieces ≡ ps
@@ -633,7 +633,7 @@ after_piece s fresh n b bs (fronts.Layout (suc j)) h ih =
     let c = ih s (fresh_after fresh b) (n + suc j) (drop j bs) (omega arith) in
     record {
       pieces = Gap (take (suc j) (b ∷ bs)) ∷ c.pieces;
-      fine = (subst (IsGap s (take (suc j) (b ∷ bs))) (sym c.whole) h.2, c.fine);
+      fine = (subst (IsTestGap s (take (suc j) (b ∷ bs))) (sym c.whole) h.2, c.fine);
       whole =
           ap (λ (xs : List ℕ). take (suc j) (b ∷ bs) ++ xs) c.whole
           ∙ take-append-drop (suc j) (b ∷ bs);
@@ -649,7 +649,7 @@ after_piece s fresh n b bs (fronts.Lexeme t (suc j)) h ih =
     let c = ih (after s t) (ends_line t) (n + suc j) (drop j bs) (omega arith) in
     record {
       pieces = Lexeme t (take (suc j) (b ∷ bs)) ∷ c.pieces;
-      fine = (subst (IsLexeme s fresh t (take (suc j) (b ∷ bs))) (sym c.whole) h.2, c.fine);
+      fine = (subst (IsTestLexeme s fresh t (take (suc j) (b ∷ bs))) (sym c.whole) h.2, c.fine);
       whole =
           ap (λ (xs : List ℕ). take (suc j) (b ∷ bs) ++ xs) c.whole
           ∙ take-append-drop (suc j) (b ∷ bs);
@@ -668,7 +668,7 @@ cut_at (suc most) s fresh n (b ∷ bs) le =
     after_piece s fresh n b bs (front s fresh (b ∷ bs)) (front_piece s fresh b bs)
     (λ s' fresh' k xs short. cut_at most s' fresh' k xs (omega arith))
 
-pub is_cut : (s : Stage) (bytes : List ℕ) → IsCut s bytes (lexed s bytes)
+pub is_cut : (s : Stage) (bytes : List ℕ) → IsTestCut s bytes (lexing s bytes)
 is_cut s bytes =
     let c = cut_at (length bytes) s false 0 bytes (omega arith) in
     record { pieces = c.pieces; fine = c.fine; whole = c.whole; tokens = c.tokens }
@@ -691,7 +691,7 @@ keyline_bytes [] rest k =
     (letter_ascii (slice_index k.line 0) k.letter))
 keyline_bytes (b ∷ bs) rest k = omega arith
 
-word_bytes : (s rest : List ℕ) → IsWord s rest → 0 < length s
+word_bytes : (s rest : List ℕ) → IsWordLexeme s rest → 0 < length s
 word_bytes [] rest w = let bad : false ≡ true = w.first in absurd cc
 word_bytes (b ∷ bs) rest w = omega arith
 
@@ -699,7 +699,7 @@ comment_bytes : (s : List ℕ) → begins_comment s ≡ true → 0 < length s
 comment_bytes [] e = absurd cc
 comment_bytes (b ∷ bs) e = omega arith
 
-label_bytes : (word s rest : List ℕ) → IsLabel word s rest → 0 < length s
+label_bytes : (word s rest : List ℕ) → IsLabelLexeme word s rest → 0 < length s
 label_bytes word s rest x =
     let l = ap length x.whole in
     let m = length-append word (gaps_text x.gaps ++ 58 ∷ []) in
@@ -707,7 +707,7 @@ label_bytes word s rest x =
     omega arith
 
 pub lexeme_bytes : (stage : Stage) (fresh : Bool) (t : Token) (s rest : List ℕ)
-    → IsLexeme stage fresh t s rest → 0 < length s
+    → IsTestLexeme stage fresh t s rest → 0 < length s
 lexeme_bytes stage fresh t s rest (FirstWord a raw e) = raw.some
 lexeme_bytes stage fresh t s rest (NameEnd a b c is e) = byte_of b s is
 lexeme_bytes stage fresh t s rest (Keyline a c k e) = keyline_bytes s rest k
@@ -733,8 +733,8 @@ lexeme_bytes stage fresh t s rest (NoQuoted a lacks is e) = byte_of 34 s is
 lexeme_bytes stage fresh t s rest (NoToken b plain ascii gap line word minus double c is e) =
     byte_of b s is
 
-rise : (stage : Stage) (fresh : Bool) (m n : ℕ) (ps : List Piece) → m ≤ n → ArePieces stage fresh ps
-    → AreRising m (tokens_at n ps)
+rise : (stage : Stage) (fresh : Bool) (m n : ℕ) (ps : List TestPiece) → m ≤ n → ArePieces stage fresh ps
+    → AreTestRising m (tokens_at n ps)
 rise stage fresh m n [] le h = (le, tt)
 rise stage fresh m n (Gap s ∷ ps) le h =
     rise stage (fresh_after fresh (slice_index s 0)) m (n + length s) ps (omega arith) h.1
@@ -742,7 +742,7 @@ rise stage fresh m n (Lexeme t s ∷ ps) le h =
     let some = lexeme_bytes stage fresh t s (text_of ps) h.0 in
     (le, rise (after stage t) (ends_line t) (n + 1) (n + length s) ps (omega arith) h.1)
 
-pub is_rising : (s : Stage) (bytes : List ℕ) → AreRising 0 (lexed s bytes)
+pub is_rising : (s : Stage) (bytes : List ℕ) → AreTestRising 0 (lexing s bytes)
 is_rising s bytes =
     let c = is_cut s bytes in
-    subst (AreRising 0) c.tokens (rise s false 0 0 c.pieces (omega arith) c.fine)
+    subst (AreTestRising 0) c.tokens (rise s false 0 0 c.pieces (omega arith) c.fine)

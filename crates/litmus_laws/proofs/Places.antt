@@ -86,7 +86,7 @@ pub value_back : (v : declared_value.Value) → IsValue v → value_meaning (val
 value_back (values.Number z) h = ap values.Number (signed_back z h)
 value_back (values.Address x) h = refl
 
-pub value_fine : (v : declared_value.Value) → IsValue v → grammar.IsValue (value_tree v)
+pub value_fine : (v : declared_value.Value) → IsValue v → grammar.IsValueTree (value_tree v)
 value_fine (values.Number z) h = is_int_back z h
 value_fine (values.Address x) h = tt
 
@@ -154,7 +154,7 @@ module _ (threads : ℕ) (few : threads < 18446744073709551616) where
       (number_back t (omega arith))
       ∙ ap (λ (o : Option ℕ). places.Register t (or_zero o)) (register_back r h.1)
 
-  pub place_fine : (b : Bool) (p : Place) → IsPlace threads p → grammar.IsPlace (place_tree b p)
+  pub place_fine : (b : Bool) (p : Place) → IsPlace threads p → grammar.IsPlaceTree (place_tree b p)
   place_fine b (places.Location x) h = tt
   place_fine b (places.Register t r) h = ap is_known (register_back r h.1)
 

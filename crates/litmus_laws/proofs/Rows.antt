@@ -13,10 +13,10 @@ use Rattle.text_values.specs.declared.test.Step.{Step}
 use Rattle.text_values.specs.declared.test.Step.TheVariants as steps
 use Rattle.litmus_table.specs.declared.opcode.Opcode.{Opcode}
 use Rattle.litmus_table.specs.Grammar as grammar
-use Rattle.litmus_table.specs.Grammar.{CellTree, RowTree, spelled_cell, spelled_cells, spelled_rows, AreCells, AreRows, operation_steps, cell_steps, cells_steps, nth_cell, column, columns_meaning}
+use Rattle.litmus_table.specs.Grammar.{CellTree, RowTree, spelled_cell, spelled_cells, spelled_rows, AreCells, AreRowTrees, operation_steps, cell_steps, cells_steps, nth_cell, column, columns_meaning}
 use Rattle.litmus_printing.specs.Printing.{step_text, cell_text, row_text, rows_text, longest}
 use Rattle.text_values.specs.Joined.{joined}
-use Rattle.litmus_laws.specs.Written.{IsStep, AreSteps}
+use Rattle.litmus_laws.specs.Written.{IsTestStep, AreTestSteps}
 use Rattle.litmus_laws.proofs.Read.{Operands, read, free, inner}
 use Rattle.litmus_laws.proofs.Instructions.{NoColon, cell_label, tree_of, instruction_read}
 
@@ -56,7 +56,7 @@ cell_tree k [] = record { label = None; instruction = None }
 cell_tree zero (s ∷ ss) = step_tree s
 cell_tree (suc k) (s ∷ ss) = cell_tree k ss
 
-step_back : (s : Step) (bs : List ℕ) (ts : List Token) → IsStep s → Closes bs ts
+step_back : (s : Step) (bs : List ℕ) (ts : List Token) → IsTestStep s → Closes bs ts
     → read CellBegins (step_text s ++ 32 ∷ bs) ≡ spelled_cell (step_tree s) ts
 step_back (steps.Label l) bs ts h e =
     ap (read CellBegins) (append_assoc l (58 ∷ []) (32 ∷ bs)) ∙ cell_label l (32 ∷ bs) h
@@ -66,7 +66,7 @@ step_back (steps.Instruction i) bs ts h e =
     ∙ ap (λ (us : List Token). tokens.Word (tree_of i).word ∷ ((tree_of i).operands ++ us))
     e.inside
 
-cell_back : (k : ℕ) (ss : List Step) (bs : List ℕ) (ts : List Token) → AreSteps ss → Closes bs ts
+cell_back : (k : ℕ) (ss : List Step) (bs : List ℕ) (ts : List Token) → AreTestSteps ss → Closes bs ts
     → read CellBegins (cell_text k ss ++ 32 ∷ bs) ≡ spelled_cell (cell_tree k ss) ts
 cell_back k [] bs ts h e = e.begins
 cell_back zero (s ∷ ss) bs ts h e = step_back s bs ts h.0 e
@@ -74,7 +74,7 @@ cell_back (suc k) (s ∷ ss) bs ts h e = cell_back k ss bs ts h.1 e
 
 abbrev pub AreAllSteps : List (List Step) → Type 0
 AreAllSteps [] = Unit {0}
-AreAllSteps (t ∷ ts) = AreSteps t × AreAllSteps ts
+AreAllSteps (t ∷ ts) = AreTestSteps t × AreAllSteps ts
 
 -- ---- rows
 
@@ -97,7 +97,7 @@ row_parts cells bs =
     let J = joined (codes " | ") cells in
     append_assoc (J ++ 32 ∷ 59 ∷ []) (10 ∷ []) bs ∙ append_assoc J (32 ∷ 59 ∷ []) (10 ∷ bs)
 
-cell_fine : (k : ℕ) (ss : List Step) → AreSteps ss
+cell_fine : (k : ℕ) (ss : List Step) → AreTestSteps ss
     → grammar.IsInstruction (cell_tree k ss).instruction
 cell_fine k [] h = tt
 cell_fine zero (steps.Label l ∷ ss) h = tt
@@ -126,14 +126,14 @@ nothing : (k n : ℕ) → cells_steps (column_cells k n []) ≡ []
 nothing k zero = refl
 nothing k (suc n) = nothing (k + 1) n
 
-step_means : (s : Step) → IsStep s → cell_steps (step_tree s) ≡ s ∷ []
+step_means : (s : Step) → IsTestStep s → cell_steps (step_tree s) ≡ s ∷ []
 step_means (steps.Label l) h = refl
 step_means (steps.Instruction i) h =
     ap (λ (o : Option Opcode). operation_steps o (tree_of i).operands)
     (instruction_read i h).fine.known
     ∙ ap (λ (j : Instruction). steps.Instruction j ∷ []) (instruction_read i h).means
 
-column_means : (n : ℕ) (ss : List Step) → AreSteps ss → length ss ≤ n
+column_means : (n : ℕ) (ss : List Step) → AreTestSteps ss → length ss ≤ n
     → cells_steps (column_cells 0 n ss) ≡ ss
 column_means n [] h le = nothing 0 n
 column_means zero (s ∷ ss) h le = absurd (omega arith)
@@ -183,7 +183,7 @@ module _ (t : List Step) (ts : List (List Step)) (h : AreAllSteps (t ∷ ts)) wh
       spelled_cell (cell_tree k t) (spelled_cells (map (cell_tree k) ts) us))
       (rows_back (k + 1) n bs)
 
-  pub rows_fine : (k n : ℕ) → AreRows (length ts) (rows_of k n)
+  pub rows_fine : (k n : ℕ) → AreRowTrees (length ts) (rows_of k n)
   rows_fine k zero = tt
   rows_fine k (suc n) =
       (cell_fine k t h.0, cells_fine k ts h.1, length-map ts (cell_tree k), rows_fine (k + 1) n)

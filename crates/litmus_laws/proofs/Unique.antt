@@ -21,8 +21,8 @@ use Rattle.litmus_tokens.specs.declared.lexer.Front.{Front}
 use Rattle.litmus_tokens.specs.declared.lexer.Front.TheVariants as fronts
 use Rattle.litmus_tokens.specs.Lexer.{is_not_ascii, is_word_byte, is_equals, begins_comment, gap_from, comment_front, ends_raw, raw_from, raw_front, quoted_front, line_front, word_token, label_front, word_front, significant, number_front, minus_front, mark_of, mark_front, sign_front, plain_front, stage_front, front}
 use Rattle.litmus_tokens.specs.Stage.{after}
-use Rattle.litmus_tokens.specs.Texts.{TokenAt, ends_line, fresh_after, after_front, tokens_from, lexed}
-use Rattle.litmus_laws.specs.Tokens.{IsGap, Blank, LineEnd, Comment, begins_gap, IsRun, IsWord, IsRaw, gaps_text, AreGaps, IsLabel, IsLine, LacksEquals, IsKeyline, is_first, is_plain, double_of, IsLexeme, FirstWord, NameEnd, Keyline, Quoted, Word, Label, Number, Negative, Double, Single, NotAscii, OpenComment, NoNameEnd, NoKeyline, NoQuoted, NoToken, Piece, Gap, Lexeme, text_of, ArePieces, tokens_at, IsCut}
+use Rattle.litmus_tokens.specs.Texts.{TokenAt, ends_line, fresh_after, after_front, tokens_from, lexing}
+use Rattle.litmus_laws.specs.Tokens.{IsTestGap, Blank, LineEnd, Comment, begins_gap, IsByteRun, IsWordLexeme, IsRaw, gaps_text, AreGaps, IsLabelLexeme, IsLine, LacksEquals, IsKeyline, is_first, is_plain, double_of, IsTestLexeme, FirstWord, NameEnd, Keyline, Quoted, Word, Label, Number, Negative, Double, Single, NotAscii, OpenComment, NoNameEnd, NoKeyline, NoQuoted, NoToken, TestPiece, Gap, Lexeme, text_of, ArePieces, tokens_at, IsTestCut}
 use Rattle.litmus_laws.proofs.Gaps.{gaps_of, all_gaps}
 use Rattle.litmus_laws.proofs.Pieces.{IsOpen, cons_at, skipped, lexeme_bytes}
 use Rattle.std.proofs.lemmas.Bool.{and_left, false_from_ne_true, not-true}
@@ -155,7 +155,7 @@ line_layout CellBegins fresh b bs apart e = when_true (is_line_end b) _ _ e
 line_layout InCell fresh b bs apart e = when_true (is_line_end b) _ _ e
 line_layout Tail fresh b bs apart e = when_true (is_line_end b) _ _ e
 
-front_gap : (stage : Stage) (fresh : Bool) (s rest : List ℕ) → IsGap stage s rest
+front_gap : (stage : Stage) (fresh : Bool) (s rest : List ℕ) → IsTestGap stage s rest
     → front stage fresh (s ++ rest) ≡ fronts.Layout (length s)
 front_gap stage fresh s rest (Blank b blank is) =
     ap (λ (xs : List ℕ). front stage fresh (xs ++ rest)) is
@@ -171,7 +171,7 @@ front_gap stage fresh s rest (Comment c) =
     ∙ ap (λ (xs : List ℕ). comment_front (length xs) (comment_of xs)) (sym c.whole)
     ∙ ap (comment_front (length (s ++ rest))) (nesting.only (s ++ rest) (length s) c)
 
-gap_bytes : (stage : Stage) (s rest : List ℕ) → IsGap stage s rest → 0 < length s
+gap_bytes : (stage : Stage) (s rest : List ℕ) → IsTestGap stage s rest → 0 < length s
 gap_bytes stage s rest (Blank b blank is) =
     let l = ap length is in
     omega arith
@@ -182,7 +182,7 @@ gap_bytes stage s rest (Comment c) = nesting.some_bytes (s ++ rest) (length s) c
 
 -- ---- words and labels
 
-run_size : (p : ℕ → Bool) (s rest : List ℕ) → IsRun p s rest
+run_size : (p : ℕ → Bool) (s rest : List ℕ) → IsByteRun p s rest
     → position_or_len (λ b. not (p b)) (s ++ rest) ≡ length s
 run_size p s rest r =
     let l = length-append s rest in
@@ -191,7 +191,7 @@ run_size p s rest r =
     (λ lt. ap (λ (b : ℕ). not (p b)) (seam s rest) ∙ ap not (r.ends (omega arith)))
 
 front_word : (stage : Stage) (fresh : Bool) (s rest : List ℕ)
-    → is_plain stage fresh (slice_index s 0) ≡ true → IsWord s rest
+    → is_plain stage fresh (slice_index s 0) ≡ true → IsWordLexeme s rest
     → front stage fresh (s ++ rest) ≡ word_front stage (s ++ rest) (length s)
 front_word stage fresh [] rest plain w = let bad : false ≡ true = w.first in absurd cc
 front_word stage fresh (b ∷ bs) rest plain w =
@@ -205,7 +205,7 @@ record BeginsWithLabel (word text : List ℕ) : Type 0 where
   label : List ℕ
   others : List ℕ
   whole : label ++ others ≡ text
-  is : IsLabel word label others
+  is : IsLabelLexeme word label others
 
 -- the byte that stands some bytes behind a word
 behind_word : (s rest : List ℕ) (k : ℕ)
@@ -214,7 +214,7 @@ behind_word s rest k =
     sym (get_or-drop (length s) (s ++ rest) k 0)
     ∙ ap (λ (xs : List ℕ). get_or xs k 0) (drop_at s rest (length s) refl)
 
-label_there : (s rest : List ℕ) → IsWord s rest
+label_there : (s rest : List ℕ) → IsWordLexeme s rest
     → (slice_index (s ++ rest) (length s + gap_from 0 0 rest) == 58) ≡ true
     → BeginsWithLabel s (s ++ rest)
 label_there s rest w e =
@@ -236,13 +236,13 @@ label_there s rest w e =
           ∙ ap (λ (xs : List ℕ). s ++ xs) (append_assoc g (58 ∷ []) others ∙ sym behind);
       is = record {
         gaps = f.gaps;
-        is_word = subst (IsWord s) behind w;
+        is_word = subst (IsWordLexeme s) behind w;
         between = subst (AreGaps f.gaps) colon f.are;
         whole = refl;
       };
     }
 
-cell_word : (s rest : List ℕ) → IsWord s rest → (BeginsWithLabel s (s ++ rest) → ⊥)
+cell_word : (s rest : List ℕ) → IsWordLexeme s rest → (BeginsWithLabel s (s ++ rest) → ⊥)
     → word_front CellBegins (s ++ rest) (length s) ≡ fronts.Lexeme (tokens.Word s) (length s)
 cell_word s rest w none =
     ap (λ (xs : List ℕ). label_front (s ++ rest) (length s) (gap_from 0 0 xs))
@@ -252,7 +252,7 @@ cell_word s rest w none =
     ∙ ap (λ (xs : List ℕ). fronts.Lexeme (tokens.Word xs) (length s))
     (take_at s rest (length s) refl)
 
-other_word : (stage : Stage) (s rest : List ℕ) → IsWord s rest
+other_word : (stage : Stage) (s rest : List ℕ) → IsWordLexeme s rest
     → (stage ≡ CellBegins → BeginsWithLabel s (s ++ rest) → ⊥)
     → word_front stage (s ++ rest) (length s) ≡ fronts.Lexeme (word_token stage s) (length s)
 other_word Magic s rest w none =
@@ -281,7 +281,7 @@ other_word Tail s rest w none =
     ap (λ (xs : List ℕ). fronts.Lexeme (word_token Tail xs) (length s))
     (take_at s rest (length s) refl)
 
-front_label : (fresh : Bool) (word s rest : List ℕ) → IsLabel word s rest
+front_label : (fresh : Bool) (word s rest : List ℕ) → IsLabelLexeme word s rest
     → front CellBegins fresh (s ++ rest) ≡ fronts.Lexeme (tokens.Label word) (length s)
 front_label fresh word s rest x =
     let g = gaps_text x.gaps in
@@ -308,7 +308,7 @@ front_label fresh word s rest x =
 -- ---- numbers
 
 front_number : (stage : Stage) (fresh : Bool) (s rest : List ℕ)
-    → is_plain stage fresh (slice_index s 0) ≡ true → 0 < length s → IsRun is_digit s rest
+    → is_plain stage fresh (slice_index s 0) ≡ true → 0 < length s → IsByteRun is_digit s rest
     → front stage fresh (s ++ rest) ≡ fronts.Lexeme (tokens.Number false (significant s)) (length s)
 front_number stage fresh [] rest plain some r = absurd (omega arith)
 front_number stage fresh (b ∷ bs) rest plain some r =
@@ -324,7 +324,7 @@ front_number stage fresh (b ∷ bs) rest plain some r =
     (take_at (b ∷ bs) rest (length (b ∷ bs)) refl)
 
 front_minus : (stage : Stage) (fresh : Bool) (ds rest : List ℕ) → is_plain stage fresh 45 ≡ true
-    → 0 < length ds → IsRun is_digit ds rest
+    → 0 < length ds → IsByteRun is_digit ds rest
     → front stage fresh (45 ∷ (ds ++ rest))
     ≡ fronts.Lexeme (tokens.Number true (significant ds)) (length ds + 1)
 front_minus stage fresh [] rest plain some r = absurd (omega arith)
@@ -683,7 +683,7 @@ gap_at : (b : ℕ) (s rest : List ℕ) → s ≡ b ∷ [] → begins_gap (s ++ r
 gap_at b s rest is gap = ap (λ (xs : List ℕ). begins_gap (xs ++ rest)) (sym is) ∙ gap
 
 front_lexeme : (stage : Stage) (fresh : Bool) (t : Token) (s rest : List ℕ)
-    → IsLexeme stage fresh t s rest → front stage fresh (s ++ rest) ≡ fronts.Lexeme t (length s)
+    → IsTestLexeme stage fresh t s rest → front stage fresh (s ++ rest) ≡ fronts.Lexeme t (length s)
 front_lexeme stage fresh t s rest (FirstWord first raw k) =
     told t (tokens.Word s) (length s) _ k (front_raw stage fresh s rest first raw)
 front_lexeme stage fresh t s rest (NameEnd here b e is k) =
@@ -788,7 +788,7 @@ lexeme_turn stage fresh n t (b ∷ bs) rest some e =
     ∙ ap (tokens_from (after stage t) (ends_line t) 0 (n + suc (length bs)))
     (drop_at bs rest (length bs) refl))
 
-of_pieces : (stage : Stage) (fresh : Bool) (n : ℕ) (ps : List Piece) → ArePieces stage fresh ps
+of_pieces : (stage : Stage) (fresh : Bool) (n : ℕ) (ps : List TestPiece) → ArePieces stage fresh ps
     → tokens_from stage fresh 0 n (text_of ps) ≡ tokens_at n ps
 of_pieces stage fresh n [] h = end_tokens stage fresh n
 of_pieces stage fresh n (Gap s ∷ ps) h =
@@ -801,7 +801,7 @@ of_pieces stage fresh n (Lexeme t s ∷ ps) h =
     ∙ ap (λ (qs : List TokenAt). record { token = t; offset = n } ∷ qs)
     (of_pieces (after stage t) (ends_line t) (n + length s) ps h.1)
 
-pub only_cut : (stage : Stage) (bytes : List ℕ) (ps : List TokenAt) → IsCut stage bytes ps
-    → lexed stage bytes ≡ ps
+pub only_cut : (stage : Stage) (bytes : List ℕ) (ps : List TokenAt) → IsTestCut stage bytes ps
+    → lexing stage bytes ≡ ps
 only_cut stage bytes ps c =
-    ap (lexed stage) (sym c.whole) ∙ of_pieces stage false 0 c.pieces c.fine ∙ c.tokens
+    ap (lexing stage) (sym c.whole) ∙ of_pieces stage false 0 c.pieces c.fine ∙ c.tokens

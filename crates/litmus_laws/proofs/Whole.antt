@@ -6,7 +6,7 @@ use Rattle.litmus_tokens.specs.declared.token.Token.{Token}
 use Rattle.litmus_tokens.specs.declared.token.Token.TheVariants as tokens
 use Rattle.litmus_tokens.specs.declared.token.Mark.TheVariants as marks
 use Rattle.litmus_tokens.specs.Lexer.{front}
-use Rattle.litmus_tokens.specs.Texts.{tokens_of, lexed, tokens_from}
+use Rattle.litmus_tokens.specs.Texts.{tokens_of, lexing, tokens_from}
 use Rattle.text_values.specs.declared.test.Place.{Place}
 use Rattle.text_values.specs.declared.test.InitEntry.{InitEntry}
 use Rattle.text_values.specs.declared.test.Step.{Step}
@@ -18,11 +18,11 @@ use Rattle.litmus_tokens.specs.Conditions.{Limits, limits, Group, place_meaning,
 use Rattle.litmus_table.specs.Grammar.{spelled_header, spelled_rows}
 use Rattle.litmus_table.specs.Late.{Late, or_else, late_columns}
 use Rattle.litmus_grammar.specs.Grammar as grammar
-use Rattle.litmus_grammar.specs.Grammar.{members, spelled_others, spelled_listed, spelled_entry, spelled_observed, spelled_condition, spelled_test, TestTree, AreItems, test_meaning, entry_meaning}
+use Rattle.litmus_grammar.specs.Grammar.{members, spelled_others, spelled_listed, spelled_entry, spelled_observed, spelled_condition, spelled_test, TestTree, ArePlaceTrees, test_meaning, entry_meaning}
 use Rattle.litmus_grammar.specs.Texts.{ReadsTest, late_entries, late_test, before_entries, before_rows}
 use Rattle.litmus_printing.specs.Printing.{line, all_of, entry_line, place_text, item_text, observed_text, formula_text, condition_text, names, row_text, rows_text, table_text, longest, printed}
 use Rattle.text_values.specs.Joined.{joined}
-use Rattle.litmus_laws.specs.Written.{ArePlaces, IsFormula, AreThreads, IsTest, IsTextOfTest, nesting, joins, IsWithinLimits}
+use Rattle.litmus_laws.specs.Written.{ArePlaces, IsFormula, AreThreads, IsTest, IsTextOfTest, nesting, joins, IsFormulaWithinLimits}
 use Rattle.litmus_laws.proofs.Read.{Condition, read, free, inner}
 use Rattle.litmus_laws.proofs.Numbers.{word}
 use Rattle.litmus_laws.proofs.Places.{open_square, close_square, place_tree, square_place, place_back, place_fine, place_there}
@@ -88,7 +88,7 @@ module _ (threads : ℕ) (few : threads < 18446744073709551616) where
       (blank Condition (J ++ bs) ∙ items_back q qs bs h.1))
 
   items_fine : (ps : List Place) → ArePlaces threads ps
-      → AreItems threads (map (place_tree true) ps)
+      → ArePlaceTrees threads (map (place_tree true) ps)
   items_fine [] h = tt
   items_fine (p ∷ ps) h =
       (place_fine threads few true p h.0, place_there threads few true p h.0, items_fine ps h.1)
@@ -196,12 +196,12 @@ module _ (n : List ℕ) (es : List InitEntry) (t : List Step) (ts : List (List S
         ++ 125 ∷ 10 ∷ (table_text (t ∷ ts)
         ++ (observed_text ps ++ line (condition_text q f))))))
 
-    tokens_are : tokens_of (lexed Magic (printed (content n es (t ∷ ts) ps q f)))
+    tokens_are : tokens_of (lexing Magic (printed (content n es (t ∷ ts) ps q f)))
         ≡ spelled_test tree
     tokens_are =
         let O = observed_text ps ++ line (condition_text q f) in
         let T = table_text (t ∷ ts) ++ O in
-        ap (λ (l : List ℕ). tokens_of (lexed Magic l)) bytes_are
+        ap (λ (l : List ℕ). tokens_of (lexing Magic l)) bytes_are
         ∙ head_back n (all_of (map entry_line es) ++ 125 ∷ 10 ∷ T) h.name h.no_comment
         ∙ ap
         (λ (us : List Token). tokens.Word (codes "PPC") ∷ tokens.Word n ∷ tokens.LineEnd
@@ -219,19 +219,19 @@ module _ (n : List ℕ) (es : List InitEntry) (t : List Step) (ts : List (List S
     count = omega arith
 
     tree_fine : (most : Limits) → nesting f + 1 ≤ most.nesting → joins f ≤ most.operators
-        → grammar.IsTest most tree
+        → grammar.IsTestTree most tree
     tree_fine most deep many = record {
       name = h.name;
       init =
-          subst (grammar.AreEntries []) (sym (members_listed (map entry_tree es)))
+          subst (grammar.AreEntryTrees []) (sym (members_listed (map entry_tree es)))
           (entries_fine (length (t ∷ ts)) few es [] tt h.init);
       rows = rows_fine t ts steps 0 (longest (t ∷ ts));
       observed =
-          subst (AreItems (length ts + 1)) (sym (members_listed (map (place_tree true) ps)))
-          (subst (λ (k : ℕ). AreItems k (map (place_tree true) ps)) count
+          subst (ArePlaceTrees (length ts + 1)) (sym (members_listed (map (place_tree true) ps)))
+          (subst (λ (k : ℕ). ArePlaceTrees k (map (place_tree true) ps)) count
           (items_fine (length (t ∷ ts)) few ps h.observed));
       condition =
-          subst (λ (k : ℕ). conditions.IsFormula most k (Group (tree_of f))) count
+          subst (λ (k : ℕ). conditions.IsFormulaTree most k (Group (tree_of f))) count
           (fine (length (t ∷ ts)) few most f h.condition deep many);
     }
 
@@ -272,7 +272,7 @@ module _ (n : List ℕ) (es : List InitEntry) (t : List Step) (ts : List (List S
       meant = tree_means;
     }
 
-    is_within : IsWithinLimits (printed (content n es (t ∷ ts) ps q f)) f
+    is_within : IsFormulaWithinLimits (printed (content n es (t ∷ ts) ps q f)) f
         → ReadsTest (printed (content n es (t ∷ ts) ps q f)) (content n es (t ∷ ts) ps q f)
     is_within w = record {
       short = w.short;
@@ -289,7 +289,7 @@ by_threads n es (t ∷ ts) ps q f h = is_read n es t ts ps q f h
 
 within_threads : (n : List ℕ) (es : List InitEntry) (ts : List (List Step)) (ps : List Place)
     (q : Quantifier) (f : Formula) → IsTest (content n es ts ps q f)
-    → IsWithinLimits (printed (content n es ts ps q f)) f
+    → IsFormulaWithinLimits (printed (content n es ts ps q f)) f
     → ReadsTest (printed (content n es ts ps q f)) (content n es ts ps q f)
 within_threads n es [] ps q f h w = let x = h.some in absurd (omega arith)
 within_threads n es (t ∷ ts) ps q f h w = is_within n es t ts ps q f h w
@@ -297,6 +297,6 @@ within_threads n es (t ∷ ts) ps q f h w = is_within n es t ts ps q f h w
 pub test_is_read : (v : Content) → IsTest v → IsTextOfTest (printed v) v
 test_is_read v h = by_threads v.name v.init v.threads v.observed v.quantifier v.condition h
 
-pub test_reads : (v : Content) → IsTest v → IsWithinLimits (printed v) v.condition
+pub test_reads : (v : Content) → IsTest v → IsFormulaWithinLimits (printed v) v.condition
     → ReadsTest (printed v) v
 test_reads v h w = within_threads v.name v.init v.threads v.observed v.quantifier v.condition h w

@@ -14,14 +14,14 @@ use Rattle.litmus_grammar.specs.Grammar.{TestTree, spelled_text, spelled_keyline
 use Rattle.litmus_grammar.specs.Texts.{IsStart}
 
 -- tokens, and the rule that is broken by what cannot stand among them, where no other rule is named
-pub record Part : Type 0 where
+pub record RulePart : Type 0 where
   pub rule : LitmusRule
   pub tokens : List Token
 
-abbrev pub part : LitmusRule → List Token → Part
+abbrev pub part : LitmusRule → List Token → RulePart
 part r ts = record { rule = r; tokens = ts }
 
-abbrev pub tokens_in : List Part → List Token
+abbrev pub tokens_in : List RulePart → List Token
 tokens_in [] = []
 tokens_in (p ∷ ps) = p.tokens ++ tokens_in ps
 
@@ -30,7 +30,7 @@ abbrev pub tail_of : TestTree → List Token
 tail_of t = spelled_observed t.observed (spelled_condition t.quantifier t.condition)
 
 -- The parts of a test. The token that begins what stands behind the table ends the table.
-abbrev pub test_parts : TestTree → List Part
+abbrev pub test_parts : TestTree → List RulePart
 test_parts t =
     part rules.NotPpc (tokens.Word (codes "PPC") ∷ [])
     ∷ part rules.Name (tokens.Word t.name ∷ tokens.LineEnd ∷ [])
@@ -41,11 +41,11 @@ test_parts t =
     ∷ []
 
 -- this token stands in a part with this rule, behind these tokens of the whole text
-pub record StandsIn (ps : List Part) (before : List Token) (here : Token) (rule : LitmusRule)
+pub record StandsIn (ps : List RulePart) (before : List Token) (here : Token) (rule : LitmusRule)
     : Type 0 where
-  pub earlier : List Part
-  pub its : Part
-  pub later : List Part
+  pub earlier : List RulePart
+  pub its : RulePart
+  pub later : List RulePart
   pub inner : List Token
   pub others : List Token
   pub split : ps ≡ earlier ++ its ∷ later
@@ -69,13 +69,13 @@ pub data IsNumbered (here : Token) (of_part rule : LitmusRule) : Type 0 where
   OfPart : rule ≡ of_part → IsNumbered here of_part rule
 
 -- the fault of a test, as its reader looks for it
-abbrev pub IsRefusal : List TokenAt → LitmusRule → ℕ → Type 0
-IsRefusal ps rule offset = IsFault (IsStart (IsTestText limits) Magic) Magic ps rule offset
+abbrev pub IsTestTokenFault : List TokenAt → LitmusRule → ℕ → Type 0
+IsTestTokenFault ps rule offset = IsFault (IsStart (IsTestText limits) Magic) Magic ps rule offset
 
 -- it is numbered by the part of this test in which the refused token would stand, behind the tokens
 -- before it
 abbrev pub IsOfItsPart : (ps : List TokenAt) (rule : LitmusRule) (offset : ℕ)
-    → IsRefusal ps rule offset → TestTree → Type 0
+    → IsTestTokenFault ps rule offset → TestTree → Type 0
 IsOfItsPart ps rule offset f t =
     (there : Token) (of_part : LitmusRule)
     → StandsIn (test_parts t) (tokens_of f.before) there of_part

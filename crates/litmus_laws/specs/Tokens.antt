@@ -18,11 +18,11 @@ use Rattle.litmus_tokens.specs.Texts.{TokenAt, ends_line, fresh_after}
 -- ---- gaps
 
 -- a blank, a line end where none is wanted, or a comment
-pub data IsGap (stage : Stage) (s rest : List ℕ) : Type 0 where
-  Blank : (b : ℕ) → is_blank b ≡ true → s ≡ b ∷ [] → IsGap stage s rest
+pub data IsTestGap (stage : Stage) (s rest : List ℕ) : Type 0 where
+  Blank : (b : ℕ) → is_blank b ≡ true → s ≡ b ∷ [] → IsTestGap stage s rest
   LineEnd : (stage ≡ TitleEnd → ⊥) → (b : ℕ) → is_line_end b ≡ true → s ≡ b ∷ []
-      → IsGap stage s rest
-  Comment : BeginsWithComment (s ++ rest) (length s) → IsGap stage s rest
+      → IsTestGap stage s rest
+  Comment : BeginsWithComment (s ++ rest) (length s) → IsTestGap stage s rest
 
 abbrev pub begins_gap : List ℕ → Bool
 begins_gap bs = is_blank (slice_index bs 0) || begins_comment bs
@@ -30,14 +30,14 @@ begins_gap bs = is_blank (slice_index bs 0) || begins_comment bs
 -- ---- words, labels and lines
 
 -- every byte passes, and the next one does not
-pub record IsRun (p : ℕ → Bool) (s rest : List ℕ) : Type 0 where
+pub record IsByteRun (p : ℕ → Bool) (s rest : List ℕ) : Type 0 where
   pub each : (k : ℕ) → k < length s → p (slice_index s k) ≡ true
   pub ends : 0 < length rest → p (slice_index rest 0) ≡ false
 
 -- a letter or `_`, and all letters, digits and `_` behind it
-pub record IsWord (s rest : List ℕ) : Type 0 where
+pub record IsWordLexeme (s rest : List ℕ) : Type 0 where
   pub first : (is_letter (slice_index s 0) || slice_index s 0 == 95) ≡ true
-  pub run : IsRun is_word_byte s rest
+  pub run : IsByteRun is_word_byte s rest
 
 -- all bytes up to a space, a line end, a comment or a byte that is not ASCII
 pub record IsRaw (s rest : List ℕ) : Type 0 where
@@ -52,12 +52,12 @@ gaps_text (g ∷ gs) = g ++ gaps_text gs
 
 abbrev pub AreGaps : List (List ℕ) → List ℕ → Type 0
 AreGaps [] rest = Unit {0}
-AreGaps (g ∷ gs) rest = IsGap CellBegins g (gaps_text gs ++ rest) × AreGaps gs rest
+AreGaps (g ∷ gs) rest = IsTestGap CellBegins g (gaps_text gs ++ rest) × AreGaps gs rest
 
 -- a word, gaps and a colon
-pub record IsLabel (word s rest : List ℕ) : Type 0 where
+pub record IsLabelLexeme (word s rest : List ℕ) : Type 0 where
   pub gaps : List (List ℕ)
-  pub is_word : IsWord word (gaps_text gaps ++ 58 ∷ rest)
+  pub is_word : IsWordLexeme word (gaps_text gaps ++ 58 ∷ rest)
   pub between : AreGaps gaps (58 ∷ rest)
   pub whole : s ≡ word ++ (gaps_text gaps ++ 58 ∷ [])
 
@@ -113,93 +113,94 @@ double_of a b =
 abbrev pub IsNoLabel : Stage → List ℕ → List ℕ → Type 0
 IsNoLabel stage s rest =
     stage ≡ CellBegins → (label others : List ℕ) → label ++ others ≡ s ++ rest
-    → IsLabel s label others → ⊥
+    → IsLabelLexeme s label others → ⊥
 
 -- the token of a piece, in a part of a test, on a line that holds nothing but blanks so far or on
 -- another
-pub data IsLexeme (stage : Stage) (fresh : Bool) (t : Token) (s rest : List ℕ) : Type 0 where
+pub data IsTestLexeme (stage : Stage) (fresh : Bool) (t : Token) (s rest : List ℕ) : Type 0 where
   FirstWord : is_first stage ≡ true → IsRaw s rest → t ≡ tokens.Word s
-      → IsLexeme stage fresh t s rest
+      → IsTestLexeme stage fresh t s rest
   NameEnd : stage ≡ TitleEnd → (b : ℕ) → is_line_end b ≡ true → s ≡ b ∷ [] → t ≡ tokens.LineEnd
-      → IsLexeme stage fresh t s rest
+      → IsTestLexeme stage fresh t s rest
   Keyline : stage ≡ Head → fresh ≡ true → IsKeyline s rest → t ≡ tokens.Keyline
-      → IsLexeme stage fresh t s rest
+      → IsTestLexeme stage fresh t s rest
   Quoted : stage ≡ Head → (inside : List ℕ) → LacksQuote inside → s ≡ 34 ∷ (inside ++ 34 ∷ [])
       → t ≡ tokens.Text
-      → IsLexeme stage fresh t s rest
-  Word : is_plain stage fresh (slice_index s 0) ≡ true → IsWord s rest
-      → IsNoLabel stage s rest → t ≡ word_token stage s → IsLexeme stage fresh t s rest
-  Label : stage ≡ CellBegins → (word : List ℕ) → IsLabel word s rest → t ≡ tokens.Label word
-      → IsLexeme stage fresh t s rest
-  Number : is_plain stage fresh (slice_index s 0) ≡ true → 0 < length s → IsRun is_digit s rest
-      → t ≡ tokens.Number false (significant s) → IsLexeme stage fresh t s rest
+      → IsTestLexeme stage fresh t s rest
+  Word : is_plain stage fresh (slice_index s 0) ≡ true → IsWordLexeme s rest
+      → IsNoLabel stage s rest → t ≡ word_token stage s → IsTestLexeme stage fresh t s rest
+  Label : stage ≡ CellBegins → (word : List ℕ) → IsLabelLexeme word s rest → t ≡ tokens.Label word
+      → IsTestLexeme stage fresh t s rest
+  Number : is_plain stage fresh (slice_index s 0) ≡ true → 0 < length s → IsByteRun is_digit s rest
+      → t ≡ tokens.Number false (significant s) → IsTestLexeme stage fresh t s rest
   Negative : is_plain stage fresh 45 ≡ true → (digits : List ℕ) → 0 < length digits
-      → IsRun is_digit digits rest
+      → IsByteRun is_digit digits rest
       → s ≡ 45 ∷ digits → t ≡ tokens.Number true (significant digits)
-      → IsLexeme stage fresh t s rest
+      → IsTestLexeme stage fresh t s rest
   Double : (a b : ℕ) (m : mark.Mark) → is_plain stage fresh a ≡ true → double_of a b ≡ Some m
       → s ≡ a ∷ b ∷ []
-      → t ≡ tokens.Mark m → IsLexeme stage fresh t s rest
+      → t ≡ tokens.Mark m → IsTestLexeme stage fresh t s rest
   Single : (b : ℕ) (m : mark.Mark) → is_plain stage fresh b ≡ true → begins_gap (s ++ rest) ≡ false
       → double_of b (slice_index rest 0) ≡ None → mark_of b ≡ Some m → s ≡ b ∷ []
       → t ≡ tokens.Mark m
-      → IsLexeme stage fresh t s rest
+      → IsTestLexeme stage fresh t s rest
   -- a byte that is not ASCII, wherever it stands, and a comment that does not end, through the end
   -- of the text
   NotAscii : (b : ℕ) → is_not_ascii b ≡ true → s ≡ b ∷ [] → t ≡ tokens.Broken rules.NotAscii
-      → IsLexeme stage fresh t s rest
+      → IsTestLexeme stage fresh t s rest
   OpenComment : begins_comment s ≡ true → ((n : ℕ) → BeginsWithComment s n → ⊥) → rest ≡ []
-      → t ≡ tokens.Broken rules.OpenComment → IsLexeme stage fresh t s rest
+      → t ≡ tokens.Broken rules.OpenComment → IsTestLexeme stage fresh t s rest
   -- what is none of these: behind the name, a line that is no keyline, a quote without its end, and
   -- a byte that begins nothing
   NoNameEnd : stage ≡ TitleEnd → (b : ℕ) → is_line_end b ≡ false → is_not_ascii b ≡ false
-      → begins_gap (s ++ rest) ≡ false → s ≡ b ∷ [] → t ≡ tokens.Bad → IsLexeme stage fresh t s rest
+      → begins_gap (s ++ rest) ≡ false → s ≡ b ∷ [] → t ≡ tokens.Bad
+      → IsTestLexeme stage fresh t s rest
   NoKeyline : stage ≡ Head → fresh ≡ true → (b : ℕ) → is_letter b ≡ true → (line behind : List ℕ)
       → IsLine line behind
       → s ++ rest ≡ line ++ behind → LacksEquals line → s ≡ b ∷ [] → t ≡ tokens.Bad
-      → IsLexeme stage fresh t s rest
+      → IsTestLexeme stage fresh t s rest
   NoQuoted : stage ≡ Head → LacksQuote rest → s ≡ 34 ∷ [] → t ≡ tokens.Bad
-      → IsLexeme stage fresh t s rest
+      → IsTestLexeme stage fresh t s rest
   NoToken : (b : ℕ) → is_plain stage fresh b ≡ true → is_not_ascii b ≡ false
       → begins_gap (s ++ rest) ≡ false
       → is_line_end b ≡ false → is_word_byte b ≡ false
       → (b == 45 && is_digit (slice_index rest 0)) ≡ false
       → double_of b (slice_index rest 0) ≡ None → mark_of b ≡ None → s ≡ b ∷ [] → t ≡ tokens.Bad
-      → IsLexeme stage fresh t s rest
+      → IsTestLexeme stage fresh t s rest
 
 -- ---- a whole text
 
-pub data Piece : Type 0 where
-  Gap : (text : List ℕ) → Piece
-  Lexeme : (token : Token) (text : List ℕ) → Piece
+pub data TestPiece : Type 0 where
+  Gap : (text : List ℕ) → TestPiece
+  Lexeme : (token : Token) (text : List ℕ) → TestPiece
 
-abbrev pub text_of : List Piece → List ℕ
+abbrev pub text_of : List TestPiece → List ℕ
 text_of [] = []
 text_of (Gap s ∷ ps) = s ++ text_of ps
 text_of (Lexeme t s ∷ ps) = s ++ text_of ps
 
 -- each token leads to the part of the next; a line is fresh again behind a line end
-abbrev pub ArePieces : Stage → Bool → List Piece → Type 0
+abbrev pub ArePieces : Stage → Bool → List TestPiece → Type 0
 ArePieces stage fresh [] = Unit {0}
 ArePieces stage fresh (Gap s ∷ ps) =
-    IsGap stage s (text_of ps) × ArePieces stage (fresh_after fresh (slice_index s 0)) ps
+    IsTestGap stage s (text_of ps) × ArePieces stage (fresh_after fresh (slice_index s 0)) ps
 ArePieces stage fresh (Lexeme t s ∷ ps) =
-    IsLexeme stage fresh t s (text_of ps) × ArePieces (after stage t) (ends_line t) ps
+    IsTestLexeme stage fresh t s (text_of ps) × ArePieces (after stage t) (ends_line t) ps
 
 -- the tokens of pieces that begin at an offset, and the end
-abbrev pub tokens_at : ℕ → List Piece → List TokenAt
+abbrev pub tokens_at : ℕ → List TestPiece → List TokenAt
 tokens_at n [] = record { token = tokens.End; offset = n } ∷ []
 tokens_at n (Gap s ∷ ps) = tokens_at (n + length s) ps
 tokens_at n (Lexeme t s ∷ ps) = record { token = t; offset = n } ∷ tokens_at (n + length s) ps
 
 -- the text, from this part on, is cut into gaps and lexemes, of which these are the tokens
-pub record IsCut (stage : Stage) (bytes : List ℕ) (ps : List TokenAt) : Type 0 where
-  pub pieces : List Piece
+pub record IsTestCut (stage : Stage) (bytes : List ℕ) (ps : List TokenAt) : Type 0 where
+  pub pieces : List TestPiece
   pub fine : ArePieces stage false pieces
   pub whole : text_of pieces ≡ bytes
   pub tokens : tokens_at 0 pieces ≡ ps
 
 -- each token begins behind the one before it, from this offset on
-abbrev pub AreRising : ℕ → List TokenAt → Type 0
-AreRising n [] = Unit {0}
-AreRising n (p ∷ ps) = (n ≤ p.offset) × AreRising (p.offset + 1) ps
+abbrev pub AreTestRising : ℕ → List TokenAt → Type 0
+AreTestRising n [] = Unit {0}
+AreTestRising n (p ∷ ps) = (n ≤ p.offset) × AreTestRising (p.offset + 1) ps

@@ -4,7 +4,7 @@ use Rattle.litmus_tokens.specs.declared.stage.Stage.TheVariants.{Magic, Tail}
 use Rattle.litmus_tokens.specs.Lexer.{is_word_byte, begins_comment}
 use Rattle.litmus_tokens.specs.Words.{is_test_name}
 use Rattle.text_values.specs.Letters.{is_letter}
-use Rattle.litmus_tokens.specs.Texts.{tokens_of, lexed}
+use Rattle.litmus_tokens.specs.Texts.{tokens_of, lexing}
 use Rattle.text_values.specs.declared.test.Place.{Place}
 use Rattle.text_values.specs.declared.test.Place.TheVariants as places
 use Rattle.text_values.specs.declared.test.Value as declared_value
@@ -16,7 +16,7 @@ use Rattle.text_values.specs.declared.test.Quantifier.{Quantifier}
 use Rattle.text_values.specs.declared.instruction.Instruction.{Instruction}
 use Rattle.text_values.specs.declared.instruction.Instruction.TheVariants as instructions
 use Rattle.text_values.specs.TestValue.{Formula, Constant, Holds, Not, Join, Content, level}
-use Rattle.litmus_tokens.specs.Conditions.{Limits, limits, IsConditionText, meaning}
+use Rattle.litmus_tokens.specs.Conditions.{Limits, limits, IsConditionText, formula_meaning}
 use Rattle.litmus_table.specs.Late.{is_in}
 use Rattle.litmus_grammar.specs.Grammar.{IsTestText, test_meaning}
 use Rattle.litmus_grammar.specs.Texts.{most_bytes, late_test}
@@ -44,7 +44,7 @@ abbrev pub IsPlace : ℕ → Place → Type 0
 IsPlace threads (places.Location x) = IsWord x
 IsPlace threads (places.Register t r) = (t < threads) × (r < 32)
 
--- its places and values are ones
+-- its atoms are well formed
 abbrev pub IsFormula : ℕ → Formula → Type 0
 IsFormula threads (Constant b) = Unit {0}
 IsFormula threads (Holds p v) = IsPlace threads p × IsValue v
@@ -57,34 +57,34 @@ IsFormula threads (Join op a b) = IsFormula threads a × IsFormula threads b
 abbrev pub IsBase : ℕ → Type 0
 IsBase r = (0 < r) × (r < 32)
 
-abbrev pub IsInstruction : Instruction → Type 0
-IsInstruction (instructions.LoadImmediate d n) = (d < 32) × IsNumber n
-IsInstruction (instructions.Move d s) = (d < 32) × (s < 32)
-IsInstruction (instructions.AddImmediate d a n) = (d < 32) × IsBase a × IsNumber n
-IsInstruction (instructions.Compute op d a b) = (d < 32) × (a < 32) × (b < 32)
-IsInstruction (instructions.Load d a) = (d < 32) × IsBase a
-IsInstruction (instructions.LoadIndexed d a b) = (d < 32) × IsBase a × (b < 32)
-IsInstruction (instructions.Store s a) = (s < 32) × IsBase a
-IsInstruction (instructions.StoreIndexed s a b) = (s < 32) × IsBase a × (b < 32)
-IsInstruction (instructions.Compare a b) = (a < 32) × (b < 32)
-IsInstruction (instructions.CompareImmediate a n) = (a < 32) × IsNumber n
-IsInstruction (instructions.BranchIf c l) = IsWord l
-IsInstruction (instructions.Branch l) = IsWord l
-IsInstruction (instructions.Fence f) = Unit {0}
+abbrev pub IsTestInstruction : Instruction → Type 0
+IsTestInstruction (instructions.LoadImmediate d n) = (d < 32) × IsNumber n
+IsTestInstruction (instructions.Move d s) = (d < 32) × (s < 32)
+IsTestInstruction (instructions.AddImmediate d a n) = (d < 32) × IsBase a × IsNumber n
+IsTestInstruction (instructions.Compute op d a b) = (d < 32) × (a < 32) × (b < 32)
+IsTestInstruction (instructions.Load d a) = (d < 32) × IsBase a
+IsTestInstruction (instructions.LoadIndexed d a b) = (d < 32) × IsBase a × (b < 32)
+IsTestInstruction (instructions.Store s a) = (s < 32) × IsBase a
+IsTestInstruction (instructions.StoreIndexed s a b) = (s < 32) × IsBase a × (b < 32)
+IsTestInstruction (instructions.Compare a b) = (a < 32) × (b < 32)
+IsTestInstruction (instructions.CompareImmediate a n) = (a < 32) × IsNumber n
+IsTestInstruction (instructions.BranchIf c l) = IsWord l
+IsTestInstruction (instructions.Branch l) = IsWord l
+IsTestInstruction (instructions.Fence f) = Unit {0}
 
-abbrev pub IsStep : Step → Type 0
-IsStep (steps.Label l) = IsWord l
-IsStep (steps.Instruction i) = IsInstruction i
+abbrev pub IsTestStep : Step → Type 0
+IsTestStep (steps.Label l) = IsWord l
+IsTestStep (steps.Instruction i) = IsTestInstruction i
 
-abbrev pub AreSteps : List Step → Type 0
-AreSteps [] = Unit {0}
-AreSteps (s ∷ ss) = IsStep s × AreSteps ss
+abbrev pub AreTestSteps : List Step → Type 0
+AreTestSteps [] = Unit {0}
+AreTestSteps (s ∷ ss) = IsTestStep s × AreTestSteps ss
 
 -- the label that an instruction may go to
-abbrev pub target : Instruction → Option (List ℕ)
-target (instructions.BranchIf c l) = Some l
-target (instructions.Branch l) = Some l
-target i = None
+abbrev pub step_target : Instruction → Option (List ℕ)
+step_target (instructions.BranchIf c l) = Some l
+step_target (instructions.Branch l) = Some l
+step_target i = None
 
 abbrev pub labels : List Step → List (List ℕ)
 labels [] = []
@@ -101,11 +101,11 @@ abbrev pub AreLabelled : List (List ℕ) → List Step → Type 0
 AreLabelled above [] = Unit {0}
 AreLabelled above (steps.Label l ∷ ss) = (is_in l above ≡ false) × AreLabelled (l ∷ above) ss
 AreLabelled above (steps.Instruction i ∷ ss) =
-    IsBelow above (labels ss) (target i) × AreLabelled above ss
+    IsBelow above (labels ss) (step_target i) × AreLabelled above ss
 
 abbrev pub AreThreads : List (List Step) → Type 0
 AreThreads [] = Unit {0}
-AreThreads (t ∷ ts) = AreSteps t × AreLabelled [] t × AreThreads ts
+AreThreads (t ∷ ts) = AreTestSteps t × AreLabelled [] t × AreThreads ts
 
 -- ---- tests
 
@@ -146,14 +146,14 @@ pub record IsTest (v : Content) : Type 0 where
 pub record IsTextOfCondition (threads : ℕ) (bytes : List ℕ) (quantifier : Quantifier) (f : Formula)
     : Type 0 where
   pub most : Limits
-  pub text : IsConditionText most threads (tokens_of (lexed Tail bytes))
+  pub text : IsConditionText most threads (tokens_of (lexing Tail bytes))
   pub asked : text.quantifier ≡ quantifier
-  pub meant : meaning text.condition ≡ f
+  pub meant : formula_meaning text.condition ≡ f
 
 -- a test, which the later checks pass
 pub record IsTextOfTest (bytes : List ℕ) (v : Content) : Type 0 where
   pub most : Limits
-  pub text : IsTestText most (tokens_of (lexed Magic bytes))
+  pub text : IsTestText most (tokens_of (lexing Magic bytes))
   pub in_time : late_test text.tree ≡ None
   pub meant : test_meaning text.tree ≡ v
 
@@ -180,7 +180,7 @@ joins (Not a) = joins a
 joins (Join op a b) = joins a + joins b + 1
 
 -- a text with this proposition in parentheses
-pub record IsWithinLimits (bytes : List ℕ) (f : Formula) : Type 0 where
+pub record IsFormulaWithinLimits (bytes : List ℕ) (f : Formula) : Type 0 where
   pub short : length bytes ≤ most_bytes
   pub shallow : nesting f + 1 ≤ limits.nesting
   pub few : joins f ≤ limits.operators

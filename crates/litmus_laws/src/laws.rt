@@ -7,17 +7,17 @@ ghost use Rattle.litmus_tokens.specs.Faults.{IsFault};
 ghost use Rattle.litmus_tokens.specs.declared.stage.Stage.{Stage};
 ghost use Rattle.litmus_tokens.specs.declared.stage.Stage.TheVariants.{Magic, Init, CellBegins, Tail};
 ghost use Rattle.litmus_tokens.specs.declared.token.Token.{Token};
-ghost use Rattle.litmus_tokens.specs.Stage.{rule_of};
-ghost use Rattle.litmus_tokens.specs.Texts.{TokenAt, stage_after, lexed};
+ghost use Rattle.litmus_tokens.specs.Stage.{part_rule};
+ghost use Rattle.litmus_tokens.specs.Texts.{TokenAt, stage_after, lexing};
 ghost use Rattle.litmus_tokens.specs.Conditions.{Limits, limits, IsConditionText};
-ghost use Rattle.litmus_grammar.specs.Grammar.{TestTree, IsTest as IsTestTree, spelled_test, IsInitText, IsThreadText, IsLocationsText};
+ghost use Rattle.litmus_grammar.specs.Grammar.{TestTree, IsTestTree as IsTestTree, spelled_test, IsInitText, IsThreadText, IsLocationsText};
 ghost use Rattle.text_values.specs.declared.test.Quantifier.{Quantifier};
 ghost use Rattle.text_values.specs.TestValue.{Formula, Content};
 ghost use Rattle.litmus_printing.specs.Printing.{condition_text, printed};
 ghost use Rattle.litmus_grammar.specs.Texts.{IsStart, ReadsCondition, ReadsTest};
-ghost use Rattle.litmus_laws.specs.Parts.{tokens_in, test_parts, StandsIn, IsRefusal, IsOfItsPart, IsOfPart};
-ghost use Rattle.litmus_laws.specs.Tokens.{IsCut, AreRising};
-ghost use Rattle.litmus_laws.specs.Written.{IsFormula, IsTest, IsTextOfCondition, IsTextOfTest, IsWithinLimits, StaysWithin};
+ghost use Rattle.litmus_laws.specs.Parts.{tokens_in, test_parts, StandsIn, IsTestTokenFault, IsOfItsPart, IsOfPart};
+ghost use Rattle.litmus_laws.specs.Tokens.{IsTestCut, AreTestRising};
+ghost use Rattle.litmus_laws.specs.Written.{IsFormula, IsTest, IsTextOfCondition, IsTextOfTest, IsFormulaWithinLimits, StaysWithin};
 
 /// The printed condition is read as that condition, in a test of `threads` threads.
 pub fn printed_condition_is_read()
@@ -26,7 +26,7 @@ pub fn printed_condition_is_read()
         → IsFormula threads f → IsTextOfCondition threads (condition_text q f) q f }
     // Within them, as the reader reads.
     ensures reads { (threads : ℕ) (q : Quantifier) (f : Formula) → threads < 18446744073709551616
-        → IsFormula threads f → IsWithinLimits (condition_text q f) f
+        → IsFormula threads f → IsFormulaWithinLimits (condition_text q f) f
         → ReadsCondition threads (condition_text q f) (q, f) }
     // What was read from some text is read again, where its printed text stays within the limits of
     // length and nesting.
@@ -40,7 +40,7 @@ pub fn printed_is_read()
     // The limits of length, nesting and number aside.
     ensures text { (v : Content) → IsTest v → IsTextOfTest (printed v) v }
     // Within them, as the reader reads.
-    ensures reads { (v : Content) → IsTest v → IsWithinLimits (printed v) v.condition
+    ensures reads { (v : Content) → IsTest v → IsFormulaWithinLimits (printed v) v.condition
         → ReadsTest (printed v) v }
     // What was read from some text is read again, where its printed text stays within the limits of
     // length and nesting.
@@ -75,10 +75,10 @@ pub fn refusals_are_of_their_parts()
     // The part that the tokens so far lead to is the one in which the next token stands.
     ensures stage { (most : Limits) (t : TestTree) (before : List Token) (here : Token)
         (rule : LitmusRule) → IsTestTree most t → StandsIn (test_parts t) before here rule
-        → rule_of (stage_after Magic before) ≡ rule }
+        → part_rule (stage_after Magic before) ≡ rule }
     // So a refusal has the part's number, in whatever test it would stand.
     ensures refusal { (most : Limits) (t : TestTree) (ps : List TokenAt) (rule : LitmusRule)
-        (offset : ℕ) → IsTestTree most t → (f : IsRefusal ps rule offset)
+        (offset : ℕ) → IsTestTree most t → (f : IsTestTokenFault ps rule offset)
         → IsOfItsPart ps rule offset f t }
 {}
 
@@ -101,10 +101,10 @@ pub fn refusals_of_parts()
 /// (blanks, line ends and comments) they cover the text, in rising order.
 pub fn tokens_cover_the_text()
     // The text, read from any part on, is cut into such pieces, and its tokens are theirs.
-    ensures cut { (start : Stage) (bytes : List ℕ) → IsCut start bytes (lexed start bytes) }
+    ensures cut { (start : Stage) (bytes : List ℕ) → IsTestCut start bytes (lexing start bytes) }
     // It is cut in no other way.
-    ensures only { (start : Stage) (bytes : List ℕ) (ps : List TokenAt) → IsCut start bytes ps
-        → lexed start bytes ≡ ps }
+    ensures only { (start : Stage) (bytes : List ℕ) (ps : List TokenAt) → IsTestCut start bytes ps
+        → lexing start bytes ≡ ps }
     // Each token begins behind the one before it.
-    ensures rising { (start : Stage) (bytes : List ℕ) → AreRising 0 (lexed start bytes) }
+    ensures rising { (start : Stage) (bytes : List ℕ) → AreTestRising 0 (lexing start bytes) }
 {}

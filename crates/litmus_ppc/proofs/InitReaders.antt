@@ -9,7 +9,7 @@ use Rattle.litmus_tokens.specs.declared.stage.Stage.TheVariants.{Init}
 use Rattle.litmus_tokens.specs.declared.token.Token.{Token}
 use Rattle.litmus_tokens.specs.declared.token.Token.TheVariants as tokens
 use Rattle.litmus_tokens.specs.declared.token.Mark.TheVariants as marks
-use Rattle.litmus_tokens.specs.Texts.{TokenAt, tokens_of, lexed, StandsAt}
+use Rattle.litmus_tokens.specs.Texts.{TokenAt, tokens_of, lexing, StandsAt}
 use Rattle.litmus_tokens.specs.Words.{decimal, register_of, or_zero}
 use Rattle.text_values.specs.declared.test.Place.{Place}
 use Rattle.text_values.specs.declared.test.Place.TheVariants as whole_places
@@ -23,12 +23,12 @@ use Rattle.litmus_grammar.specs.declared.parts.TextKind.{TextKind}
 use Rattle.litmus_grammar.specs.declared.parts.TextKind.TheVariants as kinds
 use Rattle.litmus_grammar.specs.Grammar.{EntryTree, spelled_entry, members, entry_meaning, IsInitText}
 use Rattle.litmus_grammar.specs.InitMachine.{lacks_thread, missing}
-use Rattle.litmus_grammar.specs.TextMachine.{State, Ran, run, start, threads_in}
+use Rattle.litmus_grammar.specs.TextMachine.{State, TextResult, run, start, threads_in}
 use Rattle.litmus_ppc.specs.TextReading.{FailsAt}
 use Rattle.litmus_grammar.specs.Texts as texts
 use Rattle.litmus_grammar.specs.Texts.{late_entries, late_of_init, ReadsInit, IsInitFault}
 use Rattle.litmus_ppc.specs.Faults as faults_of
-use Rattle.litmus_ppc.specs.Faults.{IsFaultOf}
+use Rattle.litmus_ppc.specs.Faults.{IsLitmusFaultOf}
 use Rattle.litmus_grammar.proofs.Bounds.{is_short}
 use Rattle.litmus_grammar.proofs.Ends.{ends_done}
 use Rattle.litmus_grammar.proofs.InitLeft.{init_whole}
@@ -66,7 +66,7 @@ module _ (threads : ℕ) (few : threads < 18446744073709551616) where
           let le : threads ≤ min d 18446744073709551615 = omega arith in grind (arith, nat_tests)
 
   lacks_is : (p : PlaceTree)
-      → lacks_thread threads (place_of (written_place p)) ≡ not (texts.is_there threads p)
+      → lacks_thread threads (place_of (written_place p)) ≡ not (texts.names_thread threads p)
   lacks_is (Location b n) = refl
   lacks_is (Register t r) = lacks_when (decimal t) (cases_lt (decimal t) threads)
 
@@ -82,7 +82,7 @@ module _ (threads : ℕ) (few : threads < 18446744073709551616) where
       (λ (x : Bool). Matches all (late_entries threads before (e ∷ es))
       (if x then Some s else missing threads (map entry_kept es) ss))
       (sym (lacks_is e.place))
-      (choose (texts.is_there threads e.place) (late_matches all next es ss h.1))
+      (choose (texts.names_thread threads e.place) (late_matches all next es ss h.1))
     where
       choose : (x : Bool)
           → Matches all
@@ -97,7 +97,7 @@ module _ (threads : ℕ) (few : threads < 18446744073709551616) where
       choose true later = later
       choose false later = (refl, h.0)
 
-  place_kept : (p : PlaceTree) → texts.is_there threads p ≡ true
+  place_kept : (p : PlaceTree) → texts.names_thread threads p ≡ true
       → place_of (written_place p) ≡ place_meaning p
   place_kept (Location b n) h = refl
   place_kept (Register t r) h =
@@ -109,10 +109,10 @@ module _ (threads : ℕ) (few : threads < 18446744073709551616) where
       → late_entries threads before es ≡ None → map entry_kept es ≡ map entry_meaning es
   kept_means before [] h = refl
   kept_means before (e ∷ es) h =
-      choose (texts.is_there threads e.place) refl h (kept_means
+      choose (texts.names_thread threads e.place) refl h (kept_means
       (before ++ spelled_entry e (tokens.Mark marks.Semicolon ∷ [])) es)
     where
-      choose : (x : Bool) → texts.is_there threads e.place ≡ x
+      choose : (x : Bool) → texts.names_thread threads e.place ≡ x
           → (if x then late_entries threads
           (before ++ spelled_entry e (tokens.Mark marks.Semicolon ∷ [])) es
           else Some (record { rule = rules.Init; before = before })) ≡ None
@@ -129,9 +129,9 @@ module _ (threads : ℕ) (few : threads < 18446744073709551616) where
 
   module _ (bytes : List ℕ) where
     abbrev text_tokens : List TokenAt
-    text_tokens = lexed (Init true false) bytes
+    text_tokens = lexing (Init true false) bytes
 
-    abbrev made : Ran
+    abbrev made : TextResult
     made = run (start kinds.Init threads) text_tokens
 
     abbrev missing_in : State → Option ℕ
@@ -192,7 +192,7 @@ module _ (threads : ℕ) (few : threads < 18446744073709551616) where
         ∙ kept_means (tokens.Mark marks.OpenBrace ∷ []) (members r.text.entries) r.in_time ∙ r.meant
 
     pub init_only_memory : (d : LitmusFault) → (length bytes ≤ 65536 → FailsAt d made)
-        → (v : List InitEntry) → ReadsInit threads bytes v → faults_of.IsMemory d
+        → (v : List InitEntry) → ReadsInit threads bytes v → faults_of.IsLitmusMemory d
     init_only_memory (faults.OutOfMemory e) h v r = tt
     init_only_memory (faults.Refused rule offset) h v r =
         no_fault (texts.IsStart IsInitText (Init true false)) kinds.Init threads
@@ -200,14 +200,14 @@ module _ (threads : ℕ) (few : threads < 18446744073709551616) where
 
     pub init_only_there : (s : State) (d : LitmusFault) → (length bytes ≤ 65536 → made ≡ Ok s)
         → faults_of.IsMissingFound (Err d) (missing_in s) → (v : List InitEntry)
-        → ReadsInit threads bytes v → faults_of.IsMemory d
+        → ReadsInit threads bytes v → faults_of.IsLitmusMemory d
     init_only_there s (faults.OutOfMemory e) h found v r = absurd found
     init_only_there s (faults.Refused rule offset) h found v r =
         let m = subst (Matches text_tokens (late_of_init threads (tokens_of text_tokens) r.text)) found.1 (matches s (h r.short) r.text) in
         subst (λ (l : Option Late). Matches text_tokens l (Some offset)) r.in_time m
 
     pub init_fault : (d : LitmusFault) → (length bytes ≤ 65536 → FailsAt d made)
-        → (65536 < length bytes → faults_of.IsTooLong d) → IsFaultOf (IsInitFault threads bytes) d
+        → (65536 < length bytes → faults_of.IsLitmusTooLong d) → IsLitmusFaultOf (IsInitFault threads bytes) d
     init_fault (faults.OutOfMemory e) h long = tt
     init_fault (faults.Refused rule offset) h long = choose (cases_lt 65536 (length bytes))
       where
@@ -228,7 +228,7 @@ module _ (threads : ℕ) (few : threads < 18446744073709551616) where
 
     pub init_missing : (s : State) (d : LitmusFault) → (length bytes ≤ 65536 → made ≡ Ok s)
         → (65536 < length bytes → ⊥) → faults_of.IsMissingFound (Err d) (missing_in s)
-        → IsFaultOf (IsInitFault threads bytes) d
+        → IsLitmusFaultOf (IsInitFault threads bytes) d
     init_missing s (faults.OutOfMemory e) h bounded found = tt
     init_missing s (faults.Refused rule offset) h bounded found =
         let le = is_short bytes bounded in

@@ -2,19 +2,19 @@
 use Rattle.std.proofs.Common.{◌≡◌, ℕ, ◌<◌, ◌≤◌, false, List, length, map, Ok, refl, sym, ap, ◌∙◌, inl, inr, ◌⊎◌}
 use Rattle.std.proofs.lemmas.Bool.{cases_lt}
 use Rattle.litmus_tokens.specs.declared.stage.Stage.TheVariants.{Tail}
-use Rattle.litmus_tokens.specs.Texts.{tokens_of, lexed}
+use Rattle.litmus_tokens.specs.Texts.{tokens_of, lexing}
 use Rattle.text_values.specs.declared.test.Place.{Place}
 use Rattle.litmus_tokens.specs.Conditions.{place_meaning}
 use Rattle.litmus_ppc.specs.declared.fault.LitmusFault.{LitmusFault}
 use Rattle.litmus_ppc.specs.declared.fault.LitmusFault.TheVariants as faults
 use Rattle.litmus_grammar.specs.declared.parts.TextKind.TheVariants as kinds
 use Rattle.litmus_grammar.specs.Grammar.{members, IsLocationsText}
-use Rattle.litmus_grammar.specs.TextMachine.{State, Ran, run, start, nothing}
+use Rattle.litmus_grammar.specs.TextMachine.{State, TextResult, run, start, nothing}
 use Rattle.litmus_ppc.specs.TextReading.{FailsAt}
 use Rattle.litmus_grammar.specs.Texts as texts
 use Rattle.litmus_grammar.specs.Texts.{ReadsLocations, IsLocationsFault}
 use Rattle.litmus_ppc.specs.Faults as faults_of
-use Rattle.litmus_ppc.specs.Faults.{IsFaultOf}
+use Rattle.litmus_ppc.specs.Faults.{IsLitmusFaultOf}
 use Rattle.litmus_grammar.proofs.Bounds.{is_short}
 use Rattle.litmus_grammar.proofs.Ends.{ends_done}
 use Rattle.litmus_grammar.proofs.Listed.{list_taken, list_reading}
@@ -23,21 +23,21 @@ use Rattle.litmus_grammar.proofs.Outcomes.{fault_found, no_fault}
 use Rattle.litmus_grammar.proofs.Runs.{same_state, ends_last}
 
 module _ (threads : ℕ) (few : threads < 18446744073709551616) (bytes : List ℕ) where
-  abbrev made : Ran
-  made = run (start kinds.Locations threads) (lexed Tail bytes)
+  abbrev made : TextResult
+  made = run (start kinds.Locations threads) (lexing Tail bytes)
 
-  text_of : (s : State) → made ≡ Ok s → IsLocationsText threads (tokens_of (lexed Tail bytes))
+  text_of : (s : State) → made ≡ Ok s → IsLocationsText threads (tokens_of (lexing Tail bytes))
   text_of s e =
       let l = ends_last Tail false 0 0 bytes in
-      list_whole threads (lexed Tail bytes) Tail (nothing kinds.Locations) s e (ends_done
+      list_whole threads (lexing Tail bytes) Tail (nothing kinds.Locations) s e (ends_done
       (start kinds.Locations threads) s l.0 l.1
       (ap (run (start kinds.Locations threads)) (sym l.2) ∙ e))
 
   meant_by : (s : State) → made ≡ Ok s
-      → (x : IsLocationsText threads (tokens_of (lexed Tail bytes)))
+      → (x : IsLocationsText threads (tokens_of (lexing Tail bytes)))
       → map place_meaning (members x.items) ≡ s.draft.observed
   meant_by s e x =
-      let t = list_taken threads few (lexed Tail bytes) x in
+      let t = list_taken threads few (lexing Tail bytes) x in
       let same : t.0 ≡ s = same_state t.0 s (sym t.1 ∙ e) in
       sym t.2 ∙ ap (λ (y : State). y.draft.observed) same
 
@@ -53,15 +53,15 @@ module _ (threads : ℕ) (few : threads < 18446744073709551616) (bytes : List �
   locations_only s h v r = sym (meant_by s (h r.short) r.text) ∙ r.meant
 
   pub locations_only_memory : (d : LitmusFault) → (length bytes ≤ 65536 → FailsAt d made)
-      → (v : List Place) → ReadsLocations threads bytes v → faults_of.IsMemory d
+      → (v : List Place) → ReadsLocations threads bytes v → faults_of.IsLitmusMemory d
   locations_only_memory (faults.OutOfMemory e) h v r = tt
   locations_only_memory (faults.Refused rule offset) h v r =
       no_fault (IsLocationsText threads) kinds.Locations threads (list_reading threads few)
-      (lexed Tail bytes) rule offset r.text (h r.short)
+      (lexing Tail bytes) rule offset r.text (h r.short)
 
   pub locations_fault : (d : LitmusFault) → (length bytes ≤ 65536 → FailsAt d made)
-      → (65536 < length bytes → faults_of.IsTooLong d)
-      → IsFaultOf (IsLocationsFault threads bytes) d
+      → (65536 < length bytes → faults_of.IsLitmusTooLong d)
+      → IsLitmusFaultOf (IsLocationsFault threads bytes) d
   locations_fault (faults.OutOfMemory e) h long = tt
   locations_fault (faults.Refused rule offset) h long = choose (cases_lt 65536 (length bytes))
     where
@@ -70,4 +70,4 @@ module _ (threads : ℕ) (few : threads < 18446744073709551616) (bytes : List �
       choose (inl lt) = texts.IsTooLong lt (long lt).0 (long lt).1
       choose (inr le) =
           texts.IsGrammar le (fault_found (IsLocationsText threads) kinds.Locations threads
-          (list_reading threads few) (lexed Tail bytes) rule offset (h le))
+          (list_reading threads few) (lexing Tail bytes) rule offset (h le))

@@ -2,19 +2,19 @@
 use Rattle.std.proofs.Common.{◌≡◌, ℕ, ◌<◌, ◌≤◌, false, List, length, Ok, refl, sym, ap, ◌∙◌, inl, inr, ◌⊎◌}
 use Rattle.std.proofs.lemmas.Bool.{cases_lt}
 use Rattle.litmus_tokens.specs.declared.stage.Stage.TheVariants.{Tail}
-use Rattle.litmus_tokens.specs.Texts.{tokens_of, lexed}
+use Rattle.litmus_tokens.specs.Texts.{tokens_of, lexing}
 use Rattle.text_values.specs.declared.test.Quantifier.{Quantifier}
 use Rattle.text_values.specs.TestValue.{Formula}
-use Rattle.litmus_tokens.specs.Conditions.{limits, meaning, IsConditionText}
+use Rattle.litmus_tokens.specs.Conditions.{limits, formula_meaning, IsConditionText}
 use Rattle.litmus_ppc.specs.declared.fault.LitmusFault.{LitmusFault}
 use Rattle.litmus_ppc.specs.declared.fault.LitmusFault.TheVariants as faults
 use Rattle.litmus_grammar.specs.declared.parts.TextKind.TheVariants as kinds
-use Rattle.litmus_grammar.specs.TextMachine.{State, Ran, run, start}
+use Rattle.litmus_grammar.specs.TextMachine.{State, TextResult, run, start}
 use Rattle.litmus_ppc.specs.TextReading.{FailsAt}
 use Rattle.litmus_grammar.specs.Texts as texts
 use Rattle.litmus_grammar.specs.Texts.{ReadsCondition, IsConditionFault}
 use Rattle.litmus_ppc.specs.Faults as faults_of
-use Rattle.litmus_ppc.specs.Faults.{IsFaultOf}
+use Rattle.litmus_ppc.specs.Faults.{IsLitmusFaultOf}
 use Rattle.litmus_grammar.proofs.Bounds.{is_short}
 use Rattle.litmus_grammar.proofs.Ends.{ends_done}
 use Rattle.litmus_grammar.proofs.Runs.{same_state, ends_last}
@@ -25,23 +25,23 @@ abbrev pair : Quantifier → Formula → Quantifier × Formula
 pair q a = (q, a)
 
 module _ (threads : ℕ) (few : threads < 18446744073709551616) (bytes : List ℕ) where
-  abbrev made : Ran
-  made = run (start kinds.Condition threads) (lexed Tail bytes)
+  abbrev made : TextResult
+  made = run (start kinds.Condition threads) (lexing Tail bytes)
 
   text_of : (s : State) → made ≡ Ok s
-      → IsConditionText limits threads (tokens_of (lexed Tail bytes))
+      → IsConditionText limits threads (tokens_of (lexing Tail bytes))
   text_of s e =
       let l = ends_last Tail false 0 0 bytes in
-      condition_whole threads few (lexed Tail bytes) s e (ends_done (start kinds.Condition threads)
+      condition_whole threads few (lexing Tail bytes) s e (ends_done (start kinds.Condition threads)
       s l.0 l.1 (ap (run (start kinds.Condition threads)) (sym l.2) ∙ e))
 
   meant_by : (s : State) → made ≡ Ok s
-      → (x : IsConditionText limits threads (tokens_of (lexed Tail bytes)))
-      → pair x.quantifier (meaning x.condition) ≡ pair s.draft.quantifier s.draft.formula
+      → (x : IsConditionText limits threads (tokens_of (lexing Tail bytes)))
+      → pair x.quantifier (formula_meaning x.condition) ≡ pair s.draft.quantifier s.draft.formula
   meant_by s e x =
-      let t = condition_taken threads few (lexed Tail bytes) x in
+      let t = condition_taken threads few (lexing Tail bytes) x in
       let same : t.0 ≡ s = same_state t.0 s (sym t.1 ∙ e) in
-      ap (λ (q : Quantifier). pair q (meaning x.condition))
+      ap (λ (q : Quantifier). pair q (formula_meaning x.condition))
       (sym t.2 ∙ ap (λ (y : State). y.draft.quantifier) same)
       ∙ ap (λ (a : Formula). pair s.draft.quantifier a)
       (sym t.3 ∙ ap (λ (y : State). y.draft.formula) same)
@@ -60,15 +60,15 @@ module _ (threads : ℕ) (few : threads < 18446744073709551616) (bytes : List �
   condition_only s h v r = sym (meant_by s (h r.short) r.text) ∙ r.meant
 
   pub condition_only_memory : (d : LitmusFault) → (length bytes ≤ 65536 → FailsAt d made)
-      → (v : Quantifier × Formula) → ReadsCondition threads bytes v → faults_of.IsMemory d
+      → (v : Quantifier × Formula) → ReadsCondition threads bytes v → faults_of.IsLitmusMemory d
   condition_only_memory (faults.OutOfMemory e) h v r = tt
   condition_only_memory (faults.Refused rule offset) h v r =
       no_fault (IsConditionText limits threads) kinds.Condition threads
-      (condition_reading threads few) (lexed Tail bytes) rule offset r.text (h r.short)
+      (condition_reading threads few) (lexing Tail bytes) rule offset r.text (h r.short)
 
   pub condition_fault : (d : LitmusFault) → (length bytes ≤ 65536 → FailsAt d made)
-      → (65536 < length bytes → faults_of.IsTooLong d)
-      → IsFaultOf (IsConditionFault threads bytes) d
+      → (65536 < length bytes → faults_of.IsLitmusTooLong d)
+      → IsLitmusFaultOf (IsConditionFault threads bytes) d
   condition_fault (faults.OutOfMemory e) h long = tt
   condition_fault (faults.Refused rule offset) h long = choose (cases_lt 65536 (length bytes))
     where
@@ -77,4 +77,4 @@ module _ (threads : ℕ) (few : threads < 18446744073709551616) (bytes : List �
       choose (inl lt) = texts.IsTooLong lt (long lt).0 (long lt).1
       choose (inr le) =
           texts.IsGrammar le (fault_found (IsConditionText limits threads) kinds.Condition threads
-          (condition_reading threads few) (lexed Tail bytes) rule offset (h le))
+          (condition_reading threads few) (lexing Tail bytes) rule offset (h le))

@@ -1,11 +1,11 @@
 -- What `read_test` answers is what the grammar and the later checks say.
 use Rattle.std.proofs.Common.{◌≡◌, ℕ, ◌+◌, ◌<◌, ◌≤◌, List, map, length, Option, Some, None, Result, Ok, Err, refl, sym, ap, ◌∙◌, subst, arith, inl, inr, ◌⊎◌}
 use Rattle.std.proofs.lemmas.Bool.{cases_lt}
-use Rattle.litmus_tokens.specs.Texts.{TokenAt, tokens_of, lexed}
+use Rattle.litmus_tokens.specs.Texts.{TokenAt, tokens_of, lexing}
 use Rattle.text_values.specs.declared.test.InitEntry.{InitEntry}
 use Rattle.text_values.specs.declared.test.Step.{Step}
 use Rattle.text_values.specs.TestValue.{Content}
-use Rattle.litmus_tokens.specs.Conditions.{limits, place_meaning, meaning}
+use Rattle.litmus_tokens.specs.Conditions.{limits, place_meaning, formula_meaning}
 use Rattle.litmus_table.specs.Checks.{IsFoundAt}
 use Rattle.litmus_table.specs.Late.{Late, Note, or_else, first_late, columns_notes, late_columns}
 use Rattle.litmus_table.specs.Laws.{steps_of, AreNoted}
@@ -14,12 +14,12 @@ use Rattle.litmus_ppc.specs.declared.fault.LitmusFault.TheVariants as faults
 use Rattle.litmus_grammar.specs.declared.parts.TextKind.TheVariants as kinds
 use Rattle.litmus_grammar.specs.Grammar.{members, entry_meaning, TestTree, test_meaning, IsTestText}
 use Rattle.litmus_grammar.specs.InitMachine.{missing}
-use Rattle.litmus_grammar.specs.TextMachine.{State, Ran, threads_in, run, start, first_stage}
+use Rattle.litmus_grammar.specs.TextMachine.{State, TextResult, threads_in, run, start, first_stage}
 use Rattle.litmus_grammar.specs.TextMachine as text
 use Rattle.litmus_ppc.specs.TextReading.{FailsAt, test_of}
 use Rattle.litmus_grammar.specs.Texts as texts
 use Rattle.litmus_grammar.specs.Texts.{ReadsTest, IsTestFault, IsWhole, late_entries, before_entries, before_rows}
-use Rattle.litmus_ppc.specs.Faults.{IsTooLong, IsMemory, IsMissingFound, IsLateFound, IsFaultOf}
+use Rattle.litmus_ppc.specs.Faults.{IsLitmusTooLong, IsLitmusMemory, IsMissingFound, IsLateFound, IsLitmusFaultOf}
 use Rattle.litmus_grammar.proofs.Bodies.{length-meaning, length-steps}
 use Rattle.litmus_grammar.proofs.Bounds.{is_short}
 use Rattle.litmus_grammar.proofs.Ends.{ends_done}
@@ -78,9 +78,9 @@ nothing_found ps (Some l) f = absurd f
 
 module _ (bytes : List ℕ) where
   abbrev ps : List TokenAt
-  ps = lexed (first_stage kinds.Test) bytes
+  ps = lexing (first_stage kinds.Test) bytes
 
-  abbrev made : Ran
+  abbrev made : TextResult
   made = run (start kinds.Test 0) ps
 
   few_tokens : length bytes ≤ 65536 → length ps < 18446744073709551616
@@ -103,7 +103,7 @@ module _ (bytes : List ℕ) where
   keeps_by : (t : TestTree) → t.others + 1 < 18446744073709551616 → (r : TakesTest ps t)
       → Keeps
       (test_at r.stage text.Done (with_all t.name r.block r.reached
-      (map place_meaning (members t.observed)) t.quantifier (meaning t.condition))) t
+      (map place_meaning (members t.observed)) t.quantifier (formula_meaning t.condition))) t
   keeps_by t few r =
       let many : t.others + 1 ≡ length r.reached.threads = sym (sym (length-steps r.reached.threads) ∙ ap (λ (l : List (List Step)). length l) r.meant ∙ length-meaning 0 (t.others + 1) t.rows) in
       let m = late_matches (t.others + 1) few ps (before_entries t) (members t.init) r.block.starts r.stand in
@@ -131,7 +131,7 @@ module _ (bytes : List ℕ) where
             threads = l;
             observed = map place_meaning (members t.observed);
             quantifier = t.quantifier;
-            condition = meaning t.condition;
+            condition = formula_meaning t.condition;
           }
 
   keeps : (s : State) → length bytes ≤ 65536 → made ≡ Ok s → (x : IsTestText limits (tokens_of ps))
@@ -160,7 +160,7 @@ module _ (bytes : List ℕ) where
       (late_labels r.text.tree) r.in_time) ∙ r.meant
 
   pub test_only_memory : (d : LitmusFault) → (length bytes ≤ 65536 → FailsAt d made) → (v : Content)
-      → ReadsTest bytes v → IsMemory d
+      → ReadsTest bytes v → IsLitmusMemory d
   test_only_memory (faults.OutOfMemory e) h v r = tt
   test_only_memory (faults.Refused rule offset) h v r =
       let x = r.text in
@@ -168,7 +168,7 @@ module _ (bytes : List ℕ) where
       absurd (not_both (rule, offset) _ (sym (h r.short) ∙ t.by))
 
   pub test_only_missing : (s : State) (d : LitmusFault) → (length bytes ≤ 65536 → made ≡ Ok s)
-      → IsMissingFound (Err d) (missing_in s) → (v : Content) → ReadsTest bytes v → IsMemory d
+      → IsMissingFound (Err d) (missing_in s) → (v : Content) → ReadsTest bytes v → IsLitmusMemory d
   test_only_missing s (faults.OutOfMemory e) h f v r = tt
   test_only_missing s (faults.Refused rule offset) h f v r =
       not_there ps (late_init r.text.tree) (missing_in s) offset
@@ -176,7 +176,7 @@ module _ (bytes : List ℕ) where
       (late_labels r.text.tree) r.in_time)
 
   pub test_only_labels : (s : State) (d : LitmusFault) → (length bytes ≤ 65536 → made ≡ Ok s)
-      → Answered s (Err d) → (v : Content) → ReadsTest bytes v → IsMemory d
+      → Answered s (Err d) → (v : Content) → ReadsTest bytes v → IsLitmusMemory d
   test_only_labels s (faults.OutOfMemory e) h answered v r = tt
   test_only_labels s (faults.Refused rule offset) h answered v r =
       let t = r.text.tree in
@@ -188,7 +188,7 @@ module _ (bytes : List ℕ) where
   -- ---- the fault
 
   pub test_fault : (d : LitmusFault) → (length bytes ≤ 65536 → FailsAt d made)
-      → (65536 < length bytes → IsTooLong d) → IsFaultOf (IsTestFault bytes) d
+      → (65536 < length bytes → IsLitmusTooLong d) → IsLitmusFaultOf (IsTestFault bytes) d
   test_fault (faults.OutOfMemory e) h long = tt
   test_fault (faults.Refused rule offset) h long = choose (cases_lt 65536 (length bytes))
     where
@@ -198,7 +198,7 @@ module _ (bytes : List ℕ) where
 
   pub test_fault_missing : (s : State) (d : LitmusFault) → (length bytes ≤ 65536 → made ≡ Ok s)
       → (65536 < length bytes → ⊥) → IsMissingFound (Err d) (missing_in s)
-      → IsFaultOf (IsTestFault bytes) d
+      → IsLitmusFaultOf (IsTestFault bytes) d
   test_fault_missing s (faults.OutOfMemory e) h bounded f = tt
   test_fault_missing s (faults.Refused rule offset) h bounded f =
       by_found (late_init x.tree) refl (subst (Matches ps (late_init x.tree)) f.1
@@ -224,7 +224,7 @@ module _ (bytes : List ℕ) where
 
   pub test_fault_labels : (s : State) (d : LitmusFault) → (length bytes ≤ 65536 → made ≡ Ok s)
       → (65536 < length bytes → ⊥) → missing_in s ≡ None → Answered s (Err d)
-      → IsFaultOf (IsTestFault bytes) d
+      → IsLitmusFaultOf (IsTestFault bytes) d
   test_fault_labels s (faults.OutOfMemory e) h bounded none answered = tt
   test_fault_labels s (faults.Refused rule offset) h bounded none answered =
       let k = keeps s le (h le) x in

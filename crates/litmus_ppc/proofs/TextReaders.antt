@@ -2,18 +2,18 @@
 use Rattle.std.proofs.Common.{◌≡◌, ℕ, ◌<◌, ◌≤◌, List, ◌∷◌, ◌++◌, length, Option, Some, None, Result, Ok, Err, refl, sym, ap, ◌∙◌, subst, inl, inr, ◌⊎◌}
 use Rattle.std.proofs.lemmas.Bool.{cases_lt}
 use Rattle.litmus_tokens.specs.declared.token.Token.{Token}
-use Rattle.litmus_tokens.specs.Texts.{TokenAt, tokens_of, lexed}
+use Rattle.litmus_tokens.specs.Texts.{TokenAt, tokens_of, lexing}
 use Rattle.litmus_table.specs.Checks.{IsFoundAt}
 use Rattle.litmus_table.specs.Late.{Late}
 use Rattle.litmus_ppc.specs.declared.fault.LitmusFault.{LitmusFault}
 use Rattle.litmus_ppc.specs.declared.fault.LitmusFault.TheVariants as faults
 use Rattle.litmus_grammar.specs.declared.parts.TextKind.{TextKind}
-use Rattle.litmus_grammar.specs.TextMachine.{State, Ran, run, start, first_stage}
+use Rattle.litmus_grammar.specs.TextMachine.{State, TextResult, run, start, first_stage}
 use Rattle.litmus_grammar.specs.TextMachine as text
 use Rattle.litmus_ppc.specs.TextReading.{FailsAt}
 use Rattle.litmus_grammar.specs.Texts as texts
 use Rattle.litmus_grammar.specs.Texts.{Reads, IsFaultAt}
-use Rattle.litmus_ppc.specs.Faults.{IsTooLong, IsMemory, IsLateFound, IsFaultOf}
+use Rattle.litmus_ppc.specs.Faults.{IsLitmusTooLong, IsLitmusMemory, IsLateFound, IsLitmusFaultOf}
 use Rattle.litmus_grammar.proofs.Bounds.{is_short}
 use Rattle.litmus_grammar.proofs.Ends.{ends_done}
 use Rattle.litmus_grammar.proofs.Inner.{AreInner, lexed_ends, lexed_inner}
@@ -33,9 +33,9 @@ module _ (IsText : List Token → Type 0) (kind : TextKind) (threads : ℕ) (V :
     → run (start kind threads) ps ≡ Ok s → draft s ≡ value (tokens_of ps) x)
     (bytes : List ℕ) where
   abbrev ps : List TokenAt
-  ps = lexed (first_stage kind) bytes
+  ps = lexing (first_stage kind) bytes
 
-  abbrev made : Ran
+  abbrev made : TextResult
   made = run (start kind threads) ps
 
   fine : (before : List TokenAt) (p : TokenAt) (behind : List TokenAt) → ps ≡ before ++ p ∷ behind
@@ -70,22 +70,22 @@ module _ (IsText : List Token → Type 0) (kind : TextKind) (threads : ℕ) (V :
 
   -- where the text was refused
   pub text_only_memory : (d : LitmusFault) → (length bytes ≤ 65536 → FailsAt d made) → (v : V)
-      → Reads IsText (first_stage kind) late value bytes v → IsMemory d
+      → Reads IsText (first_stage kind) late value bytes v → IsLitmusMemory d
   text_only_memory (faults.OutOfMemory e) h v r = tt
   text_only_memory (faults.Refused rule offset) h v r =
       no_fault_where AreInner IsText kind threads known ps fine rule offset r.text (h r.short)
 
   -- where a later check refused it
   pub text_only_late : (d : LitmusFault) → (length bytes ≤ 65536 → Finds (refusal d)) → (v : V)
-      → Reads IsText (first_stage kind) late value bytes v → IsMemory d
+      → Reads IsText (first_stage kind) late value bytes v → IsLitmusMemory d
   text_only_late (faults.OutOfMemory e) finds v r = tt
   text_only_late (faults.Refused rule offset) finds v r =
       subst (IsFoundAt ps (Some (record { rule = rule; offset = offset }))) r.in_time
       (finds r.short r.text)
 
   pub text_fault : (d : LitmusFault) → (length bytes ≤ 65536 → FailsAt d made)
-      → (65536 < length bytes → IsTooLong d)
-      → IsFaultOf (IsFaultAt IsText (first_stage kind) late bytes) d
+      → (65536 < length bytes → IsLitmusTooLong d)
+      → IsLitmusFaultOf (IsFaultAt IsText (first_stage kind) late bytes) d
   text_fault (faults.OutOfMemory e) h long = tt
   text_fault (faults.Refused rule offset) h long = choose (cases_lt 65536 (length bytes))
     where
@@ -98,7 +98,7 @@ module _ (IsText : List Token → Type 0) (kind : TextKind) (threads : ℕ) (V :
 
   pub text_fault_late : (d : LitmusFault) (s : State) → (length bytes ≤ 65536 → made ≡ Ok s)
       → (65536 < length bytes → ⊥) → (length bytes ≤ 65536 → Finds (refusal d))
-      → IsFaultOf (IsFaultAt IsText (first_stage kind) late bytes) d
+      → IsLitmusFaultOf (IsFaultAt IsText (first_stage kind) late bytes) d
   text_fault_late (faults.OutOfMemory e) s h bounded finds = tt
   text_fault_late (faults.Refused rule offset) s h bounded finds =
       let le = is_short bytes bounded in

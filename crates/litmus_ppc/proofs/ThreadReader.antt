@@ -1,6 +1,6 @@
 -- What `read_thread` answers is what the grammar and the checks of labels say.
 use Rattle.std.proofs.Common.{◌≡◌, ℕ, ◌<◌, ◌≤◌, List, [], ◌∷◌, length, Option, Some, None, Result, Ok, Err, refl, sym, ap, ◌∙◌, subst}
-use Rattle.litmus_tokens.specs.Texts.{TokenAt, tokens_of, lexed}
+use Rattle.litmus_tokens.specs.Texts.{TokenAt, tokens_of, lexing}
 use Rattle.text_values.specs.declared.test.Step.{Step}
 use Rattle.litmus_table.specs.Grammar.{thread_meaning}
 use Rattle.litmus_table.specs.Late.{Late, Note, or_else, late_notes, first_late, thread_notes}
@@ -10,10 +10,10 @@ use Rattle.litmus_table.specs.Reading.{first_steps}
 use Rattle.litmus_ppc.specs.declared.fault.LitmusFault.{LitmusFault}
 use Rattle.litmus_grammar.specs.declared.parts.TextKind.TheVariants as kinds
 use Rattle.litmus_grammar.specs.Grammar.{IsThreadText}
-use Rattle.litmus_grammar.specs.TextMachine.{State, Ran, run, start, first_stage}
+use Rattle.litmus_grammar.specs.TextMachine.{State, TextResult, run, start, first_stage}
 use Rattle.litmus_ppc.specs.TextReading.{FailsAt}
 use Rattle.litmus_grammar.specs.Texts.{ReadsThread, IsThreadFault, late_of_thread}
-use Rattle.litmus_ppc.specs.Faults.{IsTooLong, IsMemory, IsLateFound, IsFaultOf}
+use Rattle.litmus_ppc.specs.Faults.{IsLitmusTooLong, IsLitmusMemory, IsLateFound, IsLitmusFaultOf}
 use Rattle.litmus_grammar.proofs.Runs.{same_state}
 use Rattle.litmus_ppc.proofs.TextReaders.{text_found, text_only, text_only_memory, text_only_late, text_fault, text_fault_late}
 use Rattle.litmus_grammar.proofs.Threads.{thread_taken, thread_whole, thread_reading}
@@ -39,9 +39,9 @@ alone (Some l) = refl
 
 module _ (bytes : List ℕ) where
   abbrev ps : List TokenAt
-  ps = lexed (first_stage kinds.Thread) bytes
+  ps = lexing (first_stage kinds.Thread) bytes
 
-  abbrev made : Ran
+  abbrev made : TextResult
   made = run (start kinds.Thread 1) ps
 
   -- what the check of labels answered
@@ -74,28 +74,28 @@ module _ (bytes : List ℕ) where
       bytes s h v r
 
   pub thread_only_memory : (d : LitmusFault) → (length bytes ≤ 65536 → FailsAt d made)
-      → (v : List Step) → ReadsThread bytes v → IsMemory d
+      → (v : List Step) → ReadsThread bytes v → IsLitmusMemory d
   thread_only_memory d h v r =
       text_only_memory IsThreadText kinds.Thread 1 (List Step) late_of_thread
       (λ ts t. thread_meaning t.tree) (thread_reading 1) (thread_whole 1) kept_steps steps_hold
       bytes d h v r
 
   pub thread_only_late : (s : State) (d : LitmusFault) → (length bytes ≤ 65536 → made ≡ Ok s)
-      → Answered s (Err d) → (v : List Step) → ReadsThread bytes v → IsMemory d
+      → Answered s (Err d) → (v : List Step) → ReadsThread bytes v → IsLitmusMemory d
   thread_only_late s d h answered v r =
       text_only_late IsThreadText kinds.Thread 1 (List Step) late_of_thread
       (λ ts t. thread_meaning t.tree) (thread_reading 1) (thread_whole 1) kept_steps steps_hold
       bytes d (λ le. finds s (Err d) (h le) answered) v r
 
   pub thread_fault : (d : LitmusFault) → (length bytes ≤ 65536 → FailsAt d made)
-      → (65536 < length bytes → IsTooLong d) → IsFaultOf (IsThreadFault bytes) d
+      → (65536 < length bytes → IsLitmusTooLong d) → IsLitmusFaultOf (IsThreadFault bytes) d
   thread_fault d h long =
       text_fault IsThreadText kinds.Thread 1 (List Step) late_of_thread
       (λ ts t. thread_meaning t.tree) (thread_reading 1) (thread_whole 1) kept_steps steps_hold
       bytes d h long
 
   pub thread_fault_late : (s : State) (d : LitmusFault) → (length bytes ≤ 65536 → made ≡ Ok s)
-      → (65536 < length bytes → ⊥) → Answered s (Err d) → IsFaultOf (IsThreadFault bytes) d
+      → (65536 < length bytes → ⊥) → Answered s (Err d) → IsLitmusFaultOf (IsThreadFault bytes) d
   thread_fault_late s d h bounded answered =
       text_fault_late IsThreadText kinds.Thread 1 (List Step) late_of_thread
       (λ ts t. thread_meaning t.tree) (thread_reading 1) (thread_whole 1) kept_steps steps_hold

@@ -14,7 +14,7 @@ use Rattle.litmus_grammar.proofs.Lexed.{layout_turn, lexeme_turn, at_end}
 use Rattle.litmus_ppc.specs.declared.fault.LitmusFault.{LitmusFault}
 use Rattle.litmus_ppc.specs.declared.fault.LitmusFault.TheVariants as faults
 use Rattle.litmus_ppc.specs.declared.reader.Reader.{Reader}
-use Rattle.litmus_grammar.specs.TextMachine.{Next, State, stepped, part_step, step, Ran, with_offset, and_then, run}
+use Rattle.litmus_grammar.specs.TextMachine.{Next, State, stepped, part_step, step, TextResult, with_offset, and_then, run}
 use Rattle.litmus_ppc.specs.TextReading.{state_of, FailsAt, StepsAt}
 
 -- the part behind a token that was taken
@@ -27,7 +27,7 @@ stage_after_step s s' t p e = by_next (part_step s.kind s.threads s.draft s.part
     by_next None h = absurd cc
 
 -- the reader's turns
-module _ (bytes : List ℕ) (s : State) (fresh : Bool) (p n q : ℕ) (all : Ran)
+module _ (bytes : List ℕ) (s : State) (fresh : Bool) (p n q : ℕ) (all : TextResult)
     (so_far : all ≡ run s (tokens_from s.stage fresh 0 p (drop p bytes))) where
   whole_rest : (f : Front) → f ≡ front s.stage fresh (take (length bytes - p) (drop p bytes))
       → f ≡ front s.stage fresh (drop p bytes)
@@ -53,7 +53,7 @@ module _ (bytes : List ℕ) (s : State) (fresh : Bool) (p n q : ℕ) (all : Ran)
   lexeme_run f t s' fresh' lt is e k now goes =
       so_far ∙ ap (run s) (lexeme_turn bytes p n q lt is s.stage fresh f t (whole_rest f e) k)
       ∙ ap
-      (λ (r : Ran). and_then r (λ x.
+      (λ (r : TextResult). and_then r (λ x.
       run x (tokens_from (after s.stage t) (ends_line t) 0 q (drop q bytes)))) goes
       ∙ ap (λ b. run s' (tokens_from (after s.stage t) b 0 q (drop q bytes))) (sym now)
       ∙ ap (λ (g : Stage). run s' (tokens_from g fresh' 0 q (drop q bytes)))
@@ -67,21 +67,21 @@ module _ (bytes : List ℕ) (s : State) (fresh : Bool) (p n q : ℕ) (all : Ran)
       let r = p + min (max n 1) (length bytes - p) in
       so_far ∙ ap (run s) (lexeme_turn bytes p n r lt refl s.stage fresh f t (whole_rest f e) k)
       ∙ ap
-      (λ (y : Ran). and_then y (λ x.
+      (λ (y : TextResult). and_then y (λ x.
       run x (tokens_from (after s.stage t) (ends_line t) 0 r (drop r bytes)))) fails
 
   end_run : (s' : State) → length bytes ≤ p → with_offset p (step s tokens.End p) ≡ Ok s'
       → all ≡ Ok s'
   end_run s' high goes =
       so_far ∙ ap (run s) (at_end s.stage fresh bytes p high)
-      ∙ ap (λ (r : Ran). and_then r (λ x. Ok x)) goes
+      ∙ ap (λ (r : TextResult). and_then r (λ x. Ok x)) goes
 
   end_fails : (d : LitmusFault) → length bytes ≤ p → FailsAt d (with_offset p (step s tokens.End p))
       → FailsAt d all
   end_fails (faults.OutOfMemory x) high fails = tt
   end_fails (faults.Refused rule offset) high fails =
       so_far ∙ ap (run s) (at_end s.stage fresh bytes p high)
-      ∙ ap (λ (r : Ran). and_then r (λ x. Ok x)) fails
+      ∙ ap (λ (r : TextResult). and_then r (λ x. Ok x)) fails
 
   pub end_steps : (r : Result (Unit {0}) LitmusFault) (now : Reader) → length bytes ≤ p
       → StepsAt r now (with_offset p (step s tokens.End p)) → StepsAt r now all

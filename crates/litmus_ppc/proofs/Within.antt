@@ -1,27 +1,27 @@
 -- A refusal stands within the text.
 use Rattle.std.proofs.Common.{ℕ, List, length, Result, Ok, Err, subst}
 use Rattle.std.specs.Prelude.{IfErr}
-use Rattle.litmus_tokens.specs.Texts.{lexed}
+use Rattle.litmus_tokens.specs.Texts.{lexing}
 use Rattle.litmus_grammar.specs.declared.parts.TextKind.{TextKind}
 use Rattle.litmus_grammar.specs.TextMachine.{run, start, first_stage}
-use Rattle.litmus_grammar.specs.Kept.{IsKept}
+use Rattle.litmus_grammar.specs.Kept.{StandsUpTo}
 use Rattle.litmus_grammar.proofs.Bounds.{all_kept}
 use Rattle.litmus_ppc.specs.declared.fault.LitmusFault.{LitmusFault}
 use Rattle.litmus_ppc.specs.declared.fault.LitmusFault.TheVariants as faults
 use Rattle.litmus_ppc.specs.declared.reader.Reader.{Reader}
 use Rattle.litmus_ppc.specs.TextReading.{FailsAt, Runs}
-use Rattle.litmus_ppc.specs.Faults.{IsWithin}
+use Rattle.litmus_ppc.specs.Faults.{HasLitmusOffset}
 
 module _ (kind : TextKind) (threads : ℕ) (bytes : List ℕ) where
   fails_within : (d : LitmusFault)
-      → FailsAt d (run (start kind threads) (lexed (first_stage kind) bytes))
-      → IsWithin (length bytes) d
+      → FailsAt d (run (start kind threads) (lexing (first_stage kind) bytes))
+      → HasLitmusOffset (length bytes) d
   fails_within (faults.OutOfMemory e) h = tt
   fails_within (faults.Refused rule offset) h =
-      subst (IsKept (length bytes)) h (all_kept kind threads bytes)
+      subst (StandsUpTo (length bytes)) h (all_kept kind threads bytes)
 
   pub fails_within_all : (r : Result Reader LitmusFault)
-      → Runs r (run (start kind threads) (lexed (first_stage kind) bytes))
-      → IfErr r (λ e. IsWithin (length bytes) e)
+      → Runs r (run (start kind threads) (lexing (first_stage kind) bytes))
+      → IfErr r (λ e. HasLitmusOffset (length bytes) e)
   fails_within_all (Ok s) h = tt
   fails_within_all (Err d) h = fails_within d h

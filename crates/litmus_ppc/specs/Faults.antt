@@ -9,24 +9,24 @@ use Rattle.litmus_ppc.specs.declared.fault.LitmusFault.{LitmusFault}
 use Rattle.litmus_ppc.specs.declared.fault.LitmusFault.TheVariants.{Refused, OutOfMemory}
 
 -- the offset is at most this
-abbrev pub IsWithin : ℕ → LitmusFault → Type 0
-IsWithin n (Refused rule offset) = offset ≤ n
-IsWithin n (OutOfMemory e) = Unit {0}
+abbrev pub HasLitmusOffset : ℕ → LitmusFault → Type 0
+HasLitmusOffset n (Refused rule offset) = offset ≤ n
+HasLitmusOffset n (OutOfMemory e) = Unit {0}
 
 -- the text is longer than any may be
-abbrev pub IsTooLong : LitmusFault → Type 0
-IsTooLong (Refused rule offset) = (rule ≡ TooLong) × (offset ≡ 65536)
-IsTooLong (OutOfMemory e) = ⊥
+abbrev pub IsLitmusTooLong : LitmusFault → Type 0
+IsLitmusTooLong (Refused rule offset) = (rule ≡ TooLong) × (offset ≡ 65536)
+IsLitmusTooLong (OutOfMemory e) = ⊥
 
 -- memory ran out
-abbrev pub IsMemory : LitmusFault → Type 0
-IsMemory (Refused rule offset) = ⊥
-IsMemory (OutOfMemory e) = Unit {0}
+abbrev pub IsLitmusMemory : LitmusFault → Type 0
+IsLitmusMemory (Refused rule offset) = ⊥
+IsLitmusMemory (OutOfMemory e) = Unit {0}
 
 -- what a refusal says is so, unless memory ran out
-abbrev pub IsFaultOf : (LitmusRule → ℕ → Type 0) → LitmusFault → Type 0
-IsFaultOf IsAt (Refused rule offset) = IsAt rule offset
-IsFaultOf IsAt (OutOfMemory e) = Unit {0}
+abbrev pub IsLitmusFaultOf : (LitmusRule → ℕ → Type 0) → LitmusFault → Type 0
+IsLitmusFaultOf IsAt (Refused rule offset) = IsAt rule offset
+IsLitmusFaultOf IsAt (OutOfMemory e) = Unit {0}
 
 -- What a later check answers is what is found, unless memory ran out: the entry that begins there,
 abbrev pub IsMissingFound : Result (Unit {0}) LitmusFault → Option ℕ → Type 0

@@ -4,7 +4,7 @@ use Rattle.std.specs.declared.vec.Vec.{Vec}
 use Rattle.std.specs.declared.alloc.Global.{Global}
 use Rattle.std.specs.BTreeSet.{keys}
 use Rattle.litmus_tokens.specs.declared.step.StepError.{StepError}
-use Rattle.litmus_table.specs.Reading.{Refuses}
+use Rattle.litmus_table.specs.Reading.{RefusesStep}
 use Rattle.litmus_ppc.specs.declared.init.InitBlock.{InitBlock}
 use Rattle.litmus_grammar.specs.declared.parts.InitExpectation.{InitExpectation}
 use Rattle.litmus_grammar.specs.declared.parts.InitStep.TheVariants as steps
@@ -23,13 +23,13 @@ block_of b =
 
 -- What a function returned is what the machine does, unless memory ran out: the block with a place
 -- more,
-abbrev pub Adds : Result (Unit {0}) StepError → InitBlock → Option machine.Block → Type 0
-Adds (Ok u) b made = made ≡ Some (block_of b)
-Adds (Err e) b made = Refuses e made
+abbrev pub AddsEntry : Result (Unit {0}) StepError → InitBlock → Option machine.Block → Type 0
+AddsEntry (Ok u) b made = made ≡ Some (block_of b)
+AddsEntry (Err e) b made = RefusesStep e made
 
 -- and what a token did.
 abbrev pub Steps : Result Bool StepError → InitExpectation → InitBlock → Option machine.Did → Type 0
 Steps (Ok true) expected b made = made ≡ Some (record { step = steps.Ends; block = block_of b })
 Steps (Ok false) expected b made =
     made ≡ Some (record { step = steps.Goes expected; block = block_of b })
-Steps (Err e) expected b made = Refuses e made
+Steps (Err e) expected b made = RefusesStep e made

@@ -2,7 +2,7 @@
 use Rattle.std.specs.Prelude.{◌≡◌, Option, Some, Result, Ok, Err}
 use Rattle.litmus_tokens.specs.declared.step.StepError.{StepError}
 use Rattle.litmus_tokens.specs.ConditionReading as condition
-use Rattle.litmus_table.specs.Reading.{Refuses}
+use Rattle.litmus_table.specs.Reading.{RefusesStep}
 use Rattle.litmus_grammar.specs.TextMachine as machine
 use Rattle.litmus_ppc.specs.declared.parts.Part as code_part
 use Rattle.litmus_ppc.specs.declared.parts.Part.TheVariants as parts
@@ -30,4 +30,4 @@ part_of parts.Done = machine.Done
 -- What a function returned is what the machine does, unless memory ran out.
 abbrev pub IsNextPart : Result (Unit {0}) StepError → code_part.Part → Option machine.Part → Type 0
 IsNextPart (Ok u) p made = made ≡ Some (part_of p)
-IsNextPart (Err e) p made = Refuses e made
+IsNextPart (Err e) p made = RefusesStep e made

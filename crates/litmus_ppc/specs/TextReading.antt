@@ -8,7 +8,7 @@ use Rattle.litmus_tokens.specs.declared.condition.Expectation as code_expectatio
 use Rattle.litmus_tokens.specs.ConditionReading.{stack_of, expectation_of}
 use Rattle.text_values.specs.declared.test.Quantifier.{Quantifier}
 use Rattle.litmus_table.specs.Laws.{steps_of}
-use Rattle.litmus_table.specs.Reading.{Refuses, table_of}
+use Rattle.litmus_table.specs.Reading.{RefusesStep, table_of}
 use Rattle.litmus_ppc.specs.declared.fault.LitmusFault.{LitmusFault}
 use Rattle.litmus_ppc.specs.declared.fault.LitmusFault.TheVariants as faults
 use Rattle.litmus_ppc.specs.declared.parts.Part as code_part
@@ -54,7 +54,7 @@ state_of r =
 abbrev pub StepsTo : Result (Unit {0}) StepError → code_part.Part → code_draft.Draft
     → Option machine.Next → Type 0
 StepsTo (Ok u) p h made = made ≡ Some (record { part = part_of p; draft = draft_of h })
-StepsTo (Err e) p h made = Refuses e made
+StepsTo (Err e) p h made = RefusesStep e made
 
 -- the same in a proposition, which ends or not,
 abbrev pub ReadsProposition : Result Bool StepError → Quantifier → List code_frame.Frame → ℕ
@@ -68,18 +68,18 @@ ReadsProposition (Ok false) q frames used expected h made =
           machine.Proposition q (stack_of frames) used (expectation_of expected);
       draft = draft_of h;
     })
-ReadsProposition (Err e) q frames used expected h made = Refuses e made
+ReadsProposition (Err e) q frames used expected h made = RefusesStep e made
 
 -- and the reader behind a token at an offset.
 abbrev pub FailsAt : {Y : Type 0} → LitmusFault → Result Y (LitmusRule × ℕ) → Type 0
 FailsAt (faults.OutOfMemory e) made = Unit {0}
 FailsAt (faults.Refused rule offset) made = made ≡ Err (rule, offset)
 
-abbrev pub StepsAt : Result (Unit {0}) LitmusFault → Reader → machine.Ran → Type 0
+abbrev pub StepsAt : Result (Unit {0}) LitmusFault → Reader → machine.TextResult → Type 0
 StepsAt (Ok u) r made = made ≡ Ok (state_of r)
 StepsAt (Err e) r made = FailsAt e made
 
 -- the reader behind a whole text
-abbrev pub Runs : Result Reader LitmusFault → machine.Ran → Type 0
+abbrev pub Runs : Result Reader LitmusFault → machine.TextResult → Type 0
 Runs (Ok r) made = made ≡ Ok (state_of r)
 Runs (Err e) made = FailsAt e made

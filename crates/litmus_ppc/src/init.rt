@@ -3,7 +3,7 @@
 ghost use Rattle.std.specs.Prelude.{◌≡◌, IfOk};
 ghost use Rattle.litmus_tokens.specs.PlaceMachine.{value_read};
 ghost use Rattle.litmus_grammar.specs.InitMachine.{start, location_key, register_key, added, added_if, token_key, word_key, entry_read, place_read, valued, step, lacks_thread, missing};
-ghost use Rattle.litmus_ppc.specs.InitReading.{block_of, Adds, Steps};
+ghost use Rattle.litmus_ppc.specs.InitReading.{block_of, AddsEntry, Steps};
 
 use litmus_grammar::InitExpectation;
 use litmus_tokens::{
@@ -173,7 +173,7 @@ impl InitBlock {
 
     // Notes the place that a token names, if it names one, and refuses one that repeats.
     fn note(&mut self, within: &PlaceExpectation, token: &Token) -> Result<(), StepError>
-        ensures { Adds result self.new (added_if (block_of self.old)
+        ensures { AddsEntry result self.new (added_if (block_of self.old)
             (token_key within.now token.now)) }
     {
         match token {
@@ -184,7 +184,7 @@ impl InitBlock {
 
     // Notes the place that a word names, if it names one.
     fn note_word(&mut self, within: &PlaceExpectation, word: &Name) -> Result<(), StepError>
-        ensures { Adds result self.new (added_if (block_of self.old)
+        ensures { AddsEntry result self.new (added_if (block_of self.old)
             (word_key within.now word.now)) }
     {
         match within {
@@ -201,7 +201,7 @@ impl InitBlock {
 
     // Adds the key of a place, and refuses one that is there.
     fn add(&mut self, key: Vec<u8>) -> Result<(), StepError>
-        ensures { Adds result self.new (added (block_of self.old) key.items) }
+        ensures { AddsEntry result self.new (added (block_of self.old) key.items) }
     {
         if self.named.insert(key)? {
             Ok(())

@@ -1,11 +1,11 @@
 //! Reads texts.
 
 ghost use Rattle.std.specs.Prelude.{◌≡◌, ◌<◌, ◌≤◌, List, length, IfOk, IfErr, MatchResult};
-ghost use Rattle.litmus_tokens.specs.Texts.{fresh_after, lexed};
+ghost use Rattle.litmus_tokens.specs.Texts.{fresh_after, lexing};
 ghost use Rattle.text_values.specs.TestValue.{Content, Formula, content_of, formula_of};
 ghost use Rattle.text_values.specs.declared.test.Quantifier.{Quantifier};
 ghost use Rattle.text_values.specs.declared.test.Step.{Step};
-ghost use Rattle.litmus_ppc.specs.Faults.{IsWithin, IsTooLong, IsMemory, IsFaultOf};
+ghost use Rattle.litmus_ppc.specs.Faults.{HasLitmusOffset, IsLitmusTooLong, IsLitmusMemory, IsLitmusFaultOf};
 ghost use Rattle.litmus_grammar.specs.TextMachine.{start, first_stage, run};
 ghost use Rattle.litmus_ppc.specs.TextReading.{state_of, Runs, StepsAt};
 ghost use Rattle.litmus_grammar.specs.Texts.{ReadsTest, IsTestFault, ReadsInit, IsInitFault, ReadsThread, IsThreadFault, ReadsCondition, IsConditionFault, ReadsLocations, IsLocationsFault};
@@ -28,7 +28,7 @@ fn is_fresh_behind(is_fresh: bool, byte: u8) -> bool
 // Hands the tokens of a text on, up to its end.
 fn read_tokens(alloc: Global, bytes: &[u8], reader: &mut Reader) -> Result<(), LitmusFault>
     ensures { StepsAt result reader.new (run (state_of reader.old)
-        (lexed (state_of reader.old).stage bytes.now)) }
+        (lexing (state_of reader.old).stage bytes.now)) }
 {
     let mut offset = 0;
     // Whether the line holds nothing but blanks so far.
@@ -61,7 +61,7 @@ fn read_all(
     kind: TextKind,
     threads: usize,
 ) -> Result<Reader, LitmusFault>
-    ensures { Runs result (run (start kind threads) (lexed (first_stage kind) bytes.now)) }
+    ensures { Runs result (run (start kind threads) (lexing (first_stage kind) bytes.now)) }
 {
     let mut reader = match Reader::new(alloc, kind, threads) {
         Ok(reader) => reader,
@@ -81,9 +81,9 @@ fn read_whole(
     threads: usize,
 ) -> Result<Reader, LitmusFault>
     ensures runs { length bytes.now ≤ 65536
-        → Runs result (run (start kind threads) (lexed (first_stage kind) bytes.now)) }
-    ensures too_long { 65536 < length bytes.now → MatchResult result (λ _. ⊥) IsTooLong }
-    ensures within { IfErr result (λ e. IsWithin (length bytes.now) e) }
+        → Runs result (run (start kind threads) (lexing (first_stage kind) bytes.now)) }
+    ensures too_long { 65536 < length bytes.now → MatchResult result (λ _. ⊥) IsLitmusTooLong }
+    ensures within { IfErr result (λ e. HasLitmusOffset (length bytes.now) e) }
 {
     if bytes.len() > MAX_BYTES {
         return Err(LitmusFault::Refused {
@@ -106,15 +106,15 @@ pub fn read_test(alloc: Global, bytes: &[u8]) -> Result<Test, LitmusFault>
     ensures found { IfOk result (λ t. ReadsTest bytes.now (content_of t)) }
     // What means a test is read so, unless memory runs out.
     ensures only { (v : Content) → ReadsTest bytes.now v
-        → MatchResult result (λ t. content_of t ≡ v) IsMemory }
+        → MatchResult result (λ t. content_of t ≡ v) IsLitmusMemory }
     // A rejected text is blamed at the first token that no test could have there, by the rule that
     // is broken there. A test is then refused at its first entry of a thread that does not exist,
     // otherwise at the first label or branch that the checks of labels find.
-    ensures fault { IfErr result (IsFaultOf (IsTestFault bytes.now)) }
+    ensures fault { IfErr result (IsLitmusFaultOf (IsTestFault bytes.now)) }
     // It stands within the text, or at its end.
-    ensures within { IfErr result (λ e. IsWithin (length bytes.now) e) }
+    ensures within { IfErr result (λ e. HasLitmusOffset (length bytes.now) e) }
     // The length is looked at first.
-    ensures too_long { 65536 < length bytes.now → MatchResult result (λ _. ⊥) IsTooLong }
+    ensures too_long { 65536 < length bytes.now → MatchResult result (λ _. ⊥) IsLitmusTooLong }
 {
     let whole = match read_whole(alloc, bytes, TextKind::Test, 0) {
         Ok(reader) => reader,
@@ -142,15 +142,15 @@ pub fn read_thread(alloc: Global, bytes: &[u8]) -> Result<Thread, LitmusFault>
     ensures found { IfOk result (λ t. ReadsThread bytes.now t.steps.items) }
     // What means a thread is read so, unless memory runs out.
     ensures only { (v : List Step) → ReadsThread bytes.now v
-        → MatchResult result (λ t. t.steps.items ≡ v) IsMemory }
+        → MatchResult result (λ t. t.steps.items ≡ v) IsLitmusMemory }
     // A rejected text is blamed at the first token that no thread could have there, by the rule
     // that is broken there. A thread is then refused at the first label or branch that the checks
     // of labels find.
-    ensures fault { IfErr result (IsFaultOf (IsThreadFault bytes.now)) }
+    ensures fault { IfErr result (IsLitmusFaultOf (IsThreadFault bytes.now)) }
     // It stands within the text, or at its end.
-    ensures within { IfErr result (λ e. IsWithin (length bytes.now) e) }
+    ensures within { IfErr result (λ e. HasLitmusOffset (length bytes.now) e) }
     // The length is looked at first.
-    ensures too_long { 65536 < length bytes.now → MatchResult result (λ _. ⊥) IsTooLong }
+    ensures too_long { 65536 < length bytes.now → MatchResult result (λ _. ⊥) IsLitmusTooLong }
 {
     let reader = match read_whole(alloc, bytes, TextKind::Thread, 1) {
         Ok(reader) => reader,
@@ -172,14 +172,14 @@ pub fn read_init(alloc: Global, bytes: &[u8], threads: usize) -> Result<Vec<Init
     ensures found { IfOk result (λ v. ReadsInit threads bytes.now v.items) }
     // What means initial values is read so, unless memory runs out.
     ensures only { (v : List InitEntry) → ReadsInit threads bytes.now v
-        → MatchResult result (λ r. r.items ≡ v) IsMemory }
+        → MatchResult result (λ r. r.items ≡ v) IsLitmusMemory }
     // A rejected text is blamed at the first token that no block could have there, by the rule that
     // is broken there. A block is then refused at its first entry of a thread that does not exist.
-    ensures fault { IfErr result (IsFaultOf (IsInitFault threads bytes.now)) }
+    ensures fault { IfErr result (IsLitmusFaultOf (IsInitFault threads bytes.now)) }
     // It stands within the text, or at its end.
-    ensures within { IfErr result (λ e. IsWithin (length bytes.now) e) }
+    ensures within { IfErr result (λ e. HasLitmusOffset (length bytes.now) e) }
     // The length is looked at first.
-    ensures too_long { 65536 < length bytes.now → MatchResult result (λ _. ⊥) IsTooLong }
+    ensures too_long { 65536 < length bytes.now → MatchResult result (λ _. ⊥) IsLitmusTooLong }
 {
     let reader = match read_whole(alloc, bytes, TextKind::Init, threads) {
         Ok(reader) => reader,
@@ -202,14 +202,14 @@ pub fn read_cond(alloc: Global, bytes: &[u8], threads: usize) -> Result<Conditio
         ReadsCondition threads bytes.now (c.quantifier, formula_of c.proposition)) }
     // What means a condition is read so, unless memory runs out.
     ensures only { (v : Quantifier × Formula) → ReadsCondition threads bytes.now v
-        → MatchResult result (λ c. (c.quantifier, formula_of c.proposition) ≡ v) IsMemory }
+        → MatchResult result (λ c. (c.quantifier, formula_of c.proposition) ≡ v) IsLitmusMemory }
     // A rejected text is blamed at the first token that no condition could have there, by the rule
     // it breaks.
-    ensures fault { IfErr result (IsFaultOf (IsConditionFault threads bytes.now)) }
+    ensures fault { IfErr result (IsLitmusFaultOf (IsConditionFault threads bytes.now)) }
     // It stands within the text, or at its end.
-    ensures within { IfErr result (λ e. IsWithin (length bytes.now) e) }
+    ensures within { IfErr result (λ e. HasLitmusOffset (length bytes.now) e) }
     // The length is looked at first.
-    ensures too_long { 65536 < length bytes.now → MatchResult result (λ _. ⊥) IsTooLong }
+    ensures too_long { 65536 < length bytes.now → MatchResult result (λ _. ⊥) IsLitmusTooLong }
 {
     match read_whole(alloc, bytes, TextKind::Condition, threads) {
         Ok(reader) => {
@@ -231,14 +231,14 @@ pub fn read_locations(
     ensures found { IfOk result (λ v. ReadsLocations threads bytes.now v.items) }
     // What means a list of places is read so, unless memory runs out.
     ensures only { (v : List Place) → ReadsLocations threads bytes.now v
-        → MatchResult result (λ r. r.items ≡ v) IsMemory }
+        → MatchResult result (λ r. r.items ≡ v) IsLitmusMemory }
     // A rejected text is blamed at the first token that no such list could have there, by the rule
     // it breaks.
-    ensures fault { IfErr result (IsFaultOf (IsLocationsFault threads bytes.now)) }
+    ensures fault { IfErr result (IsLitmusFaultOf (IsLocationsFault threads bytes.now)) }
     // It stands within the text, or at its end.
-    ensures within { IfErr result (λ e. IsWithin (length bytes.now) e) }
+    ensures within { IfErr result (λ e. HasLitmusOffset (length bytes.now) e) }
     // The length is looked at first.
-    ensures too_long { 65536 < length bytes.now → MatchResult result (λ _. ⊥) IsTooLong }
+    ensures too_long { 65536 < length bytes.now → MatchResult result (λ _. ⊥) IsLitmusTooLong }
 {
     match read_whole(alloc, bytes, TextKind::Locations, threads) {
         Ok(reader) => {

@@ -5,8 +5,8 @@ ghost use Rattle.litmus_tokens.specs.Texts.{TokenAt};
 ghost use Rattle.litmus_table.specs.Late.{Note, first_late};
 ghost use Rattle.litmus_table.specs.Laws.{AreNoted};
 ghost use Rattle.litmus_table.specs.Reading.{table_of};
-ghost use Rattle.litmus_grammar.specs.Kept.{AreKept};
-ghost use Rattle.litmus_ppc.specs.Faults.{IsWithin, IsMissingFound, IsLateFound};
+ghost use Rattle.litmus_grammar.specs.Kept.{AreDraftUpTo};
+ghost use Rattle.litmus_ppc.specs.Faults.{HasLitmusOffset, IsMissingFound, IsLateFound};
 ghost use Rattle.litmus_grammar.specs.InitMachine.{missing};
 ghost use Rattle.litmus_grammar.specs.TextMachine.{start, with_offset, step, rule_at, stage_rule, threads_in};
 ghost use Rattle.litmus_ppc.specs.TextReading.{draft_of, state_of, StepsAt};
@@ -114,7 +114,8 @@ impl Reader {
             (state_of self.now).draft.init.entries
             (state_of self.now).draft.init.starts) }
         // A fault stands no further on than what is blamed.
-        ensures within { (n : ℕ) → AreKept n (state_of self.now).draft → IfErr result (IsWithin n) }
+        ensures within { (n : ℕ) → AreDraftUpTo n (state_of self.now).draft
+            → IfErr result (HasLitmusOffset n) }
     {
         let threads = self.draft.threads(self.kind, self.threads);
         match self.draft.init.missing(threads) {
@@ -134,7 +135,8 @@ impl Reader {
             → AreNoted text notes (state_of self.now).draft.table.threads
             → IsLateFound text result (first_late notes) }
         // A fault stands no further on than what is blamed.
-        ensures within { (n : ℕ) → AreKept n (state_of self.now).draft → IfErr result (IsWithin n) }
+        ensures within { (n : ℕ) → AreDraftUpTo n (state_of self.now).draft
+            → IfErr result (HasLitmusOffset n) }
     {
         match self.draft.table.check_labels() {
             Ok(Some(LateFault { rule, offset })) => Err(LitmusFault::Refused { rule, offset }),

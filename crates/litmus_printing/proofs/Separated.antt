@@ -2,11 +2,11 @@
 use Rattle.std.proofs.Common.{◌≡◌, ℕ, zero, suc, ◌+◌, ◌-◌, ◌<◌, ◌≤◌, List, [], ◌∷◌, ◌++◌, length, get_or, refl, sym, ap, ◌∙◌, arith, append_assoc}
 use Rattle.std.specs.Prelude.{map, codes}
 use Rattle.std.specs.Fmt.{decimal}
-use Rattle.text_values.specs.Joined.{joined, between}
+use Rattle.text_values.specs.Joined.{joined, separation}
 use Rattle.text_values.proofs.Separated.{from, from_first}
 use Rattle.text_values.specs.declared.test.Step.{Step}
 use Rattle.text_values.specs.declared.test.Thread.{Thread}
-use Rattle.text_values.specs.TestValue.{steps_of}
+use Rattle.text_values.specs.TestValue.{thread_steps}
 use Rattle.litmus_printing.specs.Printing.{names, cell_text, step_text, row_text, rows_text}
 
 -- ---- the header
@@ -18,7 +18,7 @@ header_begins n =
     ap (λ m. from (codes " | ") 0 (names 0 m)) all ∙ from_first (codes " | ") (names 0 n)
 
 pub header_more : (text : List ℕ) (i n : ℕ) → i < n
-    → (((text ++ between (codes " | ") i) ++ codes "P") ++ decimal i)
+    → (((text ++ separation (codes " | ") i) ++ codes "P") ++ decimal i)
     ++ from (codes " | ") (i + 1) (names (i + 1) (n - (i + 1)))
     ≡ text ++ from (codes " | ") i (names i (n - i))
 header_more text i n lt =
@@ -39,7 +39,7 @@ cell_ended zero (x ∷ xs) le = absurd (omega arith)
 cell_ended (suc k) (x ∷ xs) le = cell_ended k xs (omega arith)
 
 abbrev pub cells : ℕ → List Thread → List (List ℕ)
-cells number ts = map (cell_text number) (map steps_of ts)
+cells number ts = map (cell_text number) (map thread_steps ts)
 
 pub rows_more : (text : List ℕ) (i n : ℕ) (ts : List (List Step)) → i < n
     → (text ++ row_text (map (cell_text i) ts)) ++ rows_text (i + 1) (n - (i + 1)) ts

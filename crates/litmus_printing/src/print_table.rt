@@ -1,7 +1,7 @@
 //! Prints tests.
 
 ghost use Rattle.std.specs.Prelude.{◌≡◌, ◌++◌, map, OnOk, IfOk};
-ghost use Rattle.text_values.specs.TestValue.{steps_of, content_of};
+ghost use Rattle.text_values.specs.TestValue.{thread_steps, content_of};
 ghost use Rattle.litmus_printing.specs.Printing.{all_of, item_text, cell_text, row_text, rows_text, longest, names, observed_text, entry_line, printed};
 
 use crate::print::{put_condition, put_entry, put_place, put_step};
@@ -34,7 +34,7 @@ fn put_cell(text: &mut Vec<u8>, steps: &[Step], number: usize) -> Result<(), All
 // Appends the row of the steps of this number.
 fn put_row(text: &mut Vec<u8>, threads: &[Thread], number: usize) -> Result<(), AllocError>
     ensures { OnOk result (text.new.items
-        ≡ text.old.items ++ row_text (map (cell_text number) (map steps_of threads.now))) }
+        ≡ text.old.items ++ row_text (map (cell_text number) (map thread_steps threads.now))) }
 {
     for (i, thread) in threads.iter().enumerate() {
         put_between(text, b" | ", i)?;
@@ -45,7 +45,7 @@ fn put_row(text: &mut Vec<u8>, threads: &[Thread], number: usize) -> Result<(), 
 
 // The number of steps of the longest thread.
 fn longest(threads: &[Thread]) -> usize
-    ensures { result ≡ longest (map steps_of threads.now) }
+    ensures { result ≡ longest (map thread_steps threads.now) }
 {
     let mut most = 0usize;
     for thread in threads {
@@ -57,7 +57,7 @@ fn longest(threads: &[Thread]) -> usize
 fn put_rows(text: &mut Vec<u8>, threads: &[Thread]) -> Result<(), AllocError>
     ensures { OnOk result (text.new.items
         ≡ text.old.items
-        ++ rows_text 0 (longest (map steps_of threads.now)) (map steps_of threads.now)) }
+        ++ rows_text 0 (longest (map thread_steps threads.now)) (map thread_steps threads.now)) }
 {
     let most = longest(threads);
     for number in 0..most {

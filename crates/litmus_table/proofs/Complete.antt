@@ -10,7 +10,7 @@ use Rattle.litmus_tokens.specs.declared.token.Mark.TheVariants as marks
 use Rattle.litmus_tokens.specs.Texts as texts
 use Rattle.litmus_tokens.specs.Texts.{tokens_of, StandsAt}
 use Rattle.text_values.specs.declared.test.Step.{Step}
-use Rattle.litmus_table.specs.Grammar.{InstructionTree, CellTree, RowTree, spelled_label, spelled_instruction, spelled_cell, spelled_cells, spelled_rows, spelled_steps, AreCells, AreRows, cell_steps, cells_steps, nth_cell, column, columns_meaning}
+use Rattle.litmus_table.specs.Grammar.{InstructionTree, CellTree, RowTree, spelled_label, spelled_instruction, spelled_cell, spelled_cells, spelled_rows, spelled_steps, AreCells, AreRowTrees, cell_steps, cells_steps, nth_cell, column, columns_meaning}
 use Rattle.litmus_table.specs.Late.{Note, cell_notes, nth_notes, column_notes, thread_notes, columns_notes}
 use Rattle.litmus_table.specs.Machine.{ThreadSteps, fresh, Expectation, Begins, State, at, is_last, expected_step, step, can_end}
 use Rattle.litmus_table.specs.Laws.{then_on, run, steps_of, AreMarks, IsNoted, AreNoted, marks as marks_of}
@@ -197,7 +197,7 @@ module _ (text : List texts.TokenAt) (whole : List Token) (byte : List Token →
     pub leads : runs b (stand threads 0 Begins) (spelled_rows rows []) ≡ Some (stand after 0 Begins)
 
   pub table_run : (n : ℕ) (rows : List RowTree) (threads : List ThreadSteps) (b : List Token)
-      → AreRows n rows → length threads ≡ n + 1 → whole ≡ b ++ spelled_rows rows []
+      → AreRowTrees n rows → length threads ≡ n + 1 → whole ≡ b ++ spelled_rows rows []
       → TableRun threads rows b
   table_run n [] threads b fine size all =
       record { after = threads; adds = all_none threads; leads = refl }

@@ -16,7 +16,7 @@ use Rattle.litmus_table.specs.declared.opcode.Want.{Want}
 use Rattle.litmus_table.specs.declared.opcode.Want.TheVariants as wants
 use Rattle.litmus_table.specs.Words.{opcode_of, data_form, fits, branch_meaning}
 use Rattle.litmus_table.specs.Machine.{ThreadSteps, Pending, Expectation, Begins, Labelled, Within, WantsLabel, Whole, State, first_of, pending_with, pending_after, instruction_of, put_at, at, is_last, ended, operation, begins, cell, goes_on, operand, target_read, expected_step, step, is_row_start, can_end}
-use Rattle.litmus_table.specs.Laws.{then_on, run, columns, Finishes, is_whole}
+use Rattle.litmus_table.specs.Laws.{then_on, run, columns, FinishesTable, is_whole}
 use Rattle.litmus_table.proofs.Sound.{columns-expected}
 
 -- ---- an instruction that is not whole wants a token
@@ -211,7 +211,7 @@ separator threads c offset (WantsLabel condition) e = absurd cc
 separator threads c offset Whole e = (refl, refl)
 
 row_ends : (left : ℕ) (threads : List ThreadSteps) (c : ℕ) (h : Expectation) → can_end h ≡ true
-    → length threads ≤ c + 1 + left → Finishes is_row_start (stand threads c h)
+    → length threads ≤ c + 1 + left → FinishesTable is_row_start (stand threads c h)
 row_ends zero threads c h e le =
     record {
       rest = first_token (tokens.Mark marks.Semicolon) ∷ [];
@@ -226,8 +226,8 @@ row_ends (suc left) threads c h e le =
     choose (is_last threads c) refl (row_ends left threads (c + 1) Begins refl (omega arith))
   where
     choose : (b : Bool) → is_last threads c ≡ b
-        → Finishes is_row_start (stand threads (c + 1) Begins)
-        → Finishes is_row_start (stand threads c h)
+        → FinishesTable is_row_start (stand threads (c + 1) Begins)
+        → FinishesTable is_row_start (stand threads c h)
     choose true k later = record {
       rest = first_token (tokens.Mark marks.Semicolon) ∷ [];
       after = stand threads 0 Begins;
@@ -252,14 +252,14 @@ columns_open : (n : ℕ) → IsOpen (columns n).expected
 columns_open n = subst IsOpen (sym (columns-expected n)) tt
 
 pub table_finishes : (n : ℕ) (ps : List texts.TokenAt) (s : State) → run (columns n) ps ≡ Some s
-    → Finishes is_row_start s
+    → FinishesTable is_row_start s
 table_finishes n ps s e =
     let k = cell_ends s.threads s.column s.expected (stays_open ps (columns n) s (columns_open n) e) in
     let r = row_ends (length k.threads) k.threads s.column k.expected k.ended (omega arith) in
     record { rest = k.by ++ r.rest; after = r.after; by = k.leads r.rest ∙ r.by; ended = r.ended }
 
 pub thread_finishes : (ps : List texts.TokenAt) (s : State) → run (columns 0) ps ≡ Some s
-    → Finishes is_whole s
+    → FinishesTable is_whole s
 thread_finishes ps s e =
     let k = cell_ends s.threads s.column s.expected (stays_open ps (columns 0) s tt e) in
     record { rest = k.by ++ []; after = stand k.threads s.column k.expected; by = k.leads []; ended = k.ended }

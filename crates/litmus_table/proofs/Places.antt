@@ -16,7 +16,7 @@ use Rattle.litmus_table.specs.declared.late.PlacedThread.{PlacedThread}
 use Rattle.litmus_table.specs.Words.{opcode_of, branch_meaning}
 use Rattle.litmus_table.specs.Machine.{ThreadSteps, fresh, Pending, Expectation, Begins, Labelled, Within, WantsLabel, Whole, State, put_at, at, finished, is_last, ended, operation, begins, cell, first_of, goes_on, operand, pending_after, target_read, expected_step, instruction_of}
 use Rattle.litmus_table.specs.Reading.{thread_of, threads_of}
-use Rattle.litmus_table.specs.Within.{AllAtMost, AreWithin}
+use Rattle.litmus_table.specs.Within.{AllAtMost, AreThreadsUpTo}
 
 pushed : (n p : ℕ) (ps : List ℕ) → p ≤ n → AllAtMost n ps → AllAtMost n (ps ++ p ∷ [])
 pushed n p [] le all zero lt = le
@@ -27,17 +27,17 @@ pushed n p (q ∷ ps) le all (suc k) lt =
     pushed n p ps le
     (λ i less. let more : suc i < length (q ∷ ps) = omega arith in all (suc i) more) k fewer
 
-put_within : (n k : ℕ) (s : Step) (p : ℕ) (ts : List ThreadSteps) → p ≤ n → AreWithin n ts
-    → AreWithin n (put_at k s p ts)
+put_within : (n k : ℕ) (s : Step) (p : ℕ) (ts : List ThreadSteps) → p ≤ n → AreThreadsUpTo n ts
+    → AreThreadsUpTo n (put_at k s p ts)
 put_within n k s p [] le h = tt
 put_within n zero s p (t ∷ ts) le h = (pushed n p t.offsets le h.0, h.1)
 put_within n (suc k) s p (t ∷ ts) le h = (h.0, put_within n k s p ts le h.1)
 
 abbrev WithinSome : ℕ → Option State → Type 0
 WithinSome n None = Unit {0}
-WithinSome n (Some s) = AreWithin n s.threads
+WithinSome n (Some s) = AreThreadsUpTo n s.threads
 
-module _ (n p : ℕ) (le : p ≤ n) (ts : List ThreadSteps) (c : ℕ) (h : AreWithin n ts) where
+module _ (n p : ℕ) (le : p ≤ n) (ts : List ThreadSteps) (c : ℕ) (h : AreThreadsUpTo n ts) where
   done : (i : Instruction) → WithinSome n (finished ts c i p)
   done i = put_within n c (steps.Instruction i) p ts le h
 
@@ -85,21 +85,21 @@ module _ (n p : ℕ) (le : p ≤ n) (ts : List ThreadSteps) (c : ℕ) (h : AreWi
   after_expectation (WantsLabel condition) t = after_target condition t
   after_expectation Whole t = after_end t
 
-pub expectation_within : (n p : ℕ) → p ≤ n → (ts : List ThreadSteps) (c : ℕ) → AreWithin n ts
+pub expectation_within : (n p : ℕ) → p ≤ n → (ts : List ThreadSteps) (c : ℕ) → AreThreadsUpTo n ts
     → (o : Expectation) (t : Token) (x : State) → expected_step ts c o t p ≡ Some x
-    → AreWithin n x.threads
+    → AreThreadsUpTo n x.threads
 expectation_within n p le ts c h o t x e =
     subst (WithinSome n) e (after_expectation n p le ts c h o t)
 
 -- a thread of the table
 pub thread_within : (n : ℕ) (ts : List PlacedThread) (k : ℕ) (d : PlacedThread)
-    → AreWithin n (threads_of ts) → k < length ts → AllAtMost n (thread_of (get_or ts k d)).offsets
+    → AreThreadsUpTo n (threads_of ts) → k < length ts → AllAtMost n (thread_of (get_or ts k d)).offsets
 thread_within n [] k d h lt = absurd (omega arith)
 thread_within n (t ∷ ts) zero d h lt = h.0
 thread_within n (t ∷ ts) (suc k) d h lt =
     let less : k < length ts = omega arith in thread_within n ts k d h.1 less
 
-pub widened_within : (n : ℕ) (ts : List ThreadSteps) → AreWithin n ts
-    → AreWithin n (ts ++ fresh ∷ [])
+pub widened_within : (n : ℕ) (ts : List ThreadSteps) → AreThreadsUpTo n ts
+    → AreThreadsUpTo n (ts ++ fresh ∷ [])
 widened_within n [] h = (λ k lt. absurd (omega (arith, lt)), tt)
 widened_within n (t ∷ ts) h = (h.0, widened_within n ts h.1)

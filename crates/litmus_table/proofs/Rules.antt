@@ -13,9 +13,9 @@ use Rattle.litmus_tokens.specs.declared.stage.Stage.TheVariants as stages
 use Rattle.litmus_tokens.specs.declared.token.Token.{Token}
 use Rattle.litmus_tokens.specs.declared.token.Token.TheVariants as tokens
 use Rattle.litmus_tokens.specs.declared.token.Mark.TheVariants as marks
-use Rattle.litmus_tokens.specs.Stage.{rule_of}
+use Rattle.litmus_tokens.specs.Stage.{part_rule}
 use Rattle.litmus_tokens.specs.Words.{is_filter, is_register, is_int, ends_table}
-use Rattle.litmus_tokens.specs.Faults.{Ruling, Always, Where, Says, cell_ruling}
+use Rattle.litmus_tokens.specs.Faults.{Ruling, Always, Where, RulingSays, cell_ruling}
 use Rattle.litmus_table.specs.declared.opcode.DataOpcode.{DataOpcode}
 use Rattle.litmus_table.specs.declared.opcode.Want.{Want}
 use Rattle.litmus_table.specs.declared.opcode.Want.TheVariants as wants
@@ -424,9 +424,9 @@ module _ (alone : Bool) (threads : List ThreadSteps) (c : ℕ) where
       else (if is_base (wanted h) && is_register w then rules.ZeroBase else rules.Instruction))
       (not_filter (is_row_start (here h)) (not alone))
 
-  module _ (stage : Stage) (inner : rule_of stage ≡ rules.Instruction) where
+  module _ (stage : Stage) (inner : part_rule stage ≡ rules.Instruction) where
     abbrev Ruling_says : Expectation → Ruling → LitmusRule → Type 0
-    Ruling_says h r k = Says (λ u. stands alone (here h) u ≡ true) stage r k
+    Ruling_says h r k = RulingSays (λ u. stands alone (here h) u ≡ true) stage r k
 
     says_where : (h : Expectation) (other : Token) (n k : LitmusRule)
         → Ruled alone (here h) other n k → Ruling_says h (Where other n) k
@@ -454,7 +454,7 @@ module _ (alone : Bool) (threads : List ThreadSteps) (c : ℕ) where
             (subst (Ruled alone (here h) one rules.ZeroBase) (sym same) r))
 
         second : (f : Bool) → is_filter w ≡ f → bytes_eq w (codes "r0") ≡ false
-            → Ruling_says h (if f then Where tail_word rules.Filter else Always (rule_of stage))
+            → Ruling_says h (if f then Where tail_word rules.Filter else Always (part_rule stage))
             (word_rule h w f)
         second true e k =
             says_where h tail_word rules.Filter (word_rule h w true)
@@ -465,7 +465,7 @@ module _ (alone : Bool) (threads : List ThreadSteps) (c : ℕ) where
             → Ruling_says h
             (if b then Where one rules.ZeroBase
             else (if is_filter w then Where tail_word rules.Filter
-            else Always (rule_of stage)))
+            else Always (part_rule stage)))
             (word_rule h w (is_filter w))
         first true e = zero (is_word w (codes "r0") e)
         first false e = second (is_filter w) refl e
@@ -477,7 +477,7 @@ module _ (alone : Bool) (threads : List ThreadSteps) (c : ℕ) where
     numbers h negative ds out = choose (is_int negative ds) refl
       where
         choose : (b : Bool) → is_int negative ds ≡ b
-            → Ruling_says h (if b then Where zero_token rules.Offset else Always (rule_of stage))
+            → Ruling_says h (if b then Where zero_token rules.Offset else Always (part_rule stage))
             (if is_zero (wanted h) && is_int negative ds then rules.Offset
             else rules.Instruction)
         choose true e =
@@ -501,7 +501,7 @@ module _ (alone : Bool) (threads : List ThreadSteps) (c : ℕ) where
     ruled h (tokens.Number negative ds) out = numbers h negative ds out
     ruled h t out = sym inner
 
-in_a_cell : (stage : Stage) → IsInCell stage → rule_of stage ≡ rules.Instruction
+in_a_cell : (stage : Stage) → IsInCell stage → part_rule stage ≡ rules.Instruction
 in_a_cell stages.CellBegins i = refl
 in_a_cell stages.InCell i = refl
 in_a_cell stage i = absurd i

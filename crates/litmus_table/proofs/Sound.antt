@@ -16,7 +16,7 @@ use Rattle.litmus_table.specs.declared.opcode.Opcode.{Opcode}
 use Rattle.litmus_table.specs.declared.opcode.Opcode.TheVariants as opcodes
 use Rattle.litmus_table.specs.declared.opcode.Want.{Want}
 use Rattle.litmus_table.specs.Words.{opcode_of, fits, all_fit}
-use Rattle.litmus_table.specs.Grammar.{InstructionTree, CellTree, RowTree, spelled_instruction, spelled_cell, spelled_cells, spelled_rows, spelled_steps, IsInstruction, AreCells, AreRows}
+use Rattle.litmus_table.specs.Grammar.{InstructionTree, CellTree, RowTree, spelled_instruction, spelled_cell, spelled_cells, spelled_rows, spelled_steps, IsInstruction, AreCells, AreRowTrees}
 use Rattle.litmus_table.specs.Machine.{ThreadSteps, fresh, first_of, pending_after, Pending, Expectation, Begins, Labelled, Within, WantsLabel, Whole, State, pending_with, put_at, at, is_last, ended, operation, begins, cell, goes_on, operand, target_read, expected_step, step, is_row_start, can_end, is_begin}
 use Rattle.litmus_table.specs.Laws.{IsTable, IsThread, then_on, run, columns, is_whole}
 
@@ -237,7 +237,7 @@ module _ (Tail Cell : ℕ → List Token → Type 0) where
 abbrev TableTail : ℕ → ℕ → List Token → Type 0
 TableTail n c tail =
     (cells : List CellTree) × (rows : List RowTree) × AreCells cells × (c + length cells ≡ n)
-    × AreRows n rows × (tail ≡ spelled_cells cells (spelled_rows rows []))
+    × AreRowTrees n rows × (tail ≡ spelled_cells cells (spelled_rows rows []))
 
 abbrev TableCell : ℕ → ℕ → List Token → Type 0
 TableCell n c ts =

@@ -10,7 +10,7 @@ use Rattle.litmus_table.specs.Grammar.{spelled_rows, spelled_thread, columns_mea
 use Rattle.litmus_table.specs.Late.{column_notes, columns_notes}
 use Rattle.litmus_table.specs.Machine.{ThreadSteps, fresh, State, widened, step}
 use Rattle.litmus_table.specs.Machine as machine
-use Rattle.litmus_table.specs.Laws.{IsTable, IsThread, then_on, run, columns, Takes, TakesRows, TakesCells, AreNoted}
+use Rattle.litmus_table.specs.Laws.{IsTable, IsThread, then_on, run, columns, TakesAll, TakesRows, TakesCells, AreNoted}
 use Rattle.litmus_table.proofs.Cells.{stand}
 use Rattle.litmus_table.proofs.Complete.{runs, freshes, rows_steps, rows_steps-column, gathered, fresh_steps, table_run, thread_run, Bytes, run_is, byte_at, tokens-append, stands_at, byte_there}
 use Rattle.litmus_table.proofs.Finishes.{table_finishes, thread_finishes}
@@ -116,10 +116,10 @@ run-append (p ∷ ps) qs s = by_step (step s p.token p.offset) (run-append ps qs
     by_step None later = refl
     by_step (Some u) later = later u
 
-taken_first : (s f : State) (ps qs : List texts.TokenAt) → run s (ps ++ qs) ≡ Some f → Takes s ps
+taken_first : (s f : State) (ps qs : List texts.TokenAt) → run s (ps ++ qs) ≡ Some f → TakesAll s ps
 taken_first s f ps qs e = choose (run s ps) refl (sym (run-append ps qs s) ∙ e)
   where
-    choose : (o : Option State) → run s ps ≡ o → then_on (λ u. run u qs) o ≡ Some f → Takes s ps
+    choose : (o : Option State) → run s ps ≡ o → then_on (λ u. run u qs) o ≡ Some f → TakesAll s ps
     choose None k m = absurd cc
     choose (Some u) k m = record { after = u; by = k }
 
@@ -140,25 +140,25 @@ tokens-behind : (ps : List texts.TokenAt) (ts : List Token)
 tokens-behind ps ts =
     tokens-append ps (unplaced ts) ∙ ap (λ (l : List Token). tokens_of ps ++ l) (tokens-unplaced ts)
 
-pub table_begins : (n : ℕ) (ps : List texts.TokenAt) → Takes (columns n) ps
+pub table_begins : (n : ℕ) (ps : List texts.TokenAt) → TakesAll (columns n) ps
     → Begins (IsTable n) (tokens_of ps)
 table_begins n ps t =
     let f = table_finishes n ps t.after t.by in
     record { rest = tokens_of f.rest; text = subst (IsTable n) (tokens-append ps f.rest) (table_sound n (ps ++ f.rest) f.after (taken_on (columns n) t.after f.after ps f.rest t.by f.by) f.ended) }
 
 pub table_taken : (n : ℕ) (ps : List texts.TokenAt) → Begins (IsTable n) (tokens_of ps)
-    → Takes (columns n) ps
+    → TakesAll (columns n) ps
 table_taken n ps b =
     let r = table_complete [] (ps ++ unplaced b.rest) [] n (subst (IsTable n) (sym (tokens-behind ps b.rest)) b.text) in
     taken_first (columns n) r.after ps (unplaced b.rest) r.by
 
-pub thread_begins : (ps : List texts.TokenAt) → Takes (columns 0) ps
+pub thread_begins : (ps : List texts.TokenAt) → TakesAll (columns 0) ps
     → Begins IsThread (tokens_of ps)
 thread_begins ps t =
     let f = thread_finishes ps t.after t.by in
     record { rest = tokens_of f.rest; text = subst IsThread (tokens-append ps f.rest) (thread_sound (ps ++ f.rest) f.after (taken_on (columns 0) t.after f.after ps f.rest t.by f.by) f.ended) }
 
-pub thread_taken : (ps : List texts.TokenAt) → Begins IsThread (tokens_of ps) → Takes (columns 0) ps
+pub thread_taken : (ps : List texts.TokenAt) → Begins IsThread (tokens_of ps) → TakesAll (columns 0) ps
 thread_taken ps b =
     let r = thread_complete [] (ps ++ unplaced b.rest) [] (subst IsThread (sym (tokens-behind ps b.rest)) b.text) in
     taken_first (columns 0) r.after ps (unplaced b.rest) r.by

@@ -86,10 +86,10 @@ AreCells [] = Unit {0}
 AreCells (c ∷ cs) = IsInstruction c.instruction × AreCells cs
 
 -- each row has as many cells beside the first as the header has names
-abbrev pub AreRows : ℕ → List RowTree → Type 0
-AreRows n [] = Unit {0}
-AreRows n (r ∷ rs) =
-    IsInstruction r.first.instruction × AreCells r.others × (length r.others ≡ n) × AreRows n rs
+abbrev pub AreRowTrees : ℕ → List RowTree → Type 0
+AreRowTrees n [] = Unit {0}
+AreRowTrees n (r ∷ rs) =
+    IsInstruction r.first.instruction × AreCells r.others × (length r.others ≡ n) × AreRowTrees n rs
 
 -- ---- what they mean
 

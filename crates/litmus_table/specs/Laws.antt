@@ -5,12 +5,12 @@ use Rattle.litmus_tokens.specs.declared.stage.Stage.TheVariants.{CellBegins, InC
 use Rattle.litmus_tokens.specs.declared.token.Token.{Token}
 use Rattle.litmus_tokens.specs.Texts as texts
 use Rattle.litmus_tokens.specs.Texts.{tokens_of, StandsAt, is_end, begins_tail}
-use Rattle.litmus_tokens.specs.Faults.{Says, cell_ruling}
+use Rattle.litmus_tokens.specs.Faults.{RulingSays, cell_ruling}
 use Rattle.text_values.specs.declared.instruction.Instruction.{Instruction}
 use Rattle.text_values.specs.declared.instruction.Instruction.TheVariants as instructions
 use Rattle.text_values.specs.declared.test.Step.{Step}
 use Rattle.text_values.specs.declared.test.Step.TheVariants as steps
-use Rattle.litmus_table.specs.Grammar.{RowTree, ThreadTree, spelled_rows, spelled_thread, AreCells, AreRows, columns_meaning, thread_meaning}
+use Rattle.litmus_table.specs.Grammar.{RowTree, ThreadTree, spelled_rows, spelled_thread, AreCells, AreRowTrees, columns_meaning, thread_meaning}
 use Rattle.litmus_table.specs.Late.{Note, Defines, Branches, thread_notes, columns_notes}
 use Rattle.litmus_table.specs.Machine.{ThreadSteps, State, start, widened, step, is_row_start, can_end, rule_at}
 
@@ -19,7 +19,7 @@ use Rattle.litmus_table.specs.Machine.{ThreadSteps, State, start, widened, step,
 -- these tokens are the rows of a table, of a first column and so many others
 pub record IsTable (others : ℕ) (ts : List Token) : Type 0 where
   pub rows : List RowTree
-  pub fine : AreRows others rows
+  pub fine : AreRowTrees others rows
   pub whole : ts ≡ spelled_rows rows []
 
 -- these tokens are the text of a thread alone
@@ -44,12 +44,12 @@ abbrev pub columns : ℕ → State
 columns zero = widened start
 columns (suc n) = widened (columns n)
 
-pub record Takes (s : State) (ps : List texts.TokenAt) : Type 0 where
+pub record TakesAll (s : State) (ps : List texts.TokenAt) : Type 0 where
   pub after : State
   pub by : run s ps ≡ Some after
 
 -- some tokens lead to where the table, or the text of a thread, may end
-pub record Finishes (may_end : State → Bool) (s : State) : Type 0 where
+pub record FinishesTable (may_end : State → Bool) (s : State) : Type 0 where
   pub rest : List texts.TokenAt
   pub after : State
   pub by : run s rest ≡ Some after
@@ -146,4 +146,4 @@ abbrev pub GivesRules : Type 0
 GivesRules =
     (alone : Bool) (s : State) (stage : Stage) (t : Token) → IsInCell stage
     → stands alone s t ≡ false
-    → Says (λ u. stands alone s u ≡ true) stage (cell_ruling stage t) (rule_at alone s t)
+    → RulingSays (λ u. stands alone s u ≡ true) stage (cell_ruling stage t) (rule_at alone s t)

@@ -47,15 +47,15 @@ table_of t =
     }
 
 -- What a function returned, seen by view, is what the machine does, unless memory ran out.
-abbrev pub Refuses : {Y : Type 0} → StepError → Option Y → Type 0
-Refuses errors.OutOfMemory made = Unit {0}
-Refuses errors.Refused made = made ≡ None
+abbrev pub RefusesStep : {Y : Type 0} → StepError → Option Y → Type 0
+RefusesStep errors.OutOfMemory made = Unit {0}
+RefusesStep errors.Refused made = made ≡ None
 
 abbrev pub Takes : Result (Unit {0}) StepError → code_pending.Pending → Option machine.Pending
     → Type 0
 Takes (Ok u) p made = made ≡ Some (pending_of p)
-Takes (Err e) p made = Refuses e made
+Takes (Err e) p made = RefusesStep e made
 
 abbrev pub Steps : Result (Unit {0}) StepError → Table → Option machine.State → Type 0
 Steps (Ok u) t made = made ≡ Some (table_of t)
-Steps (Err e) t made = Refuses e made
+Steps (Err e) t made = RefusesStep e made

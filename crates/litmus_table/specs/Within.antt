@@ -7,9 +7,9 @@ abbrev pub AllAtMost : ℕ → List ℕ → Type 0
 AllAtMost n offsets = (k : ℕ) → k < length offsets → slice_index offsets k ≤ n
 
 -- every offset of every thread is at most this
-abbrev pub AreWithin : ℕ → List ThreadSteps → Type 0
-AreWithin n [] = Unit {0}
-AreWithin n (t ∷ ts) = AllAtMost n t.offsets × AreWithin n ts
+abbrev pub AreThreadsUpTo : ℕ → List ThreadSteps → Type 0
+AreThreadsUpTo n [] = Unit {0}
+AreThreadsUpTo n (t ∷ ts) = AllAtMost n t.offsets × AreThreadsUpTo n ts
 
 -- a fault, if one was found, stands there too
 abbrev pub IsFoundWithin : ℕ → Option LateFault → Type 0

@@ -5,7 +5,7 @@ ghost use Rattle.litmus_tokens.specs.declared.token.Token.{Token};
 ghost use Rattle.litmus_tokens.specs.Texts.{TokenAt, tokens_of, begins_tail};
 ghost use Rattle.litmus_tokens.specs.Faults.{Begins};
 ghost use Rattle.litmus_table.specs.Machine.{State, step, is_row_start};
-ghost use Rattle.litmus_table.specs.Laws.{IsTable, IsThread, run, columns, Takes, Finishes, TakesRows, TakesCells, is_whole, GivesRules};
+ghost use Rattle.litmus_table.specs.Laws.{IsTable, IsThread, run, columns, TakesAll, FinishesTable, TakesRows, TakesCells, is_whole, GivesRules};
 
 /// Token by token, the reader takes the rows of tables and nothing else, and keeps what they mean.
 /// What it has taken begins some rows, and it takes all that begins some.
@@ -18,10 +18,10 @@ pub fn takes_tables()
         → TakesRows others qs ps rs t.rows }
     // Wherever it stands, some tokens end the row.
     ensures finishes { (others : ℕ) (ps : List TokenAt) (s : State)
-        → run (columns others) ps ≡ Some s → Finishes is_row_start s }
+        → run (columns others) ps ≡ Some s → FinishesTable is_row_start s }
     // The tokens that it takes are those that begin some rows.
     ensures stops { (others : ℕ) (ps : List TokenAt)
-        → Takes (columns others) ps ↔ Begins (IsTable others) (tokens_of ps) }
+        → TakesAll (columns others) ps ↔ Begins (IsTable others) (tokens_of ps) }
     // What stands behind the rows begins no row.
     ensures apart { (s : State) (t : Token) (offset : ℕ) → is_row_start s ≡ true
         → begins_tail t ≡ true → step s t offset ≡ None }
@@ -34,8 +34,8 @@ pub fn takes_threads()
     ensures complete { (qs ps rs : List TokenAt) (t : IsThread (tokens_of ps))
         → TakesCells qs ps rs t.tree }
     ensures finishes { (ps : List TokenAt) (s : State) → run (columns 0) ps ≡ Some s
-        → Finishes is_whole s }
-    ensures stops { (ps : List TokenAt) → Takes (columns 0) ps ↔ Begins IsThread (tokens_of ps) }
+        → FinishesTable is_whole s }
+    ensures stops { (ps : List TokenAt) → TakesAll (columns 0) ps ↔ Begins IsThread (tokens_of ps) }
 {}
 
 /// The rule that the reader answers for a token that cannot stand is the one that it breaks.

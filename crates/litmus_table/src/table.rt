@@ -6,7 +6,7 @@ ghost use Rattle.litmus_tokens.specs.Texts.{TokenAt};
 ghost use Rattle.litmus_table.specs.Checks.{IsFoundAt};
 ghost use Rattle.litmus_table.specs.Late.{Note, first_late};
 ghost use Rattle.litmus_table.specs.Laws.{AreNoted, steps_of};
-ghost use Rattle.litmus_table.specs.Within.{AreWithin, IsFoundWithin};
+ghost use Rattle.litmus_table.specs.Within.{AreThreadsUpTo, IsFoundWithin};
 ghost use Rattle.litmus_table.specs.Reading.{threads_of, expectation_of, table_of, first_steps, Steps};
 
 use crate::late::{LateFault, PlacedThread};
@@ -115,8 +115,8 @@ impl Table {
     /// that name.
     pub fn name_read(&mut self, token: Token) -> Result<(), StepError>
         ensures steps { Steps result self.new (named (table_of self.old) token) }
-        ensures within { (n : ℕ) → AreWithin n (table_of self.old).threads
-            → OnOk result (AreWithin n (table_of self.new).threads) }
+        ensures within { (n : ℕ) → AreThreadsUpTo n (table_of self.old).threads
+            → OnOk result (AreThreadsUpTo n (table_of self.new).threads) }
     {
         match token {
             Token::Word(word) => {
@@ -191,8 +191,8 @@ impl Table {
         // It does what the machine does.
         ensures steps { Steps result self.new (step (table_of self.old) token offset) }
         // What it keeps of this token stands at this byte.
-        ensures within { (n : ℕ) → offset ≤ n → AreWithin n (table_of self.old).threads
-            → OnOk result (AreWithin n (table_of self.new).threads) }
+        ensures within { (n : ℕ) → offset ≤ n → AreThreadsUpTo n (table_of self.old).threads
+            → OnOk result (AreThreadsUpTo n (table_of self.new).threads) }
     {
         self.go(token, offset)?;
         Ok(())
@@ -348,7 +348,7 @@ impl Table {
     /// The first fault of a label, thread by thread, or `None`. Errors: out of memory.
     pub fn check_labels(&self) -> Result<Option<LateFault>, AllocError>
         // The byte is one of those that were kept.
-        ensures within { (n : ℕ) → AreWithin n (table_of self.now).threads
+        ensures within { (n : ℕ) → AreThreadsUpTo n (table_of self.now).threads
             → IfOk result (IsFoundWithin n) }
         // What it finds is what the definitions find, at the byte where that stands.
         ensures found { (text : List TokenAt) (notes : List (List Note))

@@ -16,7 +16,7 @@ use Rattle.litmus_tokens.specs.declared.token.Mark.TheVariants as marks
 use Rattle.litmus_tokens.specs.Words.{register_of, is_known, or_zero}
 use Rattle.litmus_tokens.specs.declared.place.PlaceExpectation.TheVariants.{WantsColon}
 use Rattle.litmus_tokens.specs.declared.place.WrittenPlace.TheVariants as written
-use Rattle.litmus_tokens.specs.Conditions.{PlaceTree, Location, Register, ValueTree, Number, Address, spelled_place, spelled_value, place_meaning, value_meaning, IsPlace, HasThread, IsValue, FormulaTree, Word, Atom, Prefix, Pair, Group, constant_word, connective_token, spelled, meaning, tightness, IsGrouped, HasAtoms, depth, operators, Limits, IsProposition}
+use Rattle.litmus_tokens.specs.Conditions.{PlaceTree, Location, Register, ValueTree, Number, Address, spelled_place, spelled_value, place_meaning, value_meaning, IsPlaceTree, HasThread, IsValueTree, FormulaTree, Word, Atom, Prefix, Pair, Group, constant_word, connective_token, spelled, formula_meaning, tightness, IsGrouped, HasAtoms, depth, operators, Limits, IsProposition}
 use Rattle.litmus_tokens.specs.PlaceMachine.{register_ends, place_of}
 use Rattle.litmus_tokens.specs.ConditionMachine.{Frame, InGroup, InPrefix, LeftOf, Expectation, Wants, HasConstant, HasNot, InPlace, WantsEquals, WantsValue, Has, StepResult, Goes, Refuses, open_count, fold_to, expected_after_word, expected_after_place, in_place, operand, left_frames, closed, ended, atom_read, go_on, proposition}
 use Rattle.litmus_tokens.proofs.Branches.{level-le}
@@ -27,8 +27,8 @@ abbrev pub pending : FormulaTree → List Frame → List Frame × Formula
 pending (Word b) fs = (fs, Constant b)
 pending (Atom p v) fs = (fs, Holds (place_meaning p) (value_meaning v))
 pending (Prefix tilde a) fs = pending a (InPrefix ∷ fs)
-pending (Pair op a b) fs = pending b (LeftOf op (meaning a) ∷ fs)
-pending (Group a) fs = (fs, meaning a)
+pending (Pair op a b) fs = pending b (LeftOf op (formula_meaning a) ∷ fs)
+pending (Group a) fs = (fs, formula_meaning a)
 
 abbrev pub wanted : List Frame → ℕ
 wanted [] = 0
@@ -37,16 +37,16 @@ wanted (InPrefix ∷ fs) = 4
 wanted (LeftOf op a ∷ fs) = level op
 
 fold_pending : (t : FormulaTree) (fs : List Frame) (l : ℕ) → IsGrouped t → l ≤ tightness t
-    → fold_to l (pending t fs).0 (pending t fs).1 ≡ fold_to l fs (meaning t)
+    → fold_to l (pending t fs).0 (pending t fs).1 ≡ fold_to l fs (formula_meaning t)
 fold_pending (Word b) fs l g h = refl
 fold_pending (Atom p v) fs l g h = refl
 fold_pending (Prefix tilde a) fs l g h = fold_pending a (InPrefix ∷ fs) l g.1 (omega (arith, g.0))
 fold_pending (Pair op a b) fs l g h =
     let e = le-leb l (level op) h in
-    fold_pending b (LeftOf op (meaning a) ∷ fs) l g.3 (omega (arith, g.1))
+    fold_pending b (LeftOf op (formula_meaning a) ∷ fs) l g.3 (omega (arith, g.1))
     ∙ ap
-    (λ (x : Bool). if x then fold_to l fs (Join op (meaning a) (meaning b))
-    else (LeftOf op (meaning a) ∷ fs, meaning b)) e
+    (λ (x : Bool). if x then fold_to l fs (Join op (formula_meaning a) (formula_meaning b))
+    else (LeftOf op (formula_meaning a) ∷ fs, formula_meaning b)) e
 fold_pending (Group a) fs l g h = refl
 
 -- an operator joins nothing where it may stand
@@ -62,9 +62,9 @@ fold_stays op (LeftOf o a ∷ fs) v h =
 joins_pending : (op : Connective) (a : FormulaTree) (fs : List Frame) → IsGrouped a
     → level op + 1 ≤ tightness a → wanted fs ≤ level op
     → left_frames op (fold_to (level op + 1) (pending a fs).0 (pending a fs).1)
-    ≡ LeftOf op (meaning a) ∷ fs
+    ≡ LeftOf op (formula_meaning a) ∷ fs
 joins_pending op a fs g h w =
-    ap (left_frames op) (fold_pending a fs (level op + 1) g h ∙ fold_stays op fs (meaning a) w)
+    ap (left_frames op) (fold_pending a fs (level op + 1) g h ∙ fold_stays op fs (formula_meaning a) w)
 
 -- what may stand behind a proposition
 abbrev pub CanFollow : List Token → Type 0
@@ -169,7 +169,7 @@ module _ (most : Limits) (threads : ℕ) where
       first false h = second (bytes_eq w (codes "false")) ((bytes_eq-Decides w (codes "false")).0)
 
   place_run : threads < 18446744073709551616
-      → (p : PlaceTree) (fs : List Frame) (used : ℕ) (rest : List Token) → IsPlace p
+      → (p : PlaceTree) (fs : List Frame) (used : ℕ) (rest : List Token) → IsPlaceTree p
       → HasThread threads p
       → run fs used Wants (spelled_place p (tokens.Mark marks.Equals ∷ rest))
       ≡ run fs used (WantsValue (place_meaning p)) rest
@@ -192,7 +192,7 @@ module _ (most : Limits) (threads : ℕ) where
       by_register None e = absurd cc
 
   value_run : (v : ValueTree) (p : Place) (fs : List Frame) (used : ℕ) (rest : List Token)
-      → IsValue v
+      → IsValueTree v
       → run fs used (WantsValue p) (spelled_value v rest)
       ≡ run fs used (Has (Holds p (value_meaning v))) rest
   value_run (Number negative ds) p fs used rest i =
@@ -257,7 +257,7 @@ module _ (most : Limits) (threads : ℕ) where
       (connective_follows op (spelled b rest))
       ∙ joins_run op p.0 (used + operators a) p.1 (spelled b rest) (omega arith)
       ∙ ap (λ (gs : List Frame). run gs (used + operators a + 1) Wants (spelled b rest)) same
-      ∙ tree_run few b (LeftOf op (meaning a) ∷ fs) (used + operators a + 1) all rest g.3 h.1 g.1
+      ∙ tree_run few b (LeftOf op (formula_meaning a) ∷ fs) (used + operators a + 1) all rest g.3 h.1 g.1
       (omega arith) (omega arith) m c
   tree_run few (Group a) fs used all rest g h w d u m c =
       opened_run (Goes (InGroup ∷ fs) used Wants) fs (spelled a (tokens.Mark marks.Close ∷ rest))

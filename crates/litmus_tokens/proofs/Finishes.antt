@@ -15,7 +15,7 @@ use Rattle.litmus_tokens.specs.declared.place.WrittenPlace.TheVariants as writte
 use Rattle.litmus_tokens.specs.Conditions.{constant_word, Limits}
 use Rattle.litmus_tokens.specs.PlaceMachine.{place_of}
 use Rattle.litmus_tokens.specs.ConditionMachine.{Frame, InGroup, InPrefix, LeftOf, Expectation, Wants, HasConstant, HasNot, InPlace, WantsEquals, WantsValue, Has, fold_to, closed, ended}
-use Rattle.litmus_tokens.specs.ConditionLaws.{Finishes}
+use Rattle.litmus_tokens.specs.ConditionLaws.{FinishesFormula}
 use Rattle.litmus_tokens.proofs.Complete.{run, from}
 
 le_zero : (n : ℕ) → nat_le 0 n ≡ true
@@ -82,12 +82,12 @@ module _ (most : Limits) (threads : ℕ) where
   -- these tokens lead to an atom
   by_atom : (fs : List Frame) (used : ℕ) (expected : Expectation) (p : Place) (ts : List Token)
       → run most threads fs used expected ts ≡ run most threads fs used (Has (atom p)) (closers fs)
-      → Finishes most threads fs used expected
+      → FinishesFormula most threads fs used expected
   by_atom fs used expected p ts e =
       let r = has_finishes fs used (atom p) in record { rest = ts; value = r.0; by = e ∙ r.1 }
 
   place_finishes : (fs : List Frame) (used : ℕ) (expected : PlaceExpectation)
-      → Finishes most threads fs used (InPlace expected)
+      → FinishesFormula most threads fs used (InPlace expected)
   place_finishes fs used Begins =
       by_atom fs used (InPlace Begins) (places.Location letter) (tokens.Word letter ∷ equals fs)
       refl
@@ -105,7 +105,7 @@ module _ (most : Limits) (threads : ℕ) where
       (tokens.Word (codes "r0") ∷ equals fs) refl
 
   pub finishes : (fs : List Frame) (used : ℕ) (expected : Expectation)
-      → Finishes most threads fs used expected
+      → FinishesFormula most threads fs used expected
   finishes fs used Wants =
       by_atom fs used Wants (places.Location letter) (tokens.Word letter ∷ equals fs) refl
   finishes fs used (HasConstant b) =

@@ -14,7 +14,7 @@ use Rattle.litmus_tokens.specs.declared.place.WrittenPlace.{WrittenPlace}
 use Rattle.litmus_tokens.specs.declared.place.WrittenPlace.TheVariants as written
 use Rattle.litmus_tokens.specs.declared.place.PlaceStep.{PlaceStep}
 use Rattle.litmus_tokens.specs.declared.place.PlaceStep.TheVariants as steps
-use Rattle.litmus_tokens.specs.Conditions.{PlaceTree, Location, Register, ValueTree, Number, Address, spelled_place, spelled_value, place_meaning, value_meaning, IsPlace, HasThread, IsValue, written_place}
+use Rattle.litmus_tokens.specs.Conditions.{PlaceTree, Location, Register, ValueTree, Number, Address, spelled_place, spelled_value, place_meaning, value_meaning, IsPlaceTree, HasThread, IsValueTree, written_place}
 use Rattle.litmus_tokens.specs.PlaceMachine.{place_start, register_ends, place_step, place_of, number_read, value_read}
 
 -- the tokens that were read within a place, and then rest
@@ -28,7 +28,7 @@ within (WantsRegister t) rest = tokens.Number false t ∷ tokens.Mark Colon ∷ 
 -- a place was read
 pub record PlaceRead (whole rest : List Token) (w : WrittenPlace) : Type 0 where
   pub tree : PlaceTree
-  pub fine : IsPlace tree
+  pub fine : IsPlaceTree tree
   pub means : written_place tree ≡ w
   pub whole_is : whole ≡ spelled_place tree rest
 
@@ -119,7 +119,7 @@ place_of_written threads (Register t r) few h =
 -- a value was read
 pub record ValueRead (whole rest : List Token) (v : declared_value.Value) : Type 0 where
   pub tree : ValueTree
-  pub fine : IsValue tree
+  pub fine : IsValueTree tree
   pub means : value_meaning tree ≡ v
   pub whole_is : whole ≡ spelled_value tree rest
 
@@ -144,7 +144,7 @@ abbrev pub value_token : ValueTree → Token
 value_token (Number negative ds) = tokens.Number negative ds
 value_token (Address n) = tokens.Word n
 
-pub value_taken : (v : ValueTree) → IsValue v → value_read (value_token v) ≡ Some (value_meaning v)
+pub value_taken : (v : ValueTree) → IsValueTree v → value_read (value_token v) ≡ Some (value_meaning v)
 value_taken (Number negative ds) h =
     ap (λ (b : Bool). number_read (if b then Some (signed negative (decimal ds)) else None)) h
 value_taken (Address n) h = refl

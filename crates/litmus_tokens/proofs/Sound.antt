@@ -18,7 +18,7 @@ use Rattle.litmus_tokens.specs.declared.place.PlaceExpectation.{PlaceExpectation
 use Rattle.litmus_tokens.specs.declared.place.PlaceExpectation.TheVariants.{WantsColon}
 use Rattle.litmus_tokens.specs.declared.place.PlaceStep.{PlaceStep}
 use Rattle.litmus_tokens.specs.declared.place.PlaceStep.TheVariants as steps
-use Rattle.litmus_tokens.specs.Conditions.{PlaceTree, Location, spelled_place, place_meaning, value_meaning, IsPlace, HasThread, FormulaTree, Word, Atom, Group, constant_word, connective_token, spelled, meaning, tightness, IsGrouped, HasAtoms, depth, operators, Limits, IsFormula, IsProposition}
+use Rattle.litmus_tokens.specs.Conditions.{PlaceTree, Location, spelled_place, place_meaning, value_meaning, IsPlaceTree, HasThread, FormulaTree, Word, Atom, Group, constant_word, connective_token, spelled, formula_meaning, tightness, IsGrouped, HasAtoms, depth, operators, Limits, IsFormulaTree, IsProposition}
 use Rattle.litmus_tokens.specs.PlaceMachine.{place_step, place_of, value_read}
 use Rattle.litmus_tokens.specs.ConditionMachine.{Frame, InGroup, InPrefix, Expectation, Wants, HasConstant, HasNot, InPlace, WantsEquals, WantsValue, Has, StepResult, Goes, Ends, Refuses, open_count, fold_to, opened, expected_after_word, expected_after_place, in_place, place_result, operand, left_frames, joins, closed, ended, behind, after_constant, after_not, after_place, atom_read, proposition_step, whole_at, go_on, proposition}
 use Rattle.litmus_tokens.proofs.Places.{within, StepStands, place_stands, ExpectationThread, WrittenThread, StepThread, place_thread, has_thread, place_of_written, ValueStands, value_stands}
@@ -38,7 +38,7 @@ pub record Open (most : Limits) (threads : ℕ) (whole rest : List Token) (fs : 
 pub record AtPlace (most : Limits) (threads : ℕ) (whole : List Token) (rest : List Token)
     (fs : List Frame) (used : ℕ) (p : Place) : Type 0 where
   pub tree : PlaceTree
-  pub fine : IsPlace tree
+  pub fine : IsPlaceTree tree
   pub thread : HasThread threads tree
   pub means : place_meaning tree ≡ p
   pub here : Open most threads whole (spelled_place tree rest) fs used
@@ -49,7 +49,7 @@ pub record Full (most : Limits) (threads : ℕ) (whole rest : List Token) (fs : 
   pub bs : List Branch
   pub t : FormulaTree
   pub is : frames bs ≡ fs
-  pub means : meaning t ≡ v
+  pub means : formula_meaning t ≡ v
   pub fine : Fine most threads bs
   pub grouped : IsGrouped t
   pub atoms : HasAtoms threads t
@@ -76,8 +76,8 @@ Stands most threads whole rest fs used (Has v) = Full most threads whole rest fs
 pub record Ended (most : Limits) (threads : ℕ) (whole rest : List Token) (v : Formula)
     : Type 0 where
   pub t : FormulaTree
-  pub is : IsFormula most threads t
-  pub means : meaning t ≡ v
+  pub is : IsFormulaTree most threads t
+  pub means : formula_meaning t ≡ v
   pub whole_is : whole ≡ spelled t rest
 
 abbrev pub ResultStands : Limits → ℕ → List Token → List Token → StepResult → Type 0
@@ -99,7 +99,7 @@ module _ (most : Limits) (threads : ℕ) (few : threads < 18446744073709551616) 
     single : (t : FormulaTree) (rest : List Token) (fs : List Frame) (used : ℕ) → IsGrouped t
         → HasAtoms threads t → 5 ≤ tightness t → depth t ≡ 0 → operators t ≡ 0
         → Open most threads whole (spelled t rest) fs used
-        → Full most threads whole rest fs used (meaning t)
+        → Full most threads whole rest fs used (formula_meaning t)
     single t rest fs used grouped atoms tight flat none o =
         let deep = opens-le most threads o.bs o.fine in
         let sum = o.counted in
@@ -239,7 +239,7 @@ module _ (most : Limits) (threads : ℕ) (few : threads < 18446744073709551616) 
       where
         by_branches : (bs : List Branch) → opens bs + depth d.t ≤ most.nesting
             → count bs + operators d.t ≡ used → whole ≡ before bs (spelled d.t (tokens.End ∷ rest))
-            → ResultStands most threads whole rest (ended (frames bs, meaning d.t))
+            → ResultStands most threads whole rest (ended (frames bs, formula_meaning d.t))
         by_branches [] shallow counted is =
             record { t = d.t; is = record { grouped = d.grouped; atoms = d.atoms; shallow = omega arith; short = omega arith }; means = refl; whole_is = is }
         by_branches (b ∷ bs) shallow counted is = tt
@@ -256,7 +256,7 @@ module _ (most : Limits) (threads : ℕ) (few : threads < 18446744073709551616) 
             → opens bs + depth d.t ≤ most.nesting
             → count bs + operators d.t ≡ used
             → whole ≡ before bs (spelled d.t (tokens.Mark marks.Close ∷ rest))
-            → ResultStands most threads whole rest (closed used (frames bs, meaning d.t))
+            → ResultStands most threads whole rest (closed used (frames bs, formula_meaning d.t))
         by_branches [] fine shallow counted is = tt
         by_branches (BGroup ∷ bs) fine shallow counted is =
             record { bs = bs; t = Group d.t; is = refl; means = refl; fine = fine.1; grouped = d.grouped; atoms = d.atoms; tight = omega arith; shallow = omega arith; counted = counted; short = short; whole_is = is }

@@ -8,7 +8,7 @@ use Rattle.litmus_tokens.specs.Conditions.{Limits, IsProposition}
 use Rattle.litmus_tokens.specs.ConditionMachine.{Frame, Expectation, Wants, StepResult, Goes, Ends, Refuses, proposition_step, proposition}
 
 -- some tokens end the proposition that was begun
-pub record Finishes (most : Limits) (threads : ℕ) (frames : List Frame) (used : ℕ)
+pub record FinishesFormula (most : Limits) (threads : ℕ) (frames : List Frame) (used : ℕ)
     (expected : Expectation) : Type 0 where
   pub rest : List Token
   pub value : Formula

@@ -53,9 +53,9 @@ value_meaning (Number negative ds) = values.Number (signed negative (decimal ds)
 value_meaning (Address n) = values.Address n
 
 -- a register is `r0` to `r31`
-abbrev pub IsPlace : PlaceTree → Type 0
-IsPlace (Location b n) = Unit {0}
-IsPlace (Register t r) = IsTrue (is_register r)
+abbrev pub IsPlaceTree : PlaceTree → Type 0
+IsPlaceTree (Location b n) = Unit {0}
+IsPlaceTree (Register t r) = IsTrue (is_register r)
 
 -- its thread, if it has one, is one of so many
 abbrev pub HasThread : ℕ → PlaceTree → Type 0
@@ -63,9 +63,9 @@ HasThread threads (Location b n) = Unit {0}
 HasThread threads (Register t r) = decimal t < threads
 
 -- a number is one of 32 bits
-abbrev pub IsValue : ValueTree → Type 0
-IsValue (Number negative ds) = IsTrue (is_int negative ds)
-IsValue (Address n) = Unit {0}
+abbrev pub IsValueTree : ValueTree → Type 0
+IsValueTree (Number negative ds) = IsTrue (is_int negative ds)
+IsValueTree (Address n) = Unit {0}
 
 -- ---- propositions
 
@@ -99,12 +99,12 @@ spelled (Pair op a b) rest = spelled a (connective_token op ∷ spelled b rest)
 spelled (Group a) rest = tokens.Mark Open ∷ spelled a (tokens.Mark Close ∷ rest)
 
 -- what it means: the parentheses are gone
-abbrev pub meaning : FormulaTree → Formula
-meaning (Word b) = Constant b
-meaning (Atom p v) = Holds (place_meaning p) (value_meaning v)
-meaning (Prefix tilde a) = Not (meaning a)
-meaning (Pair op a b) = Join op (meaning a) (meaning b)
-meaning (Group a) = meaning a
+abbrev pub formula_meaning : FormulaTree → Formula
+formula_meaning (Word b) = Constant b
+formula_meaning (Atom p v) = Holds (place_meaning p) (value_meaning v)
+formula_meaning (Prefix tilde a) = Not (formula_meaning a)
+formula_meaning (Pair op a b) = Join op (formula_meaning a) (formula_meaning b)
+formula_meaning (Group a) = formula_meaning a
 
 abbrev pub tightness : FormulaTree → ℕ
 tightness (Word b) = 5
@@ -123,10 +123,10 @@ IsGrouped (Pair op a b) =
     (level op + 1 ≤ tightness a) × (level op ≤ tightness b) × IsGrouped a × IsGrouped b
 IsGrouped (Group a) = IsGrouped a
 
--- its places and values are ones, of threads that are there
+-- its atoms are well formed and name existing threads
 abbrev pub HasAtoms : ℕ → FormulaTree → Type 0
 HasAtoms threads (Word b) = Unit {0}
-HasAtoms threads (Atom p v) = IsPlace p × HasThread threads p × IsValue v
+HasAtoms threads (Atom p v) = IsPlaceTree p × HasThread threads p × IsValueTree v
 HasAtoms threads (Prefix tilde a) = HasAtoms threads a
 HasAtoms threads (Pair op a b) = HasAtoms threads a × HasAtoms threads b
 HasAtoms threads (Group a) = HasAtoms threads a
@@ -155,7 +155,7 @@ pub record Limits : Type 0 where
 abbrev pub limits : Limits
 limits = record { nesting = 64; operators = 1024 }
 
-pub record IsFormula (most : Limits) (threads : ℕ) (t : FormulaTree) : Type 0 where
+pub record IsFormulaTree (most : Limits) (threads : ℕ) (t : FormulaTree) : Type 0 where
   pub grouped : IsGrouped t
   pub atoms : HasAtoms threads t
   pub shallow : depth t ≤ most.nesting
@@ -165,9 +165,9 @@ pub record IsFormula (most : Limits) (threads : ℕ) (t : FormulaTree) : Type 0 
 pub record IsProposition (most : Limits) (threads : ℕ) (ts : List Token) (v : Formula)
     : Type 0 where
   pub tree : FormulaTree
-  pub fine : IsFormula most threads tree
+  pub fine : IsFormulaTree most threads tree
   pub whole : ts ≡ spelled tree (tokens.End ∷ [])
-  pub meant : meaning tree ≡ v
+  pub meant : formula_meaning tree ≡ v
 
 abbrev pub spelled_quantifier : Quantifier → List Token → List Token
 spelled_quantifier Exists rest = tokens.Word (codes "exists") ∷ rest
@@ -178,5 +178,5 @@ spelled_quantifier Forall rest = tokens.Word (codes "forall") ∷ rest
 pub record IsConditionText (most : Limits) (threads : ℕ) (ts : List Token) : Type 0 where
   pub quantifier : Quantifier
   pub condition : FormulaTree
-  pub fine : IsFormula most threads condition
+  pub fine : IsFormulaTree most threads condition
   pub whole : ts ≡ spelled_quantifier quantifier (spelled condition (tokens.End ∷ []))

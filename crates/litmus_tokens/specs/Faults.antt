@@ -9,7 +9,7 @@ use Rattle.litmus_tokens.specs.declared.stage.Stage.TheVariants.{Init, CellBegin
 use Rattle.litmus_tokens.specs.declared.token.Token.{Token}
 use Rattle.litmus_tokens.specs.declared.token.Token.TheVariants as tokens
 use Rattle.litmus_tokens.specs.declared.token.Mark.TheVariants.{Semicolon, Bar}
-use Rattle.litmus_tokens.specs.Stage.{rule_of}
+use Rattle.litmus_tokens.specs.Stage.{part_rule}
 use Rattle.litmus_tokens.specs.Texts.{TokenAt, tokens_of, stage_after}
 use Rattle.litmus_tokens.specs.Words.{is_filter, is_int}
 
@@ -34,32 +34,32 @@ cell_ruling s (tokens.Mark Semicolon) = Where (tokens.Mark Bar) rules.Columns
 cell_ruling s (tokens.Mark Bar) = Where (tokens.Mark Semicolon) rules.Columns
 cell_ruling s (tokens.Word w) =
     if bytes_eq w (codes "r0") then Where (tokens.Word (codes "r1")) rules.ZeroBase else (
-    if is_filter w then Where (tokens.Word (codes "exists")) rules.Filter else Always (rule_of s))
+    if is_filter w then Where (tokens.Word (codes "exists")) rules.Filter else Always (part_rule s))
 cell_ruling s (tokens.Number negative ds) =
-    if is_int negative ds then Where (tokens.Number false []) rules.Offset else Always (rule_of s)
-cell_ruling s t = Always (rule_of s)
+    if is_int negative ds then Where (tokens.Number false []) rules.Offset else Always (part_rule s)
+cell_ruling s t = Always (part_rule s)
 
 -- a word behind a word in the init block, and `filter` or `final` behind the table
 abbrev pub word_ruling : Stage → List ℕ → Ruling
 word_ruling (Init alone true) w = Always rules.TypedDeclaration
 word_ruling Tail w = if is_filter w then Always rules.Filter else Always rules.Condition
-word_ruling s w = Always (rule_of s)
+word_ruling s w = Always (part_rule s)
 
 abbrev pub part_ruling : Stage → Token → Ruling
 part_ruling CellBegins t = cell_ruling CellBegins t
 part_ruling InCell t = cell_ruling InCell t
 part_ruling s (tokens.Word w) = word_ruling s w
-part_ruling s t = Always (rule_of s)
+part_ruling s t = Always (part_rule s)
 
 abbrev pub ruling : Stage → Token → Ruling
 ruling s (tokens.Broken rule) = Always rule
 ruling s t = part_ruling s t
 
 -- what a ruling says, where these tokens can stand
-abbrev pub Says : (Token → Type 0) → Stage → Ruling → LitmusRule → Type 0
-Says CanStand s (Always n) k = k ≡ n
-Says CanStand s (Where other n) k =
-    (CanStand other × (k ≡ n)) ⊎ ((CanStand other → ⊥) × (k ≡ rule_of s))
+abbrev pub RulingSays : (Token → Type 0) → Stage → Ruling → LitmusRule → Type 0
+RulingSays CanStand s (Always n) k = k ≡ n
+RulingSays CanStand s (Where other n) k =
+    (CanStand other × (k ≡ n)) ⊎ ((CanStand other → ⊥) × (k ≡ part_rule s))
 
 -- The tokens before the offset begin some text, and with the token at the offset they begin none.
 pub record IsFault (IsText : List Token → Type 0) (start : Stage) (ps : List TokenAt)
@@ -73,4 +73,4 @@ pub record IsFault (IsText : List Token → Type 0) (start : Stage) (ps : List T
   pub at_place : here.offset ≡ offset
   pub number :
       let s = stage_after start (tokens_of before) in
-      Says (CanFollow IsText (tokens_of before)) s (ruling s here.token) rule
+      RulingSays (CanFollow IsText (tokens_of before)) s (ruling s here.token) rule

@@ -11,16 +11,16 @@ use Rattle.litmus_tokens.specs.declared.token.Mark.TheVariants as marks
 use Rattle.litmus_tokens.specs.Words.{ends_table}
 
 -- the rule that a fault in this part breaks, where no other rule names one
-abbrev pub rule_of : Stage → LitmusRule
-rule_of Magic = rules.NotPpc
-rule_of Title = rules.Name
-rule_of TitleEnd = rules.Name
-rule_of Head = rules.Init
-rule_of (Init alone after_word) = rules.Init
-rule_of (Header left) = rules.Header
-rule_of CellBegins = rules.Instruction
-rule_of InCell = rules.Instruction
-rule_of Tail = rules.Condition
+abbrev pub part_rule : Stage → LitmusRule
+part_rule Magic = rules.NotPpc
+part_rule Title = rules.Name
+part_rule TitleEnd = rules.Name
+part_rule Head = rules.Init
+part_rule (Init alone after_word) = rules.Init
+part_rule (Header left) = rules.Header
+part_rule CellBegins = rules.Instruction
+part_rule InCell = rules.Instruction
+part_rule Tail = rules.Condition
 
 abbrev pub after_brace : Bool → Stage
 after_brace true = Init true false

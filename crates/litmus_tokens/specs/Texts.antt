@@ -63,8 +63,8 @@ tokens_from s fresh zero offset (b ∷ bs) =
     after_front s fresh offset b (front s fresh (b ∷ bs)) (λ s' fresh' skip.
     tokens_from s' fresh' skip (offset + 1) bs)
 
-abbrev pub lexed : Stage → List ℕ → List TokenAt
-lexed s bytes = tokens_from s false 0 0 bytes
+abbrev pub lexing : Stage → List ℕ → List TokenAt
+lexing s bytes = tokens_from s false 0 0 bytes
 
 -- the token behind these stands at this offset
 pub record StandsAt (ps : List TokenAt) (ts : List Token) (offset : ℕ) : Type 0 where

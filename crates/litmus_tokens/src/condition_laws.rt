@@ -5,7 +5,7 @@ ghost use Rattle.text_values.specs.TestValue.{Formula};
 ghost use Rattle.litmus_tokens.specs.declared.token.Token.{Token};
 ghost use Rattle.litmus_tokens.specs.Conditions.{Limits, IsProposition};
 ghost use Rattle.litmus_tokens.specs.ConditionMachine.{Frame, Expectation, Wants, proposition};
-ghost use Rattle.litmus_tokens.specs.ConditionLaws.{Finishes, TakesWhatBegins};
+ghost use Rattle.litmus_tokens.specs.ConditionLaws.{FinishesFormula, TakesWhatBegins};
 
 /// Token by token, within any limits, the reader takes the propositions and nothing else, and gives
 /// what they mean. What it has taken begins a proposition, and it takes all that begins one: so the
@@ -24,5 +24,5 @@ pub fn takes_propositions()
         → TakesWhatBegins most threads }
     // Wherever it stands, some tokens end the proposition.
     ensures finishes { (most : Limits) (threads : ℕ) (frames : List Frame) (used : ℕ)
-        (expected : Expectation) → Finishes most threads frames used expected }
+        (expected : Expectation) → FinishesFormula most threads frames used expected }
 {}

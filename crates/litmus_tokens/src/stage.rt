@@ -1,7 +1,7 @@
 //! The stages of a text: the parts that its tokens stand in.
 
 ghost use Rattle.std.specs.Prelude.{◌≡◌, Bool};
-ghost use Rattle.litmus_tokens.specs.Stage.{rule_of, after};
+ghost use Rattle.litmus_tokens.specs.Stage.{part_rule, after};
 ghost use Rattle.litmus_tokens.specs.declared.stage.Stage.TheVariants.{Init, Header, CellBegins};
 
 use crate::rule::LitmusRule;
@@ -38,7 +38,7 @@ pub enum Stage {
 impl Stage {
     /// The rule that a misplaced token breaks here, unless another rule names it.
     pub fn rule(self) -> LitmusRule
-        ensures { result ≡ rule_of self }
+        ensures { result ≡ part_rule self }
     {
         match self {
             Stage::Magic => LitmusRule::NotPpc,

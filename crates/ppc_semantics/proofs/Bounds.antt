@@ -20,9 +20,9 @@ use Rattle.thread_runs.specs.Machine.{is_load}
 use Rattle.thread_runs.specs.Runs.{Thread, StoresFreely}
 use Rattle.thread_runs.specs.AllRuns.{thread_of, HasRuns}
 use Rattle.thread_runs.specs.FreeRuns.{HasFreeRuns}
-use Rattle.thread_runs.specs.ValueSet.{IsOne, IsSet}
+use Rattle.thread_runs.specs.ValueSet.{IsProperValue, IsValueSet}
 use Rattle.thread_runs.specs.FreeWalks.{AreAdded}
-use Rattle.ppc_semantics.specs.Domain.{threads_from, threads_of, makes_event, has_event, has_load, lines_with, event_total, load_total, AreProper, InRound, IsRound, IsWithin, HasCombinations, IsFault, HasFewRuns, IsRoundFault, IsCombinationFault, IsNextRound}
+use Rattle.ppc_semantics.specs.Domain.{threads_from, threads_of, makes_event, has_event, has_load, lines_with, event_total, load_total, AreProper, InDomainAt, IsDomainAt, IsBoundedRound, HasCombinations, LacksDomain, HasFewRuns, IsRoundFault, IsCombinationFault, IsNextDomain}
 
 module _ (p : Program) where
   threads_have : (n : ℕ) (t : Thread) → Contains (threads_from p n) t
@@ -45,13 +45,13 @@ module _ (p : Program) where
   ]
 
   -- the rounds
-  pub first_is : (V : List Value) → IsSet V
-      → ((u : Value) → Contains V u ↔ (Contains p.initial.items u × IsOne u)) → AreProper p
-      → IsNextRound p 0 V
+  pub first_is : (V : List Value) → IsValueSet V
+      → ((u : Value) → Contains V u ↔ (Contains p.initial.items u × IsProperValue u)) → AreProper p
+      → IsNextDomain p 0 V
   first_is V set exact proper = record {
     set = set;
     sound = λ v h. ((exact v).0 h).0;
-    whole = λ few v h. (exact v).1 (h, All-contains IsOne p.initial.items v proper h);
+    whole = λ few v h. (exact v).1 (h, All-contains IsProperValue p.initial.items v proper h);
   }
 
   stores_as : (ts : List Thread) (P Q : Value → Type 0) → ((v : Value) → P v → Q v) → (v : Value)
@@ -60,34 +60,34 @@ module _ (p : Program) where
       let (t, there, bs, vs, within, f, e, a, found) = h in
       (t, there, bs, vs, All-weaker P Q weaker vs within, f, e, a, found)
 
-  next_suc : (V W : List Value) → IsSet W → AreAdded (StoresFreely (threads_of p) (Contains V)) V W
-      → (k : ℕ) → IsRound p k V → IsNextRound p (suc k) W
+  next_suc : (V W : List Value) → IsValueSet W → AreAdded (StoresFreely (threads_of p) (Contains V)) V W
+      → (k : ℕ) → IsDomainAt p k V → IsNextDomain p (suc k) W
   next_suc V W set added k r = record {
     set = set;
     sound = λ v h. elim (added.sound v h) [
       | inl w ↦ inl ((r.exact v).0 w)
       | inr w ↦ inr (
-        stores_as (threads_of p) (Contains V) (InRound p k) (λ u. (r.exact u).0) v w.0,
+        stores_as (threads_of p) (Contains V) (InDomainAt p k) (λ u. (r.exact u).0) v w.0,
         w.1,
       )
     ];
     whole = λ few v h. elim h [
       | inl w ↦ added.kept v ((r.exact v).1 w)
       | inr w ↦ added.whole few v
-          (stores_as (threads_of p) (InRound p k) (Contains V) (λ u. (r.exact u).1) v w.0) w.1
+          (stores_as (threads_of p) (InDomainAt p k) (Contains V) (λ u. (r.exact u).1) v w.0) w.1
     ];
   }
 
-  pub next_is : (V W : List Value) → IsSet W
-      → AreAdded (StoresFreely (threads_of p) (Contains V)) V W → (k : ℕ) → IsRound p k V
-      → IsNextRound p (k + 1) W
+  pub next_is : (V W : List Value) → IsValueSet W
+      → AreAdded (StoresFreely (threads_of p) (Contains V)) V W → (k : ℕ) → IsDomainAt p k V
+      → IsNextDomain p (k + 1) W
   next_is V W set added k r = rw add-one (next_suc V W set added k r)
 
-  pub is_round : (k : ℕ) (V : List Value) → IsNextRound p k V → length V ≤ 16 → IsRound p k V
+  pub is_round : (k : ℕ) (V : List Value) → IsNextDomain p k V → length V ≤ 16 → IsDomainAt p k V
   is_round k V n few = record { set = n.set; exact = λ v. (n.sound v, n.whole few v) }
 
-  pub is_within : (k : ℕ) (V : List Value) → IsRound p k V → length V ≤ 16
-      → HasFewRuns p V (vec_len p.threads) → IsWithin p k
+  pub is_within : (k : ℕ) (V : List Value) → IsDomainAt p k V → length V ≤ 16
+      → HasFewRuns p V (vec_len p.threads) → IsBoundedRound p k
   is_within k V r few runs = record {
     values = V;
     round = r;
@@ -99,8 +99,8 @@ module _ (p : Program) where
   }
 
   pub round_fault : (k : ℕ) (V : List Value) → event_total p ≤ 128 → k ≤ load_total p
-      → ((j : ℕ) → j < k → IsWithin p j) → IsNextRound p k V → (e : DomainFault)
-      → IsRoundFault p V e → IsFault p e
+      → ((j : ℕ) → j < k → IsBoundedRound p j) → IsNextDomain p k V → (e : DomainFault)
+      → IsRoundFault p V e → LacksDomain p e
   round_fault k V events bound before n (Refused TooManyValues) h = (
     k,
     record {
@@ -140,8 +140,8 @@ module _ (p : Program) where
   round_fault k V events bound before n (OutOfMemory e) h = h
 
   pub combination_fault : (V : List Value) → event_total p ≤ 128
-      → ((k : ℕ) → k ≤ load_total p → IsWithin p k) → IsRound p (load_total p) V → (e : DomainFault)
-      → IsCombinationFault p V e → IsFault p e
+      → ((k : ℕ) → k ≤ load_total p → IsBoundedRound p k) → IsDomainAt p (load_total p) V → (e : DomainFault)
+      → IsCombinationFault p V e → LacksDomain p e
   combination_fault V events rounds last (Refused TooManyCombinations) h =
       let (n, counted, over) = h in
       record {
@@ -160,20 +160,20 @@ module _ (p : Program) where
 
   -- where nothing is added, nothing is added later
   module _ (V : List Value) (few : length V ≤ 16)
-      (f : (k : ℕ) → IsRound p k V → IsNextRound p (k + 1) V) where
-    stays : (d k : ℕ) → IsRound p k V → IsRound p (k + d) V
-    stays zero k r = let e : k ≡ k + 0 = omega arith in subst (λ (n : ℕ). IsRound p n V) e r
+      (f : (k : ℕ) → IsDomainAt p k V → IsNextDomain p (k + 1) V) where
+    stays : (d k : ℕ) → IsDomainAt p k V → IsDomainAt p (k + d) V
+    stays zero k r = let e : k ≡ k + 0 = omega arith in subst (λ (n : ℕ). IsDomainAt p n V) e r
     stays (suc d) k r =
         let e : (k + 1) + d ≡ k + suc d = omega arith in
-        subst (λ (n : ℕ). IsRound p n V) e (stays d (k + 1) (is_round (k + 1) V (f k r) few))
+        subst (λ (n : ℕ). IsDomainAt p n V) e (stays d (k + 1) (is_round (k + 1) V (f k r) few))
 
-    pub stays_to : (k n : ℕ) → k ≤ n → IsRound p k V → IsRound p n V
+    pub stays_to : (k n : ℕ) → k ≤ n → IsDomainAt p k V → IsDomainAt p n V
     stays_to k n le r =
         let e : k + (n - k) ≡ n = omega arith in
-        subst (λ (m : ℕ). IsRound p m V) e (stays (n - k) k r)
+        subst (λ (m : ℕ). IsDomainAt p m V) e (stays (n - k) k r)
 
-    pub within_to : (k : ℕ) → HasFewRuns p V (vec_len p.threads) → IsRound p k V
-        → ((j : ℕ) → j ≤ k → IsWithin p j) → (j : ℕ) → IsWithin p j
+    pub within_to : (k : ℕ) → HasFewRuns p V (vec_len p.threads) → IsDomainAt p k V
+        → ((j : ℕ) → j ≤ k → IsBoundedRound p j) → (j : ℕ) → IsBoundedRound p j
     within_to k runs r before j = elim (cases_lt k j) [
       | inl lt ↦ is_within j V (stays_to k j (omega arith) r) few runs
       | inr le ↦ before j le
@@ -300,15 +300,15 @@ many_runs p V k n few lt found many =
 
 -- the rounds so far are within the bounds
 pub record IsGoing (p : Program) (k : ℕ) (V : List Value) : Type 0 where
-  pub set : IsSet V
+  pub set : IsValueSet V
   pub few : length V ≤ 16
   pub runs : HasFewRuns p V (vec_len p.threads)
-  pub round : AreProper p → IsRound p k V
-  pub within : AreProper p → (j : ℕ) → j ≤ k → IsWithin p j
+  pub round : AreProper p → IsDomainAt p k V
+  pub within : AreProper p → (j : ℕ) → j ≤ k → IsBoundedRound p j
 
 module _ (p : Program) (k : ℕ) (U V : List Value) (same : U ≡ V) where
-  pub going : IsSet V → (AreProper p → IsNextRound p k V)
-      → (AreProper p → (j : ℕ) → j < k → IsWithin p j) → length U ≤ 16
+  pub going : IsValueSet V → (AreProper p → IsNextDomain p k V)
+      → (AreProper p → (j : ℕ) → j < k → IsBoundedRound p j) → length U ≤ 16
       → HasFewRuns p U (vec_len p.threads) → IsGoing p k V
   going set next before few_there runs_there =
       let few : length V ≤ 16 = subst (λ (W : List Value). length W ≤ 16) same few_there in
@@ -322,36 +322,36 @@ module _ (p : Program) (k : ℕ) (U V : List Value) (same : U ≡ V) where
           | inl lt ↦ before proper j lt
           | inr ge ↦
               let e : k ≡ j = omega arith in
-              subst (λ (n : ℕ). IsWithin p n) e (is_within p k V (is_round p k V (next proper) few)
+              subst (λ (n : ℕ). IsBoundedRound p n) e (is_within p k V (is_round p k V (next proper) few)
               few runs)
         ];
       }
 
-  pub going_fault : event_total p ≤ 128 → k ≤ load_total p → (AreProper p → IsNextRound p k V)
-      → (AreProper p → (j : ℕ) → j < k → IsWithin p j) → (e : DomainFault) → IsRoundFault p U e
-      → AreProper p → IsFault p e
+  pub going_fault : event_total p ≤ 128 → k ≤ load_total p → (AreProper p → IsNextDomain p k V)
+      → (AreProper p → (j : ℕ) → j < k → IsBoundedRound p j) → (e : DomainFault) → IsRoundFault p U e
+      → AreProper p → LacksDomain p e
   going_fault events bound next before e h proper =
       round_fault p k V events bound (before proper) (next proper) e
       (subst (λ (W : List Value). IsRoundFault p W e) same h)
 
-  module _ (W : List Value) (round : (n : ℕ) → IsRound p n U → IsNextRound p (n + 1) W)
+  module _ (W : List Value) (round : (n : ℕ) → IsDomainAt p n U → IsNextDomain p (n + 1) W)
       (unchanged : length U ≡ length W → U ≡ W) (as_long : length W ≡ length V) (g : IsGoing p k V)
       (proper : AreProper p) where
-    on : (n : ℕ) → IsRound p n V → IsNextRound p (n + 1) V
+    on : (n : ℕ) → IsDomainAt p n V → IsNextDomain p (n + 1) V
     on n r =
         let e : U ≡ W = unchanged (ap (λ (X : List Value). length X) same ∙ sym as_long) in
-        subst (λ (X : List Value). IsNextRound p (n + 1) X) (sym e ∙ same)
-        (round n (subst (λ (X : List Value). IsRound p n X) (sym same) r))
+        subst (λ (X : List Value). IsNextDomain p (n + 1) X) (sym e ∙ same)
+        (round n (subst (λ (X : List Value). IsDomainAt p n X) (sym same) r))
 
-    pub stopped_round : (n : ℕ) → k ≤ n → IsRound p n V
+    pub stopped_round : (n : ℕ) → k ≤ n → IsDomainAt p n V
     stopped_round n le = stays_to p V g.few on k n le (g.round proper)
 
-    pub stopped_within : (j : ℕ) → IsWithin p j
+    pub stopped_within : (j : ℕ) → IsBoundedRound p j
     stopped_within j = within_to p V g.few on k g.runs (g.round proper) (g.within proper) j
 
 -- a fault that is passed on
 pub passed_on : (T : Type 0) (p : Program) (r : Result T DomainFault) (x : DomainFault)
-    → IsErrAnd r (λ e. e ≡ x) → (AreProper p → IsFault p x)
-    → IfErr r (λ e. AreProper p → IsFault p e)
+    → IsErrAnd r (λ e. e ≡ x) → (AreProper p → LacksDomain p x)
+    → IfErr r (λ e. AreProper p → LacksDomain p e)
 passed_on T p (Ok t) x h f = absurd h
-passed_on T p (Err e) x h f = subst (λ (z : DomainFault). AreProper p → IsFault p z) (sym h) f
+passed_on T p (Err e) x h f = subst (λ (z : DomainFault). AreProper p → LacksDomain p z) (sym h) f

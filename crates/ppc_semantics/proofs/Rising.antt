@@ -10,16 +10,16 @@ use Rattle.thread_runs.specs.declared.instruction.Program.{Program}
 use Rattle.thread_runs.specs.declared.state.State.{State}
 use Rattle.thread_runs.specs.Runs.{Thread, StoresFreely, free_run_of}
 use Rattle.thread_runs.specs.AllRuns.{thread_of}
-use Rattle.thread_runs.specs.ValueSet.{IsOne, IsAdded}
+use Rattle.thread_runs.specs.ValueSet.{IsProperValue, IsValueAdded}
 use Rattle.thread_runs.specs.FreeWalks.{AreAdded, Stores}
 use Rattle.ppc_semantics.specs.Domain.{threads_from}
 use Rattle.thread_runs.proofs.Adding.{added_after}
 
 -- the values at the start
 pub initial_more : (xs ys : List Value) (k : ℕ) (d : Value) (old new : List Value) → ys ≡ xs
-    → k < length ys → ((u : Value) → Contains old u ↔ (Contains (take k xs) u × IsOne u))
-    → IsAdded (get_or ys k d) old new
-    → (u : Value) → Contains new u ↔ (Contains (take (k + 1) xs) u × IsOne u)
+    → k < length ys → ((u : Value) → Contains old u ↔ (Contains (take k xs) u × IsProperValue u))
+    → IsValueAdded (get_or ys k d) old new
+    → (u : Value) → Contains new u ↔ (Contains (take (k + 1) xs) u × IsProperValue u)
 initial_more xs ys k d old new e lt exact added u = rw (← e, add-one, take-suc ys k d lt) (
   (λ h. elim ((added u).0 h) [
     | inl w ↦
@@ -28,21 +28,21 @@ initial_more xs ys k d old new e lt exact added u = rw (← e, add-one, take-suc
     | inr w ↦ (
       subst (λ (z : Value). Contains (take k ys ++ get_or ys k d ∷ []) z) (sym w.0)
           (Contains-push (take k ys) (get_or ys k d)),
-      subst (λ (z : Value). IsOne z) (sym w.0) w.1,
+      subst (λ (z : Value). IsProperValue z) (sym w.0) w.1,
     )
   ]),
   (λ h. elim (Contains-push_cases (take k ys) (get_or ys k d) u h.0) [
     | inl w ↦ (added u).1 (inl ((rw (← e) at (exact u)).1 (w, h.1)))
-    | inr f ↦ (added u).1 (inr (sym f, subst (λ (z : Value). IsOne z) (sym f) h.1))
+    | inr f ↦ (added u).1 (inr (sym f, subst (λ (z : Value). IsProperValue z) (sym f) h.1))
   ]),
 )
 
 pub initial_end : (xs ys : List Value) (k : ℕ) (values : List Value) → ys ≡ xs → length ys ≤ k
-    → ((u : Value) → Contains values u ↔ (Contains (take k xs) u × IsOne u)) → (u : Value)
-    → Contains values u ↔ (Contains xs u × IsOne u)
+    → ((u : Value) → Contains values u ↔ (Contains (take k xs) u × IsProperValue u)) → (u : Value)
+    → Contains values u ↔ (Contains xs u × IsProperValue u)
 initial_end xs ys k values e le exact u =
     let same : take k xs ≡ xs = ap (take k) (sym e) ∙ take_all k ys le ∙ e in
-    subst (λ (zs : List Value). Contains values u ↔ (Contains zs u × IsOne u)) same (exact u)
+    subst (λ (zs : List Value). Contains values u ↔ (Contains zs u × IsProperValue u)) same (exact u)
 
 -- one thread more
 stores_more : (ts : List Thread) (t : Thread) (V : List Value) (v : Value)

@@ -13,7 +13,7 @@ use Rattle.std.proofs.lemmas.Bool.{cases_eq, cases_lt}
 use Rattle.std.proofs.lemmas.Cmp.{nat_list_cmp_total}
 use Rattle.std.proofs.lemmas.Grind.{flat_map-append}
 use Rattle.std.proofs.lemmas.List.Elements.{Contains-append_left, Contains-append_right, Contains-append_cases}
-use Rattle.ppc_semantics.specs.Lowering.{name_cmp, IsBefore, Adds, number_of, AreNames}
+use Rattle.ppc_semantics.specs.Lowering.{name_cmp, IsNameBefore, Gains, name_index, AreNamesOf}
 use Rattle.thread_runs.proofs.Pairs.{inserted_rises, contains_inserted, contains_here, contains_cases, pairs_tail}
 
 pub order : IsTotalOrder name_cmp
@@ -27,7 +27,7 @@ index_within Less = omega arith
 index_within Equal = omega arith
 index_within Greater = omega arith
 
-before_index : (a b n : List ℕ) → IsBefore a b
+before_index : (a b n : List ℕ) → IsNameBefore a b
     → ordering_index (name_cmp a n) ≤ ordering_index (name_cmp b n)
 before_index a b n lt = go (name_cmp b n) refl
   where
@@ -44,7 +44,7 @@ before_index a b n lt = go (name_cmp b n) refl
         let f : ordering_index (name_cmp b n) ≡ 2 = ap ordering_index e in
         let g = index_within (name_cmp a n) in omega arith
 
-pub rising_for : (xs : List (List ℕ)) (name : List ℕ) → AllPairs IsBefore xs
+pub rising_for : (xs : List (List ℕ)) (name : List ℕ) → AllPairs IsNameBefore xs
     → IsNonDecreasingBy (λ y. ordering_index (name_cmp y name)) xs
 rising_for xs name rising i j d le lt = elim (cases_eq i j) [
   | inl same ↦
@@ -56,14 +56,14 @@ rising_for xs name rising i j d le lt = elim (cases_eq i j) [
       (rising i j d (omega (arith, other)) lt)
 ]
 
-turned : (a b : List ℕ) → name_cmp a b ≡ Greater → IsBefore b a
+turned : (a b : List ℕ) → name_cmp a b ≡ Greater → IsNameBefore b a
 turned a b e =
     let f : name_cmp b a ≡ ordering_reverse (name_cmp a b) = order.antisymm b a in
     f ∙ ap ordering_reverse e
 
 -- a name more
 pub found_noted : (xs : List (List ℕ)) (name : List ℕ) (i : ℕ) → i < length xs
-    → HoldsAt (λ y. name_cmp y name ≡ Equal) xs i → Adds (name ∷ []) xs xs
+    → HoldsAt (λ y. name_cmp y name ≡ Equal) xs i → Gains (name ∷ []) xs xs
 found_noted xs name i lt h = record {
   exact = λ n. (
     (λ w. inl w),
@@ -82,23 +82,23 @@ found_noted xs name i lt h = record {
   );
 }
 
-pub added_rises : (xs ys zs : List (List ℕ)) (name : List ℕ) (i : ℕ) → AllPairs IsBefore xs
+pub added_rises : (xs ys zs : List (List ℕ)) (name : List ℕ) (i : ℕ) → AllPairs IsNameBefore xs
     → ys ≡ xs → i ≤ length ys
     → (IsNonDecreasingBy (λ y. ordering_index (name_cmp y name)) ys
     → IsPartitionPoint (λ y. name_cmp y name ≡ Less) (λ y. name_cmp y name ≡ Greater) ys i)
-    → zs ≡ insert xs i name → AllPairs IsBefore zs
+    → zs ≡ insert xs i name → AllPairs IsNameBefore zs
 added_rises xs ys zs name i rising same le part new =
-    let p : IsPartitionPoint (λ y. name_cmp y name ≡ Less) (λ y. name_cmp y name ≡ Greater) xs i = subst (λ (ws : List (List ℕ)). IsPartitionPoint (λ y. name_cmp y name ≡ Less) (λ y. name_cmp y name ≡ Greater) ws i) same (part (rising_for ys name (subst (λ (ws : List (List ℕ)). AllPairs IsBefore ws) (sym same) rising))) in
+    let p : IsPartitionPoint (λ y. name_cmp y name ≡ Less) (λ y. name_cmp y name ≡ Greater) xs i = subst (λ (ws : List (List ℕ)). IsPartitionPoint (λ y. name_cmp y name ≡ Less) (λ y. name_cmp y name ≡ Greater) ws i) same (part (rising_for ys name (subst (λ (ws : List (List ℕ)). AllPairs IsNameBefore ws) (sym same) rising))) in
     let bound : i ≤ length xs = subst (λ (ws : List (List ℕ)). i ≤ length ws) same le in
-    subst (λ (ws : List (List ℕ)). AllPairs IsBefore ws) (sym new)
-    (inserted_rises IsBefore order.trans xs i name name bound rising
+    subst (λ (ws : List (List ℕ)). AllPairs IsNameBefore ws) (sym new)
+    (inserted_rises IsNameBefore order.trans xs i name name bound rising
     (λ k lt. p.0 k name (omega arith) lt) (λ lt.
     turned (get_or xs i name) name (p.1 i name (omega arith) lt)))
 
 pub added_noted : (xs zs : List (List ℕ)) (name : List ℕ) (i : ℕ) → zs ≡ insert xs i name
-    → Adds (name ∷ []) xs zs
+    → Gains (name ∷ []) xs zs
 added_noted xs zs name i new =
-    subst (λ (ws : List (List ℕ)). Adds (name ∷ []) xs ws) (sym new) (record {
+    subst (λ (ws : List (List ℕ)). Gains (name ∷ []) xs ws) (sym new) (record {
       exact = λ n.
           let h = contains_inserted xs i name n in (
             (λ w. elim (h.0 w) [
@@ -118,7 +118,7 @@ added_noted xs zs name i new =
           );
     })
 
-pub adds_after : (a b x y z : List (List ℕ)) → Adds a x y → Adds b y z → Adds (a ++ b) x z
+pub adds_after : (a b x y z : List (List ℕ)) → Gains a x y → Gains b y z → Gains (a ++ b) x z
 adds_after a b x y z p q = record {
   exact = λ n. (
     (λ h. elim ((q.exact n).0 h) [
@@ -142,22 +142,22 @@ adds_after a b x y z p q = record {
 
 -- the names of one element more
 pub adds_more : {A : Type 0} (f : A → List (List ℕ)) (xs : List A) (k : ℕ) (d : A)
-    (x y z : List (List ℕ)) → k < length xs → Adds (flat_map f (take k xs)) x y
-    → Adds (f (get_or xs k d)) y z → Adds (flat_map f (take (k + 1) xs)) x z
+    (x y z : List (List ℕ)) → k < length xs → Gains (flat_map f (take k xs)) x y
+    → Gains (f (get_or xs k d)) y z → Gains (flat_map f (take (k + 1) xs)) x z
 adds_more f xs k d x y z lt p q = rw (add-one, take-suc xs k d lt)
-    (subst (λ (names : List (List ℕ)). Adds names x z)
+    (subst (λ (names : List (List ℕ)). Gains names x z)
     (ap (λ (names : List (List ℕ)). flat_map f (take k xs) ++ names)
     (sym (append-nil (f (get_or xs k d))))
     ∙ sym (flat_map-append f (take k xs) (get_or xs k d ∷ [])))
     (adds_after (flat_map f (take k xs)) (f (get_or xs k d)) x y z p q))
 
 pub adds_all : {A : Type 0} (f : A → List (List ℕ)) (xs : List A) (k : ℕ) (x y : List (List ℕ))
-    → length xs ≤ k → Adds (flat_map f (take k xs)) x y → Adds (flat_map f xs) x y
+    → length xs ≤ k → Gains (flat_map f (take k xs)) x y → Gains (flat_map f xs) x y
 adds_all {A = A} f xs k x y le h =
-    subst (λ (ys : List A). Adds (flat_map f ys) x y) (take_all k xs le) h
+    subst (λ (ys : List A). Gains (flat_map f ys) x y) (take_all k xs le) h
 
-pub are_names : (found names : List (List ℕ)) → AllPairs IsBefore names → Adds found [] names
-    → AreNames found names
+pub are_names : (found names : List (List ℕ)) → AllPairs IsNameBefore names → Gains found [] names
+    → AreNamesOf found names
 are_names found names rising added = record {
   rising = rising;
   exact =
@@ -174,32 +174,32 @@ are_names found names rising added = record {
 equal_test : (o : Ordering) → o ≡ Equal → is_eq o ≡ true
 equal_test o e = ap is_eq e
 
-pub number_found : (xs : List (List ℕ)) (name : List ℕ) (k : ℕ) → AllPairs IsBefore xs
-    → k < length xs → HoldsAt (λ y. name_cmp y name ≡ Equal) xs k → k ≡ number_of xs name
+pub number_found : (xs : List (List ℕ)) (name : List ℕ) (k : ℕ) → AllPairs IsNameBefore xs
+    → k < length xs → HoldsAt (λ y. name_cmp y name ≡ Equal) xs k → k ≡ name_index xs name
 number_found [] name k rising lt h = absurd (omega arith)
 number_found (x ∷ xs) name zero rising lt h =
-    sym (ap (λ (t : Bool). if t then zero else suc (number_of xs name))
+    sym (ap (λ (t : Bool). if t then zero else suc (name_index xs name))
     (equal_test (name_cmp x name) (h name)))
 number_found (x ∷ xs) name (suc k) rising lt h =
     let e : get_or xs k name ≡ name = same_name (get_or xs k name) name (h name) in
     let less : name_cmp x name ≡ Less = subst (λ (m : List ℕ). name_cmp x m ≡ Less) e (rising zero (suc k) name (omega arith) lt) in
-    ap suc (number_found xs name k (pairs_tail IsBefore x xs rising) (omega arith) (λ d. h d))
-    ∙ sym (ap (λ (t : Bool). if t then zero else suc (number_of xs name)) (ap is_eq less))
+    ap suc (number_found xs name k (pairs_tail IsNameBefore x xs rising) (omega arith) (λ d. h d))
+    ∙ sym (ap (λ (t : Bool). if t then zero else suc (name_index xs name)) (ap is_eq less))
 
 number_missing : (xs : List (List ℕ)) (name : List ℕ)
     → ((k : ℕ) (d : List ℕ) → k < length xs → is_eq (name_cmp (get_or xs k d) name) ≡ false)
-    → length xs ≡ number_of xs name
+    → length xs ≡ name_index xs name
 number_missing [] name none = refl
 number_missing (x ∷ xs) name none =
     ap suc (number_missing xs name (λ k d lt. none (suc k) d (omega arith)))
-    ∙ sym (ap (λ (t : Bool). if t then zero else suc (number_of xs name))
+    ∙ sym (ap (λ (t : Bool). if t then zero else suc (name_index xs name))
     (none zero x (omega arith)))
 
-pub number_none : (xs : List (List ℕ)) (name : List ℕ) (i n : ℕ) → AllPairs IsBefore xs
+pub number_none : (xs : List (List ℕ)) (name : List ℕ) (i n : ℕ) → AllPairs IsNameBefore xs
     → n ≡ length xs
     → (IsNonDecreasingBy (λ y. ordering_index (name_cmp y name)) xs
     → IsPartitionPoint (λ y. name_cmp y name ≡ Less) (λ y. name_cmp y name ≡ Greater) xs
-    i) → n ≡ number_of xs name
+    i) → n ≡ name_index xs name
 number_none xs name i n rising e part =
     let p = part (rising_for xs name rising) in
     e ∙ number_missing xs name (λ k d lt. elim (cases_lt k i) [

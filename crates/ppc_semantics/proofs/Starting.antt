@@ -18,13 +18,13 @@ use Rattle.text_values.specs.declared.test.Thread.{Thread}
 use Rattle.thread_runs.specs.declared.value.Value.{Value}
 use Rattle.thread_runs.specs.declared.value.Value.TheVariants.{Number, Address, NoValue}
 use Rattle.thread_runs.specs.declared.instruction.Line.{Line}
-use Rattle.thread_runs.specs.ValueSet.{IsOne}
-use Rattle.ppc_semantics.specs.Lowering.{name_cmp, IsBefore, number_of, value_of, Starts, AreInitial, AreRegisters, AreFiles, AreLines, AreThreads, blank, put_location, put_register}
+use Rattle.thread_runs.specs.ValueSet.{IsProperValue}
+use Rattle.ppc_semantics.specs.Lowering.{name_cmp, IsNameBefore, name_index, lowered_value, Starts, AreInitial, AreRegisters, AreFiles, LowersTo, AreThreadLines, blank, put_location, put_register}
 use Rattle.ppc_semantics.proofs.Sorting.{order, same_name, number_found}
 
 -- one entry more
 starts_same : (es : List InitEntry) (e : InitEntry) (p : Place) (names : List (List ℕ))
-    → e.place ≡ p → Starts (es ++ e ∷ []) p names (value_of names e.value)
+    → e.place ≡ p → Starts (es ++ e ∷ []) p names (lowered_value names e.value)
 starts_same es e p names h =
     inl (
       e,
@@ -103,47 +103,47 @@ own_turn Greater e =
 name_itself : (n : List ℕ) → name_cmp n n ≡ Equal
 name_itself n = own_turn (name_cmp n n) (order.antisymm n n)
 
-pub number_at : (names : List (List ℕ)) (k : ℕ) → AllPairs IsBefore names → k < length names
-    → k ≡ number_of names (get_or names k [])
+pub number_at : (names : List (List ℕ)) (k : ℕ) → AllPairs IsNameBefore names → k < length names
+    → k ≡ name_index names (get_or names k [])
 number_at names k rising lt =
     number_found names (get_or names k []) k rising lt (λ d. subst
     (λ (n : List ℕ). name_cmp n (get_or names k []) ≡ Equal) (get_or_default names k [] d lt)
     (name_itself (get_or names k [])))
 
 name_step : (x name : List ℕ) (xs : List (List ℕ)) (b : Bool) (k : ℕ) → is_eq (name_cmp x name) ≡ b
-    → ((k : ℕ) → k < length xs → number_of xs name ≡ k → name ≡ get_or xs k [])
+    → ((k : ℕ) → k < length xs → name_index xs name ≡ k → name ≡ get_or xs k [])
     → k < suc (length xs)
-    → (if b then zero else suc (number_of xs name)) ≡ k → name ≡ get_or (x ∷ xs) k []
+    → (if b then zero else suc (name_index xs name)) ≡ k → name ≡ get_or (x ∷ xs) k []
 name_step x name xs true zero t rest lt e = sym (same_name x name (is_equal (name_cmp x name) t))
 name_step x name xs true (suc k) t rest lt e = absurd (omega (arith, e))
 name_step x name xs false zero t rest lt e = absurd (omega (arith, e))
 name_step x name xs false (suc k) t rest lt e = rest k (omega arith) (omega (arith, e))
 
 name_at : (names : List (List ℕ)) (name : List ℕ) (k : ℕ) → k < length names
-    → number_of names name ≡ k → name ≡ get_or names k []
+    → name_index names name ≡ k → name ≡ get_or names k []
 name_at [] name k lt e = absurd (omega arith)
 name_at (x ∷ xs) name k lt e =
     name_step x name xs (is_eq (name_cmp x name)) k refl (name_at xs name) lt e
 
 -- the locations
 initial_step : (es : List InitEntry) (e : InitEntry) (names : List (List ℕ)) (xs : List Value)
-    (p : Place) → e.place ≡ p → AllPairs IsBefore names → AreInitial es names xs
-    → AreInitial (es ++ e ∷ []) names (put_location names p (value_of names e.value) xs)
+    (p : Place) → e.place ≡ p → AllPairs IsNameBefore names → AreInitial es names xs
+    → AreInitial (es ++ e ∷ []) names (put_location names p (lowered_value names e.value) xs)
 initial_step es e names xs (Location name) is rising h = record {
-  each_one = length-set xs (number_of names name) (value_of names e.value) ∙ h.each_one;
-  starts = λ k lt. let within = h.each_one in elim (cases_eq k (number_of names name)) [
+  each_one = length-set xs (name_index names name) (lowered_value names e.value) ∙ h.each_one;
+  starts = λ k lt. let within = h.each_one in elim (cases_eq k (name_index names name)) [
     | inl same ↦
-        let value : get_or (set xs (number_of names name) (value_of names e.value)) k NoValue ≡ value_of names e.value = subst (λ (i : ℕ). get_or (set xs (number_of names name) (value_of names e.value)) i NoValue ≡ value_of names e.value) (sym same) (get_or-set_same xs (number_of names name) (value_of names e.value) NoValue (omega arith)) in
+        let value : get_or (set xs (name_index names name) (lowered_value names e.value)) k NoValue ≡ lowered_value names e.value = subst (λ (i : ℕ). get_or (set xs (name_index names name) (lowered_value names e.value)) i NoValue ≡ lowered_value names e.value) (sym same) (get_or-set_same xs (name_index names name) (lowered_value names e.value) NoValue (omega arith)) in
         let here : e.place ≡ Location (get_or names k []) = is ∙ ap Location (name_at names name k lt (sym same)) in
         subst (λ (v : Value). Starts (es ++ e ∷ []) (Location (get_or names k [])) names v)
         (sym value) (starts_same es e (Location (get_or names k [])) names here)
     | inr other ↦
         subst (λ (v : Value). Starts (es ++ e ∷ []) (Location (get_or names k [])) names v)
-        (sym (get_or-set_other xs (number_of names name) k (value_of names e.value) NoValue
+        (sym (get_or-set_other xs (name_index names name) k (lowered_value names e.value) NoValue
         other))
         (starts_other es e (Location (get_or names k [])) names (get_or xs k NoValue)
         (λ eq. other (number_at names k rising lt
-        ∙ ap (number_of names) (sym (ap name_in (sym is ∙ eq)))))
+        ∙ ap (name_index names) (sym (ap name_in (sym is ∙ eq)))))
         (h.starts k lt))
   ];
 }
@@ -155,9 +155,9 @@ initial_step es e names xs (Register t r) is rising h = record {
 }
 
 pub initial_more : (init : List InitEntry) (k : ℕ) (e : InitEntry) (names : List (List ℕ))
-    (xs ys : List Value) → k < length init → get_or init k e ≡ e → AllPairs IsBefore names
+    (xs ys : List Value) → k < length init → get_or init k e ≡ e → AllPairs IsNameBefore names
     → AreInitial (take k init) names xs
-    → ys ≡ put_location names e.place (value_of names e.value) xs
+    → ys ≡ put_location names e.place (lowered_value names e.value) xs
     → AreInitial (take (k + 1) init) names ys
 initial_more init k e names xs ys lt there rising h made =
     let more : take (k + 1) init ≡ take k init ++ e ∷ [] = take_more init k e lt ∙ ap (λ (f : InitEntry). take k init ++ f ∷ []) there in
@@ -166,25 +166,25 @@ initial_more init k e names xs ys lt there rising h made =
     (initial_step (take k init) e names xs e.place refl rising h))
 
 -- they are values
-number_one : (n : ℕ) → IsOne (Number n)
+number_one : (n : ℕ) → IsProperValue (Number n)
 number_one n e = absurd (let f : zero ≡ suc zero = ap none_in e in omega arith)
 
-is_one : (names : List (List ℕ)) (v : written.Value) → IsOne (value_of names v)
+is_one : (names : List (List ℕ)) (v : written.Value) → IsProperValue (lowered_value names v)
 is_one names (values.Number n) e = number_one (cast_unsigned w32 n) e
 is_one names (values.Address n) e = absurd (let f : zero ≡ suc zero = ap none_in e in omega arith)
 
 starts_one : (es : List InitEntry) (p : Place) (names : List (List ℕ)) (v : Value)
-    → Starts es p names v → IsOne v
+    → Starts es p names v → IsProperValue v
 starts_one es p names v s = elim s [
-  | inl w ↦ subst (λ (x : Value). IsOne x) (sym w.2) (is_one names w.0.value)
-  | inr w ↦ subst (λ (x : Value). IsOne x) (sym w.1) (number_one 0)
+  | inl w ↦ subst (λ (x : Value). IsProperValue x) (sym w.2) (is_one names w.0.value)
+  | inr w ↦ subst (λ (x : Value). IsProperValue x) (sym w.1) (number_one 0)
 ]
 
 pub initial_proper : (es : List InitEntry) (names : List (List ℕ)) (xs : List Value)
-    → AreInitial es names xs → All IsOne xs
+    → AreInitial es names xs → All IsProperValue xs
 initial_proper es names xs h k d lt =
     let same = h.each_one in
-    subst (λ (x : Value). IsOne x) (get_or_default xs k NoValue d lt) (starts_one es
+    subst (λ (x : Value). IsProperValue x) (get_or_default xs k NoValue d lt) (starts_one es
     (Location (get_or names k [])) names (get_or xs k NoValue) (h.starts k (omega arith)))
 
 -- the registers
@@ -200,17 +200,17 @@ registers_step es e names t file none h = record {
 
 registers_put : (es : List InitEntry) (e : InitEntry) (names : List (List ℕ)) (t r : ℕ)
     (file : List Value) → e.place ≡ Register t r → AreRegisters es names t file
-    → AreRegisters (es ++ e ∷ []) names t (set file r (value_of names e.value))
+    → AreRegisters (es ++ e ∷ []) names t (set file r (lowered_value names e.value))
 registers_put es e names t r file is h = record {
-  each_one = length-set file r (value_of names e.value) ∙ h.each_one;
+  each_one = length-set file r (lowered_value names e.value) ∙ h.each_one;
   starts = λ k lt. let within = h.each_one in elim (cases_eq k r) [
     | inl same ↦
-        let value : get_or (set file r (value_of names e.value)) k NoValue ≡ value_of names e.value = subst (λ (i : ℕ). get_or (set file r (value_of names e.value)) i NoValue ≡ value_of names e.value) (sym same) (get_or-set_same file r (value_of names e.value) NoValue (omega arith)) in
+        let value : get_or (set file r (lowered_value names e.value)) k NoValue ≡ lowered_value names e.value = subst (λ (i : ℕ). get_or (set file r (lowered_value names e.value)) i NoValue ≡ lowered_value names e.value) (sym same) (get_or-set_same file r (lowered_value names e.value) NoValue (omega arith)) in
         subst (λ (v : Value). Starts (es ++ e ∷ []) (Register t k) names v) (sym value)
         (starts_same es e (Register t k) names (is ∙ ap (λ (i : ℕ). Register t i) (sym same)))
     | inr other ↦
         subst (λ (v : Value). Starts (es ++ e ∷ []) (Register t k) names v)
-        (sym (get_or-set_other file r k (value_of names e.value) NoValue other))
+        (sym (get_or-set_other file r k (lowered_value names e.value) NoValue other))
         (starts_other es e (Register t k) names (get_or file k NoValue)
         (λ eq. other (sym (ap number_in (sym is ∙ eq)))) (h.starts k lt))
   ];
@@ -218,7 +218,7 @@ registers_put es e names t r file is h = record {
 
 files_step : (es : List InitEntry) (e : InitEntry) (names : List (List ℕ)) (n : ℕ)
     (files : List (List Value)) (p : Place) → e.place ≡ p → AreFiles es names n files
-    → AreFiles (es ++ e ∷ []) names n (put_register p (value_of names e.value) files)
+    → AreFiles (es ++ e ∷ []) names n (put_register p (lowered_value names e.value) files)
 files_step es e names n files (Location name) is h = record {
   each_one = h.each_one;
   starts =
@@ -226,7 +226,7 @@ files_step es e names n files (Location name) is h = record {
       (λ r eq. let f : zero ≡ suc zero = ap kind_in (sym is ∙ eq) in omega arith) (h.starts t lt);
 }
 files_step es e names n files (Register t r) is h =
-    let file : List Value = set (get_or files t []) r (value_of names e.value) in record {
+    let file : List Value = set (get_or files t []) r (lowered_value names e.value) in record {
       each_one = length-set files t file ∙ h.each_one;
       starts = λ k lt. let within = h.each_one in elim (cases_eq k t) [
         | inl same ↦
@@ -246,7 +246,7 @@ files_step es e names n files (Register t r) is h =
 pub files_more : (init : List InitEntry) (k : ℕ) (e : InitEntry) (names : List (List ℕ)) (n : ℕ)
     (xs ys : List (List Value)) → k < length init → get_or init k e ≡ e
     → AreFiles (take k init) names n xs
-    → ys ≡ put_register e.place (value_of names e.value) xs
+    → ys ≡ put_register e.place (lowered_value names e.value) xs
     → AreFiles (take (k + 1) init) names n ys
 files_more init k e names n xs ys lt there h made =
     let more : take (k + 1) init ≡ take k init ++ e ∷ [] = take_more init k e lt ∙ ap (λ (f : InitEntry). take k init ++ f ∷ []) there in
@@ -274,8 +274,8 @@ files_none names n xs made =
 
 -- the lines
 threads_step : (threads : List Thread) (thread : Thread) (made : Vec Line Global)
-    (xs : List (Vec Line Global)) → AreThreads threads xs
-    → AreLines thread.steps.items made.items → AreThreads (threads ++ thread ∷ []) (xs ++ made ∷ [])
+    (xs : List (Vec Line Global)) → AreThreadLines threads xs
+    → LowersTo thread.steps.items made.items → AreThreadLines (threads ++ thread ∷ []) (xs ++ made ∷ [])
 threads_step threads thread made xs h lines = record {
   each_one =
       length_push xs made ∙ ap (λ (n : ℕ). n + 1) h.each_one ∙ sym (length_push threads thread);
@@ -284,26 +284,26 @@ threads_step threads thread made xs h lines = record {
       let same = h.each_one in
       let long = length_push threads thread in elim (cases_lt t (length threads)) [
         | inl less ↦
-            subst (λ (x : Thread). AreLines x.steps.items (get_or (xs ++ made ∷ []) t e).items)
+            subst (λ (x : Thread). LowersTo x.steps.items (get_or (xs ++ made ∷ []) t e).items)
             (sym (get_or_append_left threads (thread ∷ []) d t less))
-            (subst (λ (y : Vec Line Global). AreLines (get_or threads t d).steps.items y.items)
+            (subst (λ (y : Vec Line Global). LowersTo (get_or threads t d).steps.items y.items)
             (sym (get_or_append_left xs (made ∷ []) e t (omega arith))) (h.each t d e less))
         | inr le ↦
             let there : t ≡ length threads = omega arith in
-            subst (λ (x : Thread). AreLines x.steps.items (get_or (xs ++ made ∷ []) t e).items)
+            subst (λ (x : Thread). LowersTo x.steps.items (get_or (xs ++ made ∷ []) t e).items)
             (sym (get_or_push threads thread d t (sym there)))
-            (subst (λ (y : Vec Line Global). AreLines thread.steps.items y.items)
+            (subst (λ (y : Vec Line Global). LowersTo thread.steps.items y.items)
             (sym (get_or_push xs made e t (same ∙ sym there))) lines)
       ];
 }
 
 pub threads_more : (threads : List Thread) (k : ℕ) (thread : Thread) (made : Vec Line Global)
     (xs ys : List (Vec Line Global)) → k < length threads → get_or threads k thread ≡ thread
-    → AreThreads (take k threads) xs
-    → AreLines thread.steps.items made.items → ys ≡ xs ++ made ∷ []
-    → AreThreads (take (k + 1) threads) ys
+    → AreThreadLines (take k threads) xs
+    → LowersTo thread.steps.items made.items → ys ≡ xs ++ made ∷ []
+    → AreThreadLines (take (k + 1) threads) ys
 threads_more threads k thread made xs ys lt there h lines e =
     let more : take (k + 1) threads ≡ take k threads ++ thread ∷ [] = take_more threads k thread lt ∙ ap (λ (x : Thread). take k threads ++ x ∷ []) there in
-    subst (λ (ts : List Thread). AreThreads ts ys) (sym more) (subst
-    (λ (zs : List (Vec Line Global)). AreThreads (take k threads ++ thread ∷ []) zs) (sym e)
+    subst (λ (ts : List Thread). AreThreadLines ts ys) (sym more) (subst
+    (λ (zs : List (Vec Line Global)). AreThreadLines (take k threads ++ thread ∷ []) zs) (sym e)
     (threads_step (take k threads) thread made xs h lines))

@@ -16,7 +16,7 @@ use Rattle.thread_runs.specs.Machine.{is_load}
 use Rattle.thread_runs.specs.Runs.{Thread, InDomain}
 use Rattle.thread_runs.specs.AllRuns.{HasRuns, thread_of}
 use Rattle.thread_runs.specs.FreeRuns.{HasFreeRuns}
-use Rattle.thread_runs.specs.ValueSet.{IsOne, IsSet}
+use Rattle.thread_runs.specs.ValueSet.{IsProperValue, IsValueSet}
 
 -- the first threads of a program, and all
 abbrev pub threads_from : Program → ℕ → List Thread
@@ -52,25 +52,25 @@ load_total p = lines_with has_load p
 
 -- the locations hold values at the start
 abbrev pub AreProper : Program → Type 0
-AreProper p = All IsOne p.initial.items
+AreProper p = All IsProperValue p.initial.items
 
 -- a value after so many rounds
-abbrev pub InRound : Program → ℕ → Value → Type 0
-InRound p k v = InDomain p.initial.items (threads_of p) k v
+abbrev pub InDomainAt : Program → ℕ → Value → Type 0
+InDomainAt p k v = InDomain p.initial.items (threads_of p) k v
 
 -- the list has just the values after so many rounds, in their order
-pub record IsRound (p : Program) (k : ℕ) (V : List Value) : Type 0 where
-  pub set : IsSet V
-  pub exact : (v : Value) → Contains V v ↔ InRound p k v
+pub record IsDomainAt (p : Program) (k : ℕ) (V : List Value) : Type 0 where
+  pub set : IsValueSet V
+  pub exact : (v : Value) → Contains V v ↔ InDomainAt p k v
 
 -- there are over 16 values after so many rounds
 abbrev pub HasManyValues : Program → ℕ → Type 0
-HasManyValues p k = (V : List Value) × IsSet V × All (InRound p k) V × (16 < length V)
+HasManyValues p k = (V : List Value) × IsValueSet V × All (InDomainAt p k) V × (16 < length V)
 
 -- there are at most 16, and some thread has over 4,096 free runs over them
 pub record HasManyRuns (p : Program) (k : ℕ) : Type 0 where
   pub values : List Value
-  pub round : IsRound p k values
+  pub round : IsDomainAt p k values
   pub few : length values ≤ 16
   pub thread : Thread
   pub there : Contains (threads_of p) thread
@@ -79,9 +79,9 @@ pub record HasManyRuns (p : Program) (k : ℕ) : Type 0 where
   pub many : 4096 < runs
 
 -- neither
-pub record IsWithin (p : Program) (k : ℕ) : Type 0 where
+pub record IsBoundedRound (p : Program) (k : ℕ) : Type 0 where
   pub values : List Value
-  pub round : IsRound p k values
+  pub round : IsDomainAt p k values
   pub few : length values ≤ 16
   pub runs : (t : Thread) → Contains (threads_of p) t
       → (n : ℕ) × HasFreeRuns t values n × (n ≤ 4096)
@@ -95,38 +95,38 @@ HasCombinations (t ∷ ts) V n =
 -- what may be, and why not: before the first round and after each, as many as the text has loads
 pub record IsDomain (p : Program) (V : List Value) : Type 0 where
   pub events : event_total p ≤ 128
-  pub rounds : (k : ℕ) → k ≤ load_total p → IsWithin p k
-  pub last : IsRound p (load_total p) V
+  pub rounds : (k : ℕ) → k ≤ load_total p → IsBoundedRound p k
+  pub last : IsDomainAt p (load_total p) V
   pub combinations : (n : ℕ) × HasCombinations (threads_of p) V n × (n ≤ 1048576)
 
-pub record IsFirst (p : Program) (k : ℕ) (Fails : Program → ℕ → Type 0) : Type 0 where
+pub record IsFirstFailure (p : Program) (k : ℕ) (Fails : Program → ℕ → Type 0) : Type 0 where
   pub events : event_total p ≤ 128
   pub bound : k ≤ load_total p
-  pub before : (j : ℕ) → j < k → IsWithin p j
+  pub before : (j : ℕ) → j < k → IsBoundedRound p j
   pub fails : Fails p k
 
 pub record HasManyCombinations (p : Program) : Type 0 where
   pub events : event_total p ≤ 128
-  pub rounds : (k : ℕ) → k ≤ load_total p → IsWithin p k
+  pub rounds : (k : ℕ) → k ≤ load_total p → IsBoundedRound p k
   pub values : List Value
-  pub last : IsRound p (load_total p) values
+  pub last : IsDomainAt p (load_total p) values
   pub combinations : ℕ
   pub counted : HasCombinations (threads_of p) values combinations
   pub many : 1048576 < combinations
 
-abbrev pub IsRefused : Program → DomainRefusal → Type 0
-IsRefused p TooManyEvents = 128 < event_total p
-IsRefused p TooManyValues = (k : ℕ) × IsFirst p k HasManyValues
-IsRefused p TooManyRuns = (k : ℕ) × IsFirst p k HasManyRuns
-IsRefused p TooManyCombinations = HasManyCombinations p
+abbrev pub IsDomainRefusal : Program → DomainRefusal → Type 0
+IsDomainRefusal p TooManyEvents = 128 < event_total p
+IsDomainRefusal p TooManyValues = (k : ℕ) × IsFirstFailure p k HasManyValues
+IsDomainRefusal p TooManyRuns = (k : ℕ) × IsFirstFailure p k HasManyRuns
+IsDomainRefusal p TooManyCombinations = HasManyCombinations p
 
-abbrev pub IsFault : Program → DomainFault → Type 0
-IsFault p (Refused r) = IsRefused p r
-IsFault p (OutOfMemory e) = Unit {0}
+abbrev pub LacksDomain : Program → DomainFault → Type 0
+LacksDomain p (Refused r) = IsDomainRefusal p r
+LacksDomain p (OutOfMemory e) = Unit {0}
 
-abbrev pub IsMemory : DomainFault → Type 0
-IsMemory (Refused r) = ⊥
-IsMemory (OutOfMemory e) = Unit {0}
+abbrev pub IsDomainMemoryFault : DomainFault → Type 0
+IsDomainMemoryFault (Refused r) = ⊥
+IsDomainMemoryFault (OutOfMemory e) = Unit {0}
 
 -- the bounds of one round, and which is passed
 abbrev pub HasFewRuns : Program → List Value → ℕ → Type 0
@@ -148,7 +148,7 @@ IsCombinationFault p V (Refused _) = ⊥
 IsCombinationFault p V (OutOfMemory e) = Unit {0}
 
 -- the values after so many rounds, unless there are over 16
-pub record IsNextRound (p : Program) (k : ℕ) (V : List Value) : Type 0 where
-  pub set : IsSet V
-  pub sound : (v : Value) → Contains V v → InRound p k v
-  pub whole : length V ≤ 16 → (v : Value) → InRound p k v → Contains V v
+pub record IsNextDomain (p : Program) (k : ℕ) (V : List Value) : Type 0 where
+  pub set : IsValueSet V
+  pub sound : (v : Value) → Contains V v → InDomainAt p k v
+  pub whole : length V ≤ 16 → (v : Value) → InDomainAt p k v → Contains V v

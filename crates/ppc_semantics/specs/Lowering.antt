@@ -30,48 +30,48 @@ use Rattle.ppc_semantics.specs.declared.fault.DomainFault.{DomainFault}
 use Rattle.ppc_semantics.specs.declared.fault.DomainFault.TheVariants.{Refused, OutOfMemory}
 use Rattle.thread_runs.specs.declared.run.Run.{Run}
 use Rattle.thread_runs.specs.AllRuns.{ShowsRuns, thread_of}
-use Rattle.ppc_semantics.specs.Domain.{IsDomain, IsRefused}
+use Rattle.ppc_semantics.specs.Domain.{IsDomain, IsDomainRefusal}
 
 -- names in the order of their bytes, each once
 abbrev pub name_cmp : List ℕ → List ℕ → Ordering
 name_cmp = slice_cmp nat_cmp
 
-abbrev pub IsBefore : List ℕ → List ℕ → Type 0
-IsBefore a b = name_cmp a b ≡ how.Less
+abbrev pub IsNameBefore : List ℕ → List ℕ → Type 0
+IsNameBefore a b = name_cmp a b ≡ how.Less
 
 -- the new names are the old ones and these
-pub record Adds (names old new : List (List ℕ)) : Type 0 where
+pub record Gains (names old new : List (List ℕ)) : Type 0 where
   pub exact : (n : List ℕ) → Contains new n ↔ (Contains old n ⊎ Contains names n)
 
 -- the index of a name, or the count of the names if it is not among them
-abbrev pub number_of : List (List ℕ) → List ℕ → ℕ
-number_of [] name = zero
-number_of (n ∷ names) name = if is_eq (name_cmp n name) then zero else suc (number_of names name)
+abbrev pub name_index : List (List ℕ) → List ℕ → ℕ
+name_index [] name = zero
+name_index (n ∷ names) name = if is_eq (name_cmp n name) then zero else suc (name_index names name)
 
 -- a value of the text
-abbrev pub value_of : List (List ℕ) → written.Value → Value
-value_of names (values.Number n) = Number (cast_unsigned w32 n)
-value_of names (values.Address name) = Address (number_of names name)
+abbrev pub lowered_value : List (List ℕ) → written.Value → Value
+lowered_value names (values.Number n) = Number (cast_unsigned w32 n)
+lowered_value names (values.Address name) = Address (name_index names name)
 
 -- an instruction of the text
-abbrev pub instruction_of : List (List ℕ) → text.Instruction → Instruction
-instruction_of labels (texts.LoadImmediate d n) = Immediate d (cast_unsigned w32 n)
-instruction_of labels (texts.Move d a) = Move d a
-instruction_of labels (texts.AddImmediate d a n) = AddImmediate d a (cast_unsigned w32 n)
-instruction_of labels (texts.Compute o d a b) = Operate o d a b
-instruction_of labels (texts.Load d a) = Load d a
-instruction_of labels (texts.LoadIndexed d a b) = LoadIndexed d a b
-instruction_of labels (texts.Store d a) = Store d a
-instruction_of labels (texts.StoreIndexed d a b) = StoreIndexed d a b
-instruction_of labels (texts.Compare a b) = Compare a b
-instruction_of labels (texts.CompareImmediate a n) = CompareImmediate a (cast_unsigned w32 n)
-instruction_of labels (texts.BranchIf c l) = Branch c (number_of labels l)
-instruction_of labels (texts.Branch l) = Jump (number_of labels l)
-instruction_of labels (texts.Fence f) = Barrier f
+abbrev pub lowered_instruction : List (List ℕ) → text.Instruction → Instruction
+lowered_instruction labels (texts.LoadImmediate d n) = Immediate d (cast_unsigned w32 n)
+lowered_instruction labels (texts.Move d a) = Move d a
+lowered_instruction labels (texts.AddImmediate d a n) = AddImmediate d a (cast_unsigned w32 n)
+lowered_instruction labels (texts.Compute o d a b) = Operate o d a b
+lowered_instruction labels (texts.Load d a) = Load d a
+lowered_instruction labels (texts.LoadIndexed d a b) = LoadIndexed d a b
+lowered_instruction labels (texts.Store d a) = Store d a
+lowered_instruction labels (texts.StoreIndexed d a b) = StoreIndexed d a b
+lowered_instruction labels (texts.Compare a b) = Compare a b
+lowered_instruction labels (texts.CompareImmediate a n) = CompareImmediate a (cast_unsigned w32 n)
+lowered_instruction labels (texts.BranchIf c l) = Branch c (name_index labels l)
+lowered_instruction labels (texts.Branch l) = Jump (name_index labels l)
+lowered_instruction labels (texts.Fence f) = Barrier f
 
-abbrev pub line_of : List (List ℕ) → Step → Line
-line_of labels (steps.Label l) = Label (number_of labels l)
-line_of labels (steps.Instruction i) = Does (instruction_of labels i)
+abbrev pub lowered_line : List (List ℕ) → Step → Line
+lowered_line labels (steps.Label l) = Label (name_index labels l)
+lowered_line labels (steps.Instruction i) = Does (lowered_instruction labels i)
 
 -- the labels of a thread
 abbrev pub labels_in : Step → List (List ℕ)
@@ -79,14 +79,14 @@ labels_in (steps.Label l) = l ∷ []
 labels_in (steps.Instruction i) = []
 
 -- the names, in order, are just these
-pub record AreNames (found names : List (List ℕ)) : Type 0 where
-  pub rising : AllPairs IsBefore names
+pub record AreNamesOf (found names : List (List ℕ)) : Type 0 where
+  pub rising : AllPairs IsNameBefore names
   pub exact : (n : List ℕ) → Contains names n ↔ Contains found n
 
-abbrev pub AreLines : List Step → List Line → Type 0
-AreLines thread lines =
-    (labels : List (List ℕ)) × AreNames (flat_map labels_in thread) labels
-    × (lines ≡ map (line_of labels) thread)
+abbrev pub LowersTo : List Step → List Line → Type 0
+LowersTo thread lines =
+    (labels : List (List ℕ)) × AreNamesOf (flat_map labels_in thread) labels
+    × (lines ≡ map (lowered_line labels) thread)
 
 -- the locations that a test names
 abbrev pub place_names : Place → List (List ℕ)
@@ -123,7 +123,7 @@ pub record IsLastEntry (init : List InitEntry) (p : Place) (e : InitEntry) : Typ
 -- there is none
 abbrev pub Starts : List InitEntry → Place → List (List ℕ) → Value → Type 0
 Starts init p names v =
-    ((e : InitEntry) × IsLastEntry init p e × (v ≡ value_of names e.value))
+    ((e : InitEntry) × IsLastEntry init p e × (v ≡ lowered_value names e.value))
     ⊎ (All (λ e. e.place ≡ p → ⊥) init × (v ≡ Number 0))
 
 -- what the locations hold at the start, in their order
@@ -147,25 +147,25 @@ pub record AreFiles (init : List InitEntry) (names : List (List ℕ)) (threads :
   pub starts : (t : ℕ) → t < threads → AreRegisters init names t (slice_index_or files t [])
 
 -- the lines of all threads
-pub record AreThreads (threads : List Thread) (lines : List (Vec Line Global)) : Type 0 where
+pub record AreThreadLines (threads : List Thread) (lines : List (Vec Line Global)) : Type 0 where
   pub each_one : length lines ≡ length threads
   pub each : (t : ℕ) (thread : Thread) (made : Vec Line Global) → t < length threads
-      → AreLines (slice_index_or threads t thread).steps.items (slice_index_or lines t made).items
+      → LowersTo (slice_index_or threads t thread).steps.items (slice_index_or lines t made).items
 
 -- the program of a test
 pub record IsProgram (t : Test) (p : Program) : Type 0 where
-  pub locations : AreNames (test_names t) p.locations.items
+  pub locations : AreNamesOf (test_names t) p.locations.items
   pub initial : AreInitial t.init.items p.locations.items p.initial.items
-  pub threads : AreThreads t.threads.items p.threads.items
+  pub threads : AreThreadLines t.threads.items p.threads.items
   pub registers : AreFiles t.init.items p.locations.items (vec_len t.threads) p.registers.items
 
 -- the domain of a test, and why it is refused
 abbrev pub IsTestDomain : Test → List Value → Type 0
 IsTestDomain t V = (p : Program) × IsProgram t p × IsDomain p V
 
-abbrev pub IsTestFault : Test → DomainFault → Type 0
-IsTestFault t (Refused r) = (p : Program) × IsProgram t p × IsRefused p r
-IsTestFault t (OutOfMemory e) = Unit {0}
+abbrev pub IsTestDomainFault : Test → DomainFault → Type 0
+IsTestDomainFault t (Refused r) = (p : Program) × IsProgram t p × IsDomainRefusal p r
+IsTestDomainFault t (OutOfMemory e) = Unit {0}
 
 -- the list shows all runs of a thread of a test whose loads take these values, in order
 abbrev pub ShowsTestRuns : Test → ℕ → List Value → List Run → Type 0
@@ -177,7 +177,7 @@ blank = replicate 32 (Number 0)
 
 -- with a location, or a register, holding a value
 abbrev pub put_location : List (List ℕ) → Place → Value → List Value → List Value
-put_location names (places.Location name) v values = slice_set values (number_of names name) v
+put_location names (places.Location name) v values = slice_set values (name_index names name) v
 put_location names (places.Register t r) v values = values
 
 abbrev pub put_register : Place → Value → List (List Value) → List (List Value)

@@ -36,9 +36,9 @@ fn index_of_name(names: &[Name], name: &Name) -> Result<usize, usize>
 
 /// Adds the name to sorted names, which stay sorted. A name that is there is not added again.
 fn note(alloc: Global, names: &mut Vec<Name>, name: &Name) -> Result<(), AllocError>
-    requires { AllPairs low.IsBefore names.old.items }
-    ensures rising { AllPairs low.IsBefore names.new.items }
-    ensures noted { OnOk result (low.Adds (name.now ∷ []) names.old.items names.new.items) }
+    requires { AllPairs low.IsNameBefore names.old.items }
+    ensures rising { AllPairs low.IsNameBefore names.new.items }
+    ensures noted { OnOk result (low.Gains (name.now ∷ []) names.old.items names.new.items) }
 {
     match index_of_name(names, name) {
         Ok(_) => Ok(()),
@@ -52,8 +52,8 @@ fn note(alloc: Global, names: &mut Vec<Name>, name: &Name) -> Result<(), AllocEr
 
 /// The index of a name among sorted names, or their count if the name is not among them.
 fn number_of(names: &[Name], name: &Name) -> usize
-    requires { AllPairs low.IsBefore names.now }
-    ensures { result ≡ low.number_of names.now name.now }
+    requires { AllPairs low.IsNameBefore names.now }
+    ensures { result ≡ low.name_index names.now name.now }
 {
     match index_of_name(names, name) {
         Ok(index) => index,
@@ -63,9 +63,9 @@ fn number_of(names: &[Name], name: &Name) -> usize
 
 /// Adds the name of a location; a register adds nothing.
 fn note_place(alloc: Global, names: &mut Vec<Name>, place: &Place) -> Result<(), AllocError>
-    requires { AllPairs low.IsBefore names.old.items }
-    ensures rising { AllPairs low.IsBefore names.new.items }
-    ensures noted { OnOk result (low.Adds (low.place_names place.now) names.old.items
+    requires { AllPairs low.IsNameBefore names.old.items }
+    ensures rising { AllPairs low.IsNameBefore names.new.items }
+    ensures noted { OnOk result (low.Gains (low.place_names place.now) names.old.items
         names.new.items) }
 {
     match place {
@@ -80,9 +80,9 @@ fn note_value(
     names: &mut Vec<Name>,
     value: &text_values::Value,
 ) -> Result<(), AllocError>
-    requires { AllPairs low.IsBefore names.old.items }
-    ensures rising { AllPairs low.IsBefore names.new.items }
-    ensures noted { OnOk result (low.Adds (low.value_names value.now) names.old.items
+    requires { AllPairs low.IsNameBefore names.old.items }
+    ensures rising { AllPairs low.IsNameBefore names.new.items }
+    ensures noted { OnOk result (low.Gains (low.value_names value.now) names.old.items
         names.new.items) }
 {
     match value {
@@ -98,9 +98,9 @@ fn note_both(
     place: &Place,
     value: &text_values::Value,
 ) -> Result<(), AllocError>
-    requires { AllPairs low.IsBefore names.old.items }
-    ensures rising { AllPairs low.IsBefore names.new.items }
-    ensures noted { OnOk result (low.Adds (low.place_names place.now ++ low.value_names value.now)
+    requires { AllPairs low.IsNameBefore names.old.items }
+    ensures rising { AllPairs low.IsNameBefore names.new.items }
+    ensures noted { OnOk result (low.Gains (low.place_names place.now ++ low.value_names value.now)
         names.old.items names.new.items) }
 {
     note_place(alloc, names, place)?;
@@ -114,9 +114,9 @@ fn note_proposition(
     names: &mut Vec<Name>,
     proposition: &Proposition,
 ) -> Result<(), AllocError>
-    requires { AllPairs low.IsBefore names.old.items }
-    ensures rising { AllPairs low.IsBefore names.new.items }
-    ensures noted { OnOk result (low.Adds (low.formula_names (formula_of proposition.now))
+    requires { AllPairs low.IsNameBefore names.old.items }
+    ensures rising { AllPairs low.IsNameBefore names.new.items }
+    ensures noted { OnOk result (low.Gains (low.formula_names (formula_of proposition.now))
         names.old.items names.new.items) }
 {
     match proposition {
@@ -132,9 +132,9 @@ fn note_proposition(
 
 /// Adds the locations that the entries name.
 fn note_init(alloc: Global, names: &mut Vec<Name>, init: &[InitEntry]) -> Result<(), AllocError>
-    requires { AllPairs low.IsBefore names.old.items }
-    ensures rising { AllPairs low.IsBefore names.new.items }
-    ensures noted { OnOk result (low.Adds (flat_map low.entry_names init.now) names.old.items
+    requires { AllPairs low.IsNameBefore names.old.items }
+    ensures rising { AllPairs low.IsNameBefore names.new.items }
+    ensures noted { OnOk result (low.Gains (flat_map low.entry_names init.now) names.old.items
         names.new.items) }
 {
     for entry in init {
@@ -145,9 +145,9 @@ fn note_init(alloc: Global, names: &mut Vec<Name>, init: &[InitEntry]) -> Result
 
 /// Adds the names of those observables that are locations.
 fn note_places(alloc: Global, names: &mut Vec<Name>, places: &[Place]) -> Result<(), AllocError>
-    requires { AllPairs low.IsBefore names.old.items }
-    ensures rising { AllPairs low.IsBefore names.new.items }
-    ensures noted { OnOk result (low.Adds (flat_map low.place_names places.now) names.old.items
+    requires { AllPairs low.IsNameBefore names.old.items }
+    ensures rising { AllPairs low.IsNameBefore names.new.items }
+    ensures noted { OnOk result (low.Gains (flat_map low.place_names places.now) names.old.items
         names.new.items) }
 {
     for place in places {
@@ -164,7 +164,7 @@ fn note_places(alloc: Global, names: &mut Vec<Name>, places: &[Place]) -> Result
 ///
 /// Want of memory.
 pub fn locations_of(alloc: Global, test: &Test) -> Result<Vec<Name>, AllocError>
-    ensures { IfOk result (λ v. low.AreNames (low.test_names test.now) v.items) }
+    ensures { IfOk result (λ v. low.AreNamesOf (low.test_names test.now) v.items) }
 {
     let mut names = Vec::new(alloc);
     note_init(alloc, &mut names, &test.init)?;
@@ -175,8 +175,8 @@ pub fn locations_of(alloc: Global, test: &Test) -> Result<Vec<Name>, AllocError>
 
 /// The value, with an address by the number of its location.
 fn value_of(locations: &[Name], value: &text_values::Value) -> Value
-    requires { AllPairs low.IsBefore locations.now }
-    ensures { result ≡ low.value_of locations.now value.now }
+    requires { AllPairs low.IsNameBefore locations.now }
+    ensures { result ≡ low.lowered_value locations.now value.now }
 {
     match value {
         text_values::Value::Number(n) => Value::Number(n.cast_unsigned()),
@@ -186,10 +186,10 @@ fn value_of(locations: &[Name], value: &text_values::Value) -> Value
 
 /// Writes the value of the entry at the number of its location, if it is for one.
 fn put_location(locations: &[Name], entry: &InitEntry, initial: &mut Vec<Value>)
-    requires { AllPairs low.IsBefore locations.now }
+    requires { AllPairs low.IsNameBefore locations.now }
     ensures { initial.new.items
         ≡ low.put_location locations.now entry.now.place
-        (low.value_of locations.now entry.now.value) initial.old.items }
+        (low.lowered_value locations.now entry.now.value) initial.old.items }
 {
     match &entry.place {
         Place::Location(name) => {
@@ -208,7 +208,7 @@ fn initial_of(
     init: &[InitEntry],
     locations: &[Name],
 ) -> Result<Vec<Value>, AllocError>
-    requires { AllPairs low.IsBefore locations.now }
+    requires { AllPairs low.IsNameBefore locations.now }
     ensures { IfOk result (λ v. low.AreInitial init.now locations.now v.items) }
 {
     let mut initial = vec![in alloc; Value::Number(0); locations.len()]?;
@@ -220,9 +220,9 @@ fn initial_of(
 
 /// Writes the value of the entry into its register, if it is for one of a thread that is there.
 fn put_register(locations: &[Name], entry: &InitEntry, registers: &mut Vec<[Value; 32]>)
-    requires { AllPairs low.IsBefore locations.now }
+    requires { AllPairs low.IsNameBefore locations.now }
     ensures { registers.new.items
-        ≡ low.put_register entry.now.place (low.value_of locations.now entry.now.value)
+        ≡ low.put_register entry.now.place (low.lowered_value locations.now entry.now.value)
         registers.old.items }
 {
     match &entry.place {
@@ -254,7 +254,7 @@ fn registers_of(
     locations: &[Name],
     threads: usize,
 ) -> Result<Vec<[Value; 32]>, AllocError>
-    requires { AllPairs low.IsBefore locations.now }
+    requires { AllPairs low.IsNameBefore locations.now }
     ensures { IfOk result (λ v. low.AreFiles init.now locations.now threads v.items) }
 {
     let mut registers = blank_files(alloc, threads)?;
@@ -266,8 +266,8 @@ fn registers_of(
 
 /// The instruction, with its label by number.
 fn instruction_of(labels: &[Name], instruction: &Written) -> Instruction
-    requires { AllPairs low.IsBefore labels.now }
-    ensures { result ≡ low.instruction_of labels.now instruction.now }
+    requires { AllPairs low.IsNameBefore labels.now }
+    ensures { result ≡ low.lowered_instruction labels.now instruction.now }
 {
     match instruction {
         Written::LoadImmediate { target, value } => {
@@ -311,9 +311,9 @@ fn instruction_of(labels: &[Name], instruction: &Written) -> Instruction
 
 /// Adds the label that the step is, if it is one.
 fn note_label(alloc: Global, labels: &mut Vec<Name>, step: &Step) -> Result<(), AllocError>
-    requires { AllPairs low.IsBefore labels.old.items }
-    ensures rising { AllPairs low.IsBefore labels.new.items }
-    ensures noted { OnOk result (low.Adds (low.labels_in step.now) labels.old.items
+    requires { AllPairs low.IsNameBefore labels.old.items }
+    ensures rising { AllPairs low.IsNameBefore labels.new.items }
+    ensures noted { OnOk result (low.Gains (low.labels_in step.now) labels.old.items
         labels.new.items) }
 {
     match step {
@@ -324,7 +324,7 @@ fn note_label(alloc: Global, labels: &mut Vec<Name>, step: &Step) -> Result<(), 
 
 /// The labels of a thread in the order of their bytes.
 fn labels_of(alloc: Global, steps: &[Step]) -> Result<Vec<Name>, AllocError>
-    ensures { IfOk result (λ v. low.AreNames (flat_map low.labels_in steps.now) v.items) }
+    ensures { IfOk result (λ v. low.AreNamesOf (flat_map low.labels_in steps.now) v.items) }
 {
     let mut labels = Vec::new(alloc);
     for step in steps {
@@ -335,8 +335,8 @@ fn labels_of(alloc: Global, steps: &[Step]) -> Result<Vec<Name>, AllocError>
 
 /// The line that the step is.
 fn line_of(labels: &[Name], step: &Step) -> Line
-    requires { AllPairs low.IsBefore labels.now }
-    ensures { result ≡ low.line_of labels.now step.now }
+    requires { AllPairs low.IsNameBefore labels.now }
+    ensures { result ≡ low.lowered_line labels.now step.now }
 {
     match step {
         Step::Label(name) => Line::Label(number_of(labels, name)),
@@ -346,7 +346,7 @@ fn line_of(labels: &[Name], step: &Step) -> Line
 
 /// The lines of a thread, with the numbers of its labels.
 fn lines_of(alloc: Global, steps: &[Step]) -> Result<Vec<Line>, AllocError>
-    ensures { IfOk result (λ v. low.AreLines steps.now v.items) }
+    ensures { IfOk result (λ v. low.LowersTo steps.now v.items) }
 {
     let labels = labels_of(alloc, steps)?;
     let mut lines = Vec::new(alloc);
@@ -358,7 +358,7 @@ fn lines_of(alloc: Global, steps: &[Step]) -> Result<Vec<Line>, AllocError>
 
 /// The lines of all threads.
 fn threads_of(alloc: Global, threads: &[Thread]) -> Result<Vec<Vec<Line>>, AllocError>
-    ensures { IfOk result (λ v. low.AreThreads threads.now v.items) }
+    ensures { IfOk result (λ v. low.AreThreadLines threads.now v.items) }
 {
     let mut made = Vec::new(alloc);
     for thread in threads {

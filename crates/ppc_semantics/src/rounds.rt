@@ -3,7 +3,7 @@
 ghost use Rattle.std.specs.Prelude.{ℕ, ◌≡◌, ◌≤◌, ◌<◌, ◌+◌, ◌↔◌, ◌-◌, ◌^◌, IfOk, IfErr, OnOk, IsTrue, List, Contains, min, length, vec_len};
 ghost use Rattle.std.specs.List.{AllPairs, count_by};
 ghost use Rattle.thread_runs.specs.declared.value.Value.{Value};
-ghost use Rattle.thread_runs.specs.ValueSet.{IsOne, IsSet};
+ghost use Rattle.thread_runs.specs.ValueSet.{IsProperValue, IsValueSet};
 ghost use Rattle.thread_runs.specs.Runs.{IsLess, StoresFreely};
 ghost use Rattle.thread_runs.specs.AllRuns as all;
 ghost use Rattle.thread_runs.specs.FreeRuns.{HasFreeRuns};
@@ -98,9 +98,9 @@ fn load_count(program: &Program) -> usize
 
 /// The initial values of the locations.
 fn initial_values(alloc: Global, program: &Program) -> Result<Vec<Value>, AllocError>
-    ensures set { IfOk result (λ v. IsSet v.items) }
+    ensures set { IfOk result (λ v. IsValueSet v.items) }
     ensures values { IfOk result (λ v. (u : Value)
-        → Contains v.items u ↔ (Contains program.now.initial.items u × IsOne u)) }
+        → Contains v.items u ↔ (Contains program.now.initial.items u × IsProperValue u)) }
 {
     let mut values = Vec::new(alloc);
     for value in &program.initial {
@@ -111,8 +111,8 @@ fn initial_values(alloc: Global, program: &Program) -> Result<Vec<Value>, AllocE
 
 /// The values with those that some free run over them stores.
 fn next_values(alloc: Global, program: &Program, values: &[Value]) -> Result<Vec<Value>, AllocError>
-    requires { IsSet values.now }
-    ensures set { IfOk result (λ v. IsSet v.items) }
+    requires { IsValueSet values.now }
+    ensures set { IfOk result (λ v. IsValueSet v.items) }
     ensures added { IfOk result (λ v. AreAdded
         (StoresFreely (dom.threads_of program.now) (Contains values.now)) values.now v.items) }
 {
@@ -139,7 +139,7 @@ fn thread_count(
 ) -> Result<u32, DomainFault>
     ensures counted { IfOk result (λ n. (V : List Value) → AllPairs IsLess V → length V ≡ size
         → (m : ℕ) × HasFreeRuns (all.thread_of program.now thread) V m × (n ≡ min m 4097)) }
-    ensures fault { IfErr result (λ e. dom.IsMemory e) }
+    ensures fault { IfErr result (λ e. dom.IsDomainMemoryFault e) }
 {
     match free_count(alloc, thread_lines(program, thread), size) {
         Ok(count) => Ok(count),
@@ -149,7 +149,7 @@ fn thread_count(
 
 /// The bounds of one round.
 fn check_round(alloc: Global, program: &Program, values: &[Value]) -> Result<(), DomainFault>
-    requires { IsSet values.now }
+    requires { IsValueSet values.now }
     ensures few { OnOk result (length values.now ≤ 16) }
     ensures runs { OnOk result (dom.HasFewRuns program.now values.now
         (vec_len program.now.threads)) }
@@ -178,10 +178,10 @@ fn runs_in_thread(
     thread: usize,
     values: &[Value],
 ) -> Result<usize, DomainFault>
-    requires { IsSet values.now }
+    requires { IsValueSet values.now }
     ensures counted { IfOk result (λ n.
         all.HasRuns (all.thread_of program.now thread) values.now n) }
-    ensures fault { IfErr result (λ e. dom.IsMemory e) }
+    ensures fault { IfErr result (λ e. dom.IsDomainMemoryFault e) }
 {
     let first = State::first(program, thread);
     match run_count(alloc, thread_lines(program, thread), first, values) {
@@ -200,7 +200,7 @@ fn size_of(values: &[Value]) -> usize
 
 /// Whether the numbers of free runs tell that there are few enough combinations of runs.
 fn are_surely_few(alloc: Global, program: &Program, values: &[Value]) -> Result<bool, AllocError>
-    requires { IsSet values.now }
+    requires { IsValueSet values.now }
     ensures { IfOk result (λ b. IsTrue b
         → (n : ℕ) × dom.HasCombinations (dom.threads_of program.now) values.now n
         × (n ≤ 1048576)) }
@@ -222,7 +222,7 @@ fn are_surely_few(alloc: Global, program: &Program, values: &[Value]) -> Result<
 
 /// The bound of the combinations of runs, by counting the runs.
 fn count_combinations(alloc: Global, program: &Program, values: &[Value]) -> Result<(), DomainFault>
-    requires { IsSet values.now }
+    requires { IsValueSet values.now }
     ensures few { OnOk result ((n : ℕ)
         × dom.HasCombinations (dom.threads_of program.now) values.now n × (n ≤ 1048576)) }
     ensures fault { IfErr result (λ e. dom.IsCombinationFault program.now values.now e) }
@@ -244,7 +244,7 @@ fn count_combinations(alloc: Global, program: &Program, values: &[Value]) -> Res
 
 /// The bound of the combinations of runs.
 fn check_combinations(alloc: Global, program: &Program, values: &[Value]) -> Result<(), DomainFault>
-    requires { IsSet values.now }
+    requires { IsValueSet values.now }
     ensures few { OnOk result ((n : ℕ)
         × dom.HasCombinations (dom.threads_of program.now) values.now n × (n ≤ 1048576)) }
     ensures fault { IfErr result (λ e. dom.IsCombinationFault program.now values.now e) }
@@ -258,10 +258,10 @@ fn check_combinations(alloc: Global, program: &Program, values: &[Value]) -> Res
 
 /// The values before the first round.
 fn first_round(alloc: Global, program: &Program) -> Result<Vec<Value>, DomainFault>
-    ensures set { IfOk result (λ v. IsSet v.items) }
+    ensures set { IfOk result (λ v. IsValueSet v.items) }
     ensures round { IfOk result (λ v. dom.AreProper program.now
-        → dom.IsNextRound program.now 0 v.items) }
-    ensures fault { IfErr result (λ e. dom.IsMemory e) }
+        → dom.IsNextDomain program.now 0 v.items) }
+    ensures fault { IfErr result (λ e. dom.IsDomainMemoryFault e) }
 {
     match initial_values(alloc, program) {
         Ok(values) => Ok(values),
@@ -271,13 +271,13 @@ fn first_round(alloc: Global, program: &Program) -> Result<Vec<Value>, DomainFau
 
 /// The values after one round more.
 fn next_round(alloc: Global, program: &Program, values: &[Value]) -> Result<Vec<Value>, DomainFault>
-    requires { IsSet values.now }
-    ensures set { IfOk result (λ v. IsSet v.items) }
-    ensures round { IfOk result (λ v. (k : ℕ) → dom.IsRound program.now k values.now
-        → dom.IsNextRound program.now (k + 1) v.items) }
+    requires { IsValueSet values.now }
+    ensures set { IfOk result (λ v. IsValueSet v.items) }
+    ensures round { IfOk result (λ v. (k : ℕ) → dom.IsDomainAt program.now k values.now
+        → dom.IsNextDomain program.now (k + 1) v.items) }
     ensures unchanged { IfOk result (λ v. length values.now ≡ length v.items
         → values.now ≡ v.items) }
-    ensures fault { IfErr result (λ e. dom.IsMemory e) }
+    ensures fault { IfErr result (λ e. dom.IsDomainMemoryFault e) }
 {
     match next_values(alloc, program, values) {
         Ok(values) => Ok(values),
@@ -288,12 +288,12 @@ fn next_round(alloc: Global, program: &Program, values: &[Value]) -> Result<Vec<
 /// The values after the last round, where each round is within the bounds.
 fn last_round(alloc: Global, program: &Program) -> Result<Vec<Value>, DomainFault>
     requires { dom.event_total program.now ≤ 128 }
-    ensures set { IfOk result (λ v. IsSet v.items) }
+    ensures set { IfOk result (λ v. IsValueSet v.items) }
     ensures round { IfOk result (λ v. dom.AreProper program.now
-        → dom.IsRound program.now (dom.load_total program.now) v.items) }
+        → dom.IsDomainAt program.now (dom.load_total program.now) v.items) }
     ensures within { OnOk result (dom.AreProper program.now → (k : ℕ)
-        → k ≤ dom.load_total program.now → dom.IsWithin program.now k) }
-    ensures fault { IfErr result (λ e. dom.AreProper program.now → dom.IsFault program.now e) }
+        → k ≤ dom.load_total program.now → dom.IsBoundedRound program.now k) }
+    ensures fault { IfErr result (λ e. dom.AreProper program.now → dom.LacksDomain program.now e) }
 {
     let mut values = first_round(alloc, program)?;
     check_round(alloc, program, &values)?;
@@ -318,10 +318,10 @@ fn last_round(alloc: Global, program: &Program) -> Result<Vec<Value>, DomainFaul
 /// and after each round 16 values, then 4,096 free runs of a thread; 1,048,576 combinations of
 /// runs. Errors: the first limit that is exceeded, or out of memory.
 pub fn domain_of(alloc: Global, program: &Program) -> Result<Domain, DomainFault>
-    ensures set { IfOk result (λ d. IsSet d.values.items) }
+    ensures set { IfOk result (λ d. IsValueSet d.values.items) }
     ensures domain { IfOk result (λ d. dom.AreProper program.now
         → dom.IsDomain program.now d.values.items) }
-    ensures fault { IfErr result (λ e. dom.AreProper program.now → dom.IsFault program.now e) }
+    ensures fault { IfErr result (λ e. dom.AreProper program.now → dom.LacksDomain program.now e) }
 {
     if event_count(program) > MAX_EVENTS {
         return Err(DomainFault::Refused(DomainRefusal::TooManyEvents));
@@ -333,9 +333,9 @@ pub fn domain_of(alloc: Global, program: &Program) -> Result<Domain, DomainFault
 
 /// The domain of a test: that of its program. Errors: the refusal of its program, or out of memory.
 pub fn domain(alloc: Global, test: &Test) -> Result<Domain, DomainFault>
-    ensures set { IfOk result (λ d. IsSet d.values.items) }
+    ensures set { IfOk result (λ d. IsValueSet d.values.items) }
     ensures domain { IfOk result (λ d. low.IsTestDomain test.now d.values.items) }
-    ensures fault { IfErr result (λ e. low.IsTestFault test.now e) }
+    ensures fault { IfErr result (λ e. low.IsTestDomainFault test.now e) }
 {
     match program(alloc, test) {
         Ok(program) => domain_of(alloc, &program),

@@ -10,9 +10,9 @@ expand at (e ∷ es) [] = []
 expand at (e ∷ es) (v ∷ vs) = replicate (e - at) v ++ expand e es vs
 
 -- each end lies above the one before it
-abbrev pub AreRising : ℕ → List ℕ → Type 0
-AreRising at [] = Unit {0}
-AreRising at (e ∷ es) = (at < e) × AreRising e es
+abbrev pub AreEndsRising : ℕ → List ℕ → Type 0
+AreEndsRising at [] = Unit {0}
+AreEndsRising at (e ∷ es) = (at < e) × AreEndsRising e es
 
 -- where the last run ends
 abbrev pub last_end : ℕ → List ℕ → ℕ
@@ -20,22 +20,22 @@ last_end at [] = at
 last_end at (e ∷ es) = last_end e es
 
 -- where a run begins
-abbrev pub start_of : ℕ → List ℕ → ℕ → ℕ
-start_of at es zero = at
-start_of at [] (suc r) = at
-start_of at (e ∷ es) (suc r) = start_of e es r
+abbrev pub run_start : ℕ → List ℕ → ℕ → ℕ
+run_start at es zero = at
+run_start at [] (suc r) = at
+run_start at (e ∷ es) (suc r) = run_start e es r
 
 -- an end for each value, and no run is empty
-pub record AreRuns {A : Type 0} (es : List ℕ) (vs : List A) : Type 0 where
+pub record AreColumnRuns {A : Type 0} (es : List ℕ) (vs : List A) : Type 0 where
   pub as_many : length es ≡ length vs
-  pub rising : AreRising 0 es
+  pub rising : AreEndsRising 0 es
 
 abbrev pub no_set : Events
 no_set = record { count = 0; word = 0 }
 
 -- the relation, and the set, of a candidate
-abbrev pub value_at : List Relation → ℕ → Relation
-value_at values k = slice_index_or values k no_slot
+abbrev pub rel_at : List Relation → ℕ → Relation
+rel_at values k = slice_index_or values k no_slot
 
 abbrev pub set_at : List Events → ℕ → Events
 set_at values k = slice_index_or values k no_set

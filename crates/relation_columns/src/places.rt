@@ -1,8 +1,8 @@
 //! Relations whose words stand one after another in one list.
 ghost use Rattle.std.specs.Prelude.{◌≡◌, ◌<◌, ◌↔◌, length, IsTrue, IfOk};
 ghost use Rattle.bit_relations.specs.Relation.{IsRegular};
-ghost use Rattle.relation_columns.specs.Runs.{value_at};
-ghost use Rattle.relation_columns.specs.Storage.{AreKept, kept_values, values_of};
+ghost use Rattle.relation_columns.specs.Runs.{rel_at};
+ghost use Rattle.relation_columns.specs.Storage.{AreRelationsAt, relations_at, run_values};
 
 use crate::runs::Run;
 use bit_relations::Rel;
@@ -33,9 +33,9 @@ pub(crate) fn next_place(words: &[u64], relation: &Rel) -> Result<Place, AllocEr
 
 /// Writes the value of a run into `target`.
 pub(crate) fn read_value(runs: &[Run<Place>], words: &[u64], run: usize, target: &mut Rel)
-    requires kept { AreKept (values_of runs.now) words.now }
+    requires kept { AreRelationsAt (run_values runs.now) words.now }
     requires run { run < length runs.now }
-    ensures { target.new ≡ value_at (kept_values (values_of runs.now) words.now) run }
+    ensures { target.new ≡ rel_at (relations_at (run_values runs.now) words.now) run }
 {
     let place = runs[run].value;
     target.read_from(place.count as usize, words, place.start as usize);
@@ -43,10 +43,10 @@ pub(crate) fn read_value(runs: &[Run<Place>], words: &[u64], run: usize, target:
 
 /// Whether the value of a run is this relation.
 pub(crate) fn is_value(runs: &[Run<Place>], words: &[u64], run: usize, relation: &Rel) -> bool
-    requires kept { AreKept (values_of runs.now) words.now }
+    requires kept { AreRelationsAt (run_values runs.now) words.now }
     requires run { run < length runs.now }
     ensures { IsTrue result
-        ↔ (value_at (kept_values (values_of runs.now) words.now) run ≡ relation.now) }
+        ↔ (rel_at (relations_at (run_values runs.now) words.now) run ≡ relation.now) }
 {
     let place = runs[run].value;
     if place.count as usize != relation.count() {

@@ -1,6 +1,6 @@
 //! A column of relations.
 ghost use Rattle.std.specs.Prelude.{◌≡◌, ℕ, ◌-◌, ◌<◌, ◌≤◌, ◌++◌, ◌∷◌, [], ◌↔◌, length, replicate, IsTrue, OnOk, OnErr};
-ghost use Rattle.relation_columns.specs.Runs.{value_at};
+ghost use Rattle.relation_columns.specs.Runs.{rel_at};
 
 use crate::places::{Place, is_value, next_place, read_value};
 use crate::runs::{Cursor, Run, end_at, end_of, run_at, set_end};
@@ -20,17 +20,17 @@ pub struct RunColumn {
 impl Model for RunColumn {
     ghost use Rattle.std.specs.Prelude.{List};
     ghost use Rattle.bit_relations.specs.Relation.{Relation};
-    ghost use Rattle.relation_columns.specs.Runs.{expand, AreRuns};
-    ghost use Rattle.relation_columns.specs.Storage.{AreKept, ends_of, values_of, kept_values};
+    ghost use Rattle.relation_columns.specs.Runs.{expand, AreColumnRuns};
+    ghost use Rattle.relation_columns.specs.Storage.{AreRelationsAt, run_ends, run_values, relations_at};
 
     ghost Value = { List Relation };
 
     ghost view = { λ c.
-        expand 0 (ends_of c.runs.items) (kept_values (values_of c.runs.items) c.words.items) };
+        expand 0 (run_ends c.runs.items) (relations_at (run_values c.runs.items) c.words.items) };
 
-    ghost invariant = { λ c. AreRuns (ends_of c.runs.items)
-        (kept_values (values_of c.runs.items) c.words.items)
-        × AreKept (values_of c.runs.items) c.words.items };
+    ghost invariant = { λ c. AreColumnRuns (run_ends c.runs.items)
+        (relations_at (run_values c.runs.items) c.words.items)
+        × AreRelationsAt (run_values c.runs.items) c.words.items };
 }
 
 impl RunColumn {
@@ -95,7 +95,7 @@ impl RunColumn {
     /// Where memory is out the column stays as it was.
     pub fn push_last(&mut self) -> Result<(), AllocError>
         ensures added { OnOk result (0 < length self.old
-            → self.new ≡ self.old ++ value_at self.old (length self.old - 1) ∷ []) }
+            → self.new ≡ self.old ++ rel_at self.old (length self.old - 1) ∷ []) }
         ensures none { OnOk result (self.old ≡ [] → self.new ≡ []) }
         ensures kept { OnErr result (self.new ≡ self.old) }
     {
@@ -117,7 +117,7 @@ impl RunColumn {
         requires { at < length self.now }
         ensures after { at < result }
         ensures within { result ≤ length self.now }
-        ensures same { (k : ℕ) → at ≤ k → k < result → value_at self.now k ≡ value_at self.now at }
+        ensures same { (k : ℕ) → at ≤ k → k < result → rel_at self.now k ≡ rel_at self.now at }
     {
         let runs = self.runs.as_slice();
         end_at(runs, run_at(runs, 0, at))
@@ -127,10 +127,10 @@ impl RunColumn {
     /// it have the same.
     pub fn read(&self, cursor: &mut Cursor, at: usize, target: &mut Rel) -> usize
         requires { at < length self.now }
-        ensures value { target.new ≡ value_at self.now at }
+        ensures value { target.new ≡ rel_at self.now at }
         ensures after { at < result }
         ensures within { result ≤ length self.now }
-        ensures same { (k : ℕ) → at ≤ k → k < result → value_at self.now k ≡ value_at self.now at }
+        ensures same { (k : ℕ) → at ≤ k → k < result → rel_at self.now k ≡ rel_at self.now at }
     {
         let runs = self.runs.as_slice();
         let run = run_at(runs, cursor.run, at);

@@ -1,7 +1,7 @@
 //! Runs of equal neighbours, and where they end.
 ghost use Rattle.std.specs.Prelude.{◌≡◌, ◌<◌, ◌≤◌, length, set, slice_index, IsTrue};
-ghost use Rattle.relation_columns.specs.Runs.{AreRising, last_end, start_of};
-ghost use Rattle.relation_columns.specs.Storage.{ends_of, values_of};
+ghost use Rattle.relation_columns.specs.Runs.{AreEndsRising, last_end, run_start};
+ghost use Rattle.relation_columns.specs.Storage.{run_ends, run_values};
 
 /// Where a reader of a column looks first. Any cursor will do: a wrong one costs time alone.
 #[derive(Clone, Copy)]
@@ -27,7 +27,7 @@ pub(crate) struct Run<V> {
 
 /// Where the last run ends.
 pub(crate) fn end_of<V>(runs: &[Run<V>]) -> usize
-    ensures { result ≡ last_end 0 (ends_of runs.now) }
+    ensures { result ≡ last_end 0 (run_ends runs.now) }
 {
     let count = runs.len();
     if count == 0 {
@@ -40,7 +40,7 @@ pub(crate) fn end_of<V>(runs: &[Run<V>]) -> usize
 /// Where a run ends.
 pub(crate) fn end_at<V>(runs: &[Run<V>], run: usize) -> usize
     requires { run < length runs.now }
-    ensures { result ≡ slice_index (ends_of runs.now) run }
+    ensures { result ≡ slice_index (run_ends runs.now) run }
 {
     runs[run].end
 }
@@ -48,8 +48,8 @@ pub(crate) fn end_at<V>(runs: &[Run<V>], run: usize) -> usize
 /// Makes a run end elsewhere.
 pub(crate) fn set_end<V>(runs: &mut [Run<V>], run: usize, end: usize)
     requires { run < length runs.old }
-    ensures ends { ends_of runs.new ≡ set (ends_of runs.old) run end }
-    ensures values { values_of runs.new ≡ values_of runs.old }
+    ensures ends { run_ends runs.new ≡ set (run_ends runs.old) run end }
+    ensures values { run_values runs.new ≡ run_values runs.old }
     ensures long { length runs.new ≡ length runs.old }
 {
     runs[run].end = end;
@@ -58,11 +58,11 @@ pub(crate) fn set_end<V>(runs: &mut [Run<V>], run: usize, end: usize)
 /// The run that a candidate is in. It looks at one run first, and then at the one that the
 /// candidate would be in if all were equally long.
 pub(crate) fn run_at<V>(runs: &[Run<V>], first: usize, at: usize) -> usize
-    requires rising { AreRising 0 (ends_of runs.now) }
-    requires inside { at < last_end 0 (ends_of runs.now) }
+    requires rising { AreEndsRising 0 (run_ends runs.now) }
+    requires inside { at < last_end 0 (run_ends runs.now) }
     ensures run { result < length runs.now }
-    ensures from_start { start_of 0 (ends_of runs.now) result ≤ at }
-    ensures open { at < slice_index (ends_of runs.now) result }
+    ensures from_start { run_start 0 (run_ends runs.now) result ≤ at }
+    ensures open { at < slice_index (run_ends runs.now) result }
 {
     if is_in(runs, first, at) {
         return first;
@@ -81,8 +81,8 @@ pub(crate) fn run_at<V>(runs: &[Run<V>], first: usize, at: usize) -> usize
 /// Whether a candidate is in a run, if there is one of this number.
 fn is_in<V>(runs: &[Run<V>], run: usize, at: usize) -> bool
     ensures { IsTrue result
-        → (run < length runs.now) × (start_of 0 (ends_of runs.now) run ≤ at)
-        × (at < slice_index (ends_of runs.now) run) }
+        → (run < length runs.now) × (run_start 0 (run_ends runs.now) run ≤ at)
+        × (at < slice_index (run_ends runs.now) run) }
 {
     if runs.len() <= run || end_at(runs, run) <= at {
         return false;
@@ -93,14 +93,14 @@ fn is_in<V>(runs: &[Run<V>], run: usize, at: usize) -> bool
 /// Where a run begins.
 fn begin_of<V>(runs: &[Run<V>], run: usize) -> usize
     requires { run < length runs.now }
-    ensures { result ≡ start_of 0 (ends_of runs.now) run }
+    ensures { result ≡ run_start 0 (run_ends runs.now) run }
 {
     if run == 0 { 0 } else { end_at(runs, run - 1) }
 }
 
 /// The number of the run that a candidate would be in if all runs were equally long.
 fn even_run<V>(runs: &[Run<V>], at: usize) -> usize
-    requires { 0 < last_end 0 (ends_of runs.now) }
+    requires { 0 < last_end 0 (run_ends runs.now) }
 {
     match at.checked_mul(runs.len()) {
         Some(product) => product / end_of(runs),
@@ -112,7 +112,7 @@ fn even_run<V>(runs: &[Run<V>], at: usize) -> usize
 fn first_run<V>(runs: &[Run<V>], first: usize, at: usize) -> usize
     requires { 0 < length runs.now }
     ensures run { result < length runs.now }
-    ensures from_start { start_of 0 (ends_of runs.now) result ≤ at }
+    ensures from_start { run_start 0 (run_ends runs.now) result ≤ at }
 {
     if 0 < first && first < runs.len() && end_at(runs, first - 1) <= at {
         first
@@ -125,7 +125,7 @@ fn first_run<V>(runs: &[Run<V>], first: usize, at: usize) -> usize
 fn found_run<V>(runs: &[Run<V>], at: usize) -> usize
     requires { 0 < length runs.now }
     ensures run { result < length runs.now }
-    ensures from_start { start_of 0 (ends_of runs.now) result ≤ at }
+    ensures from_start { run_start 0 (run_ends runs.now) result ≤ at }
 {
     let mut low = 0;
     let mut high = runs.len();

@@ -1,7 +1,7 @@
 //! A column of sets.
 ghost use Rattle.std.specs.Prelude.{◌≡◌, ℕ, ◌-◌, ◌<◌, ◌≤◌, ◌++◌, ◌∷◌, [], ◌↔◌, length, replicate, IsTrue, OnOk, OnErr};
 ghost use Rattle.relation_columns.specs.Runs.{set_at};
-ghost use Rattle.relation_columns.specs.Storage.{values_of};
+ghost use Rattle.relation_columns.specs.Storage.{run_values};
 
 use crate::runs::{Cursor, Run, end_at, end_of, run_at, set_end};
 use bit_relations::EventSet;
@@ -18,14 +18,14 @@ pub struct SetRuns {
 impl Model for SetRuns {
     ghost use Rattle.std.specs.Prelude.{List};
     ghost use Rattle.bit_relations.specs.Relation.{Events};
-    ghost use Rattle.relation_columns.specs.Runs.{expand, AreRuns};
-    ghost use Rattle.relation_columns.specs.Storage.{ends_of, values_of};
+    ghost use Rattle.relation_columns.specs.Runs.{expand, AreColumnRuns};
+    ghost use Rattle.relation_columns.specs.Storage.{run_ends, run_values};
 
     ghost Value = { List Events };
 
-    ghost view = { λ c. expand 0 (ends_of c.runs.items) (values_of c.runs.items) };
+    ghost view = { λ c. expand 0 (run_ends c.runs.items) (run_values c.runs.items) };
 
-    ghost invariant = { λ c. AreRuns (ends_of c.runs.items) (values_of c.runs.items) };
+    ghost invariant = { λ c. AreColumnRuns (run_ends c.runs.items) (run_values c.runs.items) };
 }
 
 impl SetRuns {
@@ -153,7 +153,7 @@ impl SetRuns {
 /// The set of a run.
 fn value_of(runs: &[Run<EventSet>], run: usize) -> EventSet
     requires { run < length runs.now }
-    ensures { result ≡ set_at (values_of runs.now) run }
+    ensures { result ≡ set_at (run_values runs.now) run }
 {
     runs[run].value
 }
@@ -161,7 +161,7 @@ fn value_of(runs: &[Run<EventSet>], run: usize) -> EventSet
 /// Whether the set of a run is another.
 fn is_at(runs: &[Run<EventSet>], run: usize, value: &EventSet) -> bool
     requires { run < length runs.now }
-    ensures { IsTrue result ↔ (set_at (values_of runs.now) run ≡ value.now) }
+    ensures { IsTrue result ↔ (set_at (run_values runs.now) run ≡ value.now) }
 {
     value_of(runs, run).is_same(value)
 }

@@ -3,12 +3,12 @@ use Rattle.std.proofs.Common.{ℕ, zero, suc, ◌≡◌, ◌<◌, ◌≤◌, ◌
 use Rattle.std.proofs.Math.Seq.{get_or-append_seam}
 use Rattle.std.proofs.lemmas.Bool.{cases_lt}
 use Rattle.std.proofs.lemmas.List.{get_or_read, get_or_append_left, append-nil}
-use Rattle.bit_relations.specs.Pairs.{Path, Union, Composed}
+use Rattle.bit_relations.specs.Pairs.{Path, Union, Composite}
 use Rattle.bit_relations.specs.Relation.{Relation, Has, IsRegular, IsRelation, room_of, no_slot}
 use Rattle.std.specs.List.{Contains}
 use Rattle.bit_relations.proofs.Laws.{grows}
 use Rattle.bit_relations.proofs.Paths.{Path-append}
-use Rattle.relation_cycles.specs.Cycles.{IsPathFrom, IsShortestPath, IsCycle, IsCycleFrom, IsShortestCycle, IsShortestThrough, IsReachableIn, AreLevels, IsWhole, IsNoLater, IsFirstWithin, IsFirstReflexive}
+use Rattle.relation_cycles.specs.Cycles.{IsPathFrom, IsShortestPath, IsCycle, IsCycleFrom, IsShortestCycle, IsShortestThrough, IsReachableIn, AreLevels, HasShortPaths, ComesNoLater, IsFirstUpTo, IsFirstReflexive}
 
 pub IsReachableIn-more : (R : ℕ → ℕ → Type 0) (k a b : ℕ) → IsReachableIn R k a b
     → IsReachableIn R (k + 1) a b
@@ -18,16 +18,16 @@ IsReachableIn-more R k a b w =
 
 -- a path of a step more is a step, or a step and a path
 pub IsReachableIn-split : (R : ℕ → ℕ → Type 0) (k a b : ℕ) → IsReachableIn R (k + 1) a b
-    → R a b ⊎ Composed R (IsReachableIn R k) a b
+    → R a b ⊎ Composite R (IsReachableIn R k) a b
 IsReachableIn-split R k a b w = go w.through w.short w.path
   where
     go : (xs : List ℕ) → length xs < k + 1 → Path R a xs b
-        → R a b ⊎ Composed R (IsReachableIn R k) a b
+        → R a b ⊎ Composite R (IsReachableIn R k) a b
     go [] lt p = inl p
     go (c ∷ cs) lt p = inr (c, p.0, record { through = cs; short = omega (arith, lt); path = p.1 })
 
 pub IsReachableIn-join : (R : ℕ → ℕ → Type 0) (k a b : ℕ)
-    → R a b ⊎ Composed R (IsReachableIn R k) a b → IsReachableIn R (k + 1) a b
+    → R a b ⊎ Composite R (IsReachableIn R k) a b → IsReachableIn R (k + 1) a b
 IsReachableIn-join R k a b (inl r) = record { through = []; short = omega arith; path = r }
 IsReachableIn-join R k a b (inr (c, r, w)) =
     let lt : length w.through < k = w.short in
@@ -35,7 +35,7 @@ IsReachableIn-join R k a b (inr (c, r, w)) =
 
 -- where no pair is gained by a step more, none is by any number
 pub whole : (R : ℕ → ℕ → Type 0) (k : ℕ)
-    → ((a b : ℕ) → IsReachableIn R (k + 1) a b → IsReachableIn R k a b) → IsWhole R k
+    → ((a b : ℕ) → IsReachableIn R (k + 1) a b → IsReachableIn R k a b) → HasShortPaths R k
 whole R k closed a b p = go a p.0 p.1
   where
     go : (a : ℕ) (xs : List ℕ) → Path R a xs b → IsReachableIn R k a b
@@ -59,18 +59,18 @@ pub record IsAhead (R S : ℕ → ℕ → Type 0) (a b n event : ℕ) : Type 0 w
 
 -- ---- which list comes first
 
-pub no_later_front : (xs ys : List ℕ) → IsNoLater xs (xs ++ ys)
+pub no_later_front : (xs ys : List ℕ) → ComesNoLater xs (xs ++ ys)
 no_later_front [] ys = tt
 no_later_front (x ∷ xs) ys = inr (refl, no_later_front xs ys)
 
 -- a smaller event behind the same ones
 smaller_behind : (xs : List ℕ) (a b : ℕ) (ys zs : List ℕ) → a < b
-    → IsNoLater (xs ++ a ∷ ys) (xs ++ b ∷ zs)
+    → ComesNoLater (xs ++ a ∷ ys) (xs ++ b ∷ zs)
 smaller_behind [] a b ys zs lt = inl lt
 smaller_behind (x ∷ xs) a b ys zs lt = inr (refl, smaller_behind xs a b ys zs lt)
 
 -- of two lists of one length each comes no later than the other
-pub same_place : (xs ys : List ℕ) → length xs ≡ length ys → IsNoLater xs ys → IsNoLater ys xs
+pub same_place : (xs ys : List ℕ) → length xs ≡ length ys → ComesNoLater xs ys → ComesNoLater ys xs
     → xs ≡ ys
 same_place [] [] long p q = refl
 same_place [] (y ∷ ys) long p q = absurd q
@@ -92,7 +92,7 @@ one_cycle R xs ys p q =
 
 -- however the events go on, they come before the others
 abbrev pub ComesBefore : List ℕ → List ℕ → Type 0
-ComesBefore events others = (more : List ℕ) → IsNoLater (events ++ more) others
+ComesBefore events others = (more : List ℕ) → ComesNoLater (events ++ more) others
 
 -- the others go on from these events, in less than so many steps
 pub record GoesOn (R : ℕ → ℕ → Type 0) (events : List ℕ) (at left to : ℕ) (others : List ℕ)
@@ -140,7 +140,7 @@ begun R event to steps w =
 
 -- a level and the step after it
 pub next_is : (r level product next : Relation)
-    → IsRelation product r.count (Composed (Has r) (Has level))
+    → IsRelation product r.count (Composite (Has r) (Has level))
     → IsRelation next product.count (Union (Has product) (Has r)) → (k : ℕ)
     → IsRelation level r.count (IsReachableIn (Has r) k)
     → IsRelation next r.count (IsReachableIn (Has r) (k + 1))
@@ -155,11 +155,11 @@ next_is r level product next composed joined k this = record {
 }
   where
     to : (a b : ℕ) → Union (Has product) (Has r) a b
-        → Has r a b ⊎ Composed (Has r) (IsReachableIn (Has r) k) a b
+        → Has r a b ⊎ Composite (Has r) (IsReachableIn (Has r) k) a b
     to a b (inr h) = inl h
     to a b (inl h) = let m = (composed.pairs a b).0 h in inr (m.0, m.1, (this.pairs m.0 b).0 m.2)
 
-    from : (a b : ℕ) → Has r a b ⊎ Composed (Has r) (IsReachableIn (Has r) k) a b
+    from : (a b : ℕ) → Has r a b ⊎ Composite (Has r) (IsReachableIn (Has r) k) a b
         → Union (Has product) (Has r) a b
     from a b (inl h) = inr h
     from a b (inr (m, h, w)) = inl ((composed.pairs a b).1 (m, h, (this.pairs m b).1 w))
@@ -172,7 +172,7 @@ module _ (r level : Relation) (levels : List Relation) (g : IsGrowing r level le
   module _ (next : Relation)
       (step : (k : ℕ) → IsRelation level r.count (IsReachableIn (Has r) k)
       → IsRelation next r.count (IsReachableIn (Has r) (k + 1))) where
-    pub all_there : next ≡ level → (k : ℕ) → k + 1 ≡ length levels → IsWhole (Has r) k
+    pub all_there : next ≡ level → (k : ℕ) → k + 1 ≡ length levels → HasShortPaths (Has r) k
     all_there same k e =
         let this : IsRelation level r.count (IsReachableIn (Has r) k) = g.last k e in
         let that : IsRelation next r.count (IsReachableIn (Has r) (k + 1)) = step k this in
@@ -269,7 +269,7 @@ module _ (R : ℕ → ℕ → Type 0) (event to steps : ℕ) (events : List ℕ)
   left_some = let short : length t.ahead.through < left = t.ahead.short in omega arith
 
   module _ (other : R at to → ⊥) where
-    pub steps_on : Composed R (IsReachableIn R (left - 1)) at to
+    pub steps_on : Composite R (IsReachableIn R (left - 1)) at to
     steps_on =
         let some : 0 < left = left_some in
         let e : left ≡ (left - 1) + 1 = omega arith in
@@ -298,7 +298,7 @@ module _ (R : ℕ → ℕ → Type 0) (event to steps : ℕ) (events : List ℕ)
               | inl lt ↦ absurd (none c lt path.0 reach)
               | inr le ↦ elim (cases_lt next c) [
                 | inl gt ↦ inl (λ more. subst
-                    (λ (xs : List ℕ). IsNoLater ((events ++ next ∷ []) ++ more) xs) (sym parts)
+                    (λ (xs : List ℕ). ComesNoLater ((events ++ next ∷ []) ++ more) xs) (sym parts)
                     (rw append_assoc (smaller_behind events next c more cs gt)))
                 | inr ge ↦ let same : c ≡ next = omega arith in
                     inr (record {
@@ -338,10 +338,10 @@ module _ (R : ℕ → ℕ → Type 0) (event to steps : ℕ) (events : List ℕ)
         subst (λ (xs : List ℕ). Path R event xs to) (append-nil t.tail) (t.leads [] r),
       )
 
-  pub comes_first : IsFirstWithin R event to steps events
+  pub comes_first : IsFirstUpTo R event to steps events
   comes_first others p lt = elim (t.first others p lt) [
-    | inl before ↦ subst (λ (xs : List ℕ). IsNoLater xs others) (append-nil events) (before [])
-    | inr on ↦ subst (λ (xs : List ℕ). IsNoLater events xs) (sym on.parts)
+    | inl before ↦ subst (λ (xs : List ℕ). ComesNoLater xs others) (append-nil events) (before [])
+    | inr on ↦ subst (λ (xs : List ℕ). ComesNoLater events xs) (sym on.parts)
         (no_later_front events on.rest)
   ]
 
@@ -372,7 +372,7 @@ rotated R (x ∷ xs) a back p =
     let parts = Path-split R x xs a back x p in Path-append R a back x xs a parts.1 parts.0
 
 pub shortest_through : (R : ℕ → ℕ → Type 0) (event steps : ℕ) (events : List ℕ)
-    → IsCycleFrom R event events → length events ≤ steps → IsFirstWithin R event event steps events
+    → IsCycleFrom R event events → length events ≤ steps → IsFirstUpTo R event event steps events
     → ((k : ℕ) → k < steps → IsReachableIn R k event event → ⊥) → IsShortestThrough R event events
 shortest_through R event steps events cycle short first none =
     record {
@@ -401,7 +401,7 @@ shortest_through R event steps events cycle short first none =
         ]
 
 pub shortest_path : (R : ℕ → ℕ → Type 0) (from to steps : ℕ) (events : List ℕ)
-    → IsPathFrom R from to events → length events ≤ steps → IsFirstWithin R from to steps events
+    → IsPathFrom R from to events → length events ≤ steps → IsFirstUpTo R from to steps events
     → ((k : ℕ) → k < steps → IsReachableIn R k from to → ⊥) → IsShortestPath R from to events
 shortest_path R from to steps events path short first none =
     record {
@@ -435,7 +435,7 @@ least_start R n level event steps are none first =
     record { none = none; before = λ a lt w. first.least a lt ((are.pairs a a).1 w) }
 
 pub shortest : (R : ℕ → ℕ → Type 0) (event steps : ℕ) (events : List ℕ) → IsCycleFrom R event events
-    → length events ≤ steps → IsFirstWithin R event event steps events → IsLeastStart R event steps
+    → length events ≤ steps → IsFirstUpTo R event event steps events → IsLeastStart R event steps
     → IsShortestCycle R events
 shortest R event steps events cycle short within start =
     record { cycle = is_cycle events cycle; least = least; first = first }
@@ -453,12 +453,12 @@ shortest R event steps events cycle short within start =
     ]
 
     smaller : (xs : List ℕ) (y : ℕ) (ys : List ℕ) → IsCycleFrom R event xs → event < y
-        → IsNoLater xs (y ∷ ys)
+        → ComesNoLater xs (y ∷ ys)
     smaller [] y ys c lt = tt
     smaller (x ∷ xs) y ys c lt = inl (subst (λ (z : ℕ). z < y) (sym c.0) lt)
 
     first : (others : List ℕ) → IsCycle R others → length others ≡ length events
-        → IsNoLater events others
+        → ComesNoLater events others
     first [] other same = absurd other
     first (x ∷ xs) other same = elim (cases_lt x event) [
       | inl lt ↦ absurd (start.before x lt (record {

@@ -16,10 +16,10 @@ IsPathFrom R a b (x ∷ xs) = (x ≡ a) × Path R x xs b
 
 -- the lists are the same, or where they first differ this one has the smaller event; a list that
 -- goes on comes later
-abbrev pub IsNoLater : List ℕ → List ℕ → Type 0
-IsNoLater [] others = Unit {0}
-IsNoLater (x ∷ xs) [] = ⊥
-IsNoLater (x ∷ xs) (y ∷ ys) = (x < y) ⊎ ((x ≡ y) × IsNoLater xs ys)
+abbrev pub ComesNoLater : List ℕ → List ℕ → Type 0
+ComesNoLater [] others = Unit {0}
+ComesNoLater (x ∷ xs) [] = ⊥
+ComesNoLater (x ∷ xs) (y ∷ ys) = (x < y) ⊎ ((x ≡ y) × ComesNoLater xs ys)
 
 -- a path such that none from that event to the other has fewer steps; and of those of as many steps
 -- the first, event by event
@@ -27,7 +27,7 @@ pub record IsShortestPath (R : ℕ → ℕ → Type 0) (a b : ℕ) (events : Lis
   pub path : IsPathFrom R a b events
   pub least : (others : List ℕ) → IsPathFrom R a b others → length events ≤ length others
   pub first : (others : List ℕ) → IsPathFrom R a b others → length others ≡ length events
-      → IsNoLater events others
+      → ComesNoLater events others
 
 -- a cycle that begins at an event
 abbrev pub IsCycleFrom : (ℕ → ℕ → Type 0) → ℕ → List ℕ → Type 0
@@ -40,7 +40,7 @@ pub record IsShortestCycle (R : ℕ → ℕ → Type 0) (events : List ℕ) : Ty
   pub cycle : IsCycle R events
   pub least : (others : List ℕ) → IsCycle R others → length events ≤ length others
   pub first : (others : List ℕ) → IsCycle R others → length others ≡ length events
-      → IsNoLater events others
+      → ComesNoLater events others
 
 -- a cycle that begins at an event, such that none through that event has fewer steps; and of those
 -- of as many steps that begin there the first, event by event
@@ -49,7 +49,7 @@ pub record IsShortestThrough (R : ℕ → ℕ → Type 0) (a : ℕ) (events : Li
   pub least : (others : List ℕ) → IsCycle R others → Contains others a
       → length events ≤ length others
   pub first : (others : List ℕ) → IsCycleFrom R a others → length others ≡ length events
-      → IsNoLater events others
+      → ComesNoLater events others
 
 -- there is a path of at most k steps
 pub record IsReachableIn (R : ℕ → ℕ → Type 0) (k a b : ℕ) : Type 0 where
@@ -63,8 +63,8 @@ pub record AreLevels (R : ℕ → ℕ → Type 0) (n : ℕ) (levels : List Relat
       → IsRelation (slice_index_or levels k no_slot) n (IsReachableIn R k)
 
 -- each path is matched by one of at most k steps
-abbrev pub IsWhole : (ℕ → ℕ → Type 0) → ℕ → Type 0
-IsWhole R k = (a b : ℕ) → Plus R a b → IsReachableIn R k a b
+abbrev pub HasShortPaths : (ℕ → ℕ → Type 0) → ℕ → Type 0
+HasShortPaths R k = (a b : ℕ) → Plus R a b → IsReachableIn R k a b
 
 -- the least event that is related to itself
 pub record IsFirstReflexive (R : ℕ → ℕ → Type 0) (a : ℕ) : Type 0 where
@@ -80,9 +80,9 @@ pub record IsLeastPair (R : ℕ → ℕ → Type 0) (a b : ℕ) : Type 0 where
 -- ---- what the search keeps
 
 -- each path of at most so many steps comes no earlier
-abbrev pub IsFirstWithin : (ℕ → ℕ → Type 0) → ℕ → ℕ → ℕ → List ℕ → Type 0
-IsFirstWithin R a b steps events =
-    (others : List ℕ) → IsPathFrom R a b others → length others ≤ steps → IsNoLater events others
+abbrev pub IsFirstUpTo : (ℕ → ℕ → Type 0) → ℕ → ℕ → ℕ → List ℕ → Type 0
+IsFirstUpTo R a b steps events =
+    (others : List ℕ) → IsPathFrom R a b others → length others ≤ steps → ComesNoLater events others
 
 -- a relation has one shortest cycle that comes first, or none
 abbrev pub HasOneShortestCycle : (ℕ → ℕ → Type 0) → Type 0

@@ -5,9 +5,9 @@
 #![tactic(auto)]
 
 ghost use Rattle.std.specs.Prelude.{◌≡◌, ℕ, ◌<◌, ◌≤◌, ◌+◌, length, IfOk, MatchOption};
-ghost use Rattle.bit_relations.specs.Pairs.{Composed, Plus, IsAcyclic, IsEmpty, IsIrreflexive};
+ghost use Rattle.bit_relations.specs.Pairs.{Composite, Plus, IsAcyclic, IsEmpty, IsIrreflexive};
 ghost use Rattle.bit_relations.specs.Relation.{Has, IsRegular, IsRelation};
-ghost use Rattle.relation_cycles.specs.Cycles.{IsPathFrom, IsShortestPath, IsShortestCycle, IsShortestThrough, IsReachableIn, AreLevels, IsWhole, IsFirstReflexive, IsFirstWithin, IsLeastPair};
+ghost use Rattle.relation_cycles.specs.Cycles.{IsPathFrom, IsShortestPath, IsShortestCycle, IsShortestThrough, IsReachableIn, AreLevels, HasShortPaths, IsFirstReflexive, IsFirstUpTo, IsLeastPair};
 
 pub mod laws;
 
@@ -60,7 +60,7 @@ fn levels_of(alloc: Global, relation: &Rel) -> Result<Vec<Rel>, AllocError>
     ensures levels { IfOk result (λ v. AreLevels (Has relation.now) relation.now.count v.items) }
     ensures some { IfOk result (λ v. 0 < length v.items) }
     ensures whole { IfOk result (λ v. (k : ℕ) → k + 1 ≡ length v.items
-        → IsWhole (Has relation.now) k) }
+        → HasShortPaths (Has relation.now) k) }
 {
     let mut level = Rel::empty(relation.count());
     let mut levels = Vec::new(alloc);
@@ -82,7 +82,7 @@ fn middle(left: &Rel, right: &Rel, from: usize, to: usize) -> usize
     requires to { to < left.now.count }
     requires count { right.now.count ≡ left.now.count }
     requires regular { IsRegular left.now }
-    requires some { Composed (Has left.now) (Has right.now) from to }
+    requires some { Composite (Has left.now) (Has right.now) from to }
     ensures left { Has left.now from result }
     ensures right { Has right.now result to }
     ensures least { (event : ℕ) → event < result → Has left.now from event → Has right.now event to
@@ -112,7 +112,7 @@ fn path_within(
     requires inside { to < relation.now.count }
     ensures path { IfOk result (λ v. IsPathFrom (Has relation.now) from to v.items) }
     ensures short { IfOk result (λ v. length v.items ≤ steps) }
-    ensures first { IfOk result (λ v. IsFirstWithin (Has relation.now) from to steps v.items) }
+    ensures first { IfOk result (λ v. IsFirstUpTo (Has relation.now) from to steps v.items) }
 {
     let mut path = Vec::new(alloc);
     path.push(from)?;

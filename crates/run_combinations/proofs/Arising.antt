@@ -3,24 +3,24 @@ use Rattle.std.proofs.Common.{ℕ, ◌≡◌, ◌<◌, inl, inr, List, length, g
 use Rattle.std.proofs.lemmas.Option.{slice_get_within, get_or_from_slice_get}
 use Rattle.bit_relations.specs.Relation.{Events, IsMember, IsEvents}
 use Rattle.run_combinations.specs.Events.{numbers, is_load, is_store}
-use Rattle.run_combinations.specs.Ways.{Source, Derived, stored, read, chosen, accesses_in}
-use Rattle.run_combinations.specs.Rounds.{Shows, Stepped, CanArise, IsRound, AllArise, store_event, load_event}
+use Rattle.run_combinations.specs.Ways.{MayReadFrom, Derived, stored, read, chosen, accesses_in}
+use Rattle.run_combinations.specs.Rounds.{IsReadingOf, Stepped, CanArise, IsArisingRound, AllArise, store_event, load_event}
 use Rattle.run_combinations.specs.declared.combination.Event.{Event}
 use Rattle.run_combinations.specs.declared.reading.Reading.{Reading}
 use Rattle.run_combinations.proofs.Numbers.{contains_at, mapped_at, Behind, behind_at, element_at, proper}
 
 pub round_keeps : (r : Reading) (way : List ℕ) (without : Option ℕ) (old new : Events)
-    → IsRound r way without old new → (x : ℕ) → IsMember old x → IsMember new x
+    → IsArisingRound r way without old new → (x : ℕ) → IsMember old x → IsMember new x
 round_keeps r way without old new h x m =
     (h.loads.members x).1 (inl ((h.stores.members x).1 (inl m)))
 
 pub round_count : (r : Reading) (way : List ℕ) (without : Option ℕ) (old new : Events)
-    → IsRound r way without old new → new.count ≡ old.count
+    → IsArisingRound r way without old new → new.count ≡ old.count
 round_count r way without old new h = h.loads.count ∙ h.stores.count
 
 -- what a round adds can arise
 pub round_arises : (r : Reading) (way : List ℕ) (without : Option ℕ) (old new : Events)
-    → IsRound r way without old new → AllArise r way without old → AllArise r way without new
+    → IsArisingRound r way without old new → AllArise r way without old → AllArise r way without new
 round_arises r way without old new h before es pairs shows x m =
     elim ((h.loads.members x).0 m) [
       | inl was ↦ between x was
@@ -53,8 +53,8 @@ round_arises r way without old new h before es pairs shows x m =
 
 -- where a round adds nothing, all is there that can arise
 pub nothing_more : (es : List Event) (pairs : List (ℕ × ℕ)) (r : Reading) (way : List ℕ)
-    (without : Option ℕ) (d : Events) → Shows es pairs r → d.count ≡ r.count
-    → IsRound r way without d d → (x : ℕ) → Derived (accesses_in es pairs) way without x
+    (without : Option ℕ) (d : Events) → IsReadingOf es pairs r → d.count ≡ r.count
+    → IsArisingRound r way without d d → (x : ℕ) → Derived (accesses_in es pairs) way without x
     → IsMember d x
 nothing_more es pairs r way without d shows count h x (stored st needs) =
     let n : (k : ℕ) × (k < length (numbers is_store 0 es)) × (get_or (numbers is_store 0 es) k x ≡ x) = st in
@@ -100,7 +100,7 @@ nothing_more es pairs r way without d shows count h x (read i lt other is within
 nothing_more es pairs r way without d shows count h x (chosen i s lt other is past source v) =
     let b : Behind load_event r.loads.items i (get_or (numbers is_load 0 es) i 0) = behind_at load_event r.loads.items (numbers is_load 0 es) i (get_or (numbers is_load 0 es) i 0) shows.loads (element_at (numbers is_load 0 es) i 0 lt) in
     let below : x < h.between.count = subst (λ (k : ℕ). x < k) (sym (h.stores.count ∙ count ∙ shows.count)) (subst (λ (y : ℕ). y < length es) (sym is) ((proper es pairs).loads_within i lt)) in
-    let sources : IsEvents b.item.sources r.count (Source (accesses_in es pairs) i) = shows.sources i b.item b.there in
+    let sources : IsEvents b.item.sources r.count (MayReadFrom (accesses_in es pairs) i) = shows.sources i b.item b.there in
     (h.loads.members x).1 (inr (record {
       index = i;
       item = b.item;

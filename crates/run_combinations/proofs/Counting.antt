@@ -5,9 +5,9 @@ use Rattle.std.proofs.lemmas.Bool.{cases_lt, or_parts}
 use Rattle.std.proofs.lemmas.Bool.Decides.{nat_tests}
 use Rattle.std.proofs.lemmas.List.{length-append, length-map, length-take, append-nil}
 use Rattle.std.proofs.Math.Nat.{one-le-mul, mul-zero, zero-mul, suc-mul, mul_comm, le-mul_of_pos_right}
-use Rattle.run_combinations.specs.Lists.{tuples, IsFiltered, none, kept, joined_with}
+use Rattle.run_combinations.specs.Lists.{tuples, IsFiltered, none, kept, each_behind}
 use Rattle.run_combinations.specs.Events.{has_store, AreDistinct, numbers}
-use Rattle.run_combinations.specs.Orders.{with_new, orders_of, is_thread_store, stores_of, all_orders, rows_of, AreApart}
+use Rattle.run_combinations.specs.Orders.{with_new, orders_of, is_thread_store, stores_of, all_orders, arrangement_count, AreInitialStoresApart}
 use Rattle.run_combinations.specs.declared.combination.Event.{Event}
 use Rattle.run_combinations.proofs.OrderLaws.{orders_more, has_store-append}
 use Rattle.run_combinations.proofs.Stores.{orders_are, one_event_more, stores_are}
@@ -253,7 +253,7 @@ rounds_lack first others d no_one (suc k) m e =
     (omega (arith, e)))
 
 rounds_length : (first : ℕ) (others : List ℕ) → AreDistinct others → has_store others first ≡ false
-    → (k m : ℕ) → k + m ≡ length others → length (rounds first others k) ≡ rows_of (length others) k
+    → (k m : ℕ) → k + m ≡ length others → length (rounds first others k) ≡ arrangement_count (length others) k
 unfolding rounds
 rounds_length first others d no_one zero m e = refl
 rounds_length first others d no_one (suc k) m e =
@@ -261,12 +261,12 @@ rounds_length first others d no_one (suc k) m e =
     round_length others (suc m) (rounds first others k) (rounds_lack first others d no_one k (suc m)
     (omega (arith, e)))
     ∙ ap (λ (n : ℕ). n * suc m) (rounds_length first others d no_one k (suc m) (omega (arith, e)))
-    ∙ sym (ap (λ (n : ℕ). rows_of (length others) k * n) left)
+    ∙ sym (ap (λ (n : ℕ). arrangement_count (length others) k * n) left)
 
 -- how many orders one location has
 pub orders_count : (first : ℕ) (others : List ℕ) → AreDistinct others
     → has_store others first ≡ false
-    → length (orders_of first others) ≡ rows_of (length others) (length others)
+    → length (orders_of first others) ≡ arrangement_count (length others) (length others)
 orders_count first others d no_one =
     ap (λ (l : List (List ℕ)). length l) (sym (orders_are first others
     (rounds first others (length others))
@@ -302,44 +302,44 @@ unfolding stores_of
 stores_distinct es location = numbers_distinct (is_thread_store location) 0 (take 128 es)
 
 joined_length : (os fs : List (List ℕ))
-    → length (flat_map (joined_with os) fs) ≡ length fs * length os
+    → length (flat_map (each_behind os) fs) ≡ length fs * length os
 joined_length os [] = sym (zero-mul (length os))
 joined_length os (f ∷ fs) =
-    let a : length (joined_with os f ++ flat_map (joined_with os) fs) ≡ length (joined_with os f) + length (flat_map (joined_with os) fs) = length-append (joined_with os f) (flat_map (joined_with os) fs) in
-    let b : length (joined_with os f) ≡ length os = length-map os (λ other. f ++ other) in
-    let c : length (flat_map (joined_with os) fs) ≡ length fs * length os = joined_length os fs in
+    let a : length (each_behind os f ++ flat_map (each_behind os) fs) ≡ length (each_behind os f) + length (flat_map (each_behind os) fs) = length-append (each_behind os f) (flat_map (each_behind os) fs) in
+    let b : length (each_behind os f) ≡ length os = length-map os (λ other. f ++ other) in
+    let c : length (flat_map (each_behind os) fs) ≡ length fs * length os = joined_length os fs in
     let s : suc (length fs) * length os ≡ length fs * length os + length os = suc-mul (length fs) (length os) in
     omega (arith, a, b, c, s)
 
 -- one location more
 pub one_location_counted : (es : List Event) (n most count stores rows next : ℕ)
-    → (AreApart es n → count ≡ min (length (all_orders es n)) most)
-    → stores ≡ length (stores_of es n) → rows ≡ min (rows_of stores stores) most
-    → next ≡ min (count * rows) most → AreApart es (n + 1)
+    → (AreInitialStoresApart es n → count ≡ min (length (all_orders es n)) most)
+    → stores ≡ length (stores_of es n) → rows ≡ min (arrangement_count stores stores) most
+    → next ≡ min (count * rows) most → AreInitialStoresApart es (n + 1)
     → next ≡ min (length (all_orders es (n + 1))) most
 one_location_counted es n most count stores rows next before s r e apart =
     let k : suc n ≡ n + 1 = omega arith in
-    let own : length (orders_of n (stores_of es n)) ≡ rows_of (length (stores_of es n)) (length (stores_of es n)) = orders_count n (stores_of es n) (stores_distinct es n) (apart n (omega arith)) in
+    let own : length (orders_of n (stores_of es n)) ≡ arrangement_count (length (stores_of es n)) (length (stores_of es n)) = orders_count n (stores_of es n) (stores_distinct es n) (apart n (omega arith)) in
     let many : length (all_orders es (suc n)) ≡ length (all_orders es n) * length (orders_of n (stores_of es n)) = joined_length (orders_of n (stores_of es n)) (all_orders es n) in
     e
     ∙ ap (λ (m : ℕ). min (m * rows) most) (before (λ l lt. apart l (omega (arith, lt))))
     ∙ ap (λ (m : ℕ). min (min (length (all_orders es n)) most * m) most)
-    (r ∙ ap (λ (m : ℕ). min (rows_of m m) most) s ∙ ap (λ (m : ℕ). min m most) (sym own))
+    (r ∙ ap (λ (m : ℕ). min (arrangement_count m m) most) s ∙ ap (λ (m : ℕ). min m most) (sym own))
     ∙ product_up_to (length (all_orders es n)) (length (orders_of n (stores_of es n))) most
     ∙ ap (λ (m : ℕ). min m most) (sym many)
     ∙ ap (λ (m : ℕ). min (length (all_orders es m)) most) k
 
 pub one_position_counted : (count positions most rows next : ℕ)
-    → rows ≡ min (rows_of count positions) most → count - positions ≤ most
-    → next ≡ min (rows * (count - positions)) most → next ≡ min (rows_of count (positions + 1)) most
+    → rows ≡ min (arrangement_count count positions) most → count - positions ≤ most
+    → next ≡ min (rows * (count - positions)) most → next ≡ min (arrangement_count count (positions + 1)) most
 one_position_counted count positions most rows next before few e =
     let k : suc positions ≡ positions + 1 = omega arith in
     let f : count - positions ≡ min (count - positions) most = omega (arith, few) in
     e
     ∙ ap (λ (m : ℕ). min (m * (count - positions)) most) before
-    ∙ ap (λ (m : ℕ). min (min (rows_of count positions) most * m) most) f
-    ∙ product_up_to (rows_of count positions) (count - positions) most
-    ∙ ap (λ (m : ℕ). min (rows_of count m) most) k
+    ∙ ap (λ (m : ℕ). min (min (arrangement_count count positions) most * m) most) f
+    ∙ product_up_to (arrangement_count count positions) (count - positions) most
+    ∙ ap (λ (m : ℕ). min (arrangement_count count m) most) k
 
 -- one event more among those that may be stores of the location
 numbers_after : (test : Event → Bool) (es : List Event) (n : ℕ) (d : Event) (b : Bool)
@@ -394,16 +394,16 @@ all_counted es location n end count is e le ge =
     {ys = numbers (is_thread_store location) 0 (take n es)} location n end refl e le ge)
 
 -- there is some order
-rows_positive : (count positions : ℕ) → positions ≤ count → 1 ≤ rows_of count positions
+rows_positive : (count positions : ℕ) → positions ≤ count → 1 ≤ arrangement_count count positions
 rows_positive count zero le = omega arith
 rows_positive count (suc positions) le =
     one-le-mul (rows_positive count positions (omega (arith, le))) (omega (arith, le))
 
-pub some_order : (es : List Event) (n : ℕ) → AreApart es n → 1 ≤ length (all_orders es n)
+pub some_order : (es : List Event) (n : ℕ) → AreInitialStoresApart es n → 1 ≤ length (all_orders es n)
 some_order es zero apart = omega arith
 some_order es (suc n) apart =
-    let own : length (orders_of n (stores_of es n)) ≡ rows_of (length (stores_of es n)) (length (stores_of es n)) = orders_count n (stores_of es n) (stores_distinct es n) (apart n (omega arith)) in
+    let own : length (orders_of n (stores_of es n)) ≡ arrangement_count (length (stores_of es n)) (length (stores_of es n)) = orders_count n (stores_of es n) (stores_distinct es n) (apart n (omega arith)) in
     let many : length (all_orders es (suc n)) ≡ length (all_orders es n) * length (orders_of n (stores_of es n)) = joined_length (orders_of n (stores_of es n)) (all_orders es n) in
-    let p : 1 ≤ rows_of (length (stores_of es n)) (length (stores_of es n)) = rows_positive (length (stores_of es n)) (length (stores_of es n)) (omega arith) in
+    let p : 1 ≤ arrangement_count (length (stores_of es n)) (length (stores_of es n)) = rows_positive (length (stores_of es n)) (length (stores_of es n)) (omega arith) in
     let q : 1 ≤ length (all_orders es n) * length (orders_of n (stores_of es n)) = one-le-mul (some_order es n (λ l lt. apart l (omega (arith, lt)))) (omega (arith, own, p)) in
     omega (arith, many, q)

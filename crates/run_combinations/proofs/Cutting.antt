@@ -2,7 +2,7 @@
 use Rattle.std.proofs.Common.{ℕ, ◌≡◌, ◌++◌, ◌↔◌, ◌⊎◌, Bool, List, [], ◌∷◌, take, length, refl, ap, subst, ◌∙◌}
 use Rattle.std.proofs.Math.Seq.{take-append_seam}
 use Rattle.dataflow.specs.DependencyLists.{renumbered_pairs}
-use Rattle.run_combinations.specs.Keys.{HasKey, IsRead, IsStored, TellsWithin}
+use Rattle.run_combinations.specs.Keys.{HasKey, IsLoadedKey, IsStoredKey, TellsSubset}
 use Rattle.run_combinations.specs.Prefixes.{IsEndOf, cut_lists}
 use Rattle.run_combinations.specs.Search.{PrefixLists, HasJoined, prefix_lists, with_run}
 use Rattle.run_combinations.specs.declared.keys.KeySet.{KeySet}
@@ -67,15 +67,15 @@ joined_back f g h p back j = (
 )
 
 pub told_back : (f g : Prefix) (p : Part) (after : KeySet) (is : Bool) → IsBack f g
-    → TellsWithin is (IsRead g p) (IsStored g p after)
-    → TellsWithin is (IsRead f p) (IsStored f p after)
+    → TellsSubset is (IsLoadedKey g p) (IsStoredKey g p after)
+    → TellsSubset is (IsLoadedKey f p) (IsStoredKey f p after)
 told_back f g p after is back told =
     subst
     (λ (s : KeySet).
-    TellsWithin is (λ a b. HasKey s a b ⊎ HasKey p.reads a b) (IsStored f p after))
+    TellsSubset is (λ a b. HasKey s a b ⊎ HasKey p.reads a b) (IsStoredKey f p after))
     back.reads
     (subst
-    (λ (s : KeySet). TellsWithin is (IsRead g p) (λ a b. (HasKey after a b ⊎ HasKey s a b)
+    (λ (s : KeySet). TellsSubset is (IsLoadedKey g p) (λ a b. (HasKey after a b ⊎ HasKey s a b)
     ⊎ HasKey p.writes a b)) back.writes told)
 
 -- where a run goes on, the lists are those of the first prefix with a run more

@@ -5,7 +5,7 @@ use Rattle.std.proofs.lemmas.Option.{same_Some}
 use lib.ListN.{get_or-append}
 use Rattle.bit_relations.specs.Pairs.{Union, Plus}
 use Rattle.run_combinations.specs.Events.{ReadsFrom}
-use Rattle.run_combinations.specs.Ways.{Accesses, Source, IsWay, Derived, stored, read, chosen, IsPossible, IsProper}
+use Rattle.run_combinations.specs.Ways.{Accesses, MayReadFrom, IsReadChoice, Derived, stored, read, chosen, IsPossible, AreProperAccesses}
 use Rattle.run_combinations.proofs.Cycles.{turned_back, none_fails, none_first}
 
 abbrev Linked : Accesses → List ℕ → ℕ → ℕ → Type 0
@@ -15,7 +15,7 @@ none_is_left : {i : ℕ} → (let o : Option ℕ = None in o) ≡ Some i → ⊥
 none_is_left e = cc
 
 -- what has arisen is on no cycle
-uncycled : (n : ℕ) (g : Accesses) (way : List ℕ) → IsProper n g → length g.loads ≤ length way
+uncycled : (n : ℕ) (g : Accesses) (way : List ℕ) → AreProperAccesses n g → length g.loads ≤ length way
     → (x : ℕ) → Derived g way None x → Plus (Linked g way) x x → ⊥
 uncycled n g way p full x (stored st needs) round =
     let e : (c : ℕ) × Linked g way c x × Plus (Linked g way) c c = turned_back (Linked g way) x round in
@@ -35,8 +35,8 @@ uncycled n g way p full x (read i lt other is within d) round =
 uncycled n g way p full x (chosen i s lt other is past source d) round =
     absurd (omega (arith, lt, past, full))
 
-pub possible_is_way : (n : ℕ) (g : Accesses) (way : List ℕ) → IsProper n g
-    → length g.loads ≤ length way → IsPossible g way → IsWay g way
+pub possible_is_way : (n : ℕ) (g : Accesses) (way : List ℕ) → AreProperAccesses n g
+    → length g.loads ≤ length way → IsPossible g way → IsReadChoice g way
 possible_is_way n g way p full h a round =
     let e : (c : ℕ) × Linked g way c a × Plus (Linked g way) c c = turned_back (Linked g way) a round in
     elim e.1 [
@@ -49,9 +49,9 @@ possible_is_way n g way p full h a round =
     ]
 
 -- a way without a cycle cannot be impossible
-pub way_is_possible : (n : ℕ) (g : Accesses) (way : List ℕ) → IsProper n g
-    → length way ≡ length g.loads → ((i : ℕ) → i < length way → Source g i (get_or way i 0))
-    → IsWay g way → (IsPossible g way → ⊥) → ⊥
+pub way_is_possible : (n : ℕ) (g : Accesses) (way : List ℕ) → AreProperAccesses n g
+    → length way ≡ length g.loads → ((i : ℕ) → i < length way → MayReadFrom g i (get_or way i 0))
+    → IsReadChoice g way → (IsPossible g way → ⊥) → ⊥
 way_is_possible n g way p long allowed acyclic never_possible =
     none_fails (length g.loads) (λ i. Derived g way None (get_or g.loads i 0))
     (λ i lt never. none_first n (Linked g way) Left acyclic (λ x u. u.0) one_before
@@ -152,7 +152,7 @@ without_next g f s never x (chosen i t lt other is past source d) =
     (omega (arith, past, longer f s)) source (without_next g f s never t d)
 
 -- a load does not arise without itself
-itself : (n : ℕ) (g : Accesses) (f : List ℕ) (i x : ℕ) → IsProper n g → i < length g.loads
+itself : (n : ℕ) (g : Accesses) (f : List ℕ) (i x : ℕ) → AreProperAccesses n g → i < length g.loads
     → x ≡ get_or g.loads i 0 → Derived g f (Some i) x → ⊥
 itself n g f i x p lt e (stored st needs) = p.never_both i lt (subst (λ (y : ℕ). g.Store y) e st)
 itself n g f i x p lt e (read j l other is within d) =
@@ -161,7 +161,7 @@ itself n g f i x p lt e (chosen j t l other is past source d) =
     other (ap (λ (k : ℕ). Some k) (p.apart i j lt l (sym e ∙ is)))
 
 -- where the last load may read as it likes, all arises that did
-with_choice : (g : Accesses) (f : List ℕ) (s : ℕ) → Source g (length f) s → (x : ℕ)
+with_choice : (g : Accesses) (f : List ℕ) (s : ℕ) → MayReadFrom g (length f) s → (x : ℕ)
     → Derived g (f ++ s ∷ []) None x → Derived g f None x
 with_choice g f s allowed x (stored st needs) =
     stored st (λ a need. with_choice g f s allowed a (needs a need))
@@ -171,7 +171,7 @@ with_choice g f s allowed x (read i lt other is within d) =
           (kept_read f s i before) (with_choice g f s allowed (get_or (f ++ s ∷ []) i 0) d))
       | inr last ↦
           let same : length f ≡ i = omega (arith, last, within, longer f s) in
-          chosen i s lt none_is_left is last (subst (λ (k : ℕ). Source g k s) same allowed)
+          chosen i s lt none_is_left is last (subst (λ (k : ℕ). MayReadFrom g k s) same allowed)
           (subst (λ (y : ℕ). Derived g f None y) (read_at f s i same)
           (with_choice g f s allowed (get_or (f ++ s ∷ []) i 0) d))
     ]
@@ -181,7 +181,7 @@ with_choice g f s allowed x (chosen i t lt other is past source d) =
 
 -- where no store that it may read arises without the next load, that load plays no part
 without_any : (g : Accesses) (f : List ℕ)
-    → ((s : ℕ) → Source g (length f) s → Derived g f (Some (length f)) s → ⊥) → (x : ℕ)
+    → ((s : ℕ) → MayReadFrom g (length f) s → Derived g f (Some (length f)) s → ⊥) → (x : ℕ)
     → Derived g f None x → Derived g f (Some (length f)) x
 without_any g f never x (stored st needs) =
     stored st (λ a need. without_any g f never a (needs a need))
@@ -190,7 +190,7 @@ without_any g f never x (read i lt other is within d) =
     (without_any g f never (get_or f i 0) d)
 without_any g f never x (chosen i t lt other is past source d) =
     elim (cases_eq (length f) i) [
-      | inl same ↦ absurd (never t (subst (λ (k : ℕ). Source g k t) (sym same) source)
+      | inl same ↦ absurd (never t (subst (λ (k : ℕ). MayReadFrom g k t) (sym same) source)
           (without_any g f never t d))
       | inr apart ↦ chosen i t lt (λ e. apart (same_Some _ _ e)) is past source
           (without_any g f never t d)
@@ -198,23 +198,23 @@ without_any g f never x (chosen i t lt other is past source d) =
 
 -- the next load can read what arises without it
 pub possible_more : (g : Accesses) (f : List ℕ) (s : ℕ) → length f < length g.loads
-    → Source g (length f) s → Derived g f (Some (length f)) s → IsPossible g f
+    → MayReadFrom g (length f) s → Derived g f (Some (length f)) s → IsPossible g f
     → IsPossible g (f ++ s ∷ [])
 possible_more g f s lt source d h = record {
   few = omega (arith, lt, longer f s);
   allowed = λ i within. elim (cases_lt i (length f)) [
-    | inl before ↦ subst (λ (y : ℕ). Source g i y) (sym (kept_read f s i before))
+    | inl before ↦ subst (λ (y : ℕ). MayReadFrom g i y) (sym (kept_read f s i before))
         (h.allowed i before)
     | inr last ↦
         let same : length f ≡ i = omega (arith, last, within, longer f s) in
-        subst (λ (y : ℕ). Source g i y) (sym (read_at f s i same))
-        (subst (λ (k : ℕ). Source g k s) same source)
+        subst (λ (y : ℕ). MayReadFrom g i y) (sym (read_at f s i same))
+        (subst (λ (k : ℕ). MayReadFrom g k s) same source)
   ];
   arises = λ i l. with_read g f s (with_next g f s s d) (get_or g.loads i 0) (h.arises i l);
 }
 
 -- and nothing else
-pub possible_no_more : (n : ℕ) (g : Accesses) (f : List ℕ) (s : ℕ) → IsProper n g
+pub possible_no_more : (n : ℕ) (g : Accesses) (f : List ℕ) (s : ℕ) → AreProperAccesses n g
     → length f < length g.loads → (Derived g f (Some (length f)) s → ⊥) → IsPossible g (f ++ s ∷ [])
     → ⊥
 possible_no_more n g f s p lt never h =
@@ -224,19 +224,19 @@ possible_no_more n g f s p lt never h =
 pub possible_front : (g : Accesses) (f : List ℕ) (s : ℕ) → IsPossible g (f ++ s ∷ [])
     → IsPossible g f
 possible_front g f s h =
-    let source : Source g (length f) s = subst (λ (y : ℕ). Source g (length f) y) (last_read f s) (h.allowed (length f) (omega (arith, longer f s))) in
+    let source : MayReadFrom g (length f) s = subst (λ (y : ℕ). MayReadFrom g (length f) y) (last_read f s) (h.allowed (length f) (omega (arith, longer f s))) in
     record {
       few = omega (arith, h.few, longer f s);
       allowed =
-          λ i before. subst (λ (y : ℕ). Source g i y) (kept_read f s i before)
+          λ i before. subst (λ (y : ℕ). MayReadFrom g i y) (kept_read f s i before)
           (h.allowed i (omega (arith, before, longer f s)));
       arises = λ i l. with_choice g f s source (get_or g.loads i 0) (h.arises i l);
     }
 
 -- a possible way goes on
-pub possible_goes_on : (n : ℕ) (g : Accesses) (f : List ℕ) → IsProper n g
+pub possible_goes_on : (n : ℕ) (g : Accesses) (f : List ℕ) → AreProperAccesses n g
     → length f < length g.loads → IsPossible g f
-    → ((s : ℕ) → Source g (length f) s → IsPossible g (f ++ s ∷ []) → ⊥) → ⊥
+    → ((s : ℕ) → MayReadFrom g (length f) s → IsPossible g (f ++ s ∷ []) → ⊥) → ⊥
 possible_goes_on n g f p lt h never =
     itself n g f (length f) (get_or g.loads (length f) 0) p lt refl
     (without_any g f (λ s source d. never s source (possible_more g f s lt source d h))

@@ -5,8 +5,8 @@ use Rattle.std.proofs.lemmas.Option.{slice_get_within, get_or_from_slice_get, sl
 use Rattle.bit_relations.specs.Relation.{Events, IsMember}
 use Rattle.run_combinations.specs.Lists.{IsFiltered, none, kept, left}
 use Rattle.run_combinations.specs.Events.{numbers, is_load}
-use Rattle.run_combinations.specs.Ways.{Source, Derived, IsPossible, nexts, accesses_in, sources_of, may_read}
-use Rattle.run_combinations.specs.Rounds.{Shows, HasDerived, GainsNext}
+use Rattle.run_combinations.specs.Ways.{MayReadFrom, Derived, IsPossible, nexts, accesses_in, stores_for, may_read}
+use Rattle.run_combinations.specs.Rounds.{IsReadingOf, HasDerived, GainsNext}
 use Rattle.run_combinations.specs.declared.combination.Event.{Event}
 use Rattle.run_combinations.specs.declared.reading.Reading.{Reading}
 use Rattle.run_combinations.specs.declared.reading.Load.{Load}
@@ -20,7 +20,7 @@ pub record GainsSome (r : Reading) (load : Load) (index : ℕ) (way : List ℕ) 
     (old new : List (List ℕ)) : Type 0 where
   pub more : List (List ℕ)
   pub added : new ≡ old ++ more
-  pub next : (es : List Event) (pairs : List (ℕ × ℕ)) → Shows es pairs r
+  pub next : (es : List Event) (pairs : List (ℕ × ℕ)) → IsReadingOf es pairs r
       → slice_get r.loads.items index ≡ Some load → length way ≡ index
       → IsPossible (accesses_in es pairs) way → (e : Event)
       → slice_get (filter is_load es) index ≡ Some e
@@ -38,16 +38,16 @@ some_same h = cc
 -- the source of a load at an index, by its event
 source_is : (es : List Event) (pairs : List (ℕ × ℕ)) (index : ℕ) (e : Event)
     → slice_get (filter is_load es) index ≡ Some e
-    → get_or (accesses_in es pairs).sources index [] ≡ sources_of es e
+    → get_or (accesses_in es pairs).sources index [] ≡ stores_for es e
 source_is es pairs index e there =
-    get_or_from_slice_get (map (sources_of es) (filter is_load es)) index (sources_of es e) []
-    (mapped_at (sources_of es) (filter is_load es) (map (sources_of es) (filter is_load es)) index e
+    get_or_from_slice_get (map (stores_for es) (filter is_load es)) index (stores_for es e) []
+    (mapped_at (stores_for es) (filter is_load es) (map (stores_for es) (filter is_load es)) index e
     refl there)
 
 -- one store more: the load can read it just where it is a source that arises without the load
 gains_one : (r : Reading) (load : Load) (index : ℕ) (way : List ℕ) (i : ℕ) (derived : Events)
     (more : List (List ℕ)) → HasDerived r way (Some index) derived
-    → (es : List Event) (pairs : List (ℕ × ℕ)) → Shows es pairs r
+    → (es : List Event) (pairs : List (ℕ × ℕ)) → IsReadingOf es pairs r
     → slice_get r.loads.items index ≡ Some load → length way ≡ index
     → IsPossible (accesses_in es pairs) way → (e d : Event)
     → slice_get (filter is_load es) index ≡ Some e → i < length es → slice_get es i ≡ Some d
@@ -63,7 +63,7 @@ gains_one r load index way i derived more has es pairs shows at long possible e 
     from_zero : (k : ℕ) → 0 + k ≡ k
     from_zero k = omega arith
 
-    source : Source (accesses_in es pairs) index i ↔ IsMember load.sources i
+    source : MayReadFrom (accesses_in es pairs) index i ↔ IsMember load.sources i
     source = let m = (shows.sources index load at).members i in (m.1, m.0)
 
     within : length way < length (accesses_in es pairs).loads
@@ -75,7 +75,7 @@ gains_one r load index way i derived more has es pairs shows at long possible e 
     read_there : may_read e.action d.action ≡ true → IsMember load.sources i
     read_there t =
         source.0 (subst (λ (l : List ℕ). Contains l i) (sym (source_is es pairs index e there))
-        (subst (λ (k : ℕ). Contains (sources_of es e) k) (from_zero i)
+        (subst (λ (k : ℕ). Contains (stores_for es e) k) (from_zero i)
         (number_there (λ x. may_read e.action x.action) 0 es i d here t)))
 
     same_read : IsMember load.sources i → may_read e.action d.action ≡ true
@@ -85,9 +85,9 @@ gains_one r load index way i derived more has es pairs shows at long possible e 
         let same : n.item ≡ d = some_same (sym n.there ∙ ap (λ (j : ℕ). slice_get es j) k ∙ here) in
         ap (λ (x : Event). may_read e.action x.action) (sym same) ∙ n.passes
 
-    at_way : (s : ℕ) → Source (accesses_in es pairs) index s
-        → Source (accesses_in es pairs) (length way) s
-    at_way s c = subst (λ (k : ℕ). Source (accesses_in es pairs) k s) (sym long) c
+    at_way : (s : ℕ) → MayReadFrom (accesses_in es pairs) index s
+        → MayReadFrom (accesses_in es pairs) (length way) s
+    at_way s c = subst (λ (k : ℕ). MayReadFrom (accesses_in es pairs) k s) (sym long) c
 
     arises : Derived (accesses_in es pairs) way (Some index) i
         → Derived (accesses_in es pairs) way (Some (length way)) i
@@ -132,7 +132,7 @@ gains_more r load index way i derived old mid new f has test inside before turn 
   next = next;
 }
   where
-    next : (es : List Event) (pairs : List (ℕ × ℕ)) → Shows es pairs r
+    next : (es : List Event) (pairs : List (ℕ × ℕ)) → IsReadingOf es pairs r
         → slice_get r.loads.items index ≡ Some load → length way ≡ index
         → IsPossible (accesses_in es pairs) way → (e : Event)
         → slice_get (filter is_load es) index ≡ Some e
@@ -171,7 +171,7 @@ pub gains_all : (r : Reading) (load : Load) (index : ℕ) (way : List ℕ) (i : 
     → GainsSome r load index way i old new → GainsNext r load index way old new
 gains_all r load index way i old new past h = record { more = h.more; added = h.added; next = next }
   where
-    next : (es : List Event) (pairs : List (ℕ × ℕ)) → Shows es pairs r
+    next : (es : List Event) (pairs : List (ℕ × ℕ)) → IsReadingOf es pairs r
         → slice_get r.loads.items index ≡ Some load → length way ≡ index
         → IsPossible (accesses_in es pairs) way
         → IsFiltered (IsPossible (accesses_in es pairs))
@@ -194,9 +194,9 @@ gains_all r load index way i old new past h = record { more = h.more; added = h.
           | inr t ↦ absurd (
               let p : length (accesses_in es pairs).sources
               ≡ length (accesses_in es pairs).loads = (proper es pairs).paired in
-              let m : length (map (sources_of es) (filter is_load es))
+              let m : length (map (stores_for es) (filter is_load es))
               ≡ length (filter is_load es) =
-              length-map (filter is_load es) (sources_of es) in
+              length-map (filter is_load es) (stores_for es) in
               omega (arith, p, m, lt, t.0))
         ]
 

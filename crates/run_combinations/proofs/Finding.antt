@@ -9,8 +9,8 @@ use Rattle.std.proofs.lemmas.Option.{slice_get_within, get_or_from_slice_get}
 use Rattle.bit_relations.specs.Relation.{Events, IsMember}
 use Rattle.run_combinations.specs.Lists.{lists_of, tuples, IsFiltered, none, kept, left}
 use Rattle.run_combinations.specs.Events.{numbers, is_load}
-use Rattle.run_combinations.specs.Ways.{Derived, IsWay, IsPossible, nexts, accesses_in}
-use Rattle.run_combinations.specs.Rounds.{Shows, HasDerived, TellsPossible, ArePossible, GainsNext, AreNext, AreOver, HasOver, HasWays, load_event}
+use Rattle.run_combinations.specs.Ways.{Derived, IsReadChoice, IsPossible, nexts, accesses_in}
+use Rattle.run_combinations.specs.Rounds.{IsReadingOf, HasDerived, TellsPossible, ArePossible, GainsNext, AreNext, AreOver, HasOver, HasReadChoices, load_event}
 use Rattle.run_combinations.specs.Search.{Tells}
 use Rattle.run_combinations.specs.declared.combination.Event.{Event}
 use Rattle.run_combinations.specs.declared.reading.Reading.{Reading}
@@ -134,7 +134,7 @@ fitting es pairs p fronts lt h =
     fronts h)
 
 has_source : (es : List Event) (pairs : List (ℕ × ℕ)) (r : Reading) (p : ℕ) (load : Load)
-    → Shows es pairs r → slice_get r.loads.items p ≡ Some load
+    → IsReadingOf es pairs r → slice_get r.loads.items p ≡ Some load
     → p < length (accesses_in es pairs).sources
 has_source es pairs r p load shows at =
     let lt : p < length (numbers is_load 0 es) = slice_get_within (numbers is_load 0 es) p load.event (mapped_at load_event r.loads.items (numbers is_load 0 es) p load shows.loads at) in
@@ -165,7 +165,7 @@ over_at r p limit load fronts at before over es pairs all shows ways =
     omega (arith, le, over.2)
 
 pub all_loads : (r : Reading) (p : ℕ) (ways : List (List ℕ)) → length r.loads.items ≤ p
-    → ArePossible r p ways → HasWays r ways
+    → ArePossible r p ways → HasReadChoices r ways
 all_loads r p ways past h es pairs shows =
     ways_all (length es) (accesses_in es pairs) (proper es pairs) ways
     (subst
@@ -181,11 +181,11 @@ all_loads r p ways past h es pairs shows =
         let n : length (map load_event r.loads.items) ≡ length (numbers is_load 0 es) = ap (λ (l : List ℕ). length l) shows.loads in
         omega (arith, e, m, n, past)
 
-pub over_all : (r : Reading) (limit : ℕ) (ways : List (List ℕ)) → HasWays r ways
+pub over_all : (r : Reading) (limit : ℕ) (ways : List (List ℕ)) → HasReadChoices r ways
     → limit < length ways → HasOver r limit
 over_all r limit ways h lt es pairs all shows are =
     subst (λ (l : List (List ℕ)). limit < length l)
-    (IsFiltered-unique (IsWay (accesses_in es pairs)) (tuples [] (accesses_in es pairs).sources)
+    (IsFiltered-unique (IsReadChoice (accesses_in es pairs)) (tuples [] (accesses_in es pairs).sources)
     ways all (h es pairs shows) are) lt
 
 -- what is next of all ways, or some are over a limit

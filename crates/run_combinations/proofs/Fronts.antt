@@ -4,7 +4,7 @@ use Rattle.std.specs.List.{concat, flat_map}
 use Rattle.std.proofs.lemmas.List.{append_assoc, take_all}
 use Rattle.std.proofs.lemmas.List.Folds.{flat_map-map}
 use Rattle.thread_runs.proofs.RunList.{flat_map_same, flat_map-flat_map}
-use Rattle.run_combinations.specs.Lists.{joined_with, tuples, IsFiltered, none, kept}
+use Rattle.run_combinations.specs.Lists.{each_behind, tuples, IsFiltered, none, kept}
 use Rattle.run_combinations.specs.Events.{has_store, AreDistinct}
 use Rattle.run_combinations.specs.Orders.{with_new, stores_of, orders_of, all_orders}
 use Rattle.run_combinations.specs.Growing.{with_new_from, rows_from, store_lists, all_stores, orders_from}
@@ -55,13 +55,13 @@ new_joined f t others =
     ∙ joined_each f t (filter (λ s. not (has_store t s)) others)
 
 rows_joined : (others f : List ℕ) (n : ℕ) (t : List ℕ)
-    → rows_from others (length f) n (f ++ t) ≡ joined_with (rows others n t) f
+    → rows_from others (length f) n (f ++ t) ≡ each_behind (rows others n t) f
 rows_joined others f zero t = refl
 rows_joined others f (suc n) t =
     ap (λ (l : List (List ℕ)). flat_map (rows_from others (length f) n) l) (new_joined f t others)
     ∙ flat_map-map (rows_from others (length f) n) (λ g. f ++ g) (with_new others t)
     ∙ flat_map_same (λ g. rows_from others (length f) n (f ++ g))
-    (λ g. joined_with (rows others n g) f) (with_new others t) (λ g. rows_joined others f n g)
+    (λ g. each_behind (rows others n g) f) (with_new others t) (λ g. rows_joined others f n g)
     ∙ map-flat_map (λ g. f ++ g) (rows others n) (with_new others t)
 
 one_each : (xs : List (List ℕ)) → flat_map (λ x. x ∷ []) xs ≡ xs
@@ -90,10 +90,10 @@ rows_distinct first others (suc n) =
 -- the orders of one location, behind a front
 location_orders : (first : ℕ) (others f : List ℕ)
     → rows_from others (length f) (length others) (f ++ first ∷ [])
-    ≡ joined_with (orders_of first others) f
+    ≡ each_behind (orders_of first others) f
 location_orders first others f =
     rows_joined others f (length others) (first ∷ [])
-    ∙ ap (λ (l : List (List ℕ)). joined_with l f) (orders_are first others
+    ∙ ap (λ (l : List (List ℕ)). each_behind l f) (orders_are first others
     (rows others (length others) (first ∷ [])) (rows_distinct first others (length others)))
 
 abbrev location_from : ℕ × List ℕ → List ℕ → List (List ℕ)
@@ -116,7 +116,7 @@ orders_are_all events (suc n) =
     ∙ ap (λ (l : List (List ℕ)). flat_map (location_from (n, stores_of events n)) l)
     (orders_are_all events n)
     ∙ flat_map_same (location_from (n, stores_of events n))
-    (joined_with (orders_of n (stores_of events n))) (all_orders events n)
+    (each_behind (orders_of n (stores_of events n))) (all_orders events n)
     (λ g. location_orders n (stores_of events n) g)
 
 -- after the last of the stores that may come next

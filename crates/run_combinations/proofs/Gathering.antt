@@ -7,8 +7,8 @@ use Rattle.std.proofs.Math.Seq.{take-length}
 use Rattle.std.specs.Option.{option_map}
 use Rattle.bit_relations.specs.Relation.{Events, IsMember, IsEvents}
 use Rattle.run_combinations.specs.Events.{numbers, is_load, is_store}
-use Rattle.run_combinations.specs.Ways.{Source, accesses_in, sources_of, may_read}
-use Rattle.run_combinations.specs.Rounds.{Shows, AreLoads, AreStores, load_event}
+use Rattle.run_combinations.specs.Ways.{MayReadFrom, accesses_in, stores_for, may_read}
+use Rattle.run_combinations.specs.Rounds.{IsReadingOf, AreLoads, AreStores, load_event}
 use Rattle.run_combinations.specs.declared.combination.Event.{Event}
 use Rattle.run_combinations.specs.declared.reading.Reading.{Reading}
 use Rattle.run_combinations.specs.declared.reading.Load.{Load}
@@ -126,7 +126,7 @@ one_source_more es load i d b old new lt is before step =
     before step
 
 pub all_sources : (es : List Event) (load : Event) (n : ℕ) (s : Events) → n ≡ length es
-    → Sourced es load n s → IsEvents s (length es) (Contains (sources_of es load))
+    → Sourced es load n s → IsEvents s (length es) (Contains (stores_for es load))
 all_sources es load n s whole h =
     let e : take n es ≡ es = ap (λ (k : ℕ). take k es) whole ∙ take-length es in
     subst
@@ -243,7 +243,7 @@ numbers_more test es i d b lt is =
 -- one event more, which is a load or none
 pub one_load_more : (es : List Event) (i : ℕ) (d : Event) (b : Bool) (old new : List Load)
     (l : Load) → i < length es → b ≡ is_load (get_or es i d) → b ≡ true → AreLoads es i old
-    → l.event ≡ i → IsEvents l.sources (length es) (Contains (sources_of es (get_or es i d)))
+    → l.event ≡ i → IsEvents l.sources (length es) (Contains (stores_for es (get_or es i d)))
     → new ≡ old ++ l ∷ [] → AreLoads es (i + 1) new
 one_load_more es i d b old new l lt is holds before number sources more = record {
   events =
@@ -269,9 +269,9 @@ one_load_more es i d b old new l lt is holds before number sources more = record
                   slice_get_within (filter is_load (take i es)) k e there' in
                   omega (arith, w, now.0, long))
               | inr last ↦ subst
-                  (λ (x : Load). IsEvents x.sources (length es) (Contains (sources_of es e)))
+                  (λ (x : Load). IsEvents x.sources (length es) (Contains (stores_for es e)))
                   (sym now.1) (subst
-                  (λ (x : Event). IsEvents l.sources (length es) (Contains (sources_of es x)))
+                  (λ (x : Event). IsEvents l.sources (length es) (Contains (stores_for es x)))
                   (sym last.1) sources)
             ]
       ];
@@ -351,7 +351,7 @@ no_store_more es pairs i d b old new lt is fails before same = record {
 -- the loads and stores of all events
 pub shown_reading : (es slice : List Event) (pairs : List (ℕ × ℕ)) (r : Reading) → slice ≡ es
     → length es ≤ 128 → r.count ≡ length slice → AreLoads slice (length slice) r.loads.items
-    → AreStores slice pairs (length slice) r.stores.items → Shows es pairs r
+    → AreStores slice pairs (length slice) r.stores.items → IsReadingOf es pairs r
 shown_reading es slice pairs r same few count loads stores = record {
   count = long;
   few = omega (arith, long, few);
@@ -400,21 +400,21 @@ shown_reading es slice pairs r same few count loads stores = record {
         × (get_or (filter is_load es) i x ≡ x))
         ⊎ ((length (filter is_load es) ≤ i) × (slice_get (filter is_load es) i ≡ None))
         → i < length (filter is_load es)
-        → IsEvents l.sources r.count (Source (accesses_in es pairs) i)
+        → IsEvents l.sources r.count (MayReadFrom (accesses_in es pairs) i)
     source i l at (inr past) within = absurd (omega (arith, past.0, within))
     source i l at (inl found) within =
         let there : slice_get (filter is_load (take (length slice) slice)) i ≡ Some found.0 = ap (λ (xs : List Event). slice_get (filter is_load xs) i) whole ∙ found.2 in
-        let n : IsEvents l.sources (length slice) (Contains (sources_of slice found.0)) = loads.sources i l found.0 at there in
-        let mapped : slice_get (map (sources_of es) (filter is_load es)) i ≡ Some (sources_of es found.0) = slice_get-map (sources_of es) (filter is_load es) i ∙ ap (λ (o : Option Event). option_map (sources_of es) o) found.2 in
-        let list : get_or (map (sources_of es) (filter is_load es)) i [] ≡ sources_of es found.0 = get_or_from_slice_get (map (sources_of es) (filter is_load es)) i (sources_of es found.0) [] mapped in
+        let n : IsEvents l.sources (length slice) (Contains (stores_for slice found.0)) = loads.sources i l found.0 at there in
+        let mapped : slice_get (map (stores_for es) (filter is_load es)) i ≡ Some (stores_for es found.0) = slice_get-map (stores_for es) (filter is_load es) i ∙ ap (λ (o : Option Event). option_map (stores_for es) o) found.2 in
+        let list : get_or (map (stores_for es) (filter is_load es)) i [] ≡ stores_for es found.0 = get_or_from_slice_get (map (stores_for es) (filter is_load es)) i (stores_for es found.0) [] mapped in
         record {
           count = n.count ∙ sym count;
           within = λ a m. subst (λ (c : ℕ). a < c) (sym count) (n.within a m);
           members = λ a. (
             (λ m. subst (λ (ns : List ℕ). Contains ns a) (sym list) (subst
-                (λ (xs : List Event). Contains (sources_of xs found.0) a) same
+                (λ (xs : List Event). Contains (stores_for xs found.0) a) same
                 ((n.members a).0 m))),
-            (λ c. (n.members a).1 (subst (λ (xs : List Event). Contains (sources_of xs found.0) a)
+            (λ c. (n.members a).1 (subst (λ (xs : List Event). Contains (stores_for xs found.0) a)
                 (sym same) (subst (λ (ns : List ℕ). Contains ns a) list c))),
           );
         }

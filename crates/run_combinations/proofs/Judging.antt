@@ -4,17 +4,17 @@ use Rattle.std.specs.declared.alloc.Global.{Global}
 use Rattle.std.proofs.lemmas.List.{length-map}
 use Rattle.std.proofs.Math.Nat.{div-lt_iff_lt-mul, div-mul-le_self, mul-le-mul_left, mul-le-mul_right, le-mul_of_pos_right, mul_comm}
 use Rattle.run_combinations.specs.Lists.{lists_of}
-use Rattle.run_combinations.specs.Orders.{all_orders, AreApart}
-use Rattle.run_combinations.specs.Ways.{AreWays}
-use Rattle.run_combinations.specs.Rounds.{Shows, HasOver, HasWays}
-use Rattle.run_combinations.specs.Search.{PrefixLists, Tally, capped_tally_with, Fits, Judged, IsTooMuch}
+use Rattle.run_combinations.specs.Orders.{all_orders, AreInitialStoresApart}
+use Rattle.run_combinations.specs.Ways.{AreReadChoices}
+use Rattle.run_combinations.specs.Rounds.{IsReadingOf, HasOver, HasReadChoices}
+use Rattle.run_combinations.specs.Search.{PrefixLists, Tally, capped_tally_with, PrefixFits, TalliesOneMore, ExceedsCandidates}
 use Rattle.run_combinations.specs.declared.combination.Event.{Event}
 use Rattle.run_combinations.specs.declared.reading.Reading.{Reading}
 use Rattle.run_combinations.proofs.Counting.{some_order}
 
 -- what is known of the combination where its candidates are counted
 pub record Known (n : ℕ) (b : PrefixLists) (r : Reading) (o l m : ℕ) : Type 0 where
-  pub shows : Shows b.combination.events b.needs r
+  pub shows : IsReadingOf b.combination.events b.needs r
   pub orders : o ≡ max (min (length (all_orders b.combination.events n)) (2 ^ 64 - 1)) 1
   pub left : l ≡ 16384 - m
   pub few : m ≤ 16384
@@ -22,18 +22,18 @@ pub record Known (n : ℕ) (b : PrefixLists) (r : Reading) (o l m : ℕ) : Type 
 
 pub known : (n : ℕ) (b : PrefixLists) (r : Reading) (es us : List Event) (pairs : List (ℕ × ℕ))
     (raw orders left count : ℕ) → es ≡ b.combination.events → us ≡ b.combination.events
-    → pairs ≡ b.needs → Fits n b
-    → (AreApart es n → raw ≡ min (length (all_orders es n)) (2 ^ 64 - 1)) → orders ≡ max raw 1
-    → (length us ≤ 128 → Shows us pairs r) → left ≡ 16384 - count → count ≤ 16384
+    → pairs ≡ b.needs → PrefixFits n b
+    → (AreInitialStoresApart es n → raw ≡ min (length (all_orders es n)) (2 ^ 64 - 1)) → orders ≡ max raw 1
+    → (length us ≤ 128 → IsReadingOf us pairs r) → left ≡ 16384 - count → count ≤ 16384
     → Known n b r orders left count
 known n b r es us pairs raw orders left count e u p fits counted o shown l few = record {
   shows =
-      subst (λ (ps : List (ℕ × ℕ)). Shows b.combination.events ps r) p (subst
-      (λ (vs : List Event). Shows vs pairs r) u (shown (subst
+      subst (λ (ps : List (ℕ × ℕ)). IsReadingOf b.combination.events ps r) p (subst
+      (λ (vs : List Event). IsReadingOf vs pairs r) u (shown (subst
       (λ (vs : List Event). length vs ≤ 128) (sym u) fits.few)));
   orders =
       o
-      ∙ ap (λ (k : ℕ). max k 1) (counted (subst (λ (vs : List Event). AreApart vs n) (sym e)
+      ∙ ap (λ (k : ℕ). max k 1) (counted (subst (λ (vs : List Event). AreInitialStoresApart vs n) (sym e)
       fits.apart)
       ∙ ap (λ (vs : List Event). min (length (all_orders vs n)) (2 ^ 64 - 1)) e);
   left = l;
@@ -42,7 +42,7 @@ known n b r es us pairs raw orders left count e u p fits counted o shown l few =
 }
 
 pub too_much : (n : ℕ) (b : PrefixLists) (t : Tally) (r : Reading) (orders left : ℕ)
-    → Known n b r orders left t.count → HasOver r (left / orders) → IsTooMuch n b t
+    → Known n b r orders left t.count → HasOver r (left / orders) → ExceedsCandidates n b t
 too_much n b t r orders left k over ways are =
     let one : 0 < orders = omega (arith, k.orders) in
     let x : left < length ways * orders = (div-lt_iff_lt-mul one).0 (over b.combination.events b.needs ways k.shows are) in
@@ -66,16 +66,16 @@ counted ways orders left count all some few o one l small =
 
 pub judged : (n : ℕ) (b : PrefixLists) (old new : Tally) (r : Reading) (orders left : ℕ)
     (vs : List (Vec ℕ Global)) → Known n b r orders left old.count
-    → HasWays r (lists_of vs) × (length vs ≤ left / orders)
-    → new ≡ capped_tally_with b (lists_of vs) orders old → Judged n b old new × (new.count ≤ 16384)
+    → HasReadChoices r (lists_of vs) × (length vs ≤ left / orders)
+    → new ≡ capped_tally_with b (lists_of vs) orders old → TalliesOneMore n b old new × (new.count ≤ 16384)
 judged n b old new r orders left vs k has e =
     go (lists_of vs) (has.0 b.combination.events b.needs k.shows)
     (let l : length (lists_of vs) ≡ length vs = length-map vs (λ v. v.items) in
     let h : length vs ≤ left / orders = has.1 in omega (arith, l, h)) e
   where
-    go : (ways : List (List ℕ)) → AreWays b.combination.events b.needs ways
+    go : (ways : List (List ℕ)) → AreReadChoices b.combination.events b.needs ways
         → length ways ≤ left / orders → new ≡ capped_tally_with b ways orders old
-        → Judged n b old new × (new.count ≤ 16384)
+        → TalliesOneMore n b old new × (new.count ≤ 16384)
     go [] are few same = (
       ([], are, same),
       let c : new.count ≡ old.count = ap (λ (t : Tally). t.count) same in

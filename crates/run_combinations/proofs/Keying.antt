@@ -5,7 +5,7 @@ use Rattle.std.specs.Int.RustNames.{bit_and}
 use Rattle.std.proofs.lemmas.Bool.{cases_lt, cases_eq}
 use Rattle.bit_relations.specs.Relation.{Bit}
 use Rattle.bit_relations.specs.Pairs.{Union}
-use Rattle.bit_relations.specs.Rows.{RowsHave, AreWritten}
+use Rattle.bit_relations.specs.Rows.{RowsHave, AreRowsFilled}
 use Rattle.bit_relations.proofs.Bits.{Bit-zero, Bit-and_not, Bit_cases, Bit-width, same_word}
 use Rattle.bit_relations.proofs.Writing.{zeros}
 use Rattle.run_combinations.proofs.Counting.{eq_true}
@@ -78,7 +78,7 @@ pub all_words : (xs ys : List ℕ) (end n : ℕ) → end ≤ n → HasFirst xs y
 all_words xs ys end n far before a b h = before a b (omega (arith, far, h.0)) h.1
 
 pub all_joined : (old new others : List ℕ) (end n : ℕ) → end ≤ n → n ≤ end
-    → AreWritten old new n (Union (RowsHave old) (RowsHave others)) → (a b : ℕ)
+    → AreRowsFilled old new n (Union (RowsHave old) (RowsHave others)) → (a b : ℕ)
     → RowsHave new a b ↔ (RowsHave old a b ⊎ InFirst end others a b)
 all_joined old new others end n far near written a b =
     elim (cases_lt a n) [

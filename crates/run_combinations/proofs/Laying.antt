@@ -7,9 +7,9 @@ use Rattle.thread_runs.specs.declared.value.Value.{Value}
 use Rattle.thread_runs.specs.declared.run.Run.{Run}
 use Rattle.run_combinations.proofs.Parting.{each_append}
 use Rattle.run_combinations.proofs.Pruning.{load_front, load_behind, store_split}
-use Rattle.run_combinations.specs.Keys.{HasKey, IsWithin, AreKeys, PartsAreKeyed, ThreadsAreKeyed, bit_of}
+use Rattle.run_combinations.specs.Keys.{HasKey, AreKeysIn, AreKeys, PartsAreKeyed, ThreadsAreKeyed, bit_of}
 use Rattle.run_combinations.specs.Events.{thread_events, initial_stores, HasLoad, HasStore, CannotRead}
-use Rattle.run_combinations.specs.Parts.{IsSketch, AreSketches, HasWritesOf, AreSome, end, kept_one, left_out, Among, IsChoice, HasRead, HasWrite, IsUnread, IsSifted, IsMade, AreBelow, NamesRuns, AreThreads}
+use Rattle.run_combinations.specs.Parts.{IsSketch, AreSketches, HasWritesOf, AreSome, end, kept_one, left_out, Among, IsChoice, HasRead, HasWrite, IsUnread, IsSifted, IsMade, AreBelow, NamesRuns, AreThreadParts}
 use Rattle.std.specs.List.{AllZip}
 use Rattle.run_combinations.specs.Layouts.{ArePartsOf, AreThreadsOf, AreChosen, chosen_events, HasRun, HaveParts}
 use Rattle.run_combinations.specs.declared.combination.Action.TheVariants.{Write}
@@ -111,7 +111,7 @@ parts_of values t runs n (s ∷ ss) (p ∷ ps) f m =
 
 pub all_threads : (values : List Value) (t : ℕ) (runs : List (Vec Run Global))
     (sks : List (Vec Sketch Global)) (ts : List ThreadParts) → AllFacts values runs sks
-    → AreThreads t runs sks ts → AreThreadsOf t runs ts
+    → AreThreadParts t runs sks ts → AreThreadsOf t runs ts
 all_threads values t [] [] [] f m = tt
 all_threads values t [] [] (p ∷ ts) f m = absurd m
 all_threads values t [] (s ∷ sks) ts f m = absurd f
@@ -146,13 +146,13 @@ parts_keyed values t runs n all [] (p ∷ ps) f m w = absurd m
 parts_keyed values t runs n all (s ∷ ss) [] f m w = absurd m
 parts_keyed values t runs n all (s ∷ ss) (p ∷ ps) f m w = (
   part_keyed values t runs s p f.1 m.0,
-  subst (λ (k : KeySet). IsWithin k all) (sym m.0.2) w.0,
+  subst (λ (k : KeySet). AreKeysIn k all) (sym m.0.2) w.0,
   parts_keyed values t runs (s.run + 1) all ss ps f.2 m.1 w.1,
 )
 
 pub all_keyed : (values : List Value) (t : ℕ) (runs : List (Vec Run Global))
     (sks : List (Vec Sketch Global)) (ts : List ThreadParts) → AllFacts values runs sks
-    → AreThreads t runs sks ts → ThreadsAreKeyed (bit_of values) ts
+    → AreThreadParts t runs sks ts → ThreadsAreKeyed (bit_of values) ts
 all_keyed values t [] [] [] f m = tt
 all_keyed values t [] [] (p ∷ ts) f m = absurd m
 all_keyed values t [] (s ∷ sks) ts f m = absurd f
@@ -277,7 +277,7 @@ among_run t runs (x ∷ ss) (p ∷ ps) s k m (inr a) e = inr (among_run t runs s
 
 all_there : (values : List Value) (t : ℕ) (runs : List (Vec Run Global))
     (sks : List (Vec Sketch Global)) (ts : List ThreadParts) (ks : List ℕ) (rs : List Run)
-    (cs : List Sketch) → AreThreads t runs sks ts → AreChosen runs ks rs
+    (cs : List Sketch) → AreThreadParts t runs sks ts → AreChosen runs ks rs
     → AreTheirs values ks rs cs → IsChoice sks cs → HaveParts ts ks
 all_there values t [] [] [] [] rs cs m c h i = tt
 all_there values t [] [] [] (k ∷ ks) [] cs m c h i = absurd c
@@ -299,7 +299,7 @@ pub left_out_there : (values : List Value) (initial : List Event) (writes : KeyS
     (ts : List ThreadParts)
     → ((l : ℕ) (v : Value) (a b : ℕ) → HasStore l v initial → bit_of values l v ≡ Some (a, b)
     → HasKey writes a b) → AllSketches values runs olds → IsSifted writes olds news
-    → AreThreads 0 runs news ts → (ks : List ℕ) (rs : List Run) → AreChosen runs ks rs
+    → AreThreadParts 0 runs news ts → (ks : List ℕ) (rs : List Run) → AreChosen runs ks rs
     → HaveParts ts ks ⊎ CannotRead (initial ++ chosen_events 0 rs)
 left_out_there values initial writes runs olds news ts keys sketched sifted made ks rs c =
     let x : (cs : List Sketch) × IsChoice olds cs × AreTheirs values ks rs cs = their_sketches values runs olds ks rs sketched c in

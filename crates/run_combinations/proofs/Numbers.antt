@@ -5,7 +5,7 @@ use Rattle.std.proofs.lemmas.List.{length-map}
 use Rattle.std.proofs.lemmas.Bool.{false≢true, cases_lt, cases_eq}
 use Rattle.std.proofs.lemmas.Option.{slice_get_within, get_or_from_slice_get, slice_get-map, slice_get_cases}
 use Rattle.run_combinations.specs.Events.{numbers, is_load, is_store, reads, writes}
-use Rattle.run_combinations.specs.Ways.{IsProper, accesses_in, sources_of, may_read}
+use Rattle.run_combinations.specs.Ways.{AreProperAccesses, accesses_in, stores_for, may_read}
 use Rattle.run_combinations.specs.declared.combination.Event.{Event}
 use Rattle.run_combinations.specs.declared.combination.Action.{Action}
 use Rattle.run_combinations.specs.declared.combination.Action.TheVariants.{Read, Write, Fence}
@@ -184,7 +184,7 @@ read_is_store (Fence f) b h = absurd (nothing b h)
     nothing (Fence f) k = false≢true k
 
 -- the accesses among events are each a load or a store
-pub proper : (es : List Event) (pairs : List (ℕ × ℕ)) → IsProper (length es) (accesses_in es pairs)
+pub proper : (es : List Event) (pairs : List (ℕ × ℕ)) → AreProperAccesses (length es) (accesses_in es pairs)
 proper es pairs = record {
   paired = mapped_long ∙ as_many is_load 0 es;
   loads_within =
@@ -205,8 +205,8 @@ proper es pairs = record {
       let same_event : l.item ≡ s.item = some_same (sym l.there ∙ ap (λ (k : ℕ). slice_get es k) same_index ∙ s.there) in
       not_both l.item.action l.passes (ap (λ (e : Event). writes e.action) same_event ∙ s.passes);
   sources = λ i s lt source.
-      let at : slice_get (map (sources_of es) (filter is_load es)) i ≡ Some (get_or (map (sources_of es) (filter is_load es)) i []) = list_at (map (sources_of es) (filter is_load es)) i (omega (arith, lt, mapped_long, as_many is_load 0 es)) in
-      let load : Behind (sources_of es) (filter is_load es) i (get_or (map (sources_of es) (filter is_load es)) i []) = behind_at (sources_of es) (filter is_load es) (map (sources_of es) (filter is_load es)) i (get_or (map (sources_of es) (filter is_load es)) i []) refl at in
+      let at : slice_get (map (stores_for es) (filter is_load es)) i ≡ Some (get_or (map (stores_for es) (filter is_load es)) i []) = list_at (map (stores_for es) (filter is_load es)) i (omega (arith, lt, mapped_long, as_many is_load 0 es)) in
+      let load : Behind (stores_for es) (filter is_load es) i (get_or (map (stores_for es) (filter is_load es)) i []) = behind_at (stores_for es) (filter is_load es) (map (stores_for es) (filter is_load es)) i (get_or (map (stores_for es) (filter is_load es)) i []) refl at in
       let n : Numbered (λ e. may_read load.item.action e.action) 0 es s = contained (λ e. may_read load.item.action e.action) es s (subst (λ (l : List ℕ). Contains l s) load.is source) in
       subst (λ (y : ℕ). Contains (numbers is_store 0 es) y) (sym n.is) (number_there is_store 0 es
       n.index n.item n.there (read_is_store load.item.action n.item.action n.passes));
@@ -221,8 +221,8 @@ proper es pairs = record {
   needing = λ a x need. need.2;
 }
   where
-    mapped_long : length (map (sources_of es) (filter is_load es)) ≡ length (filter is_load es)
-    mapped_long = length-map (filter is_load es) (sources_of es)
+    mapped_long : length (map (stores_for es) (filter is_load es)) ≡ length (filter is_load es)
+    mapped_long = length-map (filter is_load es) (stores_for es)
 
     within : (test : Event → Bool) (x : ℕ) → Contains (numbers test 0 es) x → x < length es
     within test x c =

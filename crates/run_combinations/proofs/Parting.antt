@@ -8,9 +8,9 @@ use Rattle.std.proofs.lemmas.Slice.Zip.{AllZip-long}
 use Rattle.thread_runs.specs.declared.value.Value.{Value}
 use Rattle.thread_runs.specs.declared.run.Run.{Run}
 use Rattle.run_combinations.proofs.Pruning.{load_front, load_behind, store_split}
-use Rattle.run_combinations.specs.Keys.{HasKey, IsWithin, AreKeys, TellsWithin, bit_of}
+use Rattle.run_combinations.specs.Keys.{HasKey, AreKeysIn, AreKeys, TellsSubset, bit_of}
 use Rattle.run_combinations.specs.Events.{thread_events, HasLoad}
-use Rattle.run_combinations.specs.Parts.{IsSketch, HasWritesOf, HasWritesOfAll, AreKept, none, kept, left, AreSome, end, kept_one, left_out, Among, IsChoice, HasRead, HasWrite, IsSifted, IsMade, AreBelow, NamesRuns, AreThreads}
+use Rattle.run_combinations.specs.Parts.{IsSketch, HasWritesOf, HasWritesOfAll, AreSketchesKept, none, kept, left, AreSome, end, kept_one, left_out, Among, IsChoice, HasRead, HasWrite, IsSifted, IsMade, AreBelow, NamesRuns, AreThreadParts}
 use Rattle.run_combinations.specs.declared.combination.Action.TheVariants.{Read, Write}
 use Rattle.run_combinations.specs.declared.combination.Event.{Event}
 use Rattle.run_combinations.specs.declared.keys.KeySet.{KeySet}
@@ -120,8 +120,8 @@ first_more values runs i ss s r f at there keys = record {
 }
 
 -- sets with what more runs store
-writes_longer : (ss : List Sketch) (s : Sketch) (old new : KeySet) → IsWithin old new
-    → IsWithin s.writes new → HasWritesOf old ss → HasWritesOf new (ss ++ s ∷ [])
+writes_longer : (ss : List Sketch) (s : Sketch) (old new : KeySet) → AreKeysIn old new
+    → AreKeysIn s.writes new → HasWritesOf old ss → HasWritesOf new (ss ++ s ∷ [])
 writes_longer [] s old new w v h = (v, tt)
 writes_longer (x ∷ xs) s old new w v h =
     ((λ a b k. w a b (h.0 a b k)), writes_longer xs s old new w v h.1)
@@ -129,8 +129,8 @@ writes_longer (x ∷ xs) s old new w v h =
 pub joined_more : (first : KeySet) (ss : List Sketch) (i : ℕ) (d : Sketch) (old new : KeySet)
     → i < length ss
     → ((a b : ℕ) → HasKey new a b ↔ (HasKey old a b ⊎ HasKey (get_or ss i d).writes a b))
-    → IsWithin first old × HasWritesOf old (take i ss)
-    → IsWithin first new × HasWritesOf new (take (i + 1) ss)
+    → AreKeysIn first old × HasWritesOf old (take i ss)
+    → AreKeysIn first new × HasWritesOf new (take (i + 1) ss)
 joined_more first ss i d old new lt j h = (
   (λ a b k. (j a b).1 (inl (h.0 a b k))),
   subst (λ (l : List Sketch). HasWritesOf new l) (sym (take_more ss i d lt))
@@ -138,13 +138,13 @@ joined_more first ss i d old new lt j h = (
       (λ a b k. (j a b).1 (inr k)) h.1),
 )
 
-writes_still : (ss : List Sketch) (old new : KeySet) → IsWithin old new → HasWritesOf old ss
+writes_still : (ss : List Sketch) (old new : KeySet) → AreKeysIn old new → HasWritesOf old ss
     → HasWritesOf new ss
 writes_still [] old new w h = tt
 writes_still (s ∷ ss) old new w h = ((λ a b k. w a b (h.0 a b k)), writes_still ss old new w h.1)
 
 all_longer : (vs : List (Vec Sketch Global)) (v : Vec Sketch Global) (old new : KeySet)
-    → IsWithin old new → HasWritesOf new v.items → HasWritesOfAll old vs
+    → AreKeysIn old new → HasWritesOf new v.items → HasWritesOfAll old vs
     → HasWritesOfAll new (vs ++ v ∷ [])
 all_longer [] v old new w h k = (h, tt)
 all_longer (x ∷ xs) v old new w h k =
@@ -152,9 +152,9 @@ all_longer (x ∷ xs) v old new w h k =
 
 pub all_more : (first : KeySet) (vs : List (Vec Sketch Global)) (i : ℕ) (v : Vec Sketch Global)
     (old new : KeySet) → i < length vs → v ≡ get_or vs i v
-    → IsWithin old new × HasWritesOf new v.items
-    → IsWithin first old × HasWritesOfAll old (take i vs)
-    → IsWithin first new × HasWritesOfAll new (take (i + 1) vs)
+    → AreKeysIn old new × HasWritesOf new v.items
+    → AreKeysIn first old × HasWritesOfAll old (take i vs)
+    → AreKeysIn first new × HasWritesOfAll new (take (i + 1) vs)
 all_more first vs i v old new lt is j h = (
   (λ a b k. j.0 a b (h.0 a b k)),
   subst (λ (l : List (Vec Sketch Global)). HasWritesOfAll new l) (sym (take_more vs i v lt
@@ -165,30 +165,30 @@ all_more first vs i v old new lt is j h = (
 -- what `retain` leaves
 pub retained : {F : Type 0} (R : F → Sketch → Bool → F → Type 0) (stored : KeySet) (f : F)
     → ((s : Sketch) (b : Bool) (g : F) → R f s b g
-    → (g ≡ f) × TellsWithin b (HasKey s.reads) (HasKey stored)) → (ss ts : List Sketch)
-    → IsFiltered R f ss ts → AreKept stored ss ts
+    → (g ≡ f) × TellsSubset b (HasKey s.reads) (HasKey stored)) → (ss ts : List Sketch)
+    → IsFiltered R f ss ts → AreSketchesKept stored ss ts
 retained {F = F} R stored f one ss ts h =
-    subst (λ (l : List Sketch). AreKept stored ss l) (sym h.4) (in_turn h.0 ss h.1 f refl h.2 h.3)
+    subst (λ (l : List Sketch). AreSketchesKept stored ss l) (sym h.4) (in_turn h.0 ss h.1 f refl h.2 h.3)
   where
     step : (b : Bool) (bs : List Bool) (x : Sketch) (xs : List Sketch)
-        → TellsWithin b (HasKey x.reads) (HasKey stored)
-        → AreKept stored xs (items_where_true bs xs)
-        → AreKept stored (x ∷ xs) (items_where_true (b ∷ bs) (x ∷ xs))
+        → TellsSubset b (HasKey x.reads) (HasKey stored)
+        → AreSketchesKept stored xs (items_where_true bs xs)
+        → AreSketchesKept stored (x ∷ xs) (items_where_true (b ∷ bs) (x ∷ xs))
     step true bs x xs told rest = kept rest
     step false bs x xs told rest = left told.0 told.1 told.2 told.3 rest
 
     in_turn : (bs : List Bool) (xs : List Sketch) (q g : F) → g ≡ f → length bs ≡ length xs
-        → ReturnsInTurn R g bs xs q → AreKept stored xs (items_where_true bs xs)
+        → ReturnsInTurn R g bs xs q → AreSketchesKept stored xs (items_where_true bs xs)
     in_turn [] [] q g e l r = none
     in_turn [] (x ∷ xs) q g e l r = absurd (omega (arith, l))
     in_turn (b ∷ bs) [] q g e l r = absurd r
     in_turn (b ∷ bs) (x ∷ xs) q g e l r =
-        let o : (r.0 ≡ f) × TellsWithin b (HasKey x.reads) (HasKey stored) = one x b r.0 (subst (λ (y : F). R y x b r.0) e r.1) in
+        let o : (r.0 ≡ f) × TellsSubset b (HasKey x.reads) (HasKey stored) = one x b r.0 (subst (λ (y : F). R y x b r.0) e r.1) in
         step b bs x xs o.1 (in_turn bs xs q r.0 o.0 (omega (arith, l)) r.2)
 
 -- the runs of each thread that stay
 abbrev pub AreKeptOfEach : KeySet → List (Vec Sketch Global) → List (Vec Sketch Global) → Type 0
-AreKeptOfEach stored olds news = AllZip (λ v w. AreKept stored v.items w.items) olds news
+AreKeptOfEach stored olds news = AllZip (λ v w. AreSketchesKept stored v.items w.items) olds news
 
 pub each_append : {X Y : Type 0} (R : X → Y → Type 0) (xs : List X) (ys : List Y) (x : X) (y : Y)
     → AllZip R xs ys → R x y → AllZip R (xs ++ x ∷ []) (ys ++ y ∷ [])
@@ -201,7 +201,7 @@ each_append R (z ∷ xs) (w ∷ ys) x y h r = (h.0, each_append R xs ys x y h.1 
 abbrev pub Lacks : KeySet → List Sketch → Type 0
 Lacks stored cs = (a b : ℕ) × HasRead cs a b × (HasKey stored a b → ⊥)
 
-kept_or_not : (stored : KeySet) (ss ts : List Sketch) (s : Sketch) → AreKept stored ss ts
+kept_or_not : (stored : KeySet) (ss ts : List Sketch) (s : Sketch) → AreSketchesKept stored ss ts
     → Among ss s → Among ts s ⊎ ((a b : ℕ) × HasKey s.reads a b × (HasKey stored a b → ⊥))
 kept_or_not stored [] ts s k m = absurd m
 kept_or_not stored (x ∷ ss) ts s (kept k) (inl e) = inl (inl e)
@@ -228,9 +228,9 @@ choice_kept stored (v ∷ olds) (w ∷ news) (s ∷ cs) k c =
     ]
 
 among_written : (stored : KeySet) (ss : List Sketch) (s : Sketch) → HasWritesOf stored ss
-    → Among ss s → IsWithin s.writes stored
+    → Among ss s → AreKeysIn s.writes stored
 among_written stored [] s h m = absurd m
-among_written stored (x ∷ ss) s h (inl e) = subst (λ (y : Sketch). IsWithin y.writes stored) e h.0
+among_written stored (x ∷ ss) s h (inl e) = subst (λ (y : Sketch). AreKeysIn y.writes stored) e h.0
 among_written stored (x ∷ ss) s h (inr m) = among_written stored ss s h.1 m
 
 choice_written : (stored : KeySet) (olds : List (Vec Sketch Global)) (cs : List Sketch)
@@ -243,7 +243,7 @@ choice_written stored (v ∷ olds) (s ∷ cs) h c a b (inl w) =
 choice_written stored (v ∷ olds) (s ∷ cs) h c a b (inr w) =
     choice_written stored olds cs h.1 c.1 a b w
 
-kept_some : (stored : KeySet) (ss ts : List Sketch) → AreKept stored ss ts → AreSome ss ts
+kept_some : (stored : KeySet) (ss ts : List Sketch) → AreSketchesKept stored ss ts → AreSome ss ts
 kept_some stored [] ts none = end
 kept_some stored (s ∷ ss) ts (kept {ts = us} k) = kept_one (kept_some stored ss us k)
 kept_some stored (s ∷ ss) ts (left a b h n k) = left_out (kept_some stored ss ts k)
@@ -262,10 +262,10 @@ KeptUpTo stored zero olds news = olds ≡ news
 KeptUpTo stored (suc i) [] news = ⊥
 KeptUpTo stored (suc i) (v ∷ olds) [] = ⊥
 KeptUpTo stored (suc i) (v ∷ olds) (w ∷ news) =
-    AreKept stored v.items w.items × KeptUpTo stored i olds news
+    AreSketchesKept stored v.items w.items × KeptUpTo stored i olds news
 
 up_to_suc : (stored : KeySet) (i : ℕ) (olds news : List (Vec Sketch Global))
-    (d y : Vec Sketch Global) → i < length news → AreKept stored (get_or news i d).items y.items
+    (d y : Vec Sketch Global) → i < length news → AreSketchesKept stored (get_or news i d).items y.items
     → KeptUpTo stored i olds news → KeptUpTo stored (suc i) olds (slice_set news i y)
 up_to_suc stored i olds [] d y lt k h = absurd (omega (arith, lt))
 up_to_suc stored zero olds (n ∷ news) d y lt k h =
@@ -275,7 +275,7 @@ up_to_suc stored (suc i) (v ∷ olds) (n ∷ news) d y lt k h =
     (h.0, up_to_suc stored i olds news d y (omega (arith, lt)) k h.1)
 
 pub up_to_more : (stored : KeySet) (i : ℕ) (olds news : List (Vec Sketch Global))
-    (d y : Vec Sketch Global) → i < length news → AreKept stored (get_or news i d).items y.items
+    (d y : Vec Sketch Global) → i < length news → AreSketchesKept stored (get_or news i d).items y.items
     → KeptUpTo stored i olds news → KeptUpTo stored (i + 1) olds (slice_set news i y)
 up_to_more stored i olds news d y lt k h =
     let e : suc i ≡ i + 1 = omega arith in
@@ -293,7 +293,7 @@ up_to_all stored (suc i) (v ∷ olds) (w ∷ news) e h =
     (h.0, up_to_all stored i olds news (omega (arith, e)) h.1)
 
 pub sifted_once : (initial stored : KeySet) (olds news : List (Vec Sketch Global))
-    → IsWithin initial stored × HasWritesOfAll stored olds → AreKeptOfEach stored olds news
+    → AreKeysIn initial stored × HasWritesOfAll stored olds → AreKeptOfEach stored olds news
     → IsSifted initial olds news
 sifted_once initial stored olds news h k = record {
   some = each_some stored olds news k;
@@ -380,9 +380,9 @@ named_at (x ∷ rs) (y ∷ ss) (suc i) r s h lt er es =
 
 threads_append : (t n : ℕ) (rs : List (Vec Run Global)) (ss : List (Vec Sketch Global))
     (ts : List ThreadParts) (r : Vec Run Global) (s : Vec Sketch Global) (p : ThreadParts)
-    → AreThreads t rs ss ts → n ≡ t + length rs → HasWritesOf p.writes s.items
+    → AreThreadParts t rs ss ts → n ≡ t + length rs → HasWritesOf p.writes s.items
     → AllZip (IsMade n r.items) s.items p.parts.items
-    → AreThreads t (rs ++ r ∷ []) (ss ++ s ∷ []) (ts ++ p ∷ [])
+    → AreThreadParts t (rs ++ r ∷ []) (ss ++ s ∷ []) (ts ++ p ∷ [])
 threads_append t n [] [] [] r s p h e w m =
     (w, subst (λ (k : ℕ). AllZip (IsMade k r.items) s.items p.parts.items) (first e) m, tt)
   where
@@ -402,12 +402,12 @@ pub threads_more : (rs : List (Vec Run Global)) (ss : List (Vec Sketch Global)) 
     (ts us : List ThreadParts) (r : Vec Run Global) (s : Vec Sketch Global) (p : ThreadParts)
     → i < length rs → i < length ss → r ≡ get_or rs i r → s ≡ get_or ss i s → us ≡ ts ++ p ∷ []
     → HasWritesOf p.writes s.items → AllZip (IsMade i r.items) s.items p.parts.items
-    → AreThreads 0 (take i rs) (take i ss) ts → AreThreads 0 (take (i + 1) rs) (take (i + 1) ss) us
+    → AreThreadParts 0 (take i rs) (take i ss) ts → AreThreadParts 0 (take (i + 1) rs) (take (i + 1) ss) us
 threads_more rs ss i ts us r s p lr ls er es is w m h =
-    subst (λ (l : List ThreadParts). AreThreads 0 (take (i + 1) rs) (take (i + 1) ss) l) (sym is)
-    (subst (λ (l : List (Vec Run Global)). AreThreads 0 l (take (i + 1) ss) (ts ++ p ∷ []))
+    subst (λ (l : List ThreadParts). AreThreadParts 0 (take (i + 1) rs) (take (i + 1) ss) l) (sym is)
+    (subst (λ (l : List (Vec Run Global)). AreThreadParts 0 l (take (i + 1) ss) (ts ++ p ∷ []))
     (sym (take_more rs i r lr ∙ ap (λ (q : Vec Run Global). take i rs ++ q ∷ []) (sym er)))
-    (subst (λ (l : List (Vec Sketch Global)). AreThreads 0 (take i rs ++ r ∷ []) l (ts ++ p ∷ []))
+    (subst (λ (l : List (Vec Sketch Global)). AreThreadParts 0 (take i rs ++ r ∷ []) l (ts ++ p ∷ []))
     (sym (take_more ss i s ls ∙ ap (λ (q : Vec Sketch Global). take i ss ++ q ∷ []) (sym es)))
     (threads_append 0 i (take i rs) (take i ss) ts r s p h (long (length-take-le i rs (few lr))) w
     m)))

@@ -8,9 +8,9 @@ use Rattle.thread_runs.specs.declared.value.Value.TheVariants.{Number, Address, 
 use Rattle.run_combinations.proofs.Counting.{eq_true}
 use Rattle.run_combinations.specs.Lists.{tuples, IsFiltered, none}
 use Rattle.run_combinations.specs.Events.{numbers, reads, is_load, HasLoad, HasStore}
-use Rattle.run_combinations.specs.Ways.{AreWays, IsWay, accesses_in, sources_of, may_read, same_value}
-use Rattle.run_combinations.specs.Keys.{HasKey, IsWithin, HasWrites, AreKeys, PartsAreKeyed, ThreadsAreKeyed, IsKeyed, IsRead, IsStored, TellsWithin}
-use Rattle.run_combinations.specs.Search.{PrefixLists, prefix_lists, with_run, start, HasJoined}
+use Rattle.run_combinations.specs.Ways.{AreReadChoices, IsReadChoice, accesses_in, stores_for, may_read, same_value}
+use Rattle.run_combinations.specs.Keys.{HasKey, AreKeysIn, HasWrites, AreKeys, PartsAreKeyed, ThreadsAreKeyed, IsKeyed, IsLoadedKey, IsStoredKey, TellsSubset}
+use Rattle.run_combinations.specs.Search.{PrefixLists, prefix_lists, with_run, initial_prefix, HasJoined}
 use Rattle.run_combinations.specs.declared.combination.Action.{Action}
 use Rattle.run_combinations.specs.declared.combination.Action.TheVariants.{Read, Write, Fence}
 use Rattle.run_combinations.specs.declared.combination.Event.{Event}
@@ -93,23 +93,23 @@ no_tuples (c ∷ cs) (inr h) front =
     flat_none (λ x. tuples (front ++ x ∷ []) cs) (λ x. no_tuples cs h (front ++ x ∷ [])) c
 
 loads_alone : (l : ℕ) (v : Value) (all es : List Event) → (HasStore l v all → ⊥) → HasLoad l v es
-    → HasEmpty (map (sources_of all) (filter is_load es))
+    → HasEmpty (map (stores_for all) (filter is_load es))
 loads_alone l v all [] never h = absurd h
 loads_alone l v all (e ∷ es) never (inl is) =
     go (is_load e) (ap (λ (a : Action). reads a) is) (filter is_load es)
   where
     go : (b : Bool) → b ≡ true → (rest : List Event)
-        → HasEmpty (map (sources_of all) (cond b (e ∷ rest) rest))
+        → HasEmpty (map (stores_for all) (cond b (e ∷ rest) rest))
     go true t rest =
-        empty_here (sources_of all e) (map (sources_of all) rest)
+        empty_here (stores_for all e) (map (stores_for all) rest)
         (no_source l v e.action is 0 all never)
     go false t rest = absurd cc
 loads_alone l v all (e ∷ es) never (inr h) =
     go (is_load e) (filter is_load es) (loads_alone l v all es never h)
   where
-    go : (b : Bool) (rest : List Event) → HasEmpty (map (sources_of all) rest)
-        → HasEmpty (map (sources_of all) (cond b (e ∷ rest) rest))
-    go true rest k = empty_there (sources_of all e) (map (sources_of all) rest) k
+    go : (b : Bool) (rest : List Event) → HasEmpty (map (stores_for all) rest)
+        → HasEmpty (map (stores_for all) (cond b (e ∷ rest) rest))
+    go true rest k = empty_there (stores_for all e) (map (stores_for all) rest) k
     go false rest k = k
 
 -- a load, and no store that it may read
@@ -117,10 +117,10 @@ abbrev pub IsStuck : ℕ → Value → PrefixLists → Type 0
 IsStuck l v b = HasLoad l v b.combination.events × (HasStore l v b.combination.events → ⊥)
 
 pub no_ways : (l : ℕ) (v : Value) (b : PrefixLists) → IsStuck l v b
-    → AreWays b.combination.events b.needs []
+    → AreReadChoices b.combination.events b.needs []
 no_ways l v b s =
     subst (λ (ts : List (List ℕ)).
-    IsFiltered (IsWay (accesses_in b.combination.events b.needs)) ts [])
+    IsFiltered (IsReadChoice (accesses_in b.combination.events b.needs)) ts [])
     (sym (no_tuples (accesses_in b.combination.events b.needs).sources
     (loads_alone l v b.combination.events b.combination.events s.1 s.0) [])) none
 
@@ -167,7 +167,7 @@ pub record Stuck (b : PrefixLists) (ts : List ThreadParts) : Type 0 where
 pub does_not_fit : (key : ℕ → Value → Option (ℕ × ℕ)) (f : Prefix) (p : Part) (after : KeySet)
     (ts : List ThreadParts) (i : ℕ) → AreKeys key f.runs.events.items f.reads f.writes
     → AreKeys key p.events.items p.reads p.writes → ThreadsAreKeyed key ts → HasWrites after ts
-    → TellsWithin false (IsRead f p) (IsStored f p after) → Stuck (with_run i p (prefix_lists f)) ts
+    → TellsSubset false (IsLoadedKey f p) (IsStoredKey f p after) → Stuck (with_run i p (prefix_lists f)) ts
 does_not_fit key f p after ts i fk pk tk w m =
     elim m.2 [
       | inl r ↦
@@ -200,7 +200,7 @@ pub told : (f : Prefix) (p : Part) (after s t r : KeySet) (is : Bool)
     → ((a b : ℕ) → HasKey s a b ↔ (HasKey after a b ⊎ HasKey f.writes a b))
     → ((a b : ℕ) → HasKey t a b ↔ (HasKey s a b ⊎ HasKey p.writes a b))
     → ((a b : ℕ) → HasKey r a b ↔ (HasKey f.reads a b ⊎ HasKey p.reads a b))
-    → TellsWithin is (HasKey r) (HasKey t) → TellsWithin is (IsRead f p) (IsStored f p after)
+    → TellsSubset is (HasKey r) (HasKey t) → TellsSubset is (IsLoadedKey f p) (IsStoredKey f p after)
 told f p after s t r true js jt jr tells =
     λ a b h.
     elim ((jt a b).0 (tells a b ((jr a b).1 h))) [ inl x ↦ inl ((js a b).0 x) | inr y ↦ inr y ]
@@ -212,14 +212,14 @@ told f p after s t r false js jt jr tells = (
       [ inl x ↦ inl ((js tells.0 tells.1).1 x) | inr y ↦ inr y ])),
 )
 
-pub told_false : (is : Bool) (R S : ℕ → ℕ → Type 0) → is ≡ false → TellsWithin is R S
-    → TellsWithin false R S
+pub told_false : (is : Bool) (R S : ℕ → ℕ → Type 0) → is ≡ false → TellsSubset is R S
+    → TellsSubset false R S
 told_false true R S e h = absurd cc
 told_false false R S e h = h
 
 -- what the later threads store
-writes_append : (ts : List ThreadParts) (t : ThreadParts) (s u : KeySet) → IsWithin s u
-    → IsWithin t.writes u → HasWrites s ts → HasWrites u (ts ++ t ∷ [])
+writes_append : (ts : List ThreadParts) (t : ThreadParts) (s u : KeySet) → AreKeysIn s u
+    → AreKeysIn t.writes u → HasWrites s ts → HasWrites u (ts ++ t ∷ [])
 writes_append [] t s u w v h = (v, tt)
 writes_append (x ∷ xs) t s u w v h = ((λ a b k. w a b (h.0 a b k)), writes_append xs t s u w v h.1)
 
@@ -234,7 +234,7 @@ writes_more ts i t s u lt is h j =
 
 -- the sets of the prefix
 pub first_keys : (key : ℕ → Value → Option (ℕ × ℕ)) (l : Layout) (f : Prefix)
-    → prefix_lists f ≡ start l.initial.items
+    → prefix_lists f ≡ initial_prefix l.initial.items
     → ((a b : ℕ) → HasKey f.reads a b → ⊥) × (f.writes ≡ l.initial_writes) → IsKeyed key l
     → AreKeys key f.runs.events.items f.reads f.writes
 first_keys key l f e s k = record {

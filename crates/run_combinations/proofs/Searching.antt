@@ -4,9 +4,9 @@ use Rattle.std.specs.List.{flat_map}
 use Rattle.std.proofs.lemmas.List.{take_more, length-take-le}
 use Rattle.std.proofs.lemmas.List.Concat.{flat_map-append}
 use Rattle.std.proofs.Math.Seq.{take-length}
-use Rattle.run_combinations.specs.Search.{PrefixLists, Tally, Fits, AllFit, Judged, IsTooMuch, Tells, with_run, with_indices, combinations, HasJoined, Searched, none, more, AreTooMuch, now, later, prefix_lists, start, nothing, all_combinations, location_count}
+use Rattle.run_combinations.specs.Search.{PrefixLists, Tally, PrefixFits, AllPrefixesFit, TalliesOneMore, ExceedsCandidates, Tells, with_run, with_indices, combinations, HasJoined, TalliesAll, none, more, AreTooMuch, now, later, prefix_lists, initial_prefix, no_tally, all_combinations, location_count}
 use Rattle.thread_runs.specs.declared.value.Value.{Value}
-use Rattle.run_combinations.specs.Keys.{HasKey, HasWrites, AreKeys, PartsAreKeyed, ThreadsAreKeyed, IsKeyed, IsRead, IsStored, TellsWithin}
+use Rattle.run_combinations.specs.Keys.{HasKey, HasWrites, AreKeys, PartsAreKeyed, ThreadsAreKeyed, IsKeyed, IsLoadedKey, IsStoredKey, TellsSubset}
 use Rattle.run_combinations.proofs.Pruning.{IsStuck, Stuck, PartsLack, ThreadsLack, no_ways, run_stuck, first_keys, longer_keys, part_keys, does_not_fit, told_false}
 use Rattle.run_combinations.specs.Candidates.{AreSmall}
 use Rattle.run_combinations.specs.declared.keys.KeySet.{KeySet}
@@ -15,13 +15,13 @@ use Rattle.run_combinations.specs.declared.part.Part.{Part}
 use Rattle.run_combinations.specs.declared.search.Prefix.{Prefix}
 use Rattle.run_combinations.specs.declared.layout.ThreadParts.{ThreadParts}
 
-searched_append : (n : ℕ) (us vs : List PrefixLists) (t u v : Tally) → Searched n us t u
-    → Searched n vs u v → Searched n (us ++ vs) t v
+searched_append : (n : ℕ) (us vs : List PrefixLists) (t u v : Tally) → TalliesAll n us t u
+    → TalliesAll n vs u v → TalliesAll n (us ++ vs) t v
 searched_append n [] vs t u v none k = k
 searched_append n (b ∷ us) vs t u v (more {u = w} j h) k =
     more j (searched_append n us vs w u v h k)
 
-over_append : (n : ℕ) (us vs : List PrefixLists) (t u : Tally) → Searched n us t u
+over_append : (n : ℕ) (us vs : List PrefixLists) (t u : Tally) → TalliesAll n us t u
     → AreTooMuch n vs u → AreTooMuch n (us ++ vs) t
 over_append n [] vs t u none k = k
 over_append n (b ∷ us) vs t u (more {u = w} j h) k = later j (over_append n us vs w u h k)
@@ -33,10 +33,10 @@ over_longer n (b ∷ bs) cs t (now h) = now h
 over_longer n (b ∷ bs) cs t (later {u = u} j h) = later j (over_longer n bs cs u h)
 
 -- one combination
-judged_one : (n : ℕ) (b : PrefixLists) (t u : Tally) → Judged n b t u → Searched n (b ∷ []) t u
+judged_one : (n : ℕ) (b : PrefixLists) (t u : Tally) → TalliesOneMore n b t u → TalliesAll n (b ∷ []) t u
 judged_one n b t u j = more j none
 
-over_one : (n : ℕ) (b : PrefixLists) (t : Tally) → IsTooMuch n b t → AreTooMuch n (b ∷ []) t
+over_one : (n : ℕ) (b : PrefixLists) (t : Tally) → ExceedsCandidates n b t → AreTooMuch n (b ∷ []) t
 over_one n b t h = now h
 
 -- the combinations that go on with some runs of the next thread
@@ -100,22 +100,22 @@ split_all b ts ps i p lt is =
     (one_run b ts ps i p lt is)
 
 -- what fits in a list fits in its pieces
-fit_front : (n : ℕ) (xs ys : List PrefixLists) → AllFit n (xs ++ ys) → AllFit n xs
+fit_front : (n : ℕ) (xs ys : List PrefixLists) → AllPrefixesFit n (xs ++ ys) → AllPrefixesFit n xs
 fit_front n [] ys h = tt
 fit_front n (x ∷ xs) ys h = (h.0, fit_front n xs ys h.1)
 
-fit_rest : (n : ℕ) (xs ys : List PrefixLists) → AllFit n (xs ++ ys) → AllFit n ys
+fit_rest : (n : ℕ) (xs ys : List PrefixLists) → AllPrefixesFit n (xs ++ ys) → AllPrefixesFit n ys
 fit_rest n [] ys h = h
 fit_rest n (x ∷ xs) ys h = fit_rest n xs ys h.1
 
 pub fit_run : (n : ℕ) (b : PrefixLists) (ts : List ThreadParts) (ps : List Part) (i : ℕ) (p : Part)
-    → i < length ps → p ≡ get_or ps i p → AllFit n (going_on b ts 0 ps)
-    → AllFit n (combinations (with_run i p b) ts)
+    → i < length ps → p ≡ get_or ps i p → AllPrefixesFit n (going_on b ts 0 ps)
+    → AllPrefixesFit n (combinations (with_run i p b) ts)
 fit_run n b ts ps i p lt is h =
     fit_rest n (going_on b ts 0 (take i ps)) (combinations (with_run i p b) ts)
     (fit_front n (going_on b ts 0 (take i ps) ++ combinations (with_run i p b) ts)
     (going_on b ts (0 + length (take (i + 1) ps)) (drop (i + 1) ps))
-    (subst (λ (l : List PrefixLists). AllFit n l) (split_all b ts ps i p lt is) h))
+    (subst (λ (l : List PrefixLists). AllPrefixesFit n l) (split_all b ts ps i p lt is) h))
 
 pub small_front : (xs ys : List PrefixLists) → AreSmall (xs ++ ys) → AreSmall xs
 small_front [] ys h = tt
@@ -136,16 +136,16 @@ run_small b ts ps i p lt is h =
 
 pub run_found : (n : ℕ) (b : PrefixLists) (ts : List ThreadParts) (ps : List Part) (i : ℕ)
     (p : Part) (t u v : Tally) → i < length ps → p ≡ get_or ps i p
-    → Searched n (going_on b ts 0 (take i ps)) t u
-    → Searched n (combinations (with_run i p b) ts) u v
-    → Searched n (going_on b ts 0 (take (i + 1) ps)) t v
+    → TalliesAll n (going_on b ts 0 (take i ps)) t u
+    → TalliesAll n (combinations (with_run i p b) ts) u v
+    → TalliesAll n (going_on b ts 0 (take (i + 1) ps)) t v
 run_found n b ts ps i p t u v lt is f g =
-    subst (λ (l : List PrefixLists). Searched n l t v) (sym (one_run b ts ps i p lt is))
+    subst (λ (l : List PrefixLists). TalliesAll n l t v) (sym (one_run b ts ps i p lt is))
     (searched_append n (going_on b ts 0 (take i ps)) (combinations (with_run i p b) ts) t u v f g)
 
 pub run_over : (n : ℕ) (b : PrefixLists) (ts : List ThreadParts) (ps : List Part) (i : ℕ) (p : Part)
     (t u : Tally) → i < length ps → p ≡ get_or ps i p
-    → Searched n (going_on b ts 0 (take i ps)) t u
+    → TalliesAll n (going_on b ts 0 (take i ps)) t u
     → AreTooMuch n (combinations (with_run i p b) ts) u → AreTooMuch n (going_on b ts 0 ps) t
 run_over n b ts ps i p t u lt is f g =
     subst (λ (l : List PrefixLists). AreTooMuch n l t) (sym (split_all b ts ps i p lt is))
@@ -188,7 +188,7 @@ pub last_small : (b : PrefixLists) (ts : List ThreadParts) → length ts ≡ 0
 last_small b [] e h = h.0
 last_small b (t ∷ ts) e h = absurd (omega (arith, e))
 
-pub first_small : (l : Layout) (b : PrefixLists) (ts : List ThreadParts) → b ≡ start l.initial.items
+pub first_small : (l : Layout) (b : PrefixLists) (ts : List ThreadParts) → b ≡ initial_prefix l.initial.items
     → ts ≡ l.threads.items → AreSmall (all_combinations l) → AreSmall (combinations b ts)
 first_small l b ts made same h =
     subst (λ (x : List ThreadParts). AreSmall (combinations b x)) (sym same)
@@ -197,14 +197,14 @@ first_small l b ts made same h =
 -- no thread is left
 pub no_thread : (n : ℕ) (b : PrefixLists) (ts : List ThreadParts) (is : Bool) (old new : Tally)
     → length ts ≡ 0
-    → (Fits n b → old.count ≤ 16384
-    → Tells is (Judged n b old new × (new.count ≤ 16384)) (IsTooMuch n b old))
-    → AllFit n (combinations b ts) → old.count ≤ 16384
-    → Tells is (Searched n (combinations b ts) old new × (new.count ≤ 16384))
+    → (PrefixFits n b → old.count ≤ 16384
+    → Tells is (TalliesOneMore n b old new × (new.count ≤ 16384)) (ExceedsCandidates n b old))
+    → AllPrefixesFit n (combinations b ts) → old.count ≤ 16384
+    → Tells is (TalliesAll n (combinations b ts) old new × (new.count ≤ 16384))
     (AreTooMuch n (combinations b ts) old)
 no_thread n b (t ∷ ts) is old new e h fit few = absurd (omega (arith, e))
 no_thread n b [] true old new e h fit few =
-    let j : Judged n b old new × (new.count ≤ 16384) = h fit.0 few in
+    let j : TalliesOneMore n b old new × (new.count ≤ 16384) = h fit.0 few in
     (judged_one n b old new j.0, j.1)
 no_thread n b [] false old new e h fit few = over_one n b old (h fit.0 few)
 
@@ -218,20 +218,20 @@ pub record Going (n : ℕ) (b : PrefixLists) (ts : List ThreadParts) (ps : List 
   pub within : i < length ps
   pub one : p ≡ get_or ps i p
   pub longer : x ≡ with_run i p b
-  pub fit : AllFit n (combinations b ts)
+  pub fit : AllPrefixesFit n (combinations b ts)
 
 -- what is known of the search that goes on with it
 abbrev pub GoesOn : ℕ → Bool → PrefixLists → List ThreadParts → Tally → Tally → Type 0
 GoesOn n is x ts u v =
-    AllFit n (combinations x ts) → u.count ≤ 16384
-    → Tells is (Searched n (combinations x ts) u v × (v.count ≤ 16384))
+    AllPrefixesFit n (combinations x ts) → u.count ≤ 16384
+    → Tells is (TalliesAll n (combinations x ts) u v × (v.count ≤ 16384))
     (AreTooMuch n (combinations x ts) u)
 
 going_fit : (n : ℕ) (b : PrefixLists) (ts : List ThreadParts) (ps : List Part) (i : ℕ) (p : Part)
-    (x : PrefixLists) → Going n b ts ps i p x → AllFit n (combinations x (rest_of ts))
+    (x : PrefixLists) → Going n b ts ps i p x → AllPrefixesFit n (combinations x (rest_of ts))
 going_fit n b ts ps i p x g =
-    subst (λ (y : PrefixLists). AllFit n (combinations y (rest_of ts))) (sym g.longer)
-    (fit_run n b (rest_of ts) ps i p g.within g.one (subst (λ (l : List PrefixLists). AllFit n l)
+    subst (λ (y : PrefixLists). AllPrefixesFit n (combinations y (rest_of ts))) (sym g.longer)
+    (fit_run n b (rest_of ts) ps i p g.within g.one (subst (λ (l : List PrefixLists). AllPrefixesFit n l)
     (whole_thread b ts g.thread ps g.some g.first g.runs) g.fit))
 
 pub tells_true : (is : Bool) (P Q : Type 0) → is ≡ true → Tells is P Q → P
@@ -244,10 +244,10 @@ tells_false false P Q e h = h
 
 pub over_there : (n : ℕ) (b : PrefixLists) (ts : List ThreadParts) (ps : List Part) (i : ℕ)
     (p : Part) (x : PrefixLists) (is : Bool) (t u v : Tally) → Going n b ts ps i p x
-    → is ≡ false → Searched n (going_on b (rest_of ts) 0 (take i ps)) t u × (u.count ≤ 16384)
+    → is ≡ false → TalliesAll n (going_on b (rest_of ts) 0 (take i ps)) t u × (u.count ≤ 16384)
     → GoesOn n is x (rest_of ts) u v → AreTooMuch n (combinations b ts) t
 over_there n b ts ps i p x is t u v g e f h =
-    let k : AreTooMuch n (combinations x (rest_of ts)) u = tells_false is (Searched n (combinations x (rest_of ts)) u v × (v.count ≤ 16384)) (AreTooMuch n (combinations x (rest_of ts)) u) e (h (going_fit n b ts ps i p x g) f.1) in
+    let k : AreTooMuch n (combinations x (rest_of ts)) u = tells_false is (TalliesAll n (combinations x (rest_of ts)) u v × (v.count ≤ 16384)) (AreTooMuch n (combinations x (rest_of ts)) u) e (h (going_fit n b ts ps i p x g) f.1) in
     subst (λ (l : List PrefixLists). AreTooMuch n l t)
     (sym (whole_thread b ts g.thread ps g.some g.first g.runs))
     (run_over n b (rest_of ts) ps i p t u g.within g.one f.0 (subst
@@ -255,25 +255,25 @@ over_there n b ts ps i p x is t u v g e f h =
 
 pub found_there : (n : ℕ) (b : PrefixLists) (ts : List ThreadParts) (ps : List Part) (i : ℕ)
     (p : Part) (x : PrefixLists) (is : Bool) (t u v : Tally) → Going n b ts ps i p x → is ≡ true
-    → Searched n (going_on b (rest_of ts) 0 (take i ps)) t u × (u.count ≤ 16384)
+    → TalliesAll n (going_on b (rest_of ts) 0 (take i ps)) t u × (u.count ≤ 16384)
     → GoesOn n is x (rest_of ts) u v
-    → Searched n (going_on b (rest_of ts) 0 (take (i + 1) ps)) t v × (v.count ≤ 16384)
+    → TalliesAll n (going_on b (rest_of ts) 0 (take (i + 1) ps)) t v × (v.count ≤ 16384)
 found_there n b ts ps i p x is t u v g e f h =
-    let k : Searched n (combinations x (rest_of ts)) u v × (v.count ≤ 16384) = tells_true is (Searched n (combinations x (rest_of ts)) u v × (v.count ≤ 16384)) (AreTooMuch n (combinations x (rest_of ts)) u) e (h (going_fit n b ts ps i p x g) f.1) in (
+    let k : TalliesAll n (combinations x (rest_of ts)) u v × (v.count ≤ 16384) = tells_true is (TalliesAll n (combinations x (rest_of ts)) u v × (v.count ≤ 16384)) (AreTooMuch n (combinations x (rest_of ts)) u) e (h (going_fit n b ts ps i p x g) f.1) in (
       run_found n b (rest_of ts) ps i p t u v g.within g.one f.0 (subst
-          (λ (y : PrefixLists). Searched n (combinations y (rest_of ts)) u v) g.longer
+          (λ (y : PrefixLists). TalliesAll n (combinations y (rest_of ts)) u v) g.longer
           k.0),
       k.1,
     )
 
 -- the combinations that go on with a run that does not fit
 judged_none : (n : ℕ) (l : ℕ) (v : Value) (b : PrefixLists) (t : Tally) → IsStuck l v b
-    → Judged n b t t
+    → TalliesOneMore n b t t
 judged_none n l v b t s = ([], no_ways l v b s, refl)
 
 none_goes_on : (n l : ℕ) (v : Value) (b : PrefixLists) (ts : List ThreadParts) (t : Tally)
-    → ((x : PrefixLists) → IsStuck l v x → Searched n (combinations x ts) t t) → IsStuck l v b
-    → (at : ℕ) (ps : List Part) → PartsLack l v ps → Searched n (going_on b ts at ps) t t
+    → ((x : PrefixLists) → IsStuck l v x → TalliesAll n (combinations x ts) t t) → IsStuck l v b
+    → (at : ℕ) (ps : List Part) → PartsLack l v ps → TalliesAll n (going_on b ts at ps) t t
 none_goes_on n l v b ts t each s at [] lack = none
 none_goes_on n l v b ts t each s at (p ∷ ps) lack =
     searched_append n (combinations (with_run at p b) ts) (going_on b ts (at + 1) ps) t t t
@@ -281,15 +281,15 @@ none_goes_on n l v b ts t each s at (p ∷ ps) lack =
     (none_goes_on n l v b ts t each s (at + 1) ps lack.1)
 
 none_found : (n l : ℕ) (v : Value) (ts : List ThreadParts) (t : Tally) → ThreadsLack l v ts
-    → (b : PrefixLists) → IsStuck l v b → Searched n (combinations b ts) t t
+    → (b : PrefixLists) → IsStuck l v b → TalliesAll n (combinations b ts) t t
 none_found n l v [] t lack b s = more (judged_none n l v b t s) none
 none_found n l v (th ∷ ts) t lack b s =
     none_goes_on n l v b ts t (λ x h. none_found n l v ts t lack.1 x h) s 0 th.parts.items lack.0
 
 passed_over : (n : ℕ) (b : PrefixLists) (ts : List ThreadParts) (ps : List Part) (i : ℕ) (p : Part)
     (t u : Tally) → i < length ps → p ≡ get_or ps i p → Stuck (with_run i p b) ts
-    → Searched n (going_on b ts 0 (take i ps)) t u × (u.count ≤ 16384)
-    → Searched n (going_on b ts 0 (take (i + 1) ps)) t u × (u.count ≤ 16384)
+    → TalliesAll n (going_on b ts 0 (take i ps)) t u × (u.count ≤ 16384)
+    → TalliesAll n (going_on b ts 0 (take (i + 1) ps)) t u × (u.count ≤ 16384)
 passed_over n b ts ps i p t u lt is k f = (
   run_found n b ts ps i p t u u lt is f.0 (none_found n k.location k.value ts u k.lack
       (with_run i p b) k.stuck),
@@ -299,13 +299,13 @@ passed_over n b ts ps i p t u lt is k f = (
 pub all_found : (n : ℕ) (b : PrefixLists) (ts : List ThreadParts) (thread : ThreadParts)
     (ps : List Part) (i : ℕ) (t u : Tally) → 0 < length ts → thread ≡ get_or ts 0 thread
     → ps ≡ thread.parts.items → i ≡ length ps
-    → Searched n (going_on b (rest_of ts) 0 (take i ps)) t u × (u.count ≤ 16384)
-    → Searched n (combinations b ts) t u × (u.count ≤ 16384)
+    → TalliesAll n (going_on b (rest_of ts) 0 (take i ps)) t u × (u.count ≤ 16384)
+    → TalliesAll n (combinations b ts) t u × (u.count ≤ 16384)
 all_found n b ts thread ps i t u lt is same whole f =
     let e : take i ps ≡ ps = ap (λ (k : ℕ). take k ps) whole ∙ take-length ps in (
-      subst (λ (l : List PrefixLists). Searched n l t u)
+      subst (λ (l : List PrefixLists). TalliesAll n l t u)
           (sym (whole_thread b ts thread ps lt is same)) (subst
-          (λ (l : List Part). Searched n (going_on b (rest_of ts) 0 l) t u) e f.0),
+          (λ (l : List Part). TalliesAll n (going_on b (rest_of ts) 0 l) t u) e f.0),
       f.1,
     )
 
@@ -337,41 +337,41 @@ pub left_out : (key : ℕ → Value → Option (ℕ × ℕ)) (n : ℕ) (f : Pref
     (t u : Tally) → 0 < length ts → thread ≡ get_or ts 0 thread → ps ≡ thread.parts.items
     → i < length ps → p ≡ get_or ps i p → AreKeys key f.runs.events.items f.reads f.writes
     → ThreadsAreKeyed key ts → HasWrites after (rest_of ts) → is ≡ false
-    → TellsWithin is (IsRead f p) (IsStored f p after)
-    → Searched n (going_on (prefix_lists f) (rest_of ts) 0 (take i ps)) t u × (u.count ≤ 16384)
-    → Searched n (going_on (prefix_lists f) (rest_of ts) 0 (take (i + 1) ps)) t u
+    → TellsSubset is (IsLoadedKey f p) (IsStoredKey f p after)
+    → TalliesAll n (going_on (prefix_lists f) (rest_of ts) 0 (take i ps)) t u × (u.count ≤ 16384)
+    → TalliesAll n (going_on (prefix_lists f) (rest_of ts) 0 (take (i + 1) ps)) t u
     × (u.count ≤ 16384)
 left_out key n f ts thread ps i p after is t u some first runs lt one fk tk w e tells found =
     let all : PartsAreKeyed key thread.writes ps × ThreadsAreKeyed key (rest_of ts) = threads_keys key ts thread ps some first runs tk in
     passed_over n (prefix_lists f) (rest_of ts) ps i p t u lt one
     (does_not_fit key f p after (rest_of ts) i fk (part_keys key thread.writes ps i p all.0 lt one)
-    all.1 w (told_false is (IsRead f p) (IsStored f p after) e tells)) found
+    all.1 w (told_false is (IsLoadedKey f p) (IsStoredKey f p after) e tells)) found
 
 -- the search through a layout
 pub searched_layout : (key : ℕ → Value → Option (ℕ × ℕ)) (l : Layout) (f : Prefix)
     (ts : List ThreadParts) (n : ℕ) (is : Bool) (old new : Tally)
-    → prefix_lists f ≡ start l.initial.items
+    → prefix_lists f ≡ initial_prefix l.initial.items
     → ((a b : ℕ) → HasKey f.reads a b → ⊥) × (f.writes ≡ l.initial_writes) → ts ≡ l.threads.items
-    → n ≡ location_count l → old ≡ nothing → IsKeyed key l
-    → AllFit (location_count l) (all_combinations l)
+    → n ≡ location_count l → old ≡ no_tally → IsKeyed key l
+    → AllPrefixesFit (location_count l) (all_combinations l)
     → ((k : ℕ → Value → Option (ℕ × ℕ)) → AreKeys k f.runs.events.items f.reads f.writes
-    → ThreadsAreKeyed k ts → AllFit n (combinations (prefix_lists f) ts) → old.count ≤ 16384
-    → Tells is (Searched n (combinations (prefix_lists f) ts) old new × (new.count ≤ 16384))
+    → ThreadsAreKeyed k ts → AllPrefixesFit n (combinations (prefix_lists f) ts) → old.count ≤ 16384
+    → Tells is (TalliesAll n (combinations (prefix_lists f) ts) old new × (new.count ≤ 16384))
     (AreTooMuch n (combinations (prefix_lists f) ts) old))
-    → Tells is (Searched (location_count l) (all_combinations l) nothing new × (new.count ≤ 16384))
-    (AreTooMuch (location_count l) (all_combinations l) nothing)
+    → Tells is (TalliesAll (location_count l) (all_combinations l) no_tally new × (new.count ≤ 16384))
+    (AreTooMuch (location_count l) (all_combinations l) no_tally)
 searched_layout key l f ts n is old new made keys same count empty k fit h =
     subst
     (λ (t : Tally). Tells is
-    (Searched (location_count l) (all_combinations l) t new × (new.count ≤ 16384))
+    (TalliesAll (location_count l) (all_combinations l) t new × (new.count ≤ 16384))
     (AreTooMuch (location_count l) (all_combinations l) t)) empty
     (subst
     (λ (c : List PrefixLists). Tells is
-    (Searched (location_count l) c old new × (new.count ≤ 16384))
+    (TalliesAll (location_count l) c old new × (new.count ≤ 16384))
     (AreTooMuch (location_count l) c old)) combined
     (subst
     (λ (m : ℕ). Tells is
-    (Searched m (combinations (prefix_lists f) ts) old new × (new.count ≤ 16384))
+    (TalliesAll m (combinations (prefix_lists f) ts) old new × (new.count ≤ 16384))
     (AreTooMuch m (combinations (prefix_lists f) ts) old)) count
     (h key (first_keys key l f made keys k)
     (subst (λ (t : List ThreadParts). ThreadsAreKeyed key t) (sym same) k.threads) fits
@@ -380,24 +380,24 @@ searched_layout key l f ts n is old new made keys same count empty k fit h =
     combined : combinations (prefix_lists f) ts ≡ all_combinations l
     combined =
         ap (λ (b : PrefixLists). combinations b ts) made
-        ∙ ap (λ (t : List ThreadParts). combinations (start l.initial.items) t) same
+        ∙ ap (λ (t : List ThreadParts). combinations (initial_prefix l.initial.items) t) same
 
-    fits : AllFit n (combinations (prefix_lists f) ts)
+    fits : AllPrefixesFit n (combinations (prefix_lists f) ts)
     fits =
-        subst (λ (m : ℕ). AllFit m (combinations (prefix_lists f) ts)) (sym count)
-        (subst (λ (c : List PrefixLists). AllFit (location_count l) c) (sym combined) fit)
+        subst (λ (m : ℕ). AllPrefixesFit m (combinations (prefix_lists f) ts)) (sym count)
+        (subst (λ (c : List PrefixLists). AllPrefixesFit (location_count l) c) (sym combined) fit)
 
     few : old.count ≤ 16384
     few = let e : old.count ≡ 0 = ap (λ (t : Tally). t.count) empty in omega (arith, e)
 
 pub found_all : (n : ℕ) (cs : List PrefixLists) (is : Bool) (new : Tally) → is ≡ true
-    → Tells is (Searched n cs nothing new × (new.count ≤ 16384)) (AreTooMuch n cs nothing)
-    → Searched n cs nothing new × (new.count ≤ 16384)
+    → Tells is (TalliesAll n cs no_tally new × (new.count ≤ 16384)) (AreTooMuch n cs no_tally)
+    → TalliesAll n cs no_tally new × (new.count ≤ 16384)
 found_all n cs is new e h =
-    tells_true is (Searched n cs nothing new × (new.count ≤ 16384)) (AreTooMuch n cs nothing) e h
+    tells_true is (TalliesAll n cs no_tally new × (new.count ≤ 16384)) (AreTooMuch n cs no_tally) e h
 
 pub found_over : (n : ℕ) (cs : List PrefixLists) (is : Bool) (new : Tally) → is ≡ false
-    → Tells is (Searched n cs nothing new × (new.count ≤ 16384)) (AreTooMuch n cs nothing)
-    → AreTooMuch n cs nothing
+    → Tells is (TalliesAll n cs no_tally new × (new.count ≤ 16384)) (AreTooMuch n cs no_tally)
+    → AreTooMuch n cs no_tally
 found_over n cs is new e h =
-    tells_false is (Searched n cs nothing new × (new.count ≤ 16384)) (AreTooMuch n cs nothing) e h
+    tells_false is (TalliesAll n cs no_tally new × (new.count ≤ 16384)) (AreTooMuch n cs no_tally) e h

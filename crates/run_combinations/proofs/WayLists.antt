@@ -3,7 +3,7 @@ use Rattle.std.proofs.Common.{ℕ, zero, suc, ◌≡◌, ◌<◌, ◌≤◌, ◌
 use Rattle.std.specs.List.{flat_map}
 use Rattle.std.proofs.lemmas.List.{take_more, take-append-drop}
 use Rattle.run_combinations.specs.Lists.{tuples, IsFiltered, none, kept, left}
-use Rattle.run_combinations.specs.Ways.{Accesses, Source, IsWay, IsPossible, IsProper, nexts}
+use Rattle.run_combinations.specs.Ways.{Accesses, MayReadFrom, IsReadChoice, IsPossible, AreProperAccesses, nexts}
 use Rattle.run_combinations.proofs.Filters.{IsFiltered-append, IsFiltered-split, Split, IsFiltered-through, none_of_map, tuples_more, tuples-append}
 use Rattle.run_combinations.proofs.Deriving.{longer, possible_is_way, way_is_possible, possible_front, possible_goes_on}
 
@@ -120,13 +120,13 @@ same_in_tuples P Q (c ∷ cs) front ys same h =
     h
 
 -- where each load has its store, the possible ways are those without a cycle
-pub ways_all : (n : ℕ) (g : Accesses) → IsProper n g → (ways : List (List ℕ))
+pub ways_all : (n : ℕ) (g : Accesses) → AreProperAccesses n g → (ways : List (List ℕ))
     → IsFiltered (IsPossible g) (tuples [] g.sources) ways
-    → IsFiltered (IsWay g) (tuples [] g.sources) ways
-ways_all n g p ways h = same_in_tuples (IsPossible g) (IsWay g) g.sources [] ways same h
+    → IsFiltered (IsReadChoice g) (tuples [] g.sources) ways
+ways_all n g p ways h = same_in_tuples (IsPossible g) (IsReadChoice g) g.sources [] ways same h
   where
     same : (rest way : List ℕ) → AreChosen g.sources rest → way ≡ rest
-        → (IsPossible g way → IsWay g way) × ((IsPossible g way → ⊥) → IsWay g way → ⊥)
+        → (IsPossible g way → IsReadChoice g way) × ((IsPossible g way → ⊥) → IsReadChoice g way → ⊥)
     same rest way are is = (
       possible_is_way n g way p (omega (arith, long, p.paired)),
       (λ never acyclic.
@@ -136,9 +136,9 @@ ways_all n g p ways h = same_in_tuples (IsPossible g) (IsWay g) g.sources [] way
         long : length way ≡ length g.sources
         long = ap (λ (l : List ℕ). length l) is ∙ chosen_long g.sources rest are
 
-        allowed : (i : ℕ) → i < length way → Source g i (get_or way i 0)
+        allowed : (i : ℕ) → i < length way → MayReadFrom g i (get_or way i 0)
         allowed i lt =
-            subst (λ (l : List ℕ). Source g i (get_or l i 0)) (sym is)
+            subst (λ (l : List ℕ). MayReadFrom g i (get_or l i 0)) (sym is)
             (chosen_each g.sources rest are i (subst (λ (l : List ℕ). i < length l) is lt))
 
 no_members : {X : Type 0} (us vs : List X) → (let e : List X = [] in e) ≡ us ++ vs
@@ -160,8 +160,8 @@ none_of_one P f (x ∷ d) s (suc k) lt is h =
     (no_members t.first t.second t.whole).1 t.of_second)
 
 -- a possible way begins a way
-possible_has_way : (n : ℕ) (g : Accesses) → IsProper n g → (ds : List (List ℕ)) (h : List ℕ)
-    → ds ≡ drop (length h) g.sources → IsPossible g h → IsFiltered (IsWay g) (tuples h ds) [] → ⊥
+possible_has_way : (n : ℕ) (g : Accesses) → AreProperAccesses n g → (ds : List (List ℕ)) (h : List ℕ)
+    → ds ≡ drop (length h) g.sources → IsPossible g h → IsFiltered (IsReadChoice g) (tuples h ds) [] → ⊥
 possible_has_way n g p [] h e possible (left never none) =
     let l : length (drop (length h) g.sources) ≡ 0 = ap (λ (u : List (List ℕ)). length u) (sym e) in
     never (possible_is_way n g h p (omega (arith, l, length-drop (length h) g.sources, p.paired))
@@ -170,7 +170,7 @@ possible_has_way n g p (d ∷ ds) h e possible f =
     possible_goes_on n g h p (omega (arith, lt, p.paired)) possible
     (λ s source more. possible_has_way n g p ds (h ++ s ∷ []) (tail s) more
     (let there = subst (λ (c : List ℕ). Contains c s) (sym head) source in
-    none_of_one (IsWay g) (λ x. tuples (h ++ x ∷ []) ds) d s there.0 there.1 there.2 f))
+    none_of_one (IsReadChoice g) (λ x. tuples (h ++ x ∷ []) ds) d s there.0 there.1 there.2 f))
   where
     lt : length h < length g.sources
     lt =
@@ -191,15 +191,15 @@ possible_has_way n g p (d ∷ ds) h e possible f =
         t ∙ ap (λ (j : ℕ). drop j g.sources) k
 
 -- of the ways that a possible way begins there are as many as of possible next ones, or more
-more_nexts : (n : ℕ) (g : Accesses) → IsProper n g → (h : List ℕ) (ds : List (List ℕ))
+more_nexts : (n : ℕ) (g : Accesses) → AreProperAccesses n g → (h : List ℕ) (ds : List (List ℕ))
     → ((x : ℕ) → ds ≡ drop (length (h ++ x ∷ [])) g.sources) → (d : List ℕ) (us zs : List (List ℕ))
     → IsFiltered (IsPossible g) (nexts d h) us
-    → IsFiltered (IsWay g) (flat_map (λ x. tuples (h ++ x ∷ []) ds) d) zs → length us ≤ length zs
+    → IsFiltered (IsReadChoice g) (flat_map (λ x. tuples (h ++ x ∷ []) ds) d) zs → length us ≤ length zs
 more_nexts n g p h ds e [] us zs none t = omega arith
 more_nexts n g p h ds e (x ∷ d) us zs (kept {ys = vs} possible f) t =
-    let s : Split (IsWay g) (tuples (h ++ x ∷ []) ds) (flat_map (λ y. tuples (h ++ y ∷ []) ds) d) zs = IsFiltered-split (IsWay g) (tuples (h ++ x ∷ []) ds) (flat_map (λ y. tuples (h ++ y ∷ []) ds) d) zs t in
+    let s : Split (IsReadChoice g) (tuples (h ++ x ∷ []) ds) (flat_map (λ y. tuples (h ++ y ∷ []) ds) d) zs = IsFiltered-split (IsReadChoice g) (tuples (h ++ x ∷ []) ds) (flat_map (λ y. tuples (h ++ y ∷ []) ds) d) zs t in
     let l : length zs ≡ length (s.first ++ s.second) = ap (λ (u : List (List ℕ)). length u) s.whole in
-    let some : 0 < length s.first = has_some s.first (λ is. possible_has_way n g p ds (h ++ x ∷ []) (e x) possible (subst (λ (u : List (List ℕ)). IsFiltered (IsWay g) (tuples (h ++ x ∷ []) ds) u) is s.of_first)) in
+    let some : 0 < length s.first = has_some s.first (λ is. possible_has_way n g p ds (h ++ x ∷ []) (e x) possible (subst (λ (u : List (List ℕ)). IsFiltered (IsReadChoice g) (tuples (h ++ x ∷ []) ds) u) is s.of_first)) in
     let rest : length vs ≤ length s.second = more_nexts n g p h ds e d vs s.second f s.of_second in
     omega (arith, l, length-append s.first s.second, some, rest)
   where
@@ -207,44 +207,44 @@ more_nexts n g p h ds e (x ∷ d) us zs (kept {ys = vs} possible f) t =
     has_some [] never = absurd (never refl)
     has_some (v ∷ u) never = omega arith
 more_nexts n g p h ds e (x ∷ d) us zs (left never f) t =
-    let s : Split (IsWay g) (tuples (h ++ x ∷ []) ds) (flat_map (λ y. tuples (h ++ y ∷ []) ds) d) zs = IsFiltered-split (IsWay g) (tuples (h ++ x ∷ []) ds) (flat_map (λ y. tuples (h ++ y ∷ []) ds) d) zs t in
+    let s : Split (IsReadChoice g) (tuples (h ++ x ∷ []) ds) (flat_map (λ y. tuples (h ++ y ∷ []) ds) d) zs = IsFiltered-split (IsReadChoice g) (tuples (h ++ x ∷ []) ds) (flat_map (λ y. tuples (h ++ y ∷ []) ds) d) zs t in
     let l : length zs ≡ length (s.first ++ s.second) = ap (λ (u : List (List ℕ)). length u) s.whole in
     let rest : length us ≤ length s.second = more_nexts n g p h ds e d us s.second f s.of_second in
     omega (arith, l, length-append s.first s.second, rest)
 
 -- the same for the first ones of a list
-more_part : (n : ℕ) (g : Accesses) → IsProper n g → (p : ℕ) (c : List ℕ) (ds : List (List ℕ))
+more_part : (n : ℕ) (g : Accesses) → AreProperAccesses n g → (p : ℕ) (c : List ℕ) (ds : List (List ℕ))
     → ds ≡ drop (p + 1) g.sources → (k : ℕ) (xs fronts us zs : List (List ℕ))
     → Each (λ f. (length f ≡ p) × IsPossible g f) fronts → IsFiltered (IsPossible g) xs fronts
     → IsFiltered (IsPossible g) (flat_map (nexts c) (take k fronts)) us
-    → IsFiltered (IsWay g) (flat_map (λ f. tuples f (c ∷ ds)) xs) zs → length us ≤ length zs
+    → IsFiltered (IsReadChoice g) (flat_map (λ f. tuples f (c ∷ ds)) xs) zs → length us ≤ length zs
 more_part n g q p c ds e zero xs fronts us zs fit f none t = omega arith
 more_part n g q p c ds e (suc k) [] fronts us zs fit none none t = omega arith
 more_part n g q p c ds e (suc k) (x ∷ xs) fronts us zs fit (kept {ys = vs} possible f) h t =
     let a : Split (IsPossible g) (nexts c x) (flat_map (nexts c) (take k vs)) us = IsFiltered-split (IsPossible g) (nexts c x) (flat_map (nexts c) (take k vs)) us h in
-    let b : Split (IsWay g) (tuples x (c ∷ ds)) (flat_map (λ f. tuples f (c ∷ ds)) xs) zs = IsFiltered-split (IsWay g) (tuples x (c ∷ ds)) (flat_map (λ f. tuples f (c ∷ ds)) xs) zs t in
+    let b : Split (IsReadChoice g) (tuples x (c ∷ ds)) (flat_map (λ f. tuples f (c ∷ ds)) xs) zs = IsFiltered-split (IsReadChoice g) (tuples x (c ∷ ds)) (flat_map (λ f. tuples f (c ∷ ds)) xs) zs t in
     let la : length us ≡ length (a.first ++ a.second) = ap (λ (u : List (List ℕ)). length u) a.whole in
     let lb : length zs ≡ length (b.first ++ b.second) = ap (λ (u : List (List ℕ)). length u) b.whole in
     let one : length a.first ≤ length b.first = more_nexts n g q x ds (λ y. e ∙ ap (λ (j : ℕ). drop j g.sources) (sym (longer x y ∙ ap (λ (j : ℕ). j + 1) fit.0.0))) c a.first b.first a.of_first b.of_first in
     let rest : length a.second ≤ length b.second = more_part n g q p c ds e k xs vs a.second b.second fit.1 f a.of_second b.of_second in
     omega (arith, la, lb, length-append a.first a.second, length-append b.first b.second, one, rest)
 more_part n g q p c ds e (suc k) (x ∷ xs) fronts us zs fit (left never f) h t =
-    let b : Split (IsWay g) (tuples x (c ∷ ds)) (flat_map (λ f. tuples f (c ∷ ds)) xs) zs = IsFiltered-split (IsWay g) (tuples x (c ∷ ds)) (flat_map (λ f. tuples f (c ∷ ds)) xs) zs t in
+    let b : Split (IsReadChoice g) (tuples x (c ∷ ds)) (flat_map (λ f. tuples f (c ∷ ds)) xs) zs = IsFiltered-split (IsReadChoice g) (tuples x (c ∷ ds)) (flat_map (λ f. tuples f (c ∷ ds)) xs) zs t in
     let lb : length zs ≡ length (b.first ++ b.second) = ap (λ (u : List (List ℕ)). length u) b.whole in
     let rest : length us ≤ length b.second = more_part n g q p c ds e (suc k) xs fronts us b.second fit f h b.of_second in
     omega (arith, lb, length-append b.first b.second, rest)
 
 -- there are as many ways as possible beginnings, or more
-pub no_fewer_ways : (n : ℕ) (g : Accesses) → IsProper n g → (p k : ℕ) → p < length g.sources
+pub no_fewer_ways : (n : ℕ) (g : Accesses) → AreProperAccesses n g → (p k : ℕ) → p < length g.sources
     → (fronts us all : List (List ℕ))
     → IsFiltered (IsPossible g) (tuples [] (take p g.sources)) fronts
     → Each (λ f. (length f ≡ p) × IsPossible g f) fronts
     → IsFiltered (IsPossible g) (flat_map (nexts (get_or g.sources p [])) (take k fronts)) us
-    → IsFiltered (IsWay g) (tuples [] g.sources) all → length us ≤ length all
+    → IsFiltered (IsReadChoice g) (tuples [] g.sources) all → length us ≤ length all
 no_fewer_ways n g q p k lt fronts us all f fit h t =
     more_part n g q p (get_or g.sources p []) (drop (p + 1) g.sources) refl k
     (tuples [] (take p g.sources)) fronts us all fit f h
-    (subst (λ (l : List (List ℕ)). IsFiltered (IsWay g) l all) whole t)
+    (subst (λ (l : List (List ℕ)). IsFiltered (IsReadChoice g) l all) whole t)
   where
     whole : tuples [] g.sources
         ≡ flat_map (λ f. tuples f (get_or g.sources p [] ∷ drop (p + 1) g.sources))

@@ -1,37 +1,37 @@
 -- The candidates of all combinations of runs, and when there are too many or one holds a fault.
 use Rattle.std.specs.Prelude.{ℕ, ◌≡◌, ◌<◌, ◌≤◌, ◌+◌, ◌*◌, ◌⊎◌, List, [], ◌∷◌, length, true}
-use Rattle.run_combinations.specs.Ways.{AreWays}
+use Rattle.run_combinations.specs.Ways.{AreReadChoices}
 use Rattle.run_combinations.specs.Search.{PrefixLists}
 use Rattle.run_combinations.specs.Combinations.{CombinationLists, ordered}
 
--- each combination of runs that has a way to read, with its ways and its orders of the stores
+-- each combination of runs that has a read choice, with its read choices and orders of the stores
 pub data AreCombinations (n : ℕ) : List PrefixLists → List CombinationLists → Type 0 where
   nothing_left : AreCombinations n [] []
   with_ways : {b : PrefixLists} {bs : List PrefixLists} {cs : List CombinationLists} {way : List ℕ}
-      {ways : List (List ℕ)} → AreWays b.combination.events b.needs (way ∷ ways)
+      {ways : List (List ℕ)} → AreReadChoices b.combination.events b.needs (way ∷ ways)
       → AreCombinations n bs cs
       → AreCombinations n (b ∷ bs) (ordered n (record b.combination { sources = way ∷ ways }) ∷ cs)
   without : {b : PrefixLists} {bs : List PrefixLists} {cs : List CombinationLists}
-      → AreWays b.combination.events b.needs [] → AreCombinations n bs cs
+      → AreReadChoices b.combination.events b.needs [] → AreCombinations n bs cs
       → AreCombinations n (b ∷ bs) cs
 
--- how many candidates they have: each way with each order is one
+-- how many candidates they have: each read choice with each order is one
 abbrev pub candidate_total : List CombinationLists → ℕ
 candidate_total [] = 0
 candidate_total (c ∷ cs) = length c.sources * length c.orders + candidate_total cs
 
 -- some candidate holds a run that stopped at a fault
-abbrev pub HasFault : List PrefixLists → Type 0
-HasFault [] = ⊥
-HasFault (b ∷ bs) =
+abbrev pub HasFaultedCandidate : List PrefixLists → Type 0
+HasFaultedCandidate [] = ⊥
+HasFaultedCandidate (b ∷ bs) =
     ((b.faulted ≡ true) × (way : List ℕ) × (ways : List (List ℕ))
-    × AreWays b.combination.events b.needs (way ∷ ways)) ⊎ HasFault bs
+    × AreReadChoices b.combination.events b.needs (way ∷ ways)) ⊎ HasFaultedCandidate bs
 
 -- all candidates: at most 16,384, of which none holds a fault
 pub record AreCandidates (n : ℕ) (bs : List PrefixLists) (cs : List CombinationLists) : Type 0 where
   pub combinations : AreCombinations n bs cs
   pub few : candidate_total cs ≤ 16384
-  pub sound : HasFault bs → ⊥
+  pub sound : HasFaultedCandidate bs → ⊥
 
 -- there are more
 abbrev pub AreTooMany : ℕ → List PrefixLists → Type 0
@@ -43,7 +43,7 @@ pub record AreFaulted (n : ℕ) (bs : List PrefixLists) : Type 0 where
   pub all : List CombinationLists
   pub combinations : AreCombinations n bs all
   pub few : candidate_total all ≤ 16384
-  pub fault : HasFault bs
+  pub fault : HasFaultedCandidate bs
 
 -- no combination has over 128 events
 abbrev pub AreSmall : List PrefixLists → Type 0

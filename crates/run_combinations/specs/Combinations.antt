@@ -11,7 +11,7 @@ use Rattle.run_combinations.specs.declared.combination.Combination.{Combination}
 abbrev pub pairs : {X Y : Type 0} → List X → List Y → List (X × Y)
 pairs xs ys = flat_map (λ x. map (λ y. (x, y)) ys) xs
 
--- the candidates of a combination: each way to read with each order of the stores
+-- the candidates of a combination: each read choice with each order of the stores
 unfoldable pub candidates_of : Combination → List (List ℕ × List ℕ)
 candidates_of c = pairs (lists_of c.sources.items) c.orders
 

@@ -47,10 +47,10 @@ writes (Read location value) = false
 writes (Write location value) = true
 writes (Fence fence) = false
 
-abbrev pub writes_to : ℕ → Action → Bool
-writes_to location (Read read_from value) = false
-writes_to location (Write written_to value) = nat_eq written_to location
-writes_to location (Fence fence) = false
+abbrev pub is_store_to : ℕ → Action → Bool
+is_store_to location (Read read_from value) = false
+is_store_to location (Write written_to value) = nat_eq written_to location
+is_store_to location (Fence fence) = false
 
 abbrev pub is_load : Event → Bool
 is_load e = reads e.action
@@ -93,18 +93,18 @@ CannotRead es =
     (location : ℕ) × (value : Value) × HasLoad location value es × (HasStore location value es → ⊥)
 
 -- the kind of event that an instruction makes
-abbrev pub stores_to : Instruction → Bool
-stores_to (Store d a) = true
-stores_to (StoreIndexed d a b) = true
-stores_to _ = false
+abbrev pub makes_store : Instruction → Bool
+makes_store (Store d a) = true
+makes_store (StoreIndexed d a b) = true
+makes_store _ = false
 
-abbrev pub fence_of : Instruction → Option kinds.Fence
-fence_of (Barrier fence) = Some fence
-fence_of _ = None
+abbrev pub fence_of_instruction : Instruction → Option kinds.Fence
+fence_of_instruction (Barrier fence) = Some fence
+fence_of_instruction _ = None
 
 -- the event is one of the thread, and of the kind of the instruction
 pub record IsKind (thread : ℕ) (i : Instruction) (e : Event) : Type 0 where
   pub of_thread : e.thread ≡ Some thread
   pub loads : machine.is_load i ≡ true → is_load e ≡ true
-  pub stores : stores_to i ≡ true → is_store e ≡ true
-  pub fences : (fence : kinds.Fence) → fence_of i ≡ Some fence → e.action ≡ Fence fence
+  pub stores : makes_store i ≡ true → is_store e ≡ true
+  pub fences : (fence : kinds.Fence) → fence_of_instruction i ≡ Some fence → e.action ≡ Fence fence

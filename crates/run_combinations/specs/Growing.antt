@@ -1,4 +1,4 @@
--- The orders that begin with a front, as they are found: the front is pushed onto, and cut back.
+-- The orders that begin with a prefix, as they are found: the prefix is pushed onto, and cut back.
 -- Read `Orders` first.
 use Rattle.std.specs.Prelude.{ℕ, zero, suc, ◌+◌, List, [], ◌∷◌, ◌++◌, map, filter, drop, length, not}
 use Rattle.std.specs.List.{flat_map}
@@ -7,13 +7,13 @@ use Rattle.run_combinations.specs.Orders.{stores_of}
 use Rattle.run_combinations.specs.declared.combination.Event.{Event}
 use Rattle.run_combinations.specs.declared.orders.LocationStores.{LocationStores}
 
--- the front with each of the stores that it lacks from an index on
+-- the prefix with each of the stores that it lacks from an index on
 abbrev pub with_new_from : ℕ → List ℕ → List ℕ → List (List ℕ)
 with_new_from begin stores front =
     map (λ store. front ++ store ∷ []) (filter (λ store. not (has_store (drop begin front) store))
     stores)
 
--- the front with so many more of the stores, none of which it has twice from an index on, in
+-- the prefix with so many more of the stores, none of which it has twice from an index on, in
 -- lexicographic order
 abbrev pub rows_from : List ℕ → ℕ → ℕ → List ℕ → List (List ℕ)
 rows_from stores begin zero front = front ∷ []
@@ -34,7 +34,7 @@ abbrev pub width_of : List (ℕ × List ℕ) → ℕ
 width_of [] = 0
 width_of (s ∷ later) = 1 + length s.1 + width_of later
 
--- the orders that begin with the front and go on with the stores of these locations
+-- the orders that begin with the prefix and go on with the stores of these locations
 abbrev pub orders_from : List (ℕ × List ℕ) → List ℕ → List (List ℕ)
 orders_from [] front = front ∷ []
 orders_from (s ∷ later) front =

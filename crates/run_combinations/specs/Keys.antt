@@ -42,18 +42,18 @@ abbrev pub TellsAll : Bool → (ℕ → Type 0) → (ℕ → Type 0) → Type 0
 TellsAll true S T = (b : ℕ) → S b → T b
 TellsAll false S T = (b : ℕ) × S b × (T b → ⊥)
 
-abbrev pub TellsWithin : Bool → (ℕ → ℕ → Type 0) → (ℕ → ℕ → Type 0) → Type 0
-TellsWithin true R S = (a b : ℕ) → R a b → S a b
-TellsWithin false R S = (a b : ℕ) × R a b × (S a b → ⊥)
+abbrev pub TellsSubset : Bool → (ℕ → ℕ → Type 0) → (ℕ → ℕ → Type 0) → Type 0
+TellsSubset true R S = (a b : ℕ) → R a b → S a b
+TellsSubset false R S = (a b : ℕ) × R a b × (S a b → ⊥)
 
 -- all pairs of the one set are in the other
-abbrev pub IsWithin : KeySet → KeySet → Type 0
-IsWithin s t = (a b : ℕ) → HasKey s a b → HasKey t a b
+abbrev pub AreKeysIn : KeySet → KeySet → Type 0
+AreKeysIn s t = (a b : ℕ) → HasKey s a b → HasKey t a b
 
 -- the set has all that some run of the threads stores
 abbrev pub HasWrites : KeySet → List ThreadParts → Type 0
 HasWrites s [] = Unit {0}
-HasWrites s (t ∷ ts) = IsWithin t.writes s × HasWrites s ts
+HasWrites s (t ∷ ts) = AreKeysIn t.writes s × HasWrites s ts
 
 -- each pair of the first set is one that a load reads, and the second has each that a store stores,
 -- where `key` says which bit a location and a value have, if any
@@ -69,7 +69,7 @@ pub record AreKeys (key : ℕ → Value → Option (ℕ × ℕ)) (es : List Even
 abbrev pub PartsAreKeyed : (ℕ → Value → Option (ℕ × ℕ)) → KeySet → List Part → Type 0
 PartsAreKeyed key all [] = Unit {0}
 PartsAreKeyed key all (p ∷ ps) =
-    AreKeys key p.events.items p.reads p.writes × IsWithin p.writes all × PartsAreKeyed key all ps
+    AreKeys key p.events.items p.reads p.writes × AreKeysIn p.writes all × PartsAreKeyed key all ps
 
 abbrev pub ThreadsAreKeyed : (ℕ → Value → Option (ℕ × ℕ)) → List ThreadParts → Type 0
 ThreadsAreKeyed key [] = Unit {0}
@@ -82,9 +82,9 @@ pub record IsKeyed (key : ℕ → Value → Option (ℕ × ℕ)) (l : Layout) : 
   pub threads : ThreadsAreKeyed key l.threads.items
 
 -- a load of the prefix or of the run reads it
-abbrev pub IsRead : Prefix → Part → ℕ → ℕ → Type 0
-IsRead f p a b = HasKey f.reads a b ⊎ HasKey p.reads a b
+abbrev pub IsLoadedKey : Prefix → Part → ℕ → ℕ → Type 0
+IsLoadedKey f p a b = HasKey f.reads a b ⊎ HasKey p.reads a b
 
 -- the prefix, the run or a later thread stores it
-abbrev pub IsStored : Prefix → Part → KeySet → ℕ → ℕ → Type 0
-IsStored f p after a b = (HasKey after a b ⊎ HasKey f.writes a b) ⊎ HasKey p.writes a b
+abbrev pub IsStoredKey : Prefix → Part → KeySet → ℕ → ℕ → Type 0
+IsStoredKey f p after a b = (HasKey after a b ⊎ HasKey f.writes a b) ⊎ HasKey p.writes a b

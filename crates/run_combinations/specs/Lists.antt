@@ -24,5 +24,5 @@ pub data IsFiltered {X : Type 0} (P : X → Type 0) : List X → List X → Type
   left : {x : X} {xs ys : List X} → (P x → ⊥) → IsFiltered P xs ys → IsFiltered P (x ∷ xs) ys
 
 -- the front with each of the others behind it
-abbrev pub joined_with : List (List ℕ) → List ℕ → List (List ℕ)
-joined_with others front = map (λ other. front ++ other) others
+abbrev pub each_behind : List (List ℕ) → List ℕ → List (List ℕ)
+each_behind others front = map (λ other. front ++ other) others

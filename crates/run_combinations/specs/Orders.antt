@@ -1,8 +1,8 @@
 -- Orders of the stores of each location, and of all stores.
 use Rattle.std.specs.Prelude.{ℕ, zero, suc, ◌≡◌, ◌<◌, ◌-◌, ◌*◌, List, [], ◌∷◌, ◌++◌, map, filter, take, replicate, length, Bool, true, false, not, ◌&&◌, is_some}
 use Rattle.std.specs.List.{flat_map}
-use Rattle.run_combinations.specs.Events.{numbers, writes_to, has_store, AreDistinct}
-use Rattle.run_combinations.specs.Lists.{tuples, IsFiltered, joined_with}
+use Rattle.run_combinations.specs.Events.{numbers, is_store_to, has_store, AreDistinct}
+use Rattle.run_combinations.specs.Lists.{tuples, IsFiltered, each_behind}
 use Rattle.run_combinations.specs.declared.combination.Event.{Event}
 
 -- the list with each of the stores that it lacks behind it
@@ -26,7 +26,7 @@ orders_of first others =
     filter are_distinct (tuples [] ((first ∷ []) ∷ replicate (length others) others))
 
 abbrev pub is_thread_store : ℕ → Event → Bool
-is_thread_store location e = is_some e.thread && writes_to location e.action
+is_thread_store location e = is_some e.thread && is_store_to location e.action
 
 -- the numbers of the threads' stores of a location, of up to 128 events
 unfoldable pub stores_of : List Event → ℕ → List ℕ
@@ -38,15 +38,15 @@ stores_of events location = numbers (is_thread_store location) 0 (take 128 event
 abbrev pub all_orders : List Event → ℕ → List (List ℕ)
 all_orders events zero = [] ∷ []
 all_orders events (suc n) =
-    flat_map (joined_with (orders_of n (stores_of events n))) (all_orders events n)
+    flat_map (each_behind (orders_of n (stores_of events n))) (all_orders events n)
 
 -- in how many ways so many of a number of things can stand in a row
-abbrev pub rows_of : ℕ → ℕ → ℕ
-rows_of count zero = 1
-rows_of count (suc positions) = rows_of count positions * (count - positions)
+abbrev pub arrangement_count : ℕ → ℕ → ℕ
+arrangement_count count zero = 1
+arrangement_count count (suc positions) = arrangement_count count positions * (count - positions)
 
 -- the initial store of each of the first locations, which has the number of the location, is no
 -- store of a thread to it
-abbrev pub AreApart : List Event → ℕ → Type 0
-AreApart events n =
+abbrev pub AreInitialStoresApart : List Event → ℕ → Type 0
+AreInitialStoresApart events n =
     (location : ℕ) → location < n → has_store (stores_of events location) location ≡ false

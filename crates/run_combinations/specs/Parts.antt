@@ -5,10 +5,10 @@ use Rattle.std.specs.declared.alloc.Global.{Global}
 use Rattle.thread_runs.specs.declared.value.Value.{Value}
 use Rattle.thread_runs.specs.declared.run.Run.{Run}
 use Rattle.thread_runs.specs.Runs.{executed}
-use Rattle.dataflow.specs.Chains.{event_place}
+use Rattle.dataflow.specs.Chains.{event_index}
 use Rattle.dataflow.specs.Dependencies.{AreLinks}
 use Rattle.run_combinations.specs.Events.{thread_events}
-use Rattle.run_combinations.specs.Keys.{HasKey, IsWithin, AreKeys, bit_of}
+use Rattle.run_combinations.specs.Keys.{HasKey, AreKeysIn, AreKeys, bit_of}
 use Rattle.run_combinations.specs.declared.keys.KeySet.{KeySet}
 use Rattle.run_combinations.specs.declared.layout.ThreadParts.{ThreadParts}
 use Rattle.run_combinations.specs.declared.part.Part.{Part}
@@ -29,19 +29,19 @@ pub record AreSketches (values : List Value) (runs : List Run) (ss : List Sketch
 -- the set has what the runs store
 abbrev pub HasWritesOf : KeySet → List Sketch → Type 0
 HasWritesOf set [] = Unit {0}
-HasWritesOf set (s ∷ ss) = IsWithin s.writes set × HasWritesOf set ss
+HasWritesOf set (s ∷ ss) = AreKeysIn s.writes set × HasWritesOf set ss
 
 abbrev pub HasWritesOfAll : KeySet → List (Vec Sketch Global) → Type 0
 HasWritesOfAll set [] = Unit {0}
 HasWritesOfAll set (v ∷ vs) = HasWritesOf set v.items × HasWritesOfAll set vs
 
 -- the second list has those of the first that stay: each other one reads what is not stored
-pub data AreKept (stored : KeySet) : List Sketch → List Sketch → Type 0 where
-  none : AreKept stored [] []
-  kept : {s : Sketch} {ss ts : List Sketch} → AreKept stored ss ts
-      → AreKept stored (s ∷ ss) (s ∷ ts)
+pub data AreSketchesKept (stored : KeySet) : List Sketch → List Sketch → Type 0 where
+  none : AreSketchesKept stored [] []
+  kept : {s : Sketch} {ss ts : List Sketch} → AreSketchesKept stored ss ts
+      → AreSketchesKept stored (s ∷ ss) (s ∷ ts)
   left : {s : Sketch} {ss ts : List Sketch} (a b : ℕ) → HasKey s.reads a b → (HasKey stored a b → ⊥)
-      → AreKept stored ss ts → AreKept stored (s ∷ ss) ts
+      → AreSketchesKept stored ss ts → AreSketchesKept stored (s ∷ ss) ts
 
 -- the second list has some of the first, in order
 pub data AreSome {X : Type 0} : List X → List X → Type 0 where
@@ -82,7 +82,7 @@ pub record IsSifted (initial : KeySet) (old new : List (Vec Sketch Global)) : Ty
 -- the part is made of the run
 pub record IsPartOf (thread : ℕ) (r : Run) (p : Part) : Type 0 where
   pub events : p.events.items ≡ thread_events thread r.events.items
-  pub links : event_place (executed r.steps.items) (length r.steps.items) ≤ 128
+  pub links : event_index (executed r.steps.items) (length r.steps.items) ≤ 128
       → AreLinks (executed r.steps.items) p.links
   pub registers : p.registers ≡ r.registers
   pub faulted : p.is_faulted ≡ r.faulted
@@ -102,13 +102,13 @@ abbrev pub NamesRuns : Vec Run Global → Vec Sketch Global → Type 0
 NamesRuns runs sketches = AreBelow (length runs.items) sketches.items
 
 -- the parts of each thread, from this one on
-abbrev pub AreThreads : ℕ → List (Vec Run Global) → List (Vec Sketch Global) → List ThreadParts
+abbrev pub AreThreadParts : ℕ → List (Vec Run Global) → List (Vec Sketch Global) → List ThreadParts
     → Type 0
-AreThreads thread [] [] [] = Unit {0}
-AreThreads thread (r ∷ rs) (s ∷ ss) (t ∷ ts) =
+AreThreadParts thread [] [] [] = Unit {0}
+AreThreadParts thread (r ∷ rs) (s ∷ ss) (t ∷ ts) =
     HasWritesOf t.writes s.items × AllZip (IsMade thread r.items) s.items t.parts.items
-    × AreThreads (thread + 1) rs ss ts
-AreThreads thread _ _ _ = ⊥
+    × AreThreadParts (thread + 1) rs ss ts
+AreThreadParts thread _ _ _ = ⊥
 
 -- the parts of each thread, of those of its runs that stay
 pub record AreSiftedParts (values : List Value) (initial : KeySet) (runs : List (Vec Run Global))
@@ -117,4 +117,4 @@ pub record AreSiftedParts (values : List Value) (initial : KeySet) (runs : List 
   pub left : List (Vec Sketch Global)
   pub sketched : AllZip (λ r s. AreSketches values r.items s.items) runs all
   pub sifted : IsSifted initial all left
-  pub made : AreThreads 0 runs left threads
+  pub made : AreThreadParts 0 runs left threads

@@ -4,7 +4,7 @@ use Rattle.std.specs.List.{flat_map}
 use Rattle.bit_relations.specs.Relation.{Events, IsMember, IsEvents}
 use Rattle.run_combinations.specs.Lists.{IsFiltered, tuples}
 use Rattle.run_combinations.specs.Events.{numbers, is_load, is_store}
-use Rattle.run_combinations.specs.Ways.{Source, Derived, IsPossible, AreWays, nexts, accesses_in, sources_of}
+use Rattle.run_combinations.specs.Ways.{MayReadFrom, Derived, IsPossible, AreReadChoices, nexts, accesses_in, stores_for}
 use Rattle.run_combinations.specs.declared.combination.Event.{Event}
 use Rattle.run_combinations.specs.declared.reading.Reading.{Reading}
 use Rattle.run_combinations.specs.declared.reading.Load.{Load}
@@ -15,7 +15,7 @@ pub record AreLoads (es : List Event) (n : ℕ) (loads : List Load) : Type 0 whe
   pub events : map (λ l. l.event) loads ≡ numbers is_load 0 (take n es)
   pub sources : (k : ℕ) (l : Load) (e : Event) → slice_get loads k ≡ Some l
       → slice_get (filter is_load (take n es)) k ≡ Some e
-      → IsEvents l.sources (length es) (Contains (sources_of es e))
+      → IsEvents l.sources (length es) (Contains (stores_for es e))
 
 -- the stores among the first events, each with the loads that it needs
 pub record AreStores (es : List Event) (pairs : List (ℕ × ℕ)) (n : ℕ) (stores : List Store)
@@ -26,12 +26,12 @@ pub record AreStores (es : List Event) (pairs : List (ℕ × ℕ)) (n : ℕ) (st
       × Contains (numbers is_load 0 es) a)
 
 -- the loads and stores are those of the events, with their sources and needs
-pub record Shows (es : List Event) (pairs : List (ℕ × ℕ)) (r : Reading) : Type 0 where
+pub record IsReadingOf (es : List Event) (pairs : List (ℕ × ℕ)) (r : Reading) : Type 0 where
   pub count : r.count ≡ length es
   pub few : r.count ≤ 128
   pub loads : map (λ l. l.event) r.loads.items ≡ numbers is_load 0 es
   pub sources : (i : ℕ) (l : Load) → slice_get r.loads.items i ≡ Some l
-      → IsEvents l.sources r.count (Source (accesses_in es pairs) i)
+      → IsEvents l.sources r.count (MayReadFrom (accesses_in es pairs) i)
   pub stores : map (λ s. s.event) r.stores.items ≡ numbers is_store 0 es
   pub needs : (k : ℕ) (s : Store) → slice_get r.stores.items k ≡ Some s
       → IsEvents s.needs r.count (λ a. (accesses_in es pairs).Need a s.event)
@@ -49,18 +49,18 @@ abbrev pub Stepped : {X : Type 0} → (X → ℕ) → (ℕ → X → Type 0) →
 Stepped event W bound n xs x = AnyBelow (λ k y. (x < bound) × (x ≡ event y) × W k y) n xs
 
 -- all of the first set are in the second
-abbrev pub IsInside : Events → Events → Type 0
-IsInside s t = (s.count ≡ t.count) × ((a : ℕ) → IsMember s a → IsMember t a)
+abbrev pub IsEventSubset : Events → Events → Type 0
+IsEventSubset s t = (s.count ≡ t.count) × ((a : ℕ) → IsMember s a → IsMember t a)
 
 -- some of the first set is in the second
-abbrev pub IsMeeting : Events → Events → Type 0
-IsMeeting s t = (s.count ≡ t.count) × ((a : ℕ) × IsMember s a × IsMember t a)
+abbrev pub HasCommonEvent : Events → Events → Type 0
+HasCommonEvent s t = (s.count ≡ t.count) × ((a : ℕ) × IsMember s a × IsMember t a)
 
 -- the load at an index reads one of these
 abbrev pub CanRead : List ℕ → Events → ℕ → Load → Type 0
 CanRead way derived i l =
     ((i < length way) × IsMember derived (slice_index way i))
-    ⊎ ((length way ≤ i) × IsMeeting l.sources derived)
+    ⊎ ((length way ≤ i) × HasCommonEvent l.sources derived)
 
 abbrev pub CanArise : List ℕ → Option ℕ → Events → ℕ → Load → Type 0
 CanArise way without derived i l = (without ≡ Some i → ⊥) × CanRead way derived i l
@@ -75,7 +75,7 @@ load_event l = l.event
 abbrev pub WithStores : Reading → Events → Events → Type 0
 WithStores r old new =
     IsEvents new old.count (λ x. IsMember old x
-    ⊎ Stepped store_event (λ k s. IsInside s.needs old) old.count (length r.stores.items)
+    ⊎ Stepped store_event (λ k s. IsEventSubset s.needs old) old.count (length r.stores.items)
     r.stores.items x)
 
 -- the events, and the loads that read one of them
@@ -85,7 +85,7 @@ WithLoads r way without old new =
     ⊎ Stepped load_event (CanArise way without old) old.count (length r.loads.items)
     r.loads.items x)
 
-pub record IsRound (r : Reading) (way : List ℕ) (without : Option ℕ) (old new : Events)
+pub record IsArisingRound (r : Reading) (way : List ℕ) (without : Option ℕ) (old new : Events)
     : Type 0 where
   pub between : Events
   pub stores : WithStores r old between
@@ -94,46 +94,46 @@ pub record IsRound (r : Reading) (way : List ℕ) (without : Option ℕ) (old ne
 -- all values of the set can arise
 abbrev pub AllArise : Reading → List ℕ → Option ℕ → Events → Type 0
 AllArise r way without derived =
-    (es : List Event) (pairs : List (ℕ × ℕ)) → Shows es pairs r → (x : ℕ) → IsMember derived x
+    (es : List Event) (pairs : List (ℕ × ℕ)) → IsReadingOf es pairs r → (x : ℕ) → IsMember derived x
     → Derived (accesses_in es pairs) way without x
 
 -- the set has just the values that can arise
 abbrev pub HasDerived : Reading → List ℕ → Option ℕ → Events → Type 0
 HasDerived r way without derived =
-    (es : List Event) (pairs : List (ℕ × ℕ)) → Shows es pairs r → (x : ℕ)
+    (es : List Event) (pairs : List (ℕ × ℕ)) → IsReadingOf es pairs r → (x : ℕ)
     → (IsMember derived x → Derived (accesses_in es pairs) way without x)
     × (Derived (accesses_in es pairs) way without x → IsMember derived x)
 
 -- whether all loads can read
 abbrev pub TellsPossible : Reading → Bool → Type 0
 TellsPossible r b =
-    (es : List Event) (pairs : List (ℕ × ℕ)) → Shows es pairs r
+    (es : List Event) (pairs : List (ℕ × ℕ)) → IsReadingOf es pairs r
     → IsTrue b ↔ IsPossible (accesses_in es pairs) []
 
--- the possible ways of the first loads
+-- the possible read choices of the first loads
 abbrev pub ArePossible : Reading → ℕ → List (List ℕ) → Type 0
 ArePossible r i ways =
-    (es : List Event) (pairs : List (ℕ × ℕ)) → Shows es pairs r
+    (es : List Event) (pairs : List (ℕ × ℕ)) → IsReadingOf es pairs r
     → IsFiltered (IsPossible (accesses_in es pairs))
     (tuples [] (take i (accesses_in es pairs).sources)) ways
 
--- the possible ways with one load more, of the first ways of a list
+-- the possible read choices with one load more, of the first of a list
 abbrev pub AreNext : Reading → Load → ℕ → ℕ → List (List ℕ) → List (List ℕ) → Type 0
 AreNext r load index k ways next =
-    (es : List Event) (pairs : List (ℕ × ℕ)) → Shows es pairs r
+    (es : List Event) (pairs : List (ℕ × ℕ)) → IsReadingOf es pairs r
     → slice_get r.loads.items index ≡ Some load
     → All (λ f. (length f ≡ index) × IsPossible (accesses_in es pairs) f) ways
     → IsFiltered (IsPossible (accesses_in es pairs))
     (flat_map (nexts (slice_index_or (accesses_in es pairs).sources index [])) (take k ways))
     next
 
--- the list has gained those of one way
+-- the list has gained those of one read choice
 pub record GainsNext (r : Reading) (load : Load) (index : ℕ) (way : List ℕ)
     (old new : List (List ℕ)) : Type 0 where
   pub more : List (List ℕ)
   pub added : new ≡ old ++ more
   pub next :
-      (es : List Event) (pairs : List (ℕ × ℕ)) → Shows es pairs r
+      (es : List Event) (pairs : List (ℕ × ℕ)) → IsReadingOf es pairs r
       → slice_get r.loads.items index ≡ Some load
       → length way ≡ index → IsPossible (accesses_in es pairs) way
       → IsFiltered (IsPossible (accesses_in es pairs))
@@ -144,12 +144,13 @@ abbrev pub AreOver : Reading → Load → ℕ → List (List ℕ) → ℕ → Ty
 AreOver r load index ways limit =
     (k : ℕ) × (next : List (List ℕ)) × (limit < length next) × AreNext r load index k ways next
 
--- there are over so many ways
+-- there are over so many read choices
 abbrev pub HasOver : Reading → ℕ → Type 0
 HasOver r limit =
-    (es : List Event) (pairs : List (ℕ × ℕ)) (all : List (List ℕ)) → Shows es pairs r
-    → AreWays es pairs all → limit < length all
+    (es : List Event) (pairs : List (ℕ × ℕ)) (all : List (List ℕ)) → IsReadingOf es pairs r
+    → AreReadChoices es pairs all → limit < length all
 
--- these are the ways
-abbrev pub HasWays : Reading → List (List ℕ) → Type 0
-HasWays r ways = (es : List Event) (pairs : List (ℕ × ℕ)) → Shows es pairs r → AreWays es pairs ways
+-- these are the read choices
+abbrev pub HasReadChoices : Reading → List (List ℕ) → Type 0
+HasReadChoices r ways =
+    (es : List Event) (pairs : List (ℕ × ℕ)) → IsReadingOf es pairs r → AreReadChoices es pairs ways

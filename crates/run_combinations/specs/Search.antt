@@ -3,8 +3,8 @@ use Rattle.std.specs.Prelude.{ℕ, ◌≡◌, ◌<◌, ◌≤◌, ◌+◌, ◌-�
 use Rattle.std.specs.List.{flat_map}
 use Rattle.dataflow.specs.DependencyLists.{dependency_lists, no_dependencies, renumbered_pairs, with_dependencies}
 use Rattle.run_combinations.specs.Keys.{HasKey}
-use Rattle.run_combinations.specs.Orders.{all_orders, AreApart}
-use Rattle.run_combinations.specs.Ways.{AreWays}
+use Rattle.run_combinations.specs.Orders.{all_orders, AreInitialStoresApart}
+use Rattle.run_combinations.specs.Ways.{AreReadChoices}
 use Rattle.run_combinations.specs.Combinations.{CombinationLists, combination_lists}
 use Rattle.run_combinations.specs.declared.combination.Event.{Event}
 use Rattle.run_combinations.specs.declared.part.Part.{Part}
@@ -21,7 +21,7 @@ pub record PrefixLists : Type 0 where
   pub needs : List (ℕ × ℕ)
   pub faulted : Bool
 
--- the runs of the first threads as a combination without ways to read and without orders
+-- the runs of the first threads as a combination without read choices and without orders
 abbrev pub runs_lists : PrefixRuns → CombinationLists
 runs_lists p = record {
   events = p.events.items;
@@ -58,7 +58,7 @@ HasJoined f p g =
     ((a b : ℕ) → HasKey g.reads a b ↔ (HasKey f.reads a b ⊎ HasKey p.reads a b))
     × ((a b : ℕ) → HasKey g.writes a b ↔ (HasKey f.writes a b ⊎ HasKey p.writes a b))
 
--- what has been found: the combinations, with their ways to read and without their orders, how many
+-- what has been found: the combinations, with their read choices and without their orders, how many
 -- candidates they have, and whether some candidate holds a run that stopped at a fault
 pub record Tally : Type 0 where
   pub kept : List CombinationLists
@@ -73,7 +73,7 @@ tally f =
       faulted = f.is_faulted;
     }
 
--- what has been found with one combination more, where these are its ways to read and it has so
+-- what has been found with one combination more, where these are its read choices and it has so
 -- many orders; none is kept any more once there is a fault
 abbrev pub capped_tally_with : PrefixLists → List (List ℕ) → ℕ → Tally → Tally
 capped_tally_with b [] orders t = t
@@ -96,20 +96,20 @@ tally_with n b (way ∷ ways) t = record {
 }
 
 -- there are at most 128 events, and the initial stores are no stores of threads
-pub record Fits (n : ℕ) (b : PrefixLists) : Type 0 where
+pub record PrefixFits (n : ℕ) (b : PrefixLists) : Type 0 where
   pub few : length b.combination.events ≤ 128
-  pub apart : AreApart b.combination.events n
+  pub apart : AreInitialStoresApart b.combination.events n
 
 -- one combination more
-abbrev pub Judged : ℕ → PrefixLists → Tally → Tally → Type 0
-Judged n b old new =
-    (ways : List (List ℕ)) × AreWays b.combination.events b.needs ways
+abbrev pub TalliesOneMore : ℕ → PrefixLists → Tally → Tally → Type 0
+TalliesOneMore n b old new =
+    (ways : List (List ℕ)) × AreReadChoices b.combination.events b.needs ways
     × (new ≡ tally_with n b ways old)
 
 -- with its candidates there are too many
-abbrev pub IsTooMuch : ℕ → PrefixLists → Tally → Type 0
-IsTooMuch n b old =
-    (ways : List (List ℕ)) → AreWays b.combination.events b.needs ways
+abbrev pub ExceedsCandidates : ℕ → PrefixLists → Tally → Type 0
+ExceedsCandidates n b old =
+    (ways : List (List ℕ)) → AreReadChoices b.combination.events b.needs ways
     → 16384 < old.count + length ways * length (all_orders b.combination.events n)
 
 -- the first fact where the answer is yes, else the second
@@ -128,26 +128,26 @@ combinations b [] = b ∷ []
 combinations b (t ∷ ts) =
     flat_map (λ r. combinations (with_run r.0 r.1 b) ts) (with_indices 0 t.parts.items)
 
-abbrev pub AllFit : ℕ → List PrefixLists → Type 0
-AllFit n [] = Unit {0}
-AllFit n (b ∷ bs) = Fits n b × AllFit n bs
+abbrev pub AllPrefixesFit : ℕ → List PrefixLists → Type 0
+AllPrefixesFit n [] = Unit {0}
+AllPrefixesFit n (b ∷ bs) = PrefixFits n b × AllPrefixesFit n bs
 
 -- the combinations, one after another
-pub data Searched (n : ℕ) : List PrefixLists → Tally → Tally → Type 0 where
-  none : {t : Tally} → Searched n [] t t
-  more : {b : PrefixLists} {bs : List PrefixLists} {t u v : Tally} → Judged n b t u
-      → Searched n bs u v → Searched n (b ∷ bs) t v
+pub data TalliesAll (n : ℕ) : List PrefixLists → Tally → Tally → Type 0 where
+  none : {t : Tally} → TalliesAll n [] t t
+  more : {b : PrefixLists} {bs : List PrefixLists} {t u v : Tally} → TalliesOneMore n b t u
+      → TalliesAll n bs u v → TalliesAll n (b ∷ bs) t v
 
 -- with one of them there are too many candidates
 pub data AreTooMuch (n : ℕ) : List PrefixLists → Tally → Type 0 where
-  now : {b : PrefixLists} {bs : List PrefixLists} {t : Tally} → IsTooMuch n b t
+  now : {b : PrefixLists} {bs : List PrefixLists} {t : Tally} → ExceedsCandidates n b t
       → AreTooMuch n (b ∷ bs) t
-  later : {b : PrefixLists} {bs : List PrefixLists} {t u : Tally} → Judged n b t u
+  later : {b : PrefixLists} {bs : List PrefixLists} {t u : Tally} → TalliesOneMore n b t u
       → AreTooMuch n bs u → AreTooMuch n (b ∷ bs) t
 
 -- the initial stores alone, and nothing found
-abbrev pub start : List Event → PrefixLists
-start initial = record {
+abbrev pub initial_prefix : List Event → PrefixLists
+initial_prefix initial = record {
   combination =
       record {
         events = initial;
@@ -160,12 +160,12 @@ start initial = record {
   faulted = false;
 }
 
-abbrev pub nothing : Tally
-nothing = record { kept = []; count = 0; faulted = false }
+abbrev pub no_tally : Tally
+no_tally = record { kept = []; count = 0; faulted = false }
 
 -- the combinations of a layout
 abbrev pub all_combinations : Layout → List PrefixLists
-all_combinations l = combinations (start l.initial.items) l.threads.items
+all_combinations l = combinations (initial_prefix l.initial.items) l.threads.items
 
 -- how many locations have orders of stores
 abbrev pub location_count : Layout → ℕ

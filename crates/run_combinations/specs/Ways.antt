@@ -1,4 +1,4 @@
--- The ways in which the loads of a combination of runs read its stores.
+-- Read choices: for each load of a combination of runs the store that it reads.
 use Rattle.std.specs.Prelude.{Bool, false, ◌&&◌, nat_eq, filter, ℕ, ◌≡◌, ◌<◌, ◌≤◌, List, [], ◌∷◌, ◌++◌, map, length, slice_index, slice_index_or, Option, None, Some, Contains}
 use Rattle.bit_relations.specs.Pairs.{Union, IsAcyclic}
 pub use Rattle.thread_runs.specs.Held.{same_value}
@@ -17,12 +17,12 @@ pub record Accesses : Type 1 where
   pub Need : ℕ → ℕ → Type 0
 
 -- the load at an index may read the store
-abbrev pub Source : Accesses → ℕ → ℕ → Type 0
-Source g i s = Contains (slice_index_or g.sources i []) s
+abbrev pub MayReadFrom : Accesses → ℕ → ℕ → Type 0
+MayReadFrom g i s = Contains (slice_index_or g.sources i []) s
 
 -- what is read together with what is needed has no cycle
-abbrev pub IsWay : Accesses → List ℕ → Type 0
-IsWay g way = IsAcyclic (Union g.Need (ReadsFrom g.loads way))
+abbrev pub IsReadChoice : Accesses → List ℕ → Type 0
+IsReadChoice g way = IsAcyclic (Union g.Need (ReadsFrom g.loads way))
 
 -- the value of the event can arise, where the first loads read what the way says and the others
 -- some store that they may read, and where one load is left out, if any: that of a store once those
@@ -33,25 +33,25 @@ pub data Derived (g : Accesses) (way : List ℕ) (without : Option ℕ) : ℕ �
   read : {x : ℕ} (i : ℕ) → i < length g.loads → (without ≡ Some i → ⊥) → x ≡ slice_index g.loads i
       → i < length way → Derived g way without (slice_index way i) → Derived g way without x
   chosen : {x : ℕ} (i s : ℕ) → i < length g.loads → (without ≡ Some i → ⊥)
-      → x ≡ slice_index g.loads i → length way ≤ i → Source g i s → Derived g way without s
+      → x ≡ slice_index g.loads i → length way ≤ i → MayReadFrom g i s → Derived g way without s
       → Derived g way without x
 
 -- the first loads read stores that they may, and all loads can
 pub record IsPossible (g : Accesses) (way : List ℕ) : Type 0 where
   pub few : length way ≤ length g.loads
-  pub allowed : (i : ℕ) → i < length way → Source g i (slice_index way i)
+  pub allowed : (i : ℕ) → i < length way → MayReadFrom g i (slice_index way i)
   pub arises : (i : ℕ) → i < length g.loads → Derived g way None (slice_index g.loads i)
 
 -- each access is an event, and is either one load or a store; a load reads stores, and a store
 -- needs loads
-pub record IsProper (n : ℕ) (g : Accesses) : Type 0 where
+pub record AreProperAccesses (n : ℕ) (g : Accesses) : Type 0 where
   pub paired : length g.sources ≡ length g.loads
   pub loads_within : (i : ℕ) → i < length g.loads → slice_index g.loads i < n
   pub apart : (i j : ℕ) → i < length g.loads → j < length g.loads
       → slice_index g.loads i ≡ slice_index g.loads j → i ≡ j
   pub stores_within : (x : ℕ) → g.Store x → x < n
   pub never_both : (i : ℕ) → i < length g.loads → g.Store (slice_index g.loads i) → ⊥
-  pub sources : (i s : ℕ) → i < length g.loads → Source g i s → g.Store s
+  pub sources : (i s : ℕ) → i < length g.loads → MayReadFrom g i s → g.Store s
   pub needed : (a x : ℕ) → g.Need a x → (i : ℕ) × (i < length g.loads) × (a ≡ slice_index g.loads i)
   pub needing : (a x : ℕ) → g.Need a x → g.Store x
 
@@ -65,22 +65,22 @@ may_read (Read location value) (Write written_to written) =
     nat_eq written_to location && same_value written value
 may_read _ _ = false
 
-abbrev pub sources_of : List Event → Event → List ℕ
-sources_of es load = numbers (λ e. may_read load.action e.action) 0 es
+abbrev pub stores_for : List Event → Event → List ℕ
+stores_for es load = numbers (λ e. may_read load.action e.action) 0 es
 
 -- the accesses among events, where pairs of a load and a store say which values are needed
 abbrev pub accesses_in : List Event → List (ℕ × ℕ) → Accesses
 accesses_in es pairs = record {
   loads = numbers is_load 0 es;
-  sources = map (sources_of es) (filter is_load es);
+  sources = map (stores_for es) (filter is_load es);
   Store = Contains (numbers is_store 0 es);
   Need =
       λ a x. Contains pairs (a, x) × Contains (numbers is_load 0 es) a
       × Contains (numbers is_store 0 es) x;
 }
 
--- the ways to read: a store of its location and value for each load, in lexicographic order,
+-- the read choices: a store of its location and value for each load, in lexicographic order,
 -- without a cycle
-abbrev pub AreWays : List Event → List (ℕ × ℕ) → List (List ℕ) → Type 0
-AreWays es pairs ways =
-    IsFiltered (IsWay (accesses_in es pairs)) (tuples [] (accesses_in es pairs).sources) ways
+abbrev pub AreReadChoices : List Event → List (ℕ × ℕ) → List (List ℕ) → Type 0
+AreReadChoices es pairs ways =
+    IsFiltered (IsReadChoice (accesses_in es pairs)) (tuples [] (accesses_in es pairs).sources) ways

@@ -4,8 +4,8 @@ ghost use Rattle.std.specs.Prelude.{◌≡◌, ◌↔◌, ◌⊎◌, ◌<◌, �
 ghost use Rattle.std.specs.List.{position_or_len};
 ghost use Rattle.bit_relations.specs.Relation.{Bit};
 ghost use Rattle.bit_relations.specs.Rows.{RowsHave};
-ghost use Rattle.bit_relations.specs.Pairs.{Added, Union};
-ghost use Rattle.run_combinations.specs.Keys.{InFirst, TellsAll, TellsWithin, key_in};
+ghost use Rattle.bit_relations.specs.Pairs.{WithPair, Union};
+ghost use Rattle.run_combinations.specs.Keys.{InFirst, TellsAll, TellsSubset, key_in};
 ghost use Rattle.run_combinations.specs.Ways.{same_value};
 
 use thread_runs::{Value, is_same};
@@ -42,7 +42,7 @@ fn with_bit(word: u64, k: usize) -> u64
 pub fn set_bit(words: &mut [u64; WORDS], a: usize, k: usize)
     requires word { a < 32 }
     requires inside { k < 64 }
-    ensures { (x b : ℕ) → RowsHave words.new x b ↔ Added (RowsHave words.old) a k x b }
+    ensures { (x b : ℕ) → RowsHave words.new x b ↔ WithPair (RowsHave words.old) a k x b }
 {
     words[a] = with_bit(words[a], k);
 }
@@ -61,7 +61,7 @@ pub fn join_words(words: &mut [u64; WORDS], others: &[u64; WORDS], used: usize)
 /// Whether the other words have all bits of the first of these.
 pub fn are_within(words: &[u64; WORDS], others: &[u64; WORDS], used: usize) -> bool
     requires { used ≤ 32 }
-    ensures { TellsWithin result (InFirst used words.now) (RowsHave others.now) }
+    ensures { TellsSubset result (InFirst used words.now) (RowsHave others.now) }
 {
     for a in 0..used {
         if !has_all(words[a], others[a]) {

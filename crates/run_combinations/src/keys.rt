@@ -19,7 +19,7 @@ pub struct KeySet {
 }
 
 impl KeySet {
-    ghost use Rattle.run_combinations.specs.Keys.{HasKey, TellsWithin, bit_of};
+    ghost use Rattle.run_combinations.specs.Keys.{HasKey, TellsSubset, bit_of};
 
     /// The set without a pair.
     pub fn empty() -> KeySet
@@ -63,7 +63,7 @@ impl KeySet {
 
     /// Whether the other set has all pairs of this one.
     pub fn is_within(&self, other: &KeySet) -> bool
-        ensures { TellsWithin result (HasKey self.now) (HasKey other.now) }
+        ensures { TellsSubset result (HasKey self.now) (HasKey other.now) }
     {
         are_within(&self.words, &other.words, self.used)
     }

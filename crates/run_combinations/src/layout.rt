@@ -4,11 +4,11 @@ ghost use Rattle.std.specs.Prelude.{Vec, ℕ, ◌≡◌, ◌<◌, List, Some, le
 ghost use Rattle.std.specs.declared.alloc.Global.{Global};
 ghost use Rattle.thread_runs.specs.declared.value.Value.{Value};
 ghost use Rattle.thread_runs.specs.declared.run.Run.{Run};
-ghost use Rattle.thread_runs.specs.Held.{AreHeld};
-ghost use Rattle.thread_runs.specs.ValueSet.{IsSet};
+ghost use Rattle.thread_runs.specs.Held.{AreLocationValues};
+ghost use Rattle.thread_runs.specs.ValueSet.{IsValueSet};
 ghost use Rattle.run_combinations.specs.Keys.{HasKey, IsKeyed, bit_of};
 ghost use Rattle.run_combinations.specs.Events.{initial_stores, HasStore};
-ghost use Rattle.run_combinations.specs.Parts.{AreSketches, HasWritesOf, AreBelow, IsMade, NamesRuns, AreThreads, AreSiftedParts};
+ghost use Rattle.run_combinations.specs.Parts.{AreSketches, HasWritesOf, AreBelow, IsMade, NamesRuns, AreThreadParts, AreSiftedParts};
 ghost use Rattle.std.specs.List.{AllZip};
 ghost use Rattle.run_combinations.specs.Layouts.{AreServedRuns, IsLaidOut};
 
@@ -80,8 +80,8 @@ fn served_runs(
     domain: &Domain,
     held: &[Vec<Value>],
 ) -> Result<Vec<Vec<Run>>, AllocError>
-    requires set { IsSet domain.now.values.items }
-    requires held { AreHeld program.now domain.now.values.items held.now }
+    requires set { IsValueSet domain.now.values.items }
+    requires held { AreLocationValues program.now domain.now.values.items held.now }
     ensures { IfOk result (λ v. AreServedRuns program.now domain.now.values.items v.items) }
 {
     let mut threads = Vec::with_capacity(alloc, program.threads.len())?;
@@ -93,7 +93,7 @@ fn served_runs(
 
 /// The runs of each thread, but for some with a load of what its location never holds.
 fn all_runs(alloc: Global, program: &Program, domain: &Domain) -> Result<Vec<Vec<Run>>, AllocError>
-    requires { IsSet domain.now.values.items }
+    requires { IsValueSet domain.now.values.items }
     ensures { IfOk result (λ v. AreServedRuns program.now domain.now.values.items v.items) }
 {
     let held = held_values(alloc, program, &domain.values)?;
@@ -143,7 +143,7 @@ fn all_parts(
     sketches: &[Vec<Sketch>],
 ) -> Result<Vec<ThreadParts>, AllocError>
     requires { AllZip NamesRuns runs.now sketches.now }
-    ensures { IfOk result (λ v. AreThreads 0 runs.now sketches.now v.items) }
+    ensures { IfOk result (λ v. AreThreadParts 0 runs.now sketches.now v.items) }
 {
     let mut workspace = Workspace::new();
     let mut threads = Vec::with_capacity(alloc, runs.len())?;
@@ -166,7 +166,7 @@ fn sifted_parts(
     domain: &Domain,
     initial: &KeySet,
 ) -> Result<Vec<ThreadParts>, AllocError>
-    requires { IsSet domain.now.values.items }
+    requires { IsValueSet domain.now.values.items }
     ensures { IfOk result (λ v. (runs : List (Vec Run Global))
         × AreServedRuns program.now domain.now.values.items runs
         × AreSiftedParts domain.now.values.items initial.now runs v.items) }
@@ -181,7 +181,7 @@ fn sifted_parts(
 impl Layout {
     /// What the candidates of a program over a domain are made of.
     pub fn new(alloc: Global, program: Program, domain: &Domain) -> Result<Layout, AllocError>
-        requires { IsSet domain.now.values.items }
+        requires { IsValueSet domain.now.values.items }
         ensures { IfOk result (λ l. (runs : List (Vec Run Global))
             × AreServedRuns program domain.now.values.items runs × IsLaidOut program runs l
             × IsKeyed (bit_of domain.now.values.items) l) }

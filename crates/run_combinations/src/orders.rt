@@ -4,7 +4,7 @@ ghost use Rattle.std.specs.List.{concat, flat_map};
 ghost use Rattle.run_combinations.specs.Events as event_lists;
 ghost use Rattle.run_combinations.specs.Growing.{store_lists, rows_from, orders_from};
 ghost use Rattle.run_combinations.specs.Growing as growing;
-ghost use Rattle.run_combinations.specs.Orders.{is_thread_store, stores_of, all_orders, AreApart};
+ghost use Rattle.run_combinations.specs.Orders.{is_thread_store, stores_of, all_orders, AreInitialStoresApart};
 ghost use Rattle.run_combinations.specs.Orders as definitions;
 ghost use Rattle.run_combinations.specs.Combinations.{combination_lists, ordered};
 
@@ -199,7 +199,7 @@ fn orders(
 
 /// In how many orders so many stores can stand, or the greatest number where that is less.
 fn rows_of(count: usize) -> usize
-    ensures { result ≡ min (definitions.rows_of count count) (2 ^ 64 - 1) }
+    ensures { result ≡ min (definitions.arrangement_count count count) (2 ^ 64 - 1) }
 {
     let mut rows = 1usize;
     for positions in 0..count {
@@ -223,7 +223,7 @@ fn store_count(events: &[Event], location: usize) -> usize
 
 /// How many orders the stores have, or the greatest number where that is less.
 pub fn order_count(events: &[Event], locations: usize) -> usize
-    ensures { AreApart events.now (min locations 128)
+    ensures { AreInitialStoresApart events.now (min locations 128)
         → result ≡ min (length (all_orders events.now (min locations 128))) (2 ^ 64 - 1) }
 {
     let mut count = 1usize;

@@ -2,9 +2,9 @@
 
 ghost use Rattle.std.specs.Prelude.{ℕ, ◌≡◌, ◌<◌, ◌++◌, List, [], ◌∷◌, Option, length, IfOk};
 ghost use Rattle.run_combinations.specs.declared.combination.Event.{Event};
-ghost use Rattle.run_combinations.specs.Keys.{IsWithin, AreKeys, bit_of};
+ghost use Rattle.run_combinations.specs.Keys.{AreKeysIn, AreKeys, bit_of};
 ghost use Rattle.run_combinations.specs.Events.{action_in, thread_events};
-ghost use Rattle.run_combinations.specs.Parts.{AreSketches, AreKept, HasWritesOf, HasWritesOfAll, AreBelow, IsSifted, IsPartOf, IsMade};
+ghost use Rattle.run_combinations.specs.Parts.{AreSketches, AreSketchesKept, HasWritesOf, HasWritesOfAll, AreBelow, IsSifted, IsPartOf, IsMade};
 ghost use Rattle.std.specs.List.{AllZip};
 
 use crate::combination::{Action, Event};
@@ -125,7 +125,7 @@ fn total(threads: &[Vec<Sketch>]) -> usize {
 
 /// Adds what the stores of these runs store.
 pub fn join_writes(set: &mut KeySet, runs: &[Sketch])
-    ensures { IsWithin set.old set.new × HasWritesOf set.new runs.now }
+    ensures { AreKeysIn set.old set.new × HasWritesOf set.new runs.now }
 {
     for run in runs {
         set.join(&run.writes);
@@ -134,7 +134,7 @@ pub fn join_writes(set: &mut KeySet, runs: &[Sketch])
 
 /// What the initial stores and the stores of these runs store.
 fn stored_by(initial: &KeySet, threads: &[Vec<Sketch>]) -> KeySet
-    ensures { IsWithin initial.now result × HasWritesOfAll result threads.now }
+    ensures { AreKeysIn initial.now result × HasWritesOfAll result threads.now }
 {
     let mut stored = *initial;
     for runs in threads {
@@ -145,7 +145,7 @@ fn stored_by(initial: &KeySet, threads: &[Vec<Sketch>]) -> KeySet
 
 /// Leaves out the runs with a load that reads what is not stored.
 fn keep_stored(stored: &KeySet, runs: &mut Vec<Sketch>)
-    ensures { AreKept stored.now runs.old.items runs.new.items }
+    ensures { AreSketchesKept stored.now runs.old.items runs.new.items }
 {
     runs.retain(|run| run.reads.is_within(stored));
 }

@@ -2,7 +2,7 @@
 
 ghost use Rattle.std.specs.Prelude.{◌≡◌, ◌<◌, ◌≤◌, ◌↔◌, ◌⊎◌, ◌++◌, ◌∷◌, [], length, option_to_list, Contains, IsTrue, IfOk, OnOk, MatchOption};
 ghost use Rattle.bit_relations.specs.Relation.{IsMember, IsEvents};
-ghost use Rattle.run_combinations.specs.Rounds.{IsInside, IsMeeting, CanRead, CanArise, WithStores, WithLoads, IsRound, HasDerived, TellsPossible, ArePossible, GainsNext, AreNext, AreOver, HasOver, HasWays, Shows, AreLoads, AreStores};
+ghost use Rattle.run_combinations.specs.Rounds.{IsEventSubset, HasCommonEvent, CanRead, CanArise, WithStores, WithLoads, IsArisingRound, HasDerived, TellsPossible, ArePossible, GainsNext, AreNext, AreOver, HasOver, HasReadChoices, IsReadingOf, AreLoads, AreStores};
 ghost use Rattle.run_combinations.specs.Lists.{lists_of};
 ghost use Rattle.run_combinations.specs.Search.{Tells};
 ghost use Rattle.run_combinations.specs.Events.{numbers, is_load, is_store};
@@ -57,14 +57,14 @@ fn has(set: &EventSet, event: usize) -> bool
 
 /// Whether the second set has all events of the first.
 fn is_within(set: &EventSet, other: &EventSet) -> bool
-    ensures { IsTrue result ↔ IsInside set.now other.now }
+    ensures { IsTrue result ↔ IsEventSubset set.now other.now }
 {
     set.count() == other.count() && set.minus(other).is_empty()
 }
 
 /// Whether the sets have a common event.
 fn meets(set: &EventSet, other: &EventSet) -> bool
-    ensures { IsTrue result ↔ IsMeeting set.now other.now }
+    ensures { IsTrue result ↔ HasCommonEvent set.now other.now }
 {
     set.count() == other.count() && !set.inter(other).is_empty()
 }
@@ -151,7 +151,7 @@ fn is_source(load: &Event, store: &Event) -> bool
 /// The stores that the load may read.
 fn sources_of(events: &[Event], load: &Event) -> EventSet
     requires { length events.now ≤ MAX_EVENTS }
-    ensures { IsEvents result (length events.now) (Contains (ways.sources_of events.now load.now)) }
+    ensures { IsEvents result (length events.now) (Contains (ways.stores_for events.now load.now)) }
 {
     let mut found = EventSet::empty(events.len());
     for number in 0..events.len() {
@@ -281,7 +281,7 @@ impl Reading {
         need_pairs: &[(usize, usize)],
     ) -> Result<(), AllocError>
         ensures { OnOk result (length events.now ≤ MAX_EVENTS
-            → Shows events.now need_pairs.now self.new) }
+            → IsReadingOf events.now need_pairs.now self.new) }
     {
         let events = &events[..events.len().min(MAX_EVENTS)];
         self.count = events.len();
@@ -317,7 +317,7 @@ impl Reading {
 
     /// The events, and what arises from them at once.
     fn round(&self, way: &[u8], without: Option<usize>, derived: &EventSet) -> EventSet
-        ensures { IsRound self.now way.now without derived.now result }
+        ensures { IsArisingRound self.now way.now without derived.now result }
     {
         self.with_loads(way, without, &self.with_stores(derived))
     }
@@ -421,7 +421,7 @@ impl Reading {
     ) -> Result<bool, AllocError>
         ensures { ArePossible self.now 0 (lists_of ways.old.items)
             → IfOk result (λ b.
-            Tells b (HasWays self.now (lists_of ways.new.items)) (HasOver self.now limit)) }
+            Tells b (HasReadChoices self.now (lists_of ways.new.items)) (HasOver self.now limit)) }
     {
         let mut longer = Vec::new(alloc);
         for (index, load) in self.loads.iter().enumerate() {
@@ -438,7 +438,7 @@ impl Reading {
     /// `limit`.
     pub fn ways(&self, alloc: Global, limit: usize) -> Result<Option<Vec<Vec<u8>>>, AllocError>
         ensures { IfOk result (λ o. MatchOption o (HasOver self.now limit)
-            (λ v. HasWays self.now (lists_of v.items) × (length v.items ≤ limit))) }
+            (λ v. HasReadChoices self.now (lists_of v.items) × (length v.items ≤ limit))) }
     {
         let mut ways = self.first_ways(alloc)?;
         if !self.extend_ways(alloc, &mut ways, limit)? {

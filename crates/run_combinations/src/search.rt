@@ -1,12 +1,12 @@
 //! The combinations of runs that have candidates.
 ghost use Rattle.std.specs.Prelude.{ℕ, ◌≡◌, ◌≤◌, ◌+◌, ◌-◌, ◌*◌, ◌^◌, ◌||◌, Option, min, length, IsTrue, IfOk, OnOk, MatchOption};
 ghost use Rattle.thread_runs.specs.declared.value.Value.{Value};
-ghost use Rattle.run_combinations.specs.Keys.{HasKey, HasWrites, AreKeys, ThreadsAreKeyed, IsKeyed, IsRead, IsStored, TellsWithin};
+ghost use Rattle.run_combinations.specs.Keys.{HasKey, HasWrites, AreKeys, ThreadsAreKeyed, IsKeyed, IsLoadedKey, IsStoredKey, TellsSubset};
 ghost use Rattle.run_combinations.specs.Lists.{lists_of};
 ghost use Rattle.run_combinations.specs.Candidates.{AreSmall};
 ghost use Rattle.run_combinations.specs.Combinations.{combination_lists};
 ghost use Rattle.run_combinations.specs.Prefixes.{cut_combination};
-ghost use Rattle.run_combinations.specs.Search.{runs_lists, combination_with_run, with_run, capped_tally_with, prefix_lists, tally, Fits, Judged, IsTooMuch, Tells, combinations, AllFit, HasJoined, Searched, AreTooMuch, start, nothing, all_combinations, location_count};
+ghost use Rattle.run_combinations.specs.Search.{runs_lists, combination_with_run, with_run, capped_tally_with, prefix_lists, tally, PrefixFits, TalliesOneMore, ExceedsCandidates, Tells, combinations, AllPrefixesFit, HasJoined, TalliesAll, AreTooMuch, initial_prefix, no_tally, all_combinations, location_count};
 
 use crate::MAX_CANDIDATES;
 use crate::combination::{Combination, Event};
@@ -60,8 +60,8 @@ struct Prefix {
 /// Whether the loads of the prefix and the part can all read what these, the initial stores or the
 /// later threads store.
 fn fits(prefix: &Prefix, part: &Part, later: &KeySet) -> bool
-    ensures { TellsWithin result (IsRead prefix.now part.now)
-        (IsStored prefix.now part.now later.now) }
+    ensures { TellsSubset result (IsLoadedKey prefix.now part.now)
+        (IsStoredKey prefix.now part.now later.now) }
 {
     let mut stored = *later;
     stored.join(&prefix.writes);
@@ -245,11 +245,11 @@ impl Found {
         prefix: &Prefix,
     ) -> Result<bool, AllocError>
         requires { length prefix.now.runs.events.items ≤ 128 }
-        ensures { Fits (min locations 128) (prefix_lists prefix.now) → self.old.count ≤ 16384
+        ensures { PrefixFits (min locations 128) (prefix_lists prefix.now) → self.old.count ≤ 16384
             → IfOk result (λ b. Tells b
-            (Judged (min locations 128) (prefix_lists prefix.now) (tally self.old)
+            (TalliesOneMore (min locations 128) (prefix_lists prefix.now) (tally self.old)
             (tally self.new) × (self.new.count ≤ 16384))
-            (IsTooMuch (min locations 128) (prefix_lists prefix.now) (tally self.old))) }
+            (ExceedsCandidates (min locations 128) (prefix_lists prefix.now) (tally self.old))) }
     {
         let orders = order_count(&prefix.runs.events, locations).max(1);
         let limit = MAX_CANDIDATES.saturating_sub(self.count) / orders;
@@ -277,10 +277,10 @@ fn search_from(
     ensures found { (key : ℕ → Value → Option (ℕ × ℕ))
         → AreKeys key prefix.old.runs.events.items prefix.old.reads prefix.old.writes
         → ThreadsAreKeyed key threads.now
-        → AllFit (min locations 128) (combinations (prefix_lists prefix.old) threads.now)
+        → AllPrefixesFit (min locations 128) (combinations (prefix_lists prefix.old) threads.now)
         → found.old.count ≤ 16384
         → IfOk result (λ b. Tells b
-        (Searched (min locations 128) (combinations (prefix_lists prefix.old) threads.now)
+        (TalliesAll (min locations 128) (combinations (prefix_lists prefix.old) threads.now)
         (tally found.old) (tally found.new) × (found.new.count ≤ 16384))
         (AreTooMuch (min locations 128) (combinations (prefix_lists prefix.old) threads.now)
         (tally found.old))) }
@@ -309,7 +309,7 @@ fn search_from(
 
 /// The initial stores alone.
 fn first_prefix(alloc: Global, layout: &Layout) -> Result<Prefix, AllocError>
-    ensures made { IfOk result (λ f. prefix_lists f ≡ start layout.now.initial.items) }
+    ensures made { IfOk result (λ f. prefix_lists f ≡ initial_prefix layout.now.initial.items) }
     ensures keys { IfOk result (λ f. ((a b : ℕ) → HasKey f.reads a b → ⊥)
         × (f.writes ≡ layout.now.initial_writes)) }
 {
@@ -330,12 +330,12 @@ fn first_prefix(alloc: Global, layout: &Layout) -> Result<Prefix, AllocError>
 fn search_all(alloc: Global, layout: &Layout, found: &mut Found) -> Result<bool, AllocError>
     requires { AreSmall (all_combinations layout.now) }
     ensures { (key : ℕ → Value → Option (ℕ × ℕ)) → IsKeyed key layout.now
-        → AllFit (location_count layout.now) (all_combinations layout.now)
-        → tally found.old ≡ nothing
+        → AllPrefixesFit (location_count layout.now) (all_combinations layout.now)
+        → tally found.old ≡ no_tally
         → IfOk result (λ b. Tells b
-        (Searched (location_count layout.now) (all_combinations layout.now) nothing
+        (TalliesAll (location_count layout.now) (all_combinations layout.now) no_tally
         (tally found.new) × (found.new.count ≤ 16384))
-        (AreTooMuch (location_count layout.now) (all_combinations layout.now) nothing)) }
+        (AreTooMuch (location_count layout.now) (all_combinations layout.now) no_tally)) }
 {
     let mut prefix = first_prefix(alloc, layout)?;
     let locations = layout.initial.len();
@@ -348,10 +348,10 @@ fn search_all(alloc: Global, layout: &Layout, found: &mut Found) -> Result<bool,
 pub fn find_combinations(alloc: Global, layout: &Layout) -> Result<Option<Found>, AllocError>
     requires { AreSmall (all_combinations layout.now) }
     ensures { (key : ℕ → Value → Option (ℕ × ℕ)) → IsKeyed key layout.now
-        → AllFit (location_count layout.now) (all_combinations layout.now)
+        → AllPrefixesFit (location_count layout.now) (all_combinations layout.now)
         → IfOk result (λ o. MatchOption o
-        (AreTooMuch (location_count layout.now) (all_combinations layout.now) nothing)
-        (λ f. Searched (location_count layout.now) (all_combinations layout.now) nothing
+        (AreTooMuch (location_count layout.now) (all_combinations layout.now) no_tally)
+        (λ f. TalliesAll (location_count layout.now) (all_combinations layout.now) no_tally
         (tally f) × (f.count ≤ 16384))) }
 {
     let mut found = Found {

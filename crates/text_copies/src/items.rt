@@ -1,7 +1,7 @@
 //! Copies of items.
 
 ghost use Rattle.std.specs.Prelude.{◌≡◌, ◌≤◌, ◌+◌, IfOk, length, map, vec_capacity};
-ghost use Rattle.text_values.specs.ModelValues.{binding_of, shown_of, check_of, clause_of, clauses_of};
+ghost use Rattle.text_values.specs.ModelValues.{binding_of, shown_term, check_of, clause_of, clauses_of};
 
 use crate::expressions::copied_expression;
 use std::alloc::{AllocError, Global};
@@ -57,7 +57,7 @@ fn copied_group(alloc: Global, group: &[Binding]) -> Result<Vec<Binding>, AllocE
 }
 
 fn copied_shown(alloc: Global, shown: &ShownExpression) -> Result<ShownExpression, AllocError>
-    ensures { IfOk result (λ s. shown_of s ≡ shown_of shown.now) }
+    ensures { IfOk result (λ s. shown_term s ≡ shown_term shown.now) }
 {
     Ok(ShownExpression {
         body: copied_expression(alloc, &shown.body)?,
@@ -69,7 +69,7 @@ fn copied_all_shown(
     alloc: Global,
     shown: &[ShownExpression],
 ) -> Result<Vec<ShownExpression>, AllocError>
-    ensures { IfOk result (λ v. map shown_of v.items ≡ map shown_of shown.now) }
+    ensures { IfOk result (λ v. map shown_term v.items ≡ map shown_term shown.now) }
 {
     let mut copies = Vec::with_capacity(alloc, shown.len())?;
     for one in shown {

@@ -1,7 +1,7 @@
 //! Copies of threads.
 
 ghost use Rattle.std.specs.Prelude.{◌≡◌, IfOk, map};
-ghost use Rattle.text_values.specs.TestValue.{steps_of};
+ghost use Rattle.text_values.specs.TestValue.{thread_steps};
 
 use std::alloc::{AllocError, Global};
 use text_values::{Instruction, Step, Thread};
@@ -95,7 +95,7 @@ fn copied_step(alloc: Global, step: &Step) -> Result<Step, AllocError>
 }
 
 fn copied_thread(alloc: Global, thread: &Thread) -> Result<Thread, AllocError>
-    ensures { IfOk result (λ t. steps_of t ≡ steps_of thread.now) }
+    ensures { IfOk result (λ t. thread_steps t ≡ thread_steps thread.now) }
 {
     let mut steps = Vec::with_capacity(alloc, thread.steps.len())?;
     for step in &thread.steps {
@@ -106,7 +106,7 @@ fn copied_thread(alloc: Global, thread: &Thread) -> Result<Thread, AllocError>
 
 /// A copy of threads. Errors: out of memory.
 pub fn copied_threads(alloc: Global, threads: &[Thread]) -> Result<Vec<Thread>, AllocError>
-    ensures { IfOk result (λ v. map steps_of v.items ≡ map steps_of threads.now) }
+    ensures { IfOk result (λ v. map thread_steps v.items ≡ map thread_steps threads.now) }
 {
     let mut copies = Vec::with_capacity(alloc, threads.len())?;
     for thread in threads {

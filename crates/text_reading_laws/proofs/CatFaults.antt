@@ -4,9 +4,9 @@ use Rattle.cat_tokens.specs.declared.rule.CatRule.{CatRule}
 use Rattle.cat_tokens.specs.declared.token.Token.{Token}
 use Rattle.cat_tokens.specs.declared.token.Token.TheVariants as tokens
 use Rattle.cat_tokens.specs.Tokens.{TokenAt, tokens_of}
-use Rattle.cat_tokens.specs.Lexer.{lexed}
+use Rattle.cat_tokens.specs.Lexer.{lexing}
 use Rattle.cat_grammar.specs.declared.form.Form.{Form}
-use Rattle.cat_grammar.specs.Grammar.{Limits, limits, Means, Begins, CanStand, BeginsText, BeforeAName, broken_rule, IsRefusal, Nowhere, TooMany, TooDeep, Plain, IsFault}
+use Rattle.cat_grammar.specs.Grammar.{Limits, limits, Means, BeginsForm, CanStand, BeginsText, BeforeAName, broken_rule, BreaksRule, Nowhere, TooMany, TooDeep, Plain, IsFormFault}
 use Rattle.cat_grammar.proofs.Faults.{tokens_of-append}
 use Rattle.cat_syntax.specs.Reads.{FaultAt, IsLong, InText}
 use Rattle.text_reading_laws.proofs.Lists.{Cut, Same, Before, Behind, cut, last_cut}
@@ -26,10 +26,10 @@ module _ (most : Limits) (form : Form) (some : 0 < most.nesting) (one : 0 < most
     all = tokens_of before ++ here.token ∷ []
 
     nowhere : (r : CatRule) → broken_rule here.token ≡ Some r → (wider : Limits)
-        → Begins wider form all → ⊥
+        → BeginsForm wider form all → ⊥
     nowhere r e wider b =
         broken_nowhere form wider (tokens_of before) r (subst
-        (λ (t : Token). Begins wider form (tokens_of before ++ t ∷ []))
+        (λ (t : Token). BeginsForm wider form (tokens_of before ++ t ∷ []))
         (is_broken here.token r e) b)
 
     own_rule : (r k : CatRule) → broken_rule here.token ≡ Some r → broken_rule here.token ≡ Some k
@@ -39,8 +39,8 @@ module _ (most : Limits) (form : Form) (some : 0 < most.nesting) (one : 0 < most
     not_own : (r : CatRule) → broken_rule here.token ≡ Some r → broken_rule here.token ≡ None → ⊥
     not_own r e h = let same : Some r ≡ None = sym e ∙ h in absurd cc
 
-    rule_one : (r k : CatRule) (n m : ℕ) → IsRefusal most form before here r n
-        → IsRefusal most form before here k m → (r ≡ k) × (n ≡ m)
+    rule_one : (r k : CatRule) (n m : ℕ) → BreaksRule most form before here r n
+        → BreaksRule most form before here k m → (r ≡ k) × (n ≡ m)
     rule_one r k n m (Nowhere e a) (Nowhere h b) = (own_rule r k e h, a ∙ sym b)
     rule_one r k n m (Nowhere e a) (TooMany wider depths text h b) = absurd (nowhere r e wider text)
     rule_one r k n m (Nowhere e a) (TooDeep wider counts text h b) = absurd (nowhere r e wider text)
@@ -66,7 +66,7 @@ module _ (most : Limits) (form : Form) (some : 0 < most.nesting) (one : 0 < most
 
   -- ---- the first token that cannot stand
 
-  begins_front : (ts us : List Token) → Begins most form (ts ++ us) → Begins most form ts
+  begins_front : (ts us : List Token) → BeginsForm most form (ts ++ us) → BeginsForm most form ts
   begins_front ts us b =
       record {
         rest = us ++ b.rest;
@@ -85,7 +85,7 @@ module _ (most : Limits) (form : Form) (some : 0 < most.nesting) (one : 0 < most
           subst (CanStand most form) (ap (λ (xs : List Token). ts ++ xs) none ∙ append-nil ts)
           (BeforeAName a)
       by_cut (inr more) =
-          BeginsText (begins_front ts more.0 (subst (Begins most form) more.1 a.begins))
+          BeginsText (begins_front ts more.0 (subst (BeginsForm most form) more.1 a.begins))
 
   stands_before : (first second middle : List TokenAt) (here : TokenAt)
       → second ≡ first ++ here ∷ middle → CanStand most form (tokens_of second)
@@ -95,14 +95,14 @@ module _ (most : Limits) (form : Form) (some : 0 < most.nesting) (one : 0 < most
       stands_front (tokens_of first ++ here.token ∷ []) (tokens_of middle)
       (subst (CanStand most form) are b)
 
-  first_one : (ps : List TokenAt) (r k : CatRule) (n m : ℕ) → IsFault most form ps r n
-      → IsFault most form ps k m → (r ≡ k) × (n ≡ m)
+  first_one : (ps : List TokenAt) (r k : CatRule) (n m : ℕ) → IsFormFault most form ps r n
+      → IsFormFault most form ps k m → (r ≡ k) × (n ≡ m)
   first_one ps r k n m f g =
       by_cut (cut f.before g.before f.here g.here f.after g.after (sym f.split ∙ g.split))
     where
       by_cut : Cut f.before g.before f.here g.here → (r ≡ k) × (n ≡ m)
       by_cut (Same fronts here) =
-          let moved : IsRefusal most form f.before f.here k m = subst (λ (p : TokenAt). IsRefusal most form f.before p k m) (sym here) (subst (λ (qs : List TokenAt). IsRefusal most form qs g.here k m) (sym fronts) g.refusal) in
+          let moved : BreaksRule most form f.before f.here k m = subst (λ (p : TokenAt). BreaksRule most form f.before p k m) (sym here) (subst (λ (qs : List TokenAt). BreaksRule most form qs g.here k m) (sym fronts) g.refusal) in
           rule_one f.before f.here f.ends r k n m f.refusal moved
       by_cut (Before middle e) =
           absurd (f.ends (stands_before f.before g.before middle f.here e g.stand))
@@ -119,5 +119,5 @@ one_fault form bytes rule other offset again (IsLong more r n) (IsLong also q m)
 one_fault form bytes rule other offset again (IsLong more r n) (InText le g) = absurd (omega arith)
 one_fault form bytes rule other offset again (InText le f) (IsLong more r n) = absurd (omega arith)
 one_fault form bytes rule other offset again (InText le f) (InText also g) =
-    first_one limits form (omega arith) (omega arith) (omega arith) (lexed bytes) rule other offset
+    first_one limits form (omega arith) (omega arith) (omega arith) (lexing bytes) rule other offset
     again f g

@@ -11,7 +11,7 @@ use Rattle.text_values.specs.declared.model.Postfix.TheVariants as postfix
 use Rattle.text_values.specs.ModelValue.{Term, Clause, Atom, Mark}
 use Rattle.cat_grammar.specs.declared.form.Form.{Form}
 use Rattle.cat_grammar.specs.declared.form.Form.TheVariants as forms
-use Rattle.cat_grammar.specs.Grammar.{Limits, Begins, SameCounts, SameDepths, IsSeparator, CanStand, BeginsText, BeforeAName, last_two, is_tilde, is_check}
+use Rattle.cat_grammar.specs.Grammar.{Limits, BeginsForm, SameCounts, SameDepths, IsSeparator, CanStand, BeginsText, BeforeAName, last_two, is_tilde, is_check}
 use Rattle.cat_grammar.specs.Machine.{Frame, Expectation, Wants, HasBrace, HasName, Has, HasStar, HasStarTilde, fold_to, ended, expression_step}
 use Rattle.cat_grammar.specs.ItemMachine as items
 use Rattle.cat_grammar.specs.ItemMachine.{Keyword, Named, And, Parameter, AfterParameter, Parameters, Head, Part, Start, InLet, AfterFlag, AfterTilde, Body, Label, ShowLabel, AfterShowLabel, AfterInclude, Done, Fault, Here, State, excess, unless, item_or_end, finished, shown_clause, at, added, goes_on, step_part, step, start}
@@ -117,7 +117,7 @@ module _ (form : Form) where
 
   -- no text holds a token that stands nowhere
   pub broken_nowhere : (most : Limits) (ts : List Token) (r : CatRule)
-      → Begins most form (ts ++ tokens.Broken r ∷ []) → ⊥
+      → BeginsForm most form (ts ++ tokens.Broken r ∷ []) → ⊥
   broken_nowhere most ts r b =
       let taken = takes most form (ts ++ tokens.Broken r ∷ []) b in
       let l = last_step most (start form) ts (tokens.Broken r) taken.0 taken.1 in
@@ -235,7 +235,7 @@ last_is a b (u ∷ ts) t = last_is b u ts t
 -- a token that can stand if more may be counted, and if more may be open, can stand
 pub stands_by_both : (most : Limits) (form : Form) (ts : List Token) (t : Token) (a b : Limits)
     → 0 < most.nesting → 0 < most.names → 0 < most.parameters → SameDepths most a
-    → SameCounts most b → Begins a form (ts ++ t ∷ []) → Begins b form (ts ++ t ∷ [])
+    → SameCounts most b → BeginsForm a form (ts ++ t ∷ []) → BeginsForm b form (ts ++ t ∷ [])
     → CanStand most form (ts ++ t ∷ [])
 stands_by_both most form ts t a b some one two depths counts more deeper =
     let x = takes a form (ts ++ t ∷ []) more in

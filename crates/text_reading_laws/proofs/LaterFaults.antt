@@ -4,8 +4,8 @@ use Rattle.std.specs.Prelude.{if◌then◌else◌}
 use Rattle.litmus_tokens.specs.declared.rule.LitmusRule.TheVariants as rules
 use Rattle.litmus_tokens.specs.declared.token.Token.TheVariants as tokens
 use Rattle.litmus_tokens.specs.declared.token.Mark.TheVariants as marks_of
-use Rattle.litmus_tokens.specs.Texts.{TokenAt, tokens_of, lexed, StandsAt}
-use Rattle.litmus_tokens.specs.Conditions.{limits, place_meaning, meaning}
+use Rattle.litmus_tokens.specs.Texts.{TokenAt, tokens_of, lexing, StandsAt}
+use Rattle.litmus_tokens.specs.Conditions.{limits, place_meaning, formula_meaning}
 use Rattle.litmus_table.specs.Late.{Late, Note, Defines, Branches, or_else, is_in, defined, late_notes, first_late, columns_notes, thread_notes, late_columns}
 use Rattle.litmus_table.specs.Laws.{Mark, Defined, Branched, marks, AreMarks, AreNoted}
 use Rattle.litmus_table.specs.Machine.{ThreadSteps}
@@ -162,7 +162,7 @@ late_labels t = late_columns 0 (t.others + 1) (before_rows t) t.rows
 
 module _ (bytes : List ℕ) (le : length bytes ≤ 65536) where
   abbrev of_test : List TokenAt
-  of_test = lexed (first_stage kinds.Test) bytes
+  of_test = lexing (first_stage kinds.Test) bytes
 
   few_tokens : length of_test < 18446744073709551616
   few_tokens = let h = lexed_length (first_stage kinds.Test) bytes in omega (arith, h, le)
@@ -176,7 +176,7 @@ module _ (bytes : List ℕ) (le : length bytes ≤ 65536) where
   keeps_by : (t : TestTree) → t.others + 1 < 18446744073709551616 → (r : TakesTest of_test t)
       → Keeps
       (test_at r.stage text.Done (with_all t.name r.block r.reached
-      (map place_meaning (members t.observed)) t.quantifier (meaning t.condition))) t
+      (map place_meaning (members t.observed)) t.quantifier (formula_meaning t.condition))) t
   keeps_by t few r =
       let many : t.others + 1 ≡ length r.reached.threads = sym (sym (length-steps r.reached.threads) ∙ ap (λ (l : List (List Step)). length l) r.meant ∙ length-meaning 0 (t.others + 1) t.rows) in
       let m = late_matches (t.others + 1) few of_test (before_entries t) (members t.init) r.block.starts r.stand in
@@ -201,7 +201,7 @@ module _ (bytes : List ℕ) (le : length bytes ≤ 65536) where
       let q = test_led y.tree y.fine few_y of_test y.whole in
       let a = keeps_by x.tree few_x r in
       let b = subst (λ (s : State). Keeps s y.tree) (same_state _ _ (sym q.by ∙ r.by)) (keeps_by y.tree few_y q) in
-      let s = test_at r.stage text.Done (with_all x.tree.name r.block r.reached (map place_meaning (members x.tree.observed)) x.tree.quantifier (meaning x.tree.condition)) in
+      let s = test_at r.stage text.Done (with_all x.tree.name r.block r.reached (map place_meaning (members x.tree.observed)) x.tree.quantifier (formula_meaning x.tree.condition)) in
       or_alike of_test (late_init x.tree) (late_labels x.tree) (late_init y.tree)
       (late_labels y.tree)
       (matches_alike of_test (late_init x.tree) (late_init y.tree) (missing_in s) a.matches
@@ -214,7 +214,7 @@ module _ (bytes : List ℕ) (le : length bytes ≤ 65536) where
 
 module _ (bytes : List ℕ) where
   abbrev of_thread : List TokenAt
-  of_thread = lexed (first_stage kinds.Thread) bytes
+  of_thread = lexing (first_stage kinds.Thread) bytes
 
   alone : (o : Option Late) → or_else o None ≡ o
   alone None = refl
@@ -240,7 +240,7 @@ module _ (bytes : List ℕ) where
 
 module _ (threads : ℕ) (few : threads < 18446744073709551616) (bytes : List ℕ) where
   abbrev of_init : List TokenAt
-  of_init = lexed (first_stage kinds.Init) bytes
+  of_init = lexing (first_stage kinds.Init) bytes
 
   abbrev Holds : State → (x : IsInitText (tokens_of of_init)) → Type 0
   Holds s x =

@@ -3,8 +3,8 @@ use Rattle.std.proofs.Common.{◌≡◌, ℕ, ◌≤◌, List, [], ◌∷◌, �
 use Rattle.litmus_tokens.specs.declared.rule.LitmusRule.{LitmusRule}
 use Rattle.litmus_tokens.specs.declared.stage.Stage.{Stage}
 use Rattle.litmus_tokens.specs.declared.token.Token.{Token}
-use Rattle.litmus_tokens.specs.Texts.{TokenAt, tokens_of, stage_after, lexed, StandsAt}
-use Rattle.litmus_tokens.specs.Faults.{Begins, CanFollow, Ruling, Always, Where, ruling, Says, IsFault}
+use Rattle.litmus_tokens.specs.Texts.{TokenAt, tokens_of, stage_after, lexing, StandsAt}
+use Rattle.litmus_tokens.specs.Faults.{Begins, CanFollow, Ruling, Always, Where, ruling, RulingSays, IsFault}
 use Rattle.litmus_table.specs.Late.{Late}
 use Rattle.litmus_grammar.specs.Texts.{IsStart, IsWhole, BreaksOff, late_of_start, Reads, IsLateFault, IsFaultAt, IsTooLong, IsGrammar, IsLater}
 use Rattle.litmus_grammar.proofs.Runs.{tokens_of-append}
@@ -27,7 +27,7 @@ module _ (IsText : List Token → Type 0) where
       (subst (Begins IsText) are b)
 
   says_one : (CanStand : Token → Type 0) (s : Stage) (r : Ruling) (k l : LitmusRule)
-      → Says CanStand s r k → Says CanStand s r l → k ≡ l
+      → RulingSays CanStand s r k → RulingSays CanStand s r l → k ≡ l
   says_one CanStand s (Always n) k l a b = a ∙ sym b
   says_one CanStand s (Where other n) k l (inl a) (inl b) = a.1 ∙ sym b.1
   says_one CanStand s (Where other n) k l (inl a) (inr b) = absurd (b.0 a.0)
@@ -37,7 +37,7 @@ module _ (IsText : List Token → Type 0) where
   -- the rule that this token breaks after these
   abbrev Breaks : Stage → List TokenAt → TokenAt → LitmusRule → Type 0
   Breaks start before here rule =
-      Says (CanFollow IsText (tokens_of before)) (stage_after start (tokens_of before))
+      RulingSays (CanFollow IsText (tokens_of before)) (stage_after start (tokens_of before))
       (ruling (stage_after start (tokens_of before)) here.token) rule
 
   breaks_one : (start : Stage) (before other : List TokenAt) (here there : TokenAt)
@@ -114,7 +114,7 @@ found_one ps l k rule other offset again a r q x y = (
 module _ (IsText : List Token → Type 0) (start : Stage)
     (late : (ts : List Token) → IsText ts → Option Late) (bytes : List ℕ) where
   abbrev ps : List TokenAt
-  ps = lexed start bytes
+  ps = lexing start bytes
 
   -- of the tokens, which may be a text in two ways, the later checks find one thing
   abbrev pub FindsOne : Type 0
@@ -170,7 +170,7 @@ module _ (IsText : List Token → Type 0) (start : Stage)
     (late : (ts : List Token) → IsText ts → Option Late) (bytes : List ℕ)
     (finds : FindsOne IsText start late bytes) where
   abbrev own : List TokenAt
-  own = lexed start bytes
+  own = lexing start bytes
 
   whole_found : (x : IsStart IsText start (tokens_of own)) (l : Late)
       → late_of_start late (tokens_of own) x ≡ Some l

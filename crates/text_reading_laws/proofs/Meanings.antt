@@ -1,7 +1,7 @@
 -- Each text means one thing.
 use Rattle.std.proofs.Common.{◌≡◌, ℕ, ◌+◌, ◌<◌, List, length, Result, Ok, Err, refl, sym, ap, ◌∙◌, arith}
 use Rattle.cat_tokens.specs.declared.rule.CatRule.{CatRule}
-use Rattle.cat_tokens.specs.Lexer.{lexed as cat_lexed}
+use Rattle.cat_tokens.specs.Lexer.{lexing as cat_lexed}
 use Rattle.cat_grammar.specs.declared.form.Form.{Form}
 use Rattle.cat_grammar.specs.Grammar.{limits as cat_limits}
 use Rattle.cat_grammar.specs.ItemMachine.{start as cat_start}
@@ -9,7 +9,7 @@ use Rattle.cat_grammar.specs.Running.{run as cat_run, items_of}
 use Rattle.cat_grammar.proofs.Outcomes.{fault_found, items_only, no_fault}
 use Rattle.cat_syntax.specs.Reads.{Reads}
 use Rattle.text_values.specs.ModelValue.{Clause}
-use Rattle.litmus_tokens.specs.Texts.{lexed}
+use Rattle.litmus_tokens.specs.Texts.{lexing}
 use Rattle.text_values.specs.declared.test.InitEntry.{InitEntry}
 use Rattle.text_values.specs.declared.test.Place.{Place}
 use Rattle.text_values.specs.declared.test.Step.{Step}
@@ -17,7 +17,7 @@ use Rattle.text_values.specs.declared.test.Quantifier.{Quantifier}
 use Rattle.text_values.specs.TestValue.{Content, Formula}
 use Rattle.litmus_grammar.specs.declared.parts.TextKind.{TextKind}
 use Rattle.litmus_grammar.specs.declared.parts.TextKind.TheVariants as kinds
-use Rattle.litmus_grammar.specs.TextMachine.{Ran, run, start, first_stage}
+use Rattle.litmus_grammar.specs.TextMachine.{TextResult, run, start, first_stage}
 use Rattle.litmus_grammar.specs.Texts.{ReadsTest, ReadsInit, ReadsThread, ReadsCondition, ReadsLocations}
 use Rattle.litmus_grammar.proofs.Bodies.{length-meaning}
 use Rattle.litmus_grammar.proofs.Heads.{few_of}
@@ -29,13 +29,13 @@ use Rattle.litmus_ppc.proofs.ThreadReader.{thread_only, thread_only_memory}
 use Rattle.litmus_ppc.proofs.InitReaders.{init_only, init_only_memory}
 use Rattle.litmus_ppc.proofs.TestReader.{test_only, test_only_memory}
 
-abbrev machine : TextKind → ℕ → List ℕ → Ran
-machine kind threads bytes = run (start kind threads) (lexed (first_stage kind) bytes)
+abbrev machine : TextKind → ℕ → List ℕ → TextResult
+machine kind threads bytes = run (start kind threads) (lexing (first_stage kind) bytes)
 
 pub one_test : (bytes : List ℕ) (v w : Content) → ReadsTest bytes v → ReadsTest bytes w → v ≡ w
 one_test bytes v w r q = by_run (machine kinds.Test 0 bytes) refl
   where
-    by_run : (x : Ran) → machine kinds.Test 0 bytes ≡ x → v ≡ w
+    by_run : (x : TextResult) → machine kinds.Test 0 bytes ≡ x → v ≡ w
     by_run (Ok s) e = sym (test_only bytes s (λ le. e) v r) ∙ test_only bytes s (λ le. e) w q
     by_run (Err (rule, offset)) e =
         absurd (test_only_memory bytes (Refused rule offset) (λ le. e) v r)
@@ -44,7 +44,7 @@ pub one_thread : (bytes : List ℕ) (v w : List Step) → ReadsThread bytes v �
     → v ≡ w
 one_thread bytes v w r q = by_run (machine kinds.Thread 1 bytes) refl
   where
-    by_run : (x : Ran) → machine kinds.Thread 1 bytes ≡ x → v ≡ w
+    by_run : (x : TextResult) → machine kinds.Thread 1 bytes ≡ x → v ≡ w
     by_run (Ok s) e = sym (thread_only bytes s (λ le. e) v r) ∙ thread_only bytes s (λ le. e) w q
     by_run (Err (rule, offset)) e =
         absurd (thread_only_memory bytes (Refused rule offset) (λ le. e) v r)
@@ -54,7 +54,7 @@ module _ (threads : ℕ) (few : threads < 18446744073709551616) where
       → ReadsInit threads bytes w → v ≡ w
   one_init bytes v w r q = by_run (machine kinds.Init threads bytes) refl
     where
-      by_run : (x : Ran) → machine kinds.Init threads bytes ≡ x → v ≡ w
+      by_run : (x : TextResult) → machine kinds.Init threads bytes ≡ x → v ≡ w
       by_run (Ok s) e =
           sym (init_only threads few bytes s (λ le. e) v r) ∙ init_only threads few bytes s
           (λ le. e) w q
@@ -65,7 +65,7 @@ module _ (threads : ℕ) (few : threads < 18446744073709551616) where
       → ReadsCondition threads bytes w → v ≡ w
   one_condition bytes v w r q = by_run (machine kinds.Condition threads bytes) refl
     where
-      by_run : (x : Ran) → machine kinds.Condition threads bytes ≡ x → v ≡ w
+      by_run : (x : TextResult) → machine kinds.Condition threads bytes ≡ x → v ≡ w
       by_run (Ok s) e =
           sym (condition_only threads few bytes s (λ le. e) v r) ∙ condition_only threads few bytes
           s (λ le. e) w q
@@ -76,7 +76,7 @@ module _ (threads : ℕ) (few : threads < 18446744073709551616) where
       → ReadsLocations threads bytes w → v ≡ w
   one_list bytes v w r q = by_run (machine kinds.Locations threads bytes) refl
     where
-      by_run : (x : Ran) → machine kinds.Locations threads bytes ≡ x → v ≡ w
+      by_run : (x : TextResult) → machine kinds.Locations threads bytes ≡ x → v ≡ w
       by_run (Ok s) e =
           sym (locations_only threads few bytes s (λ le. e) v r) ∙ locations_only threads few bytes
           s (λ le. e) w q
@@ -103,6 +103,6 @@ few_threads bytes v r =
     let t = r.text.tree in
     let l = lexed_length (first_stage kinds.Test) bytes in
     let short = r.short in
-    let few = few_of t (lexed (first_stage kinds.Test) bytes) r.text.whole (omega (arith, l, short)) in
+    let few = few_of t (lexing (first_stage kinds.Test) bytes) r.text.whole (omega (arith, l, short)) in
     let long : length v.threads ≡ t.others + 1 = ap (λ (c : Content). length c.threads) (sym r.meant) ∙ length-meaning 0 (t.others + 1) t.rows in
     omega (arith, long, few)

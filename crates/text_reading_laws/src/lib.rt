@@ -8,7 +8,7 @@ ghost use Rattle.cat_grammar.specs.declared.form.Form.{Form};
 ghost use Rattle.litmus_grammar.specs.Texts.{ReadsTest, IsTestFault, ReadsInit, IsInitFault, ReadsThread, IsThreadFault, ReadsCondition, IsConditionFault, ReadsLocations, IsLocationsFault};
 ghost use Rattle.text_values.specs.TestValue.{Content};
 ghost use Rattle.cat_syntax.specs.Reads.{Reads, FaultAt};
-ghost use Rattle.text_reading_laws.specs.Laws.{MeansOne, HasOneFault, AreApart};
+ghost use Rattle.text_reading_laws.specs.Laws.{MeansOne, HasOneTextFault, AreExclusive};
 
 /// A text means one thing, if any. The number of threads of the test that a part stands in is one
 /// that a machine word holds.
@@ -25,29 +25,29 @@ pub fn texts_mean_one()
 
 /// A text has one fault, if any: it breaks one rule, at one offset.
 pub fn texts_have_one_fault()
-    ensures test { (bytes : List ℕ) → HasOneFault (IsTestFault bytes) }
+    ensures test { (bytes : List ℕ) → HasOneTextFault (IsTestFault bytes) }
     ensures init { (threads : ℕ) (bytes : List ℕ) → threads < 18446744073709551616
-        → HasOneFault (IsInitFault threads bytes) }
-    ensures thread { (bytes : List ℕ) → HasOneFault (IsThreadFault bytes) }
+        → HasOneTextFault (IsInitFault threads bytes) }
+    ensures thread { (bytes : List ℕ) → HasOneTextFault (IsThreadFault bytes) }
     ensures condition { (threads : ℕ) (bytes : List ℕ)
-        → HasOneFault (IsConditionFault threads bytes) }
+        → HasOneTextFault (IsConditionFault threads bytes) }
     ensures locations { (threads : ℕ) (bytes : List ℕ)
-        → HasOneFault (IsLocationsFault threads bytes) }
-    ensures model { (form : Form) (bytes : List ℕ) → HasOneFault (FaultAt form bytes) }
+        → HasOneTextFault (IsLocationsFault threads bytes) }
+    ensures model { (form : Form) (bytes : List ℕ) → HasOneTextFault (FaultAt form bytes) }
 {}
 
 /// A text that has a fault means nothing.
 pub fn texts_at_fault_mean_nothing()
-    ensures test { (bytes : List ℕ) → AreApart (ReadsTest bytes) (IsTestFault bytes) }
+    ensures test { (bytes : List ℕ) → AreExclusive (ReadsTest bytes) (IsTestFault bytes) }
     ensures init { (threads : ℕ) (bytes : List ℕ) → threads < 18446744073709551616
-        → AreApart (ReadsInit threads bytes) (IsInitFault threads bytes) }
-    ensures thread { (bytes : List ℕ) → AreApart (ReadsThread bytes) (IsThreadFault bytes) }
+        → AreExclusive (ReadsInit threads bytes) (IsInitFault threads bytes) }
+    ensures thread { (bytes : List ℕ) → AreExclusive (ReadsThread bytes) (IsThreadFault bytes) }
     ensures condition { (threads : ℕ) (bytes : List ℕ)
-        → AreApart (ReadsCondition threads bytes) (IsConditionFault threads bytes) }
+        → AreExclusive (ReadsCondition threads bytes) (IsConditionFault threads bytes) }
     ensures locations { (threads : ℕ) (bytes : List ℕ)
-        → AreApart (ReadsLocations threads bytes) (IsLocationsFault threads bytes) }
+        → AreExclusive (ReadsLocations threads bytes) (IsLocationsFault threads bytes) }
     ensures model { (form : Form) (bytes : List ℕ)
-        → AreApart (Reads form bytes) (FaultAt form bytes) }
+        → AreExclusive (Reads form bytes) (FaultAt form bytes) }
 {}
 
 /// A test that some text means has no more threads than a machine word counts.

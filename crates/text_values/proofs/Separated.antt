@@ -1,12 +1,12 @@
 -- Lists that are printed one after another.
 use Rattle.std.proofs.Common.{◌≡◌, ℕ, suc, ◌+◌, List, [], ◌∷◌, ◌++◌, refl, ap, ◌∙◌, arith}
 use Rattle.std.proofs.lemmas.List.{append-nil}
-use Rattle.text_values.specs.Joined.{joined, between}
+use Rattle.text_values.specs.Joined.{joined, separation}
 
 -- what is left to print from the i-th on
 abbrev pub from : List ℕ → ℕ → List (List ℕ) → List ℕ
 from sign i [] = []
-from sign i (t ∷ ts) = between sign i ++ (t ++ from sign (i + 1) ts)
+from sign i (t ∷ ts) = separation sign i ++ (t ++ from sign (i + 1) ts)
 
 behind_first : (sign : List ℕ) (i : ℕ) (t : List ℕ) (ts : List (List ℕ))
     → t ++ from sign (suc i) ts ≡ joined sign (t ∷ ts)

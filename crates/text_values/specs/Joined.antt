@@ -8,9 +8,9 @@ joined separator (t ∷ []) = t
 joined separator (t ∷ u ∷ ts) = t ++ (separator ++ joined separator (u ∷ ts))
 
 -- the separator before the part of an index: none before the first
-abbrev pub between : List ℕ → ℕ → List ℕ
-between separator zero = []
-between separator (suc k) = separator
+abbrev pub separation : List ℕ → ℕ → List ℕ
+separation separator zero = []
+separation separator (suc k) = separator
 
 -- a text, in parentheses if they are wanted
 abbrev pub bracketed : Bool → List ℕ → List ℕ

@@ -29,8 +29,8 @@ abbrev mutual
 abbrev pub binding_of : code_binding.Binding → List ℕ × Term
 binding_of b = (b.name, term_of b.body)
 
-abbrev pub shown_of : ShownExpression → Term × Option (List ℕ)
-shown_of s = (term_of s.body, s.label)
+abbrev pub shown_term : ShownExpression → Term × Option (List ℕ)
+shown_term s = (term_of s.body, s.label)
 
 abbrev pub check_of : code_check.Check → Checked
 check_of c = record { negated = c.negated; word = c.word; body = term_of c.body }
@@ -40,7 +40,7 @@ clause_of (items.Let recursive group) = Binding recursive (map binding_of group.
 clause_of (items.Function name parameters body) = Function name parameters.items (term_of body)
 clause_of (items.Check check label) = Checking (check_of check) label
 clause_of (items.Flag check label) = Flagging (check_of check) label
-clause_of (items.Show hidden shown) = Showing hidden (map shown_of shown.items)
+clause_of (items.Show hidden shown) = Showing hidden (map shown_term shown.items)
 clause_of (items.Include path) = Including path
 
 abbrev pub clauses_of : List Item → List Clause

@@ -41,14 +41,14 @@ formula_of (propositions.Holds p v) = Holds p v
 formula_of (propositions.Not' p a) = Not (formula_of a)
 formula_of (propositions.Joined' op p a q b) = Join op (formula_of a) (formula_of b)
 
-abbrev pub steps_of : Thread → List Step
-steps_of t = t.steps.items
+abbrev pub thread_steps : Thread → List Step
+thread_steps t = t.steps.items
 
 abbrev pub content_of : Test → Content
 content_of t = record {
   name = t.name;
   init = t.init.items;
-  threads = map steps_of t.threads.items;
+  threads = map thread_steps t.threads.items;
   observed = t.observed.items;
   quantifier = t.condition.quantifier;
   condition = formula_of t.condition.proposition;

@@ -2,7 +2,7 @@
 
 ghost use Rattle.std.specs.Prelude.{◌≡◌, ◌<◌, length};
 ghost use Rattle.std.specs.Int.{from_le_bytes, w64};
-ghost use Rattle.text_values.specs.Names.{key_of, behind};
+ghost use Rattle.text_values.specs.Names.{key_of, key_bytes_behind};
 
 use crate::letters::byte_at;
 use std::alloc::{AllocError, Global};
@@ -32,13 +32,13 @@ impl Drop for Name {
 
 impl Model for Name {
     ghost use Rattle.std.specs.Prelude.{List, ℕ};
-    ghost use Rattle.text_values.specs.Names.{bytes_of, IsSound};
+    ghost use Rattle.text_values.specs.Names.{name_bytes, IsSoundName};
 
     ghost Value = { List ℕ };
 
-    ghost view = { λ n. bytes_of n.bytes };
+    ghost view = { λ n. name_bytes n.bytes };
 
-    ghost invariant = { λ n. IsSound n.bytes };
+    ghost invariant = { λ n. IsSoundName n.bytes };
 }
 
 // The key of a name with these bytes.
@@ -61,7 +61,7 @@ fn key_of(bytes: &[u8]) -> u64
 // The key of a name of so many bytes that is kept in place. Its first eight bytes are read at once.
 #[inline(always)]
 fn short_key(n: u32, short: &[u8; SHORT]) -> u64
-    ensures key { n < 256 → result ≡ from_le_bytes w64 (behind n short.now) }
+    ensures key { n < 256 → result ≡ from_le_bytes w64 (key_bytes_behind n short.now) }
     ensures room { length short.now ≡ 16 }
 {
     let first = u64::from_le_bytes([

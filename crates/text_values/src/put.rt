@@ -1,7 +1,7 @@
 //! Appends numbers, bytes and separators to a text.
 
 ghost use Rattle.std.specs.Prelude.{◌≡◌, ◌++◌, decimal, OnOk};
-ghost use Rattle.text_values.specs.Joined.{between};
+ghost use Rattle.text_values.specs.Joined.{separation};
 
 use itoa::Buffer;
 use std::alloc::AllocError;
@@ -24,7 +24,7 @@ pub fn put_bytes(text: &mut Vec<u8>, bytes: &[u8]) -> Result<(), AllocError>
 /// Appends the separator that stands before the part of this index in a list: nothing before the
 /// first part (index 0), `separator` before each later one. Errors: out of memory.
 pub fn put_between(text: &mut Vec<u8>, separator: &[u8], index: usize) -> Result<(), AllocError>
-    ensures { OnOk result (text.new.items ≡ text.old.items ++ between separator.now index) }
+    ensures { OnOk result (text.new.items ≡ text.old.items ++ separation separator.now index) }
 {
     if index == 0 {
         Ok(())

@@ -3,7 +3,7 @@
 ghost use Rattle.std.specs.Prelude.{◌≡◌, ◌↔◌, IsTrue, map, MatchOption, Option};
 ghost use Rattle.text_values.specs.ModelValue.{Atom, AllEvents, EmptyRelation, EmptySet, Join, Mark, Not, On, Apply, gathered, Function, Checking, Flagging, Showing, Including};
 ghost use Rattle.text_values.specs.ModelValue as value;
-ghost use Rattle.text_values.specs.ModelValues.{term_of, binding_of, shown_of, check_of, clause_of, clauses_of};
+ghost use Rattle.text_values.specs.ModelValues.{term_of, binding_of, shown_term, check_of, clause_of, clauses_of};
 ghost use Rattle.text_values.specs.Parts.{IsNoJoin, IsNoMark, IsNoComplement, IsNoIdentity, IsNoApplication};
 
 use crate::model::{Binding, Check, Expression, Infix, Item, ModelText, Postfix, ShownExpression};
@@ -263,7 +263,7 @@ impl Binding {
 
 impl ShownExpression {
     fn is_same(&self, other: &ShownExpression) -> bool
-        ensures { IsTrue result ↔ (shown_of self.now ≡ shown_of other.now) }
+        ensures { IsTrue result ↔ (shown_term self.now ≡ shown_term other.now) }
     {
         self.body.is_same(&other.body) && is_same_label(&self.label, &other.label)
     }
@@ -284,7 +284,7 @@ fn are_same_bindings(these: &[Binding], those: &[Binding]) -> bool
 }
 
 fn are_same_shown(these: &[ShownExpression], those: &[ShownExpression]) -> bool
-    ensures { IsTrue result ↔ (map shown_of these.now ≡ map shown_of those.now) }
+    ensures { IsTrue result ↔ (map shown_term these.now ≡ map shown_term those.now) }
 {
     if these.len() != those.len() {
         return false;
@@ -367,7 +367,7 @@ fn is_flag(item: &Item, check: &Check, label: &Name) -> bool
 }
 
 fn is_show(item: &Item, hidden: bool, shown: &[ShownExpression]) -> bool
-    ensures { IsTrue result ↔ (Showing hidden (map shown_of shown.now) ≡ clause_of item.now) }
+    ensures { IsTrue result ↔ (Showing hidden (map shown_term shown.now) ≡ clause_of item.now) }
 {
     match item {
         Item::Show {

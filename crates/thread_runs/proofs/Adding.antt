@@ -6,8 +6,8 @@ use Rattle.std.proofs.lemmas.List.Elements.{Contains-push, Contains-push_cases, 
 use Rattle.thread_runs.specs.declared.value.Value.{Value}
 use Rattle.thread_runs.specs.declared.instruction.Line.{Line}
 use Rattle.thread_runs.specs.declared.free.FreeWalk.{FreeWalk}
-use Rattle.thread_runs.specs.ValueSet.{IsOne, IsAdded}
-use Rattle.thread_runs.specs.FreeWalks.{AreAdded, SomeStores, stored_at}
+use Rattle.thread_runs.specs.ValueSet.{IsProperValue, IsValueAdded}
+use Rattle.thread_runs.specs.FreeWalks.{AreAdded, SomeStores, values_stored_at}
 
 -- nothing to add
 pub added_none : (P : Value → Type 0) (vs : List Value) → ((v : Value) → P v → ⊥) → AreAdded P vs vs
@@ -20,7 +20,7 @@ added_none P vs none = record {
 }
 
 pub added_one : (value : Value) (us old new : List Value) → us ≡ value ∷ []
-    → length old ≤ length new → (length old ≡ length new → old ≡ new) → IsAdded value old new
+    → length old ≤ length new → (length old ≡ length new → old ≡ new) → IsValueAdded value old new
     → AreAdded (Contains us) old new
 added_one value us old new e longer unchanged added = record {
   longer = longer;
@@ -31,14 +31,14 @@ added_one value us old new e longer unchanged added = record {
     | inr w ↦ inr (
       subst (λ (xs : List Value). Contains xs v) (sym e) (subst
           (λ (u : Value). Contains (value ∷ []) u) (sym w.0) (Contains-push [] value)),
-      subst (λ (u : Value). IsOne u) (sym w.0) w.1,
+      subst (λ (u : Value). IsProperValue u) (sym w.0) w.1,
     )
   ];
   whole =
       λ few v h one.
       elim (Contains-push_cases [] value v (subst (λ (xs : List Value). Contains xs v) e h)) [
         | inl none ↦ absurd (let lt = none.1 in omega arith)
-        | inr f ↦ (added v).1 (inr (sym f, subst (λ (u : Value). IsOne u) (sym f) one))
+        | inr f ↦ (added v).1 (inr (sym f, subst (λ (u : Value). IsProperValue u) (sym f) one))
       ];
 }
 
@@ -65,7 +65,7 @@ pub some_none : (x : Line) (v : Value) → SomeStores x [] v → ⊥
 some_none x v h = let lt = h.1.1 in omega arith
 
 pub some_more : (x : Line) (ws : List FreeWalk) (k : ℕ) (d : FreeWalk) → k < length ws → (v : Value)
-    → (SomeStores x (take k ws) v ⊎ Contains (stored_at x (get_or ws k d)) v)
+    → (SomeStores x (take k ws) v ⊎ Contains (values_stored_at x (get_or ws k d)) v)
     ↔ SomeStores x (take (k + 1) ws) v
 some_more x ws k d lt v = rw (add-one, take-suc ws k d lt) (
   (λ h. elim h [
@@ -74,6 +74,6 @@ some_more x ws k d lt v = rw (add-one, take-suc ws k d lt) (
   ]),
   (λ h. elim (Contains-push_cases (take k ws) (get_or ws k d) h.0 h.1) [
     | inl w ↦ inl (h.0, w, h.2)
-    | inr e ↦ inr (subst (λ (u : FreeWalk). Contains (stored_at x u) v) (sym e) h.2)
+    | inr e ↦ inr (subst (λ (u : FreeWalk). Contains (values_stored_at x u) v) (sym e) h.2)
   ]),
 )

@@ -10,9 +10,9 @@ use Rattle.thread_runs.specs.declared.instruction.Instruction.TheVariants.{Immed
 use Rattle.thread_runs.specs.declared.instruction.Line.{Line}
 use Rattle.thread_runs.specs.declared.instruction.Line.TheVariants.{Label, Does}
 use Rattle.thread_runs.specs.declared.state.State.{State}
-use Rattle.thread_runs.specs.Machine.{is_load, is_branch, target}
-use Rattle.thread_runs.specs.Runs.{Walk, Outcome, IsLess, started, ended, advanced, passed, supplied, free_ends, free_obeyed, free_one, free_from}
-use Rattle.thread_runs.specs.FreeRuns.{FreeRun, IsOther, HasFreeRuns, sized, count_one, count_free, capped}
+use Rattle.thread_runs.specs.Machine.{is_load, is_branch, branch_target}
+use Rattle.thread_runs.specs.Runs.{Walk, Outcome, IsLess, walk_at, ended, walk_after, walk_past, after_load, free_ends, after_free_instruction, after_free_line, free_from}
+use Rattle.thread_runs.specs.FreeRuns.{FreeRun, IsOtherFreeRun, HasFreeRuns, sized, count_one, count_free, capped}
 use Rattle.thread_runs.proofs.RunsExact.{contains_one, one_contains, flat_map_contains, contains_flat_map, map_contains, contains_map, pairs_append, pairs_one, pairs_map, pairs_flat_map}
 
 abbrev pub chose : Bool → FreeRun → FreeRun
@@ -25,8 +25,8 @@ abbrev Lists : Type 0
 Lists = Walk → List FreeRun
 
 abbrev all_supplied : List Value → Bool → Instruction → Bool → Lists → Lists
-all_supplied V true i b go w = flat_map (λ v. map (took v) (go (advanced i b v w))) V
-all_supplied V false i b go w = go (advanced i b NoValue w)
+all_supplied V true i b go w = flat_map (λ v. map (took v) (go (walk_after i b v w))) V
+all_supplied V false i b go w = go (walk_after i b NoValue w)
 
 abbrev all_obeyed : List Value → Bool → Instruction → Lists → Lists
 all_obeyed V true i go w =
@@ -35,7 +35,7 @@ all_obeyed V true i go w =
 all_obeyed V false i go w = all_supplied V (is_load i) i false go w
 
 abbrev all_one : List Value → Option ℕ → Line → Lists → Lists
-all_one V (Some l) x go w = go (passed x l w)
+all_one V (Some l) x go w = go (walk_past x l w)
 all_one V None (Label m) go w = go w
 all_one V None (Does i) go w = all_obeyed V (is_branch i) i go w
 
@@ -117,45 +117,45 @@ module _ (V : List Value) where
   exact_supplied : (ld : Bool) (i : Instruction) (b : Bool) (xs : List Line) → IsExact xs
       → (w : Walk) (bs : List Bool) (vs : List Value) (o : Outcome)
       → Contains (all_supplied V ld i b (all_free V xs) w) (made bs vs o)
-      ↔ Holds bs vs o (supplied ld i b (λ u us. free_from xs u bs us) w vs)
-  exact_supplied false i b xs ih w bs vs o = ih (advanced i b NoValue w) bs vs o
+      ↔ Holds bs vs o (after_load ld i b (λ u us. free_from xs u bs us) w vs)
+  exact_supplied false i b xs ih w bs vs o = ih (walk_after i b NoValue w) bs vs o
   exact_supplied true i b xs ih w bs vs o = (forth, back vs)
     where
       Each : Value → List FreeRun
-      Each v = map (took v) (all_free V xs (advanced i b v w))
+      Each v = map (took v) (all_free V xs (walk_after i b v w))
 
-      forth : Contains (flat_map (λ v. map (took v) (all_free V xs (advanced i b v w))) V)
-          (made bs vs o) → Holds bs vs o (supplied true i b (λ u us. free_from xs u bs us) w vs)
+      forth : Contains (flat_map (λ v. map (took v) (all_free V xs (walk_after i b v w))) V)
+          (made bs vs o) → Holds bs vs o (after_load true i b (λ u us. free_from xs u bs us) w vs)
       forth h =
-          let (v, within, found) = flat_map_contains (λ v. map (took v) (all_free V xs (advanced i b v w))) V (made bs vs o) h in
-          let (us, e, there) = took_as v (all_free V xs (advanced i b v w)) bs vs o found in
-          let holds = (ih (advanced i b v w) bs us o).0 there in
+          let (v, within, found) = flat_map_contains (λ v. map (took v) (all_free V xs (walk_after i b v w))) V (made bs vs o) h in
+          let (us, e, there) = took_as v (all_free V xs (walk_after i b v w)) bs vs o found in
+          let holds = (ih (walk_after i b v w) bs us o).0 there in
           subst
           (λ (ws : List Value).
-          Holds bs ws o (supplied true i b (λ u us. free_from xs u bs us) w ws))
+          Holds bs ws o (after_load true i b (λ u us. free_from xs u bs us) w ws))
           (sym e)
           (All-cons (Contains V) v us within holds.0, holds.1)
 
       back : (ws : List Value)
-          → Holds bs ws o (supplied true i b (λ u us. free_from xs u bs us) w ws)
-          → Contains (flat_map (λ v. map (took v) (all_free V xs (advanced i b v w))) V)
+          → Holds bs ws o (after_load true i b (λ u us. free_from xs u bs us) w ws)
+          → Contains (flat_map (λ v. map (took v) (all_free V xs (walk_after i b v w))) V)
           (made bs ws o)
       back [] h = let e = h.1 in absurd cc
       back (v ∷ us) h =
-          contains_flat_map (λ v. map (took v) (all_free V xs (advanced i b v w))) V v
+          contains_flat_map (λ v. map (took v) (all_free V xs (walk_after i b v w))) V v
           (made bs (v ∷ us) o) (All-head (Contains V) v us h.0)
-          (contains_map (took v) (all_free V xs (advanced i b v w)) (made bs us o)
-          ((ih (advanced i b v w) bs us o).1 (All-tail (Contains V) v us h.0, h.1)))
+          (contains_map (took v) (all_free V xs (walk_after i b v w)) (made bs us o)
+          ((ih (walk_after i b v w) bs us o).1 (All-tail (Contains V) v us h.0, h.1)))
 
   exact_obeyed : (br : Bool) (i : Instruction) (xs : List Line) → IsExact xs
       → (w : Walk) (bs : List Bool) (vs : List Value) (o : Outcome)
       → Contains (all_obeyed V br i (all_free V xs) w) (made bs vs o)
-      ↔ Holds bs vs o (free_obeyed br i (free_from xs) w bs vs)
+      ↔ Holds bs vs o (after_free_instruction br i (free_from xs) w bs vs)
   exact_obeyed false i xs ih w bs vs o = exact_supplied (is_load i) i false xs ih w bs vs o
   exact_obeyed true i xs ih w bs vs o = (forth, back bs)
     where
       forth : Contains (all_obeyed V true i (all_free V xs) w) (made bs vs o)
-          → Holds bs vs o (free_obeyed true i (free_from xs) w bs vs)
+          → Holds bs vs o (after_free_instruction true i (free_from xs) w bs vs)
       forth h =
           elim
           (Contains-append_cases
@@ -165,16 +165,16 @@ module _ (V : List Value) where
             | inl one ↦
                 let (cs, e, there) = chose_as true (all_supplied V (is_load i) i true (all_free V xs) w) bs vs o one in
                 subst (λ (ds : List Bool).
-                Holds ds vs o (free_obeyed true i (free_from xs) w ds vs))
+                Holds ds vs o (after_free_instruction true i (free_from xs) w ds vs))
                 (sym e) ((exact_supplied (is_load i) i true xs ih w cs vs o).0 there)
             | inr one ↦
                 let (cs, e, there) = chose_as false (all_supplied V (is_load i) i false (all_free V xs) w) bs vs o one in
                 subst (λ (ds : List Bool).
-                Holds ds vs o (free_obeyed true i (free_from xs) w ds vs))
+                Holds ds vs o (after_free_instruction true i (free_from xs) w ds vs))
                 (sym e) ((exact_supplied (is_load i) i false xs ih w cs vs o).0 there)
           ]
 
-      back : (ds : List Bool) → Holds ds vs o (free_obeyed true i (free_from xs) w ds vs)
+      back : (ds : List Bool) → Holds ds vs o (after_free_instruction true i (free_from xs) w ds vs)
           → Contains (all_obeyed V true i (all_free V xs) w) (made ds vs o)
       back [] h = let e = h.1 in absurd cc
       back (true ∷ cs) h =
@@ -195,8 +195,8 @@ module _ (V : List Value) where
   exact_one : (sk : Option ℕ) (x : Line) (xs : List Line) → IsExact xs
       → (w : Walk) (bs : List Bool) (vs : List Value) (o : Outcome)
       → Contains (all_one V sk x (all_free V xs) w) (made bs vs o)
-      ↔ Holds bs vs o (free_one sk x (free_from xs) w bs vs)
-  exact_one (Some l) x xs ih w bs vs o = ih (passed x l w) bs vs o
+      ↔ Holds bs vs o (after_free_line sk x (free_from xs) w bs vs)
+  exact_one (Some l) x xs ih w bs vs o = ih (walk_past x l w) bs vs o
   exact_one None (Label m) xs ih w bs vs o = ih w bs vs o
   exact_one None (Does i) xs ih w bs vs o = exact_obeyed (is_branch i) i xs ih w bs vs o
 
@@ -207,32 +207,32 @@ module _ (V : List Value) where
   -- each once
   module _ (apart : AllPairs (λ u v. u ≡ v → ⊥) V) where
     once_supplied : (ld : Bool) (i : Instruction) (b : Bool) (xs : List Line)
-        → ((u : Walk) → AllPairs IsOther (all_free V xs u)) → (w : Walk)
-        → AllPairs IsOther (all_supplied V ld i b (all_free V xs) w)
-    once_supplied false i b xs ih w = ih (advanced i b NoValue w)
+        → ((u : Walk) → AllPairs IsOtherFreeRun (all_free V xs u)) → (w : Walk)
+        → AllPairs IsOtherFreeRun (all_supplied V ld i b (all_free V xs) w)
+    once_supplied false i b xs ih w = ih (walk_after i b NoValue w)
     once_supplied true i b xs ih w =
-        pairs_flat_map (λ u v. u ≡ v → ⊥) IsOther
-        (λ v. map (took v) (all_free V xs (advanced i b v w))) V apart
-        (λ v. pairs_map IsOther (took v) (all_free V xs (advanced i b v w))
-        (λ j k d lt below e f. ih (advanced i b v w) j k d lt below e (let t = f in cc)))
+        pairs_flat_map (λ u v. u ≡ v → ⊥) IsOtherFreeRun
+        (λ v. map (took v) (all_free V xs (walk_after i b v w))) V apart
+        (λ v. pairs_map IsOtherFreeRun (took v) (all_free V xs (walk_after i b v w))
+        (λ j k d lt below e f. ih (walk_after i b v w) j k d lt below e (let t = f in cc)))
         (λ u v other r s h k e f.
-        let (p, _, q) = map_contains (took u) (all_free V xs (advanced i b u w)) r h in
-        let (y, _, z) = map_contains (took v) (all_free V xs (advanced i b v w)) s k in
+        let (p, _, q) = map_contains (took u) (all_free V xs (walk_after i b u w)) r h in
+        let (y, _, z) = map_contains (took v) (all_free V xs (walk_after i b v w)) s k in
         other (let a = ap (λ (t : FreeRun). t.values) q in
         let c = ap (λ (t : FreeRun). t.values) z in cc))
 
     once_obeyed : (br : Bool) (i : Instruction) (xs : List Line)
-        → ((u : Walk) → AllPairs IsOther (all_free V xs u)) → (w : Walk)
-        → AllPairs IsOther (all_obeyed V br i (all_free V xs) w)
+        → ((u : Walk) → AllPairs IsOtherFreeRun (all_free V xs u)) → (w : Walk)
+        → AllPairs IsOtherFreeRun (all_obeyed V br i (all_free V xs) w)
     once_obeyed false i xs ih w = once_supplied (is_load i) i false xs ih w
     once_obeyed true i xs ih w =
-        pairs_append IsOther
+        pairs_append IsOtherFreeRun
         (map (chose true) (all_supplied V (is_load i) i true (all_free V xs) w))
         (map (chose false) (all_supplied V (is_load i) i false (all_free V xs) w))
-        (pairs_map IsOther (chose true) (all_supplied V (is_load i) i true (all_free V xs) w)
+        (pairs_map IsOtherFreeRun (chose true) (all_supplied V (is_load i) i true (all_free V xs) w)
         (λ j k d lt below e f.
         once_supplied (is_load i) i true xs ih w j k d lt below (let t = e in cc) f))
-        (pairs_map IsOther (chose false) (all_supplied V (is_load i) i false (all_free V xs) w)
+        (pairs_map IsOtherFreeRun (chose false) (all_supplied V (is_load i) i false (all_free V xs) w)
         (λ j k d lt below e f.
         once_supplied (is_load i) i false xs ih w j k d lt below (let t = e in cc) f))
         (λ r s h k e f.
@@ -241,14 +241,14 @@ module _ (V : List Value) where
         let a = ap (λ (t : FreeRun). t.choices) q in let c = ap (λ (t : FreeRun). t.choices) z in absurd cc)
 
     once_one : (sk : Option ℕ) (x : Line) (xs : List Line)
-        → ((u : Walk) → AllPairs IsOther (all_free V xs u)) → (w : Walk)
-        → AllPairs IsOther (all_one V sk x (all_free V xs) w)
-    once_one (Some l) x xs ih w = ih (passed x l w)
+        → ((u : Walk) → AllPairs IsOtherFreeRun (all_free V xs u)) → (w : Walk)
+        → AllPairs IsOtherFreeRun (all_one V sk x (all_free V xs) w)
+    once_one (Some l) x xs ih w = ih (walk_past x l w)
     once_one None (Label m) xs ih w = ih w
     once_one None (Does i) xs ih w = once_obeyed (is_branch i) i xs ih w
 
-    pub once : (xs : List Line) (w : Walk) → AllPairs IsOther (all_free V xs w)
-    once [] w = pairs_one IsOther (made [] [] (ended false w))
+    pub once : (xs : List Line) (w : Walk) → AllPairs IsOtherFreeRun (all_free V xs w)
+    once [] w = pairs_one IsOtherFreeRun (made [] [] (ended false w))
     once (x ∷ xs) w = once_one w.seeking x xs (once xs) w
 
 -- how many
@@ -266,13 +266,13 @@ IsCounted V xs = (w : Walk) → length (all_free V xs w) ≡ count_free (length 
 counted_supplied : (V : List Value) (ld : Bool) (i : Instruction) (b : Bool) (xs : List Line)
     → IsCounted V xs → (w : Walk)
     → length (all_supplied V ld i b (all_free V xs) w) ≡ (if ld then length V
-    * count_free (length V) xs (target i b)
-    else count_free (length V) xs (target i b))
+    * count_free (length V) xs (branch_target i b)
+    else count_free (length V) xs (branch_target i b))
 counted_supplied V true i b xs ih w =
-    many V (λ v. map (took v) (all_free V xs (advanced i b v w)))
-    (count_free (length V) xs (target i b))
-    (λ v. length-map (all_free V xs (advanced i b v w)) (took v) ∙ ih (advanced i b v w))
-counted_supplied V false i b xs ih w = ih (advanced i b NoValue w)
+    many V (λ v. map (took v) (all_free V xs (walk_after i b v w)))
+    (count_free (length V) xs (branch_target i b))
+    (λ v. length-map (all_free V xs (walk_after i b v w)) (took v) ∙ ih (walk_after i b v w))
+counted_supplied V false i b xs ih w = ih (walk_after i b NoValue w)
 
 pub branch_no_load : (i : Instruction) → is_branch i ≡ true → is_load i ≡ false
 branch_no_load (Branch c l) e = refl
@@ -292,11 +292,11 @@ branch_no_load (Barrier f) e = refl
 counted_obeyed : (V : List Value) (br : Bool) (i : Instruction) (xs : List Line) → is_branch i ≡ br
     → IsCounted V xs → (w : Walk)
     → length (all_obeyed V br i (all_free V xs) w) ≡ (if br then count_free (length V) xs
-    (target i true) + count_free (length V) xs (target i false)
-    else sized (length V) i (count_free (length V) xs (target i false)))
+    (branch_target i true) + count_free (length V) xs (branch_target i false)
+    else sized (length V) i (count_free (length V) xs (branch_target i false)))
 counted_obeyed V true i xs is ih w =
-    let yes_part = length-map (all_supplied V (is_load i) i true (all_free V xs) w) (chose true) ∙ counted_supplied V (is_load i) i true xs ih w ∙ ap (λ (b : Bool). if b then length V * count_free (length V) xs (target i true) else count_free (length V) xs (target i true)) (branch_no_load i is) in
-    let no_part = length-map (all_supplied V (is_load i) i false (all_free V xs) w) (chose false) ∙ counted_supplied V (is_load i) i false xs ih w ∙ ap (λ (b : Bool). if b then length V * count_free (length V) xs (target i false) else count_free (length V) xs (target i false)) (branch_no_load i is) in
+    let yes_part = length-map (all_supplied V (is_load i) i true (all_free V xs) w) (chose true) ∙ counted_supplied V (is_load i) i true xs ih w ∙ ap (λ (b : Bool). if b then length V * count_free (length V) xs (branch_target i true) else count_free (length V) xs (branch_target i true)) (branch_no_load i is) in
+    let no_part = length-map (all_supplied V (is_load i) i false (all_free V xs) w) (chose false) ∙ counted_supplied V (is_load i) i false xs ih w ∙ ap (λ (b : Bool). if b then length V * count_free (length V) xs (branch_target i false) else count_free (length V) xs (branch_target i false)) (branch_no_load i is) in
     length-append (map (chose true) (all_supplied V (is_load i) i true (all_free V xs) w))
     (map (chose false) (all_supplied V (is_load i) i false (all_free V xs) w))
     ∙ omega (arith, yes_part, no_part)
@@ -306,7 +306,7 @@ counted_one : (V : List Value) (sk : Option ℕ) (x : Line) (xs : List Line) →
     → (w : Walk) → w.seeking ≡ sk
     → length (all_one V sk x (all_free V xs) w)
     ≡ count_one (length V) sk x (count_free (length V) xs)
-counted_one V (Some l) x xs ih w s = ih (passed x l w)
+counted_one V (Some l) x xs ih w s = ih (walk_past x l w)
 counted_one V None (Label m) xs ih w s = ih w ∙ ap (λ (o : Option ℕ). count_free (length V) xs o) s
 counted_one V None (Does i) xs ih w s = counted_obeyed V (is_branch i) i xs refl ih w
 
@@ -332,12 +332,12 @@ pub has_free_runs : (lines : List Line) (first : State) (V : List Value) (size n
 has_free_runs lines first V size n rising e f = (
   count_free (length V) lines None,
   (
-    all_free V lines (started first),
+    all_free V lines (walk_at first),
     record {
-      once = once V (less_apart V rising) lines (started first);
-      exact = λ r. exact V lines (started first) r.choices r.values r.outcome;
+      once = once V (less_apart V rising) lines (walk_at first);
+      exact = λ r. exact V lines (walk_at first) r.choices r.values r.outcome;
     },
-    counted V lines (started first),
+    counted V lines (walk_at first),
   ),
   f ∙ ap (λ (s : ℕ). capped (count_free s lines None)) (sym e),
 )

@@ -9,14 +9,14 @@ use Rattle.thread_runs.specs.declared.instruction.Instruction.TheVariants.{Immed
 use Rattle.thread_runs.specs.declared.instruction.Line.{Line}
 use Rattle.thread_runs.specs.declared.instruction.Line.TheVariants.{Label, Does}
 use Rattle.thread_runs.specs.declared.state.State.{State}
-use Rattle.thread_runs.specs.Machine.{is_load, is_branch, is_fault, goes, target}
-use Rattle.thread_runs.specs.Runs.{IsLess, advanced, passed, found_at}
+use Rattle.thread_runs.specs.Machine.{is_load, is_branch, is_fault, takes_branch, branch_target}
+use Rattle.thread_runs.specs.Runs.{IsLess, walk_after, walk_past, found_at}
 use Rattle.thread_runs.specs.AllRuns.{Beginning, beginning_at, with_load, next, all_from, HasRuns}
 use Rattle.thread_runs.specs.FreeRuns.{capped, count_free, count_one, sized}
 use Rattle.thread_runs.proofs.RunsExact.{one_next, next_seeking, next_label, next_fault, next_plain, next_load, stopped_stays, has_runs}
 use Rattle.thread_runs.proofs.AllFree.{branch_no_load}
 
-no_branch : (i : Instruction) (s : State) → is_branch i ≡ false → goes i s ≡ false
+no_branch : (i : Instruction) (s : State) → is_branch i ≡ false → takes_branch i s ≡ false
 no_branch (Branch c l) s e = absurd cc
 no_branch (Load d a) s e = refl
 no_branch (LoadIndexed d a b) s e = refl
@@ -58,12 +58,12 @@ module _ (V : List Value) (size : ℕ) (within : length V ≤ size) (some : 0 < 
     where
       go : (br : Bool)
           → 0
-          < (if br then count_free size xs (target i true) + count_free size xs (target i false)
-          else sized size i (count_free size xs (target i false)))
-      go true = let h = ih (target i true) in omega (arith, h)
+          < (if br then count_free size xs (branch_target i true) + count_free size xs (branch_target i false)
+          else sized size i (count_free size xs (branch_target i false)))
+      go true = let h = ih (branch_target i true) in omega (arith, h)
       go false =
-          let h = ih (target i false) in
-          let m = sized_more i (count_free size xs (target i false)) in omega (arith, h, m)
+          let h = ih (branch_target i false) in
+          let m = sized_more i (count_free size xs (branch_target i false)) in omega (arith, h, m)
 
   all_go_on : (xs : List Line) (sk : Option ℕ) → 0 < count_free size xs sk
   all_go_on [] sk = omega arith
@@ -71,29 +71,29 @@ module _ (V : List Value) (size : ℕ) (within : length V ≤ size) (some : 0 < 
 
   -- by one instruction that is no load
   one_way : (i : Instruction) (s : State) (xs : List Line)
-      → count_free size xs (target i (goes i s)) ≤ count_one size None (Does i) (count_free size xs)
-  one_way i s xs = go (is_branch i) (goes i s) refl (no_branch i s)
+      → count_free size xs (branch_target i (takes_branch i s)) ≤ count_one size None (Does i) (count_free size xs)
+  one_way i s xs = go (is_branch i) (takes_branch i s) refl (no_branch i s)
     where
       go : (br g : Bool) → is_branch i ≡ br → (is_branch i ≡ false → g ≡ false)
-          → count_free size xs (target i g)
-          ≤ (if br then count_free size xs (target i true) + count_free size xs (target i false)
-          else sized size i (count_free size xs (target i false)))
+          → count_free size xs (branch_target i g)
+          ≤ (if br then count_free size xs (branch_target i true) + count_free size xs (branch_target i false)
+          else sized size i (count_free size xs (branch_target i false)))
       go true true e h = omega arith
       go true false e h = omega arith
       go false true e h = absurd (let n = h e in cc)
-      go false false e h = sized_more i (count_free size xs (target i false))
+      go false false e h = sized_more i (count_free size xs (branch_target i false))
 
   -- by a load
   load_way : (i : Instruction) (xs : List Line) (k : ℕ) → is_load i ≡ true
-      → k ≤ size * count_free size xs (target i false)
+      → k ≤ size * count_free size xs (branch_target i false)
       → k ≤ count_one size None (Does i) (count_free size xs)
   load_way i xs k d le = go (is_branch i) (is_load i) refl d
     where
       go : (br ld : Bool) → is_branch i ≡ br → ld ≡ true
           → k
-          ≤ (if br then count_free size xs (target i true) + count_free size xs (target i false)
-          else (if ld then size * count_free size xs (target i false)
-          else count_free size xs (target i false)))
+          ≤ (if br then count_free size xs (branch_target i true) + count_free size xs (branch_target i false)
+          else (if ld then size * count_free size xs (branch_target i false)
+          else count_free size xs (branch_target i false)))
       go true ld e h = absurd (let n = branch_no_load i e in cc)
       go false true e h = le
       go false false e h = absurd cc
@@ -110,20 +110,20 @@ module _ (V : List Value) (size : ℕ) (within : length V ≤ size) (some : 0 < 
 
   few_loads : (i : Instruction) (xs : List Line) (b : Beginning) → AreFew xs → b.stopped ≡ false
       → b.walk.seeking ≡ None → is_fault i b.walk.state ≡ false → is_load i ≡ true
-      → length (all_from V (Does i ∷ xs) b) ≤ size * count_free size xs (target i false)
+      → length (all_from V (Does i ∷ xs) b) ≤ size * count_free size xs (branch_target i false)
   few_loads i xs b ih awake s f d =
       let here : all_from V (Does i ∷ xs) b ≡ flat_map (λ v. all_from V xs (with_load i b v)) V = ap (flat_map (all_from V xs)) (next_load V i b awake s f d) ∙ flat_map-map (all_from V xs) (with_load i b) V in
-      let le = all_short V (λ v. all_from V xs (with_load i b v)) (count_free size xs (target i false)) (λ v. ih (with_load i b v) refl) in
-      let more = mul-le-mul_right {m = length V} {n = size} (count_free size xs (target i false)) within in
-      subst (λ (bs : List Beginning). length bs ≤ size * count_free size xs (target i false))
+      let le = all_short V (λ v. all_from V xs (with_load i b v)) (count_free size xs (branch_target i false)) (λ v. ih (with_load i b v) refl) in
+      let more = mul-le-mul_right {m = length V} {n = size} (count_free size xs (branch_target i false)) within in
+      subst (λ (bs : List Beginning). length bs ≤ size * count_free size xs (branch_target i false))
       (sym here) (omega (arith, le, more))
 
   few_line : (o : Option ℕ) (x : Line) (xs : List Line) (b : Beginning) → AreFew xs
       → b.stopped ≡ false → b.walk.seeking ≡ o
       → length (all_from V (x ∷ xs) b) ≤ count_one size o x (count_free size xs)
   few_line (Some l) x xs b ih awake s =
-      few_one x xs b (record b { walk = passed x l b.walk }) (count_free size xs (found_at x l))
-      (next_seeking V x b l awake s) (ih (record b { walk = passed x l b.walk }) awake)
+      few_one x xs b (record b { walk = walk_past x l b.walk }) (count_free size xs (found_at x l))
+      (next_seeking V x b l awake s) (ih (record b { walk = walk_past x l b.walk }) awake)
   few_line None (Label m) xs b ih awake s =
       few_one (Label m) xs b b (count_free size xs None) (next_label V m b awake s)
       (subst (λ (o : Option ℕ). length (all_from V xs b) ≤ count_free size xs o) s (ih b awake))
@@ -140,10 +140,10 @@ module _ (V : List Value) (size : ℕ) (within : length V ≤ size) (some : 0 < 
       go false true f e =
           load_way i xs (length (all_from V (Does i ∷ xs) b)) e (few_loads i xs b ih awake s f e)
       go false false f e =
-          let le = ih (record b { walk = advanced i (goes i b.walk.state) NoValue b.walk }) awake in
+          let le = ih (record b { walk = walk_after i (takes_branch i b.walk.state) NoValue b.walk }) awake in
           let more = one_way i b.walk.state xs in
           few_one (Does i) xs b
-          (record b { walk = advanced i (goes i b.walk.state) NoValue b.walk })
+          (record b { walk = walk_after i (takes_branch i b.walk.state) NoValue b.walk })
           (count_one size None (Does i) (count_free size xs)) (next_plain V i b awake s f e)
           (omega (arith, le, more))
 

@@ -8,17 +8,17 @@ use Rattle.thread_runs.specs.declared.instruction.Line.{Line}
 use Rattle.thread_runs.specs.declared.instruction.Line.TheVariants.{Label, Does}
 use Rattle.thread_runs.specs.declared.free.FreeWalk.{FreeWalk}
 use Rattle.thread_runs.specs.Machine.{is_load, is_branch}
-use Rattle.thread_runs.specs.FreeWalks.{over, over_line, does_next, next_on, next_of}
+use Rattle.thread_runs.specs.FreeWalks.{over, walk_over, does_next, next_on, next_of}
 use Rattle.thread_runs.proofs.RunList.{flat_map_same}
 
 module _ (V : List Value) (on there : Bool) (ws : List FreeWalk) where
   label_one : (m : ℕ) (sk : Option ℕ) (w : FreeWalk)
-      → next_on V on there sk (Label m) w ≡ over_line sk (Label m) w ∷ []
+      → next_on V on there sk (Label m) w ≡ walk_over sk (Label m) w ∷ []
   label_one m (Some l) w = refl
   label_one m None w = refl
 
   plain_one : (i : Instruction) (sk : Option ℕ) (w : FreeWalk) → is_load i ≡ false
-      → is_branch i ≡ false → next_on V on there sk (Does i) w ≡ over_line sk (Does i) w ∷ []
+      → is_branch i ≡ false → next_on V on there sk (Does i) w ≡ walk_over sk (Does i) w ∷ []
   plain_one i (Some l) w d b = refl
   plain_one i None w d b =
       ap (λ (t : Bool). does_next t (is_branch i) V on there i w) d

@@ -16,11 +16,11 @@ use Rattle.thread_runs.specs.declared.instruction.Event.TheVariants.{Reads, Writ
 use Rattle.thread_runs.specs.declared.instruction.RunStep.{RunStep}
 use Rattle.thread_runs.specs.declared.state.State.{State}
 use Rattle.thread_runs.specs.declared.free.FreeWalk.{FreeWalk}
-use Rattle.thread_runs.specs.Machine.{after, event_of, register, sum_of, is_load, is_branch, target}
-use Rattle.thread_runs.specs.Runs.{Walk, Outcome, ended, advanced, passed, supplied, free_ends, free_obeyed, free_one, free_from}
-use Rattle.thread_runs.specs.ValueSet.{IsOne}
+use Rattle.thread_runs.specs.Machine.{state_after, event_of, register, sum_of, is_load, is_branch, branch_target}
+use Rattle.thread_runs.specs.Runs.{Walk, Outcome, ended, walk_after, walk_past, after_load, free_ends, after_free_instruction, after_free_line, free_from}
+use Rattle.thread_runs.specs.ValueSet.{IsProperValue}
 use Rattle.thread_runs.specs.FreeRuns.{FreeRun, count_one, count_free, sized}
-use Rattle.thread_runs.specs.FreeWalks.{walked, over_line, stored_by, stored_on, one_if, chosen, loaded, does_next, next_on, next_of, goes_by, is_store, has_store, HasNoStore, Stores, SomeStores, AreAdded}
+use Rattle.thread_runs.specs.FreeWalks.{walked, walk_over, values_stored_by, stored_on, one_if, branch_walks, loaded, does_next, next_on, next_of, goes_by, is_store_instruction, is_store_line, HasNoStore, Stores, SomeStores, AreAdded}
 use Rattle.thread_runs.proofs.RunList.{same_line}
 use Rattle.thread_runs.proofs.RunsExact.{contains_one, one_contains, flat_map_contains, contains_flat_map, map_contains, contains_map, all_from_contains}
 use Rattle.thread_runs.proofs.AllFree.{all_free, exact, counted, branch_no_load}
@@ -41,15 +41,15 @@ abbrev pub step_of : Instruction → Value → RunStep
 step_of i v = record { instruction = i; loaded = v }
 
 advanced_pre : (i : Instruction) (b : Bool) (v : Value) (p : List RunStep) (q : List Event)
-    (w : Walk) → advanced i b v (pre p q w) ≡ pre p q (advanced i b v w)
+    (w : Walk) → walk_after i b v (pre p q w) ≡ pre p q (walk_after i b v w)
 advanced_pre i b v p q w =
     ap
     (λ (r : List RunStep).
-    so_walked (after i v w.state) (target i b) r ((q ++ w.events) ++ event_of i v w.state))
+    so_walked (state_after i v w.state) (branch_target i b) r ((q ++ w.events) ++ event_of i v w.state))
     (append_assoc p w.steps (step_of i v ∷ []))
     ∙ ap
     (λ (r : List Event).
-    so_walked (after i v w.state) (target i b) (p ++ (w.steps ++ step_of i v ∷ [])) r)
+    so_walked (state_after i v w.state) (branch_target i b) (p ++ (w.steps ++ step_of i v ∷ [])) r)
     (append_assoc q w.events (event_of i v w.state))
 
 module _ (p : List RunStep) (q : List Event) where
@@ -66,29 +66,29 @@ module _ (p : List RunStep) (q : List Event) where
 
   prefixed_supplied : (ld : Bool) (i : Instruction) (b : Bool) (xs : List Line) → IsPrefixed xs
       → (w : Walk) (bs : List Bool) (vs : List Value)
-      → supplied ld i b (λ u us. free_from xs u bs us) (pre p q w) vs
-      ≡ pre_end p q (supplied ld i b (λ u us. free_from xs u bs us) w vs)
+      → after_load ld i b (λ u us. free_from xs u bs us) (pre p q w) vs
+      ≡ pre_end p q (after_load ld i b (λ u us. free_from xs u bs us) w vs)
   prefixed_supplied true i b xs ih w bs [] = refl
   prefixed_supplied true i b xs ih w bs (v ∷ vs) =
       ap (λ (u : Walk). free_from xs u bs vs) (advanced_pre i b v p q w)
-      ∙ ih (advanced i b v w) bs vs
+      ∙ ih (walk_after i b v w) bs vs
   prefixed_supplied false i b xs ih w bs vs =
       ap (λ (u : Walk). free_from xs u bs vs) (advanced_pre i b NoValue p q w)
-      ∙ ih (advanced i b NoValue w) bs vs
+      ∙ ih (walk_after i b NoValue w) bs vs
 
   prefixed_obeyed : (br : Bool) (i : Instruction) (xs : List Line) → IsPrefixed xs
       → (w : Walk) (bs : List Bool) (vs : List Value)
-      → free_obeyed br i (free_from xs) (pre p q w) bs vs
-      ≡ pre_end p q (free_obeyed br i (free_from xs) w bs vs)
+      → after_free_instruction br i (free_from xs) (pre p q w) bs vs
+      ≡ pre_end p q (after_free_instruction br i (free_from xs) w bs vs)
   prefixed_obeyed true i xs ih w [] vs = refl
   prefixed_obeyed true i xs ih w (b ∷ bs) vs = prefixed_supplied (is_load i) i b xs ih w bs vs
   prefixed_obeyed false i xs ih w bs vs = prefixed_supplied (is_load i) i false xs ih w bs vs
 
   prefixed_one : (sk : Option ℕ) (x : Line) (xs : List Line) → IsPrefixed xs
       → (w : Walk) (bs : List Bool) (vs : List Value)
-      → free_one sk x (free_from xs) (pre p q w) bs vs
-      ≡ pre_end p q (free_one sk x (free_from xs) w bs vs)
-  prefixed_one (Some l) x xs ih w bs vs = ih (passed x l w) bs vs
+      → after_free_line sk x (free_from xs) (pre p q w) bs vs
+      ≡ pre_end p q (after_free_line sk x (free_from xs) w bs vs)
+  prefixed_one (Some l) x xs ih w bs vs = ih (walk_past x l w) bs vs
   prefixed_one None (Label m) xs ih w bs vs = ih w bs vs
   prefixed_one None (Does i) xs ih w bs vs = prefixed_obeyed (is_branch i) i xs ih w bs vs
 
@@ -134,7 +134,7 @@ module _ (V : List Value) (xs : List Line) where
 
 -- by one instruction
 stores_one : (i : Instruction) (u : Value) (s : State) (a v : Value)
-    → Contains (event_of i u s) (Writes a v) → Contains (stored_by i s) v
+    → Contains (event_of i u s) (Writes a v) → Contains (values_stored_by i s) v
 stores_one (Store d b) u s a v h =
     let e : Writes (register s b) (register s d) ≡ Writes a v = contains_one _ _ h in
     one_contains (register s d) v (cc)
@@ -158,7 +158,7 @@ stores_one (CompareImmediate b n) u s a v h = absurd (let lt = h.1 in omega arit
 stores_one (Branch c l) u s a v h = absurd (let lt = h.1 in omega arith)
 stores_one (Jump l) u s a v h = absurd (let lt = h.1 in omega arith)
 
-one_stores : (i : Instruction) (u : Value) (s : State) (v : Value) → Contains (stored_by i s) v
+one_stores : (i : Instruction) (u : Value) (s : State) (v : Value) → Contains (values_stored_by i s) v
     → (a : Value) × Contains (event_of i u s) (Writes a v)
 one_stores (Store d b) u s v h =
     let e : register s d ≡ v = contains_one _ _ h in (
@@ -186,13 +186,13 @@ one_stores (Jump l) u s v h = absurd (let lt = h.1 in omega arith)
 module _ (V : List Value) (xs : List Line) (i : Instruction) (b : Bool) (u : Value) (w : FreeWalk)
   where
     same_after : (bs : List Bool) (vs : List Value)
-        → free_from xs (advanced i b u (fresh w)) bs vs
+        → free_from xs (walk_after i b u (fresh w)) bs vs
         ≡ pre_end (step_of i u ∷ []) (event_of i u w.state)
         (free_from xs (fresh (walked i b u w)) bs vs)
     same_after bs vs =
         ap
         (λ (r : List Event).
-        free_from xs (so_walked (after i u w.state) (target i b) (step_of i u ∷ []) r) bs vs)
+        free_from xs (so_walked (state_after i u w.state) (branch_target i b) (step_of i u ∷ []) r) bs vs)
         (sym (append-nil (event_of i u w.state)))
         ∙ prefixed (step_of i u ∷ []) (event_of i u w.state) xs (fresh (walked i b u w)) bs vs
 
@@ -206,14 +206,14 @@ module _ (V : List Value) (xs : List Line) (i : Instruction) (b : Bool) (u : Val
         same : {r t : Outcome} → Some r ≡ Some t → r ≡ t
         same k = cc
 
-    goes_after : Goes V xs (advanced i b u (fresh w)) → Goes V xs (fresh (walked i b u w))
+    goes_after : Goes V xs (walk_after i b u (fresh w)) → Goes V xs (fresh (walked i b u w))
     goes_after g =
         let (bs, vs, within, f, e) = g in
         let (h, d, _) = unended (free_from xs (fresh (walked i b u w)) bs vs) f (sym (same_after bs vs) ∙ e) in
         (bs, vs, within, h, d)
 
-    keeps_after : (v : Value) → Keeps V xs (advanced i b u (fresh w)) v
-        → Contains (stored_by i w.state) v ⊎ Keeps V xs (fresh (walked i b u w)) v
+    keeps_after : (v : Value) → Keeps V xs (walk_after i b u (fresh w)) v
+        → Contains (values_stored_by i w.state) v ⊎ Keeps V xs (fresh (walked i b u w)) v
     keeps_after v k =
         let (bs, vs, within, f, e, a, found) = k in
         let (h, d, q) = unended (free_from xs (fresh (walked i b u w)) bs vs) f (sym (same_after bs vs) ∙ e) in
@@ -224,8 +224,8 @@ module _ (V : List Value) (xs : List Line) (i : Instruction) (b : Bool) (u : Val
           | inr later ↦ inr (bs, vs, within, h, d, a, later)
         ]
 
-    stored_keeps : (v : Value) → Goes V xs (advanced i b u (fresh w))
-        → Contains (stored_by i w.state) v → Keeps V xs (advanced i b u (fresh w)) v
+    stored_keeps : (v : Value) → Goes V xs (walk_after i b u (fresh w))
+        → Contains (values_stored_by i w.state) v → Keeps V xs (walk_after i b u (fresh w)) v
     stored_keeps v g here =
         let (bs, vs, within, f, e) = g in
         let (h, d, q) = unended (free_from xs (fresh (walked i b u w)) bs vs) f (sym (same_after bs vs) ∙ e) in
@@ -241,10 +241,10 @@ module _ (V : List Value) (xs : List Line) (i : Instruction) (b : Bool) (u : Val
         )
 
     later_keeps : (v : Value) → Keeps V xs (fresh (walked i b u w)) v
-        → Keeps V xs (advanced i b u (fresh w)) v
+        → Keeps V xs (walk_after i b u (fresh w)) v
     later_keeps v k =
         let (bs, vs, within, g, d, a, later) = k in
-        let e : free_from xs (advanced i b u (fresh w)) bs vs ≡ pre_end (step_of i u ∷ []) (event_of i u w.state) (Some g) = same_after bs vs ∙ ap (λ (o : Option Outcome). pre_end (step_of i u ∷ []) (event_of i u w.state) o) d in (
+        let e : free_from xs (walk_after i b u (fresh w)) bs vs ≡ pre_end (step_of i u ∷ []) (event_of i u w.state) (Some g) = same_after bs vs ∙ ap (λ (o : Option Outcome). pre_end (step_of i u ∷ []) (event_of i u w.state) o) d in (
           bs,
           vs,
           within,
@@ -263,12 +263,12 @@ IsMove false false V b u = (u ≡ NoValue) × (b ≡ false)
 abbrev free_does : Bool → Bool → Instruction → (Walk → List Bool → List Value → Option Outcome)
     → Walk → List Bool → List Value → Option Outcome
 free_does ld true i go w [] vs = None
-free_does ld true i go w (b ∷ bs) vs = supplied ld i b (λ u us. go u bs us) w vs
-free_does ld false i go w bs vs = supplied ld i false (λ u us. go u bs us) w vs
+free_does ld true i go w (b ∷ bs) vs = after_load ld i b (λ u us. go u bs us) w vs
+free_does ld false i go w bs vs = after_load ld i false (λ u us. go u bs us) w vs
 
 same_does : (br : Bool) (i : Instruction) (go : Walk → List Bool → List Value → Option Outcome)
     (w : Walk) (bs : List Bool) (vs : List Value)
-    → free_obeyed br i go w bs vs ≡ free_does (is_load i) br i go w bs vs
+    → after_free_instruction br i go w bs vs ≡ free_does (is_load i) br i go w bs vs
 same_does true i go w [] vs = refl
 same_does true i go w (b ∷ bs) vs = refl
 same_does false i go w bs vs = refl
@@ -278,7 +278,7 @@ module _ (V : List Value) (xs : List Line) (i : Instruction) (w : FreeWalk) wher
   abbrev Onward : Bool → Bool → List Bool → List Value → Outcome → Type 0
   Onward ld br bs vs f =
       (b : Bool) × (u : Value) × IsMove ld br V b u × (cs : List Bool) × (us : List Value)
-      × All (Contains V) us × (free_from xs (advanced i b u (fresh w)) cs us ≡ Some f)
+      × All (Contains V) us × (free_from xs (walk_after i b u (fresh w)) cs us ≡ Some f)
 
   moves : (ld br : Bool) (bs : List Bool) (vs : List Value) (f : Outcome) → (br ≡ true → ld ≡ false)
       → All (Contains V) vs → free_does ld br i (free_from xs) (fresh w) bs vs ≡ Some f
@@ -300,7 +300,7 @@ module _ (V : List Value) (xs : List Line) (i : Instruction) (w : FreeWalk) wher
 
   one_move : (ld br : Bool) (b : Bool) (u : Value) (cs : List Bool) (us : List Value) (f : Outcome)
       → (br ≡ true → ld ≡ false) → IsMove ld br V b u → All (Contains V) us
-      → free_from xs (advanced i b u (fresh w)) cs us ≡ Some f
+      → free_from xs (walk_after i b u (fresh w)) cs us ≡ Some f
       → (bs : List Bool) × (vs : List Value) × All (Contains V) vs
       × (free_does ld br i (free_from xs) (fresh w) bs vs ≡ Some f)
   one_move true true b u cs us f only m within e = absurd (let n = only refl in cc)
@@ -308,20 +308,20 @@ module _ (V : List Value) (xs : List Line) (i : Instruction) (w : FreeWalk) wher
     cs,
     u ∷ us,
     All-cons (Contains V) u us m.0 within,
-    subst (λ (c : Bool). free_from xs (advanced i c u (fresh w)) cs us ≡ Some f) m.1 e,
+    subst (λ (c : Bool). free_from xs (walk_after i c u (fresh w)) cs us ≡ Some f) m.1 e,
   )
   one_move false true b u cs us f only m within e = (
     b ∷ cs,
     us,
     within,
-    subst (λ (v : Value). free_from xs (advanced i b v (fresh w)) cs us ≡ Some f) m e,
+    subst (λ (v : Value). free_from xs (walk_after i b v (fresh w)) cs us ≡ Some f) m e,
   )
   one_move false false b u cs us f only m within e = (
     cs,
     us,
     within,
-    subst (λ (c : Bool). free_from xs (advanced i c NoValue (fresh w)) cs us ≡ Some f) m.1
-        (subst (λ (v : Value). free_from xs (advanced i b v (fresh w)) cs us ≡ Some f) m.0 e),
+    subst (λ (c : Bool). free_from xs (walk_after i c NoValue (fresh w)) cs us ≡ Some f) m.1
+        (subst (λ (v : Value). free_from xs (walk_after i b v (fresh w)) cs us ≡ Some f) m.0 e),
   )
 
   -- the moves are those of the list, where free runs go on
@@ -332,10 +332,10 @@ module _ (V : List Value) (xs : List Line) (i : Instruction) (w : FreeWalk) wher
       subst (λ (c : Bool). Contains (loaded V i w) (walked i c u w)) (sym m.1)
       (contains_map (λ v. walked i false v w) V u m.0)
   listed false true on there b u m p q =
-      subst (λ (v : Value). Contains (chosen on there i w) (walked i b v w)) (sym m) (go b p q)
+      subst (λ (v : Value). Contains (branch_walks on there i w) (walked i b v w)) (sym m) (go b p q)
     where
       go : (c : Bool) → (c ≡ false → true ≡ true → on ≡ true) → (c ≡ true → there ≡ true)
-          → Contains (chosen on there i w) (walked i c NoValue w)
+          → Contains (branch_walks on there i w) (walked i c NoValue w)
       go false p q =
           Contains-append_left (one_if on (walked i false NoValue w))
           (one_if there (walked i true NoValue w)) (walked i false NoValue w) (subst
@@ -404,19 +404,19 @@ module _ (V : List Value) (i : Instruction) (xs : List Line) (w : FreeWalk) (on 
       → Goes V xs (fresh (walked i b u w))
       → Contains (does_next (is_load i) (is_branch i) V on there i w) (walked i b u w)
   has_next b u m g =
-      let more : 0 < count_free (length V) xs (target i b) = goes_counted V xs (fresh (walked i b u w)) g in
+      let more : 0 < count_free (length V) xs (branch_target i b) = goes_counted V xs (fresh (walked i b u w)) g in
       listed V xs i w (is_load i) (is_branch i) on there b u m
       (λ no_taken is. on_is
-      ∙ counts_goes (count_free (length V) xs (target i false))
-      (subst (λ (c : Bool). 0 < count_free (length V) xs (target i c)) no_taken more))
+      ∙ counts_goes (count_free (length V) xs (branch_target i false))
+      (subst (λ (c : Bool). 0 < count_free (length V) xs (branch_target i c)) no_taken more))
       (λ is_taken. there_is
-      ∙ counts_goes (count_free (length V) xs (target i true))
-      (subst (λ (c : Bool). 0 < count_free (length V) xs (target i c)) is_taken more))
+      ∙ counts_goes (count_free (length V) xs (branch_target i true))
+      (subst (λ (c : Bool). 0 < count_free (length V) xs (branch_target i c)) is_taken more))
 
   does_keeps : (v : Value) (bs : List Bool) (vs : List Value) → All (Contains V) vs → (f : Outcome)
-      → free_obeyed (is_branch i) i (free_from xs) (fresh w) bs vs ≡ Some f → (a : Value)
+      → after_free_instruction (is_branch i) i (free_from xs) (fresh w) bs vs ≡ Some f → (a : Value)
       → Contains f.walk.events (Writes a v)
-      → Contains (stored_by i w.state) v
+      → Contains (values_stored_by i w.state) v
       ⊎ ((n : FreeWalk) × Contains (does_next (is_load i) (is_branch i) V on there i w) n
       × Keeps V xs (fresh n) v)
   does_keeps v bs vs within f e a found =
@@ -426,9 +426,9 @@ module _ (V : List Value) (i : Instruction) (xs : List Line) (w : FreeWalk) (on 
       [ inl here ↦ inl here | inr later ↦ inr (walked i b u w, n, later) ]
 
   keeps_does : (v : Value) (b : Bool) (u : Value) → IsMove (is_load i) (is_branch i) V b u
-      → Keeps V xs (advanced i b u (fresh w)) v
+      → Keeps V xs (walk_after i b u (fresh w)) v
       → (bs : List Bool) × (vs : List Value) × All (Contains V) vs × (f : Outcome)
-      × (free_obeyed (is_branch i) i (free_from xs) (fresh w) bs vs ≡ Some f) × (a : Value)
+      × (after_free_instruction (is_branch i) i (free_from xs) (fresh w) bs vs ≡ Some f) × (a : Value)
       × Contains f.walk.events (Writes a v)
   keeps_does v b u m k =
       let (cs, us, inside, f, d, a, found) = k in
@@ -438,7 +438,7 @@ module _ (V : List Value) (i : Instruction) (xs : List Line) (w : FreeWalk) (on 
   does_later : (v : Value) (n : FreeWalk)
       → Contains (does_next (is_load i) (is_branch i) V on there i w) n → Keeps V xs (fresh n) v
       → (bs : List Bool) × (vs : List Value) × All (Contains V) vs × (f : Outcome)
-      × (free_obeyed (is_branch i) i (free_from xs) (fresh w) bs vs ≡ Some f) × (a : Value)
+      × (after_free_instruction (is_branch i) i (free_from xs) (fresh w) bs vs ≡ Some f) × (a : Value)
       × Contains f.walk.events (Writes a v)
   does_later v n h k =
       let (b, u, m, e, _, _) = unlisted V xs i w (is_load i) (is_branch i) on there n h in
@@ -446,10 +446,10 @@ module _ (V : List Value) (i : Instruction) (xs : List Line) (w : FreeWalk) (on 
       (subst (λ (z : FreeWalk). Keeps V xs (fresh z) v) (sym e) k))
 
   does_here : (v : Value) (bs : List Bool) (vs : List Value) → All (Contains V) vs → (f : Outcome)
-      → free_obeyed (is_branch i) i (free_from xs) (fresh w) bs vs ≡ Some f
-      → Contains (stored_by i w.state) v
+      → after_free_instruction (is_branch i) i (free_from xs) (fresh w) bs vs ≡ Some f
+      → Contains (values_stored_by i w.state) v
       → (bs : List Bool) × (vs : List Value) × All (Contains V) vs × (f : Outcome)
-      × (free_obeyed (is_branch i) i (free_from xs) (fresh w) bs vs ≡ Some f) × (a : Value)
+      × (after_free_instruction (is_branch i) i (free_from xs) (fresh w) bs vs ≡ Some f) × (a : Value)
       × Contains f.walk.events (Writes a v)
   does_here v bs vs within f e here =
       let (b, u, m, cs, us, inside, d) = moves V xs i w (is_load i) (is_branch i) bs vs f (branch_no_load i) within (sym (same_does (is_branch i) i (free_from xs) (fresh w) bs vs) ∙ e) in
@@ -469,34 +469,34 @@ module _ (V : List Value) (i : Instruction) (xs : List Line) (w : FreeWalk) (on 
           → 0 < count_one (length V) None (Does i) (count_free (length V) xs)) → (u : Value)
           → IsMove (is_load i) (is_branch i) V b u
           → (is_branch i ≡ true → is_load i ≡ false → b ≡ false → on ≡ true)
-          → (b ≡ true → there ≡ true) → 0 < count_free (length V) xs (target i b)
+          → (b ≡ true → there ≡ true) → 0 < count_free (length V) xs (branch_target i b)
       go br ld true e f g u m p q =
-          goes_counts (count_free (length V) xs (target i true)) (sym there_is ∙ q refl)
+          goes_counts (count_free (length V) xs (branch_target i true)) (sym there_is ∙ q refl)
       go true ld false e f g u m p q =
-          goes_counts (count_free (length V) xs (target i false))
+          goes_counts (count_free (length V) xs (branch_target i false))
           (sym on_is ∙ p e (branch_no_load i e) refl)
       go false true false e f g u m p q =
-          sized_goes (length V) (count_free (length V) xs (target i false)) (subst
+          sized_goes (length V) (count_free (length V) xs (branch_target i false)) (subst
           (λ (t : Bool). 0
-          < (if t then length V * count_free (length V) xs (target i false)
-          else count_free (length V) xs (target i false))) f
+          < (if t then length V * count_free (length V) xs (branch_target i false)
+          else count_free (length V) xs (branch_target i false))) f
           (subst
           (λ (t : Bool). 0
-          < (if t then count_free (length V) xs (target i true)
-          + count_free (length V) xs (target i false)
-          else sized (length V) i (count_free (length V) xs (target i false))))
+          < (if t then count_free (length V) xs (branch_target i true)
+          + count_free (length V) xs (branch_target i false)
+          else sized (length V) i (count_free (length V) xs (branch_target i false))))
           e
           (g f e)))
       go false false false e f g u m p q =
           subst
           (λ (t : Bool). 0
-          < (if t then length V * count_free (length V) xs (target i false)
-          else count_free (length V) xs (target i false))) f
+          < (if t then length V * count_free (length V) xs (branch_target i false)
+          else count_free (length V) xs (branch_target i false))) f
           (subst
           (λ (t : Bool). 0
-          < (if t then count_free (length V) xs (target i true)
-          + count_free (length V) xs (target i false)
-          else sized (length V) i (count_free (length V) xs (target i false)))) e
+          < (if t then count_free (length V) xs (branch_target i true)
+          + count_free (length V) xs (branch_target i false)
+          else sized (length V) i (count_free (length V) xs (branch_target i false)))) e
           (g f e))
 
 -- a line
@@ -509,20 +509,20 @@ module _ (V : List Value) (xs : List Line) (on there : Bool) where
   line_keeps sk x w s p q v k =
       let (bs, vs, within, f, e, a, found) = k in
       go sk x p q bs vs within f
-      (subst (λ (o : Option ℕ). free_one o x (free_from xs) (fresh w) bs vs ≡ Some f) s e) a
+      (subst (λ (o : Option ℕ). after_free_line o x (free_from xs) (fresh w) bs vs ≡ Some f) s e) a
       found
     where
       go : (sk : Option ℕ) (x : Line) → on ≡ goes_by (length V) xs false x
           → there ≡ goes_by (length V) xs true x → (bs : List Bool) (vs : List Value)
           → All (Contains V) vs → (f : Outcome)
-          → free_one sk x (free_from xs) (fresh w) bs vs ≡ Some f → (a : Value)
+          → after_free_line sk x (free_from xs) (fresh w) bs vs ≡ Some f → (a : Value)
           → Contains f.walk.events (Writes a v)
           → Contains (stored_on sk x w) v
           ⊎ ((n : FreeWalk) × Contains (next_on V on there sk x w) n × Keeps V xs (fresh n) v)
       go (Some l) x p q bs vs within f e a found =
           inr (
-            over_line (Some l) x w,
-            one_contains (over_line (Some l) x w) (over_line (Some l) x w) refl,
+            walk_over (Some l) x w,
+            one_contains (walk_over (Some l) x w) (walk_over (Some l) x w) refl,
             (bs, vs, within, f, e, a, found),
           )
       go None (Label m) p q bs vs within f e a found =
@@ -541,7 +541,7 @@ module _ (V : List Value) (xs : List Line) (on there : Bool) where
         vs,
         within,
         f,
-        subst (λ (o : Option ℕ). free_one o x (free_from xs) (fresh w) bs vs ≡ Some f) (sym s)
+        subst (λ (o : Option ℕ). after_free_line o x (free_from xs) (fresh w) bs vs ≡ Some f) (sym s)
             e,
         a,
         found,
@@ -550,11 +550,11 @@ module _ (V : List Value) (xs : List Line) (on there : Bool) where
       go : (sk : Option ℕ) (x : Line) → on ≡ goes_by (length V) xs false x
           → there ≡ goes_by (length V) xs true x → Contains (next_on V on there sk x w) n
           → (bs : List Bool) × (vs : List Value) × All (Contains V) vs × (f : Outcome)
-          × (free_one sk x (free_from xs) (fresh w) bs vs ≡ Some f) × (a : Value)
+          × (after_free_line sk x (free_from xs) (fresh w) bs vs ≡ Some f) × (a : Value)
           × Contains f.walk.events (Writes a v)
       go (Some l) x p q h =
           subst (λ (z : FreeWalk). Keeps V xs (fresh z) v)
-          (sym (contains_one (over_line (Some l) x w) n h)) k
+          (sym (contains_one (walk_over (Some l) x w) n h)) k
       go None (Label m) p q h =
           subst (λ (z : FreeWalk). Keeps V xs (fresh z) v) (sym (contains_one w n h)) k
       go None (Does i) p q h = does_later V i xs w on there p q v n h k
@@ -565,12 +565,12 @@ module _ (V : List Value) (xs : List Line) (on there : Bool) where
       → Keeps V (x ∷ xs) (fresh w) v
   line_here sk x w s p q v lt here =
       let (bs, vs, within, f, e) = counted_goes V (x ∷ xs) (fresh w) lt in
-      let (cs, us, inside, g, d, a, found) = go sk x p q bs vs within f (subst (λ (o : Option ℕ). free_one o x (free_from xs) (fresh w) bs vs ≡ Some f) s e) here in (
+      let (cs, us, inside, g, d, a, found) = go sk x p q bs vs within f (subst (λ (o : Option ℕ). after_free_line o x (free_from xs) (fresh w) bs vs ≡ Some f) s e) here in (
         cs,
         us,
         inside,
         g,
-        subst (λ (o : Option ℕ). free_one o x (free_from xs) (fresh w) cs us ≡ Some g) (sym s)
+        subst (λ (o : Option ℕ). after_free_line o x (free_from xs) (fresh w) cs us ≡ Some g) (sym s)
             d,
         a,
         found,
@@ -579,9 +579,9 @@ module _ (V : List Value) (xs : List Line) (on there : Bool) where
       go : (sk : Option ℕ) (x : Line) → on ≡ goes_by (length V) xs false x
           → there ≡ goes_by (length V) xs true x → (bs : List Bool) (vs : List Value)
           → All (Contains V) vs → (f : Outcome)
-          → free_one sk x (free_from xs) (fresh w) bs vs ≡ Some f → Contains (stored_on sk x w) v
+          → after_free_line sk x (free_from xs) (fresh w) bs vs ≡ Some f → Contains (stored_on sk x w) v
           → (bs : List Bool) × (vs : List Value) × All (Contains V) vs × (f : Outcome)
-          × (free_one sk x (free_from xs) (fresh w) bs vs ≡ Some f) × (a : Value)
+          × (after_free_line sk x (free_from xs) (fresh w) bs vs ≡ Some f) × (a : Value)
           × Contains f.walk.events (Writes a v)
       go (Some l) x p q bs vs within f e h = absurd (let no_one = h.1 in omega arith)
       go None (Label m) p q bs vs within f e h = absurd (let no_one = h.1 in omega arith)
@@ -601,7 +601,7 @@ module _ (V : List Value) (xs : List Line) (on there : Bool) where
           → Contains (next_on V on there sk x w) n → 0 < count_free (length V) xs n.seeking
       go (Some l) x s p q lt h =
           subst (λ (z : FreeWalk). 0 < count_free (length V) xs z.seeking)
-          (contains_one (over_line (Some l) x w) n h) lt
+          (contains_one (walk_over (Some l) x w) n h) lt
       go None (Label m) s p q lt h =
           subst (λ (z : FreeWalk). 0 < count_free (length V) xs z.seeking) (contains_one w n h)
           (subst (λ (o : Option ℕ). 0 < count_free (length V) xs o) (sym s) lt)
@@ -609,12 +609,12 @@ module _ (V : List Value) (xs : List Line) (on there : Bool) where
 
 -- no line from the one before on is a store
 pub no_store_more : (lines : List Line) (end : ℕ) (d : Line) → 0 < end → end ≤ length lines
-    → HasNoStore lines end (length lines) → has_store (get_or lines (end - 1) d) ≡ false
+    → HasNoStore lines end (length lines) → is_store_line (get_or lines (end - 1) d) ≡ false
     → HasNoStore lines (end - 1) (length lines)
 no_store_more lines end d some within storeless here k e from to = elim (cases_lt k end) [
   | inl lt ↦
       let same : end - 1 ≡ k = omega arith in
-      subst (λ (j : ℕ). has_store (get_or lines j e) ≡ false) same (ap has_store
+      subst (λ (j : ℕ). is_store_line (get_or lines j e) ≡ false) same (ap is_store_line
       (same_line lines (end - 1) e d (omega arith)) ∙ here)
   | inr ge ↦ storeless k e ge to
 ]
@@ -628,8 +628,8 @@ pub record IsUnderWay (lines : List Line) (first : State) (V : List Value) (k : 
   pub longer : length old ≤ length stored
   pub unchanged : length old ≡ length stored → old ≡ stored
   pub kept : (v : Value) → Contains old v → Contains stored v
-  pub sound : (v : Value) → Contains stored v → Contains old v ⊎ (Stores lines first V v × IsOne v)
-  pub whole : length stored ≤ 16 → (v : Value) → Stores lines first V v → IsOne v
+  pub sound : (v : Value) → Contains stored v → Contains old v ⊎ (Stores lines first V v × IsProperValue v)
+  pub whole : length stored ≤ 16 → (v : Value) → Stores lines first V v → IsProperValue v
       → Contains stored v ⊎ ((w : FreeWalk) × Contains walks w × Keeps V (drop k lines) (fresh w) v)
 
 module _ (lines : List Line) (first : State) (V : List Value) where
@@ -678,13 +678,13 @@ module _ (lines : List Line) (first : State) (V : List Value) where
       go [] (u ∷ us) f e a found = absurd cc
       go (b ∷ bs) vs f e a found = absurd cc
 
-  not_stored : (sk : Option ℕ) (x : Line) (w : FreeWalk) (v : Value) → has_store x ≡ false
+  not_stored : (sk : Option ℕ) (x : Line) (w : FreeWalk) (v : Value) → is_store_line x ≡ false
       → Contains (stored_on sk x w) v → ⊥
   not_stored (Some l) x w v storeless h = let lt = h.1 in omega arith
   not_stored None (Label m) w v storeless h = let lt = h.1 in omega arith
   not_stored None (Does i) w v storeless h = instruction_not i storeless h
     where
-      instruction_not : (i : Instruction) → is_store i ≡ false → Contains (stored_by i w.state) v
+      instruction_not : (i : Instruction) → is_store_instruction i ≡ false → Contains (values_stored_by i w.state) v
           → ⊥
       instruction_not (Store d b) storeless h = absurd cc
       instruction_not (StoreIndexed d b c) storeless h = absurd cc

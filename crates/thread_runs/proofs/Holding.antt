@@ -7,7 +7,7 @@ use Rattle.thread_runs.specs.declared.value.Value.TheVariants.{Number}
 use Rattle.thread_runs.specs.declared.instruction.Program.{Program}
 use Rattle.thread_runs.specs.Machine.{register}
 use Rattle.thread_runs.specs.AllRuns.{first_of}
-use Rattle.thread_runs.specs.Held.{MayHold, AreLeft, none, AreHeld}
+use Rattle.thread_runs.specs.Held.{MayHold, AreLeft, none, AreLocationValues}
 use Rattle.thread_runs.proofs.Serving.{one_stays, one_goes}
 
 -- a register of a thread that is not there
@@ -63,8 +63,8 @@ get_more (z ∷ zs) x y (suc k) e =
 
 pub one_held : (p : Program) (V : List Value) (n : ℕ) (held after : List (Vec Value Global))
     (vs : Vec Value Global)
-    → length held ≡ n → AreHeld p V held → AreLeft (λ v. MayHold p n v → ⊥) V vs.items
-    → after ≡ held ++ vs ∷ [] → AreHeld p V after
+    → length held ≡ n → AreLocationValues p V held → AreLeft (λ v. MayHold p n v → ⊥) V vs.items
+    → after ≡ held ++ vs ∷ [] → AreLocationValues p V after
 one_held p V n held after vs many are here e location ws got =
     elim
     (get_more held vs ws location (ap (λ (l : List (Vec Value Global)). slice_get l location)

@@ -13,10 +13,10 @@ use Rattle.thread_runs.specs.declared.instruction.Instruction.TheVariants.{Immed
 use Rattle.thread_runs.specs.declared.instruction.Line.{Line}
 use Rattle.thread_runs.specs.declared.instruction.Line.TheVariants.{Label, Does}
 use Rattle.thread_runs.specs.declared.state.State.{State}
-use Rattle.thread_runs.specs.Machine.{is_load, is_fault, goes}
-use Rattle.thread_runs.specs.Runs.{Walk, Run, Outcome, Thread, ended, ends, advanced, passed, supplied, obeyed, one, run_from, run_of, IsBefore, IsLess, IsRun, AreRuns}
+use Rattle.thread_runs.specs.Machine.{is_load, is_fault, takes_branch}
+use Rattle.thread_runs.specs.Runs.{Walk, Run, Outcome, Thread, ended, ends, walk_after, walk_past, after_load, after_instruction, after_line, run_from, run_of, IsLexicallyBefore, IsLess, IsThreadRun, AreThreadRuns}
 use Rattle.thread_runs.specs.declared.run.Run as made
-use Rattle.thread_runs.specs.AllRuns.{Beginning, beginning_at, gone_over, over_line, over_instruction, goes_on, with_load, spread, next, all_from, whole, shown, shown_of, shown_whole, HasRuns, ShowsRuns}
+use Rattle.thread_runs.specs.AllRuns.{Beginning, beginning_at, gone_over, beginning_past, over_instruction, is_executing, with_load, spread, next, all_from, whole, run_shown, shown_run, shown_whole, HasRuns, ShowsRuns}
 use Rattle.thread_runs.proofs.Pairs.{pairs_head, pairs_tail, pairs_none}
 
 -- elements
@@ -54,7 +54,7 @@ contains_flat_map f xs x c h found = go xs h.0 h.1 h.2
         Contains-append_right (f y) (flat_map f ys) c (go ys k (omega arith) e)
 
 -- one step of a beginning
-load_goes : (i : Instruction) (s : State) → is_load i ≡ true → goes i s ≡ false
+load_goes : (i : Instruction) (s : State) → is_load i ≡ true → takes_branch i s ≡ false
 load_goes (Load d a) s e = refl
 load_goes (LoadIndexed d a b) s e = refl
 load_goes (Immediate d n) s e = refl
@@ -70,16 +70,16 @@ load_goes (Jump l) s e = refl
 load_goes (Barrier f) s e = refl
 
 over_stopped : (x : Line) (b : Beginning) → b.stopped ≡ true → gone_over x b ≡ b
-over_stopped x b e = ap (λ (s : Bool). if s then b else over_line b.walk.seeking x b) e
+over_stopped x b e = ap (λ (s : Bool). if s then b else beginning_past b.walk.seeking x b) e
 
 over_awake : (x : Line) (b : Beginning) → b.stopped ≡ false
-    → gone_over x b ≡ over_line b.walk.seeking x b
-over_awake x b e = ap (λ (s : Bool). if s then b else over_line b.walk.seeking x b) e
+    → gone_over x b ≡ beginning_past b.walk.seeking x b
+over_awake x b e = ap (λ (s : Bool). if s then b else beginning_past b.walk.seeking x b) e
 
 -- a line that is not executed as a load
 module _ (V : List Value) where
   not_spread : (i : Instruction) (b : Beginning)
-      → goes_on b.stopped b.walk.seeking (is_fault i b.walk.state) ≡ false
+      → is_executing b.stopped b.walk.seeking (is_fault i b.walk.state) ≡ false
       → next V (Does i) b ≡ gone_over (Does i) b ∷ []
   not_spread i b e = go (is_load i)
     where
@@ -91,43 +91,43 @@ module _ (V : List Value) where
   next_stopped : (x : Line) (b : Beginning) → b.stopped ≡ true → next V x b ≡ b ∷ []
   next_stopped (Label m) b e = ap (λ (a : Beginning). a ∷ []) (over_stopped (Label m) b e)
   next_stopped (Does i) b e =
-      not_spread i b (ap (λ (s : Bool). goes_on s b.walk.seeking (is_fault i b.walk.state)) e)
+      not_spread i b (ap (λ (s : Bool). is_executing s b.walk.seeking (is_fault i b.walk.state)) e)
       ∙ ap (λ (a : Beginning). a ∷ []) (over_stopped (Does i) b e)
 
   pub next_seeking : (x : Line) (b : Beginning) (l : ℕ) → b.stopped ≡ false
-      → b.walk.seeking ≡ Some l → next V x b ≡ record b { walk = passed x l b.walk } ∷ []
+      → b.walk.seeking ≡ Some l → next V x b ≡ record b { walk = walk_past x l b.walk } ∷ []
   next_seeking (Label m) b l e s =
       ap (λ (a : Beginning). a ∷ []) (over_awake (Label m) b e
-      ∙ ap (λ (o : Option ℕ). over_line o (Label m) b) s)
+      ∙ ap (λ (o : Option ℕ). beginning_past o (Label m) b) s)
   next_seeking (Does i) b l e s =
-      not_spread i b (ap (λ (t : Bool). goes_on t b.walk.seeking (is_fault i b.walk.state)) e
-      ∙ ap (λ (o : Option ℕ). goes_on false o (is_fault i b.walk.state)) s)
+      not_spread i b (ap (λ (t : Bool). is_executing t b.walk.seeking (is_fault i b.walk.state)) e
+      ∙ ap (λ (o : Option ℕ). is_executing false o (is_fault i b.walk.state)) s)
       ∙ ap (λ (a : Beginning). a ∷ []) (over_awake (Does i) b e
-      ∙ ap (λ (o : Option ℕ). over_line o (Does i) b) s)
+      ∙ ap (λ (o : Option ℕ). beginning_past o (Does i) b) s)
 
   pub next_label : (m : ℕ) (b : Beginning) → b.stopped ≡ false → b.walk.seeking ≡ None
       → next V (Label m) b ≡ b ∷ []
   next_label m b e s =
       ap (λ (a : Beginning). a ∷ []) (over_awake (Label m) b e
-      ∙ ap (λ (o : Option ℕ). over_line o (Label m) b) s)
+      ∙ ap (λ (o : Option ℕ). beginning_past o (Label m) b) s)
 
   pub next_fault : (i : Instruction) (b : Beginning) → b.stopped ≡ false → b.walk.seeking ≡ None
       → is_fault i b.walk.state ≡ true → next V (Does i) b ≡ record b { stopped = true } ∷ []
   next_fault i b e s f =
-      not_spread i b (ap (λ (t : Bool). goes_on t b.walk.seeking (is_fault i b.walk.state)) e
-      ∙ ap (λ (o : Option ℕ). goes_on false o (is_fault i b.walk.state)) s
-      ∙ ap (λ (t : Bool). goes_on false None t) f)
+      not_spread i b (ap (λ (t : Bool). is_executing t b.walk.seeking (is_fault i b.walk.state)) e
+      ∙ ap (λ (o : Option ℕ). is_executing false o (is_fault i b.walk.state)) s
+      ∙ ap (λ (t : Bool). is_executing false None t) f)
       ∙ ap (λ (a : Beginning). a ∷ []) (over_awake (Does i) b e
-      ∙ ap (λ (o : Option ℕ). over_line o (Does i) b) s
+      ∙ ap (λ (o : Option ℕ). beginning_past o (Does i) b) s
       ∙ ap (λ (t : Bool). over_instruction t i b) f)
 
   pub next_plain : (i : Instruction) (b : Beginning) → b.stopped ≡ false → b.walk.seeking ≡ None
       → is_fault i b.walk.state ≡ false → is_load i ≡ false
-      → next V (Does i) b ≡ record b { walk = advanced i (goes i b.walk.state) NoValue b.walk } ∷ []
+      → next V (Does i) b ≡ record b { walk = walk_after i (takes_branch i b.walk.state) NoValue b.walk } ∷ []
   next_plain i b e s f d =
       ap (λ (t : Bool). if t then spread V i b else gone_over (Does i) b ∷ []) d
       ∙ ap (λ (a : Beginning). a ∷ []) (over_awake (Does i) b e
-      ∙ ap (λ (o : Option ℕ). over_line o (Does i) b) s
+      ∙ ap (λ (o : Option ℕ). beginning_past o (Does i) b) s
       ∙ ap (λ (t : Bool). over_instruction t i b) f)
 
   pub next_load : (i : Instruction) (b : Beginning) → b.stopped ≡ false → b.walk.seeking ≡ None
@@ -136,9 +136,9 @@ module _ (V : List Value) where
   next_load i b e s f d =
       ap (λ (t : Bool). if t then spread V i b else gone_over (Does i) b ∷ []) d
       ∙ ap (λ (t : Bool). if t then map (with_load i b) V else gone_over (Does i) b ∷ [])
-      (ap (λ (t : Bool). goes_on t b.walk.seeking (is_fault i b.walk.state)) e
-      ∙ ap (λ (o : Option ℕ). goes_on false o (is_fault i b.walk.state)) s
-      ∙ ap (λ (t : Bool). goes_on false None t) f)
+      (ap (λ (t : Bool). is_executing t b.walk.seeking (is_fault i b.walk.state)) e
+      ∙ ap (λ (o : Option ℕ). is_executing false o (is_fault i b.walk.state)) s
+      ∙ ap (λ (t : Bool). is_executing false None t) f)
 
   pub one_next : (x : Line) (xs : List Line) (b a : Beginning) → next V x b ≡ a ∷ []
       → all_from V (x ∷ xs) b ≡ all_from V xs a
@@ -216,8 +216,8 @@ module _ (V : List Value) where
   )
 
   seeks : (x : Line) (xs : List Line) (w : Walk) (vs : List Value) (o : Option ℕ) → w.seeking ≡ o
-      → run_from (x ∷ xs) w vs ≡ one o x (run_from xs) w vs
-  seeks x xs w vs o s = ap (λ (p : Option ℕ). one p x (run_from xs) w vs) s
+      → run_from (x ∷ xs) w vs ≡ after_line o x (run_from xs) w vs
+  seeks x xs w vs o s = ap (λ (p : Option ℕ). after_line p x (run_from xs) w vs) s
 
   by_fault : (i : Instruction) (xs : List Line) (b c : Beginning) → b.stopped ≡ false
       → b.walk.seeking ≡ None → is_fault i b.walk.state ≡ true
@@ -243,7 +243,7 @@ module _ (V : List Value) where
       runs : (vs : List Value) → run_from (Does i ∷ xs) b.walk vs ≡ ends true b.walk vs
       runs vs =
           seeks (Does i) xs b.walk vs None s
-          ∙ ap (λ (t : Bool). obeyed t i (run_from xs) b.walk vs) f
+          ∙ ap (λ (t : Bool). after_instruction t i (run_from xs) b.walk vs) f
 
       ended_so : (vs : List Value) → c.values ≡ b.values ++ vs
           → ends true b.walk vs ≡ Some (ended c.stopped c.walk) → a ≡ c
@@ -271,12 +271,12 @@ module _ (V : List Value) where
           ∙ flat_map-map (all_from V xs) (with_load i b) V
 
       runs : (vs : List Value)
-          → run_from (Does i ∷ xs) b.walk vs ≡ supplied true i false (run_from xs) b.walk vs
+          → run_from (Does i ∷ xs) b.walk vs ≡ after_load true i false (run_from xs) b.walk vs
       runs vs =
           seeks (Does i) xs b.walk vs None s
-          ∙ ap (λ (t : Bool). obeyed t i (run_from xs) b.walk vs) f
-          ∙ ap (λ (t : Bool). supplied t i (goes i b.walk.state) (run_from xs) b.walk vs) d
-          ∙ ap (λ (t : Bool). supplied true i t (run_from xs) b.walk vs)
+          ∙ ap (λ (t : Bool). after_instruction t i (run_from xs) b.walk vs) f
+          ∙ ap (λ (t : Bool). after_load t i (takes_branch i b.walk.state) (run_from xs) b.walk vs) d
+          ∙ ap (λ (t : Bool). after_load true i t (run_from xs) b.walk vs)
           (load_goes i b.walk.state d)
 
       longer : (v : Value) → Contains V v → Extends xs (with_load i b v) c
@@ -305,7 +305,7 @@ module _ (V : List Value) where
       → b.stopped ≡ false → b.walk.seeking ≡ o
       → Contains (all_from V (x ∷ xs) b) c ↔ Extends (x ∷ xs) b c
   by_line (Some l) x xs b c ih awake s =
-      by_one x xs b (record b { walk = passed x l b.walk }) c ih awake (next_seeking x b l awake s)
+      by_one x xs b (record b { walk = walk_past x l b.walk }) c ih awake (next_seeking x b l awake s)
       refl (λ vs. seeks x xs b.walk vs (Some l) s)
   by_line None (Label m) xs b c ih awake s =
       by_one (Label m) xs b b c ih awake (next_label m b awake s) refl
@@ -317,11 +317,11 @@ module _ (V : List Value) where
       go true d f e = by_fault i xs b c awake s f
       go false true f e = by_load i xs b c ih awake s f e
       go false false f e =
-          by_one (Does i) xs b (record b { walk = advanced i (goes i b.walk.state) NoValue b.walk })
+          by_one (Does i) xs b (record b { walk = walk_after i (takes_branch i b.walk.state) NoValue b.walk })
           c ih awake (next_plain i b awake s f e) refl
           (λ vs. seeks (Does i) xs b.walk vs None s
-          ∙ ap (λ (t : Bool). obeyed t i (run_from xs) b.walk vs) f
-          ∙ ap (λ (t : Bool). supplied t i (goes i b.walk.state) (run_from xs) b.walk vs) e)
+          ∙ ap (λ (t : Bool). after_instruction t i (run_from xs) b.walk vs) f
+          ∙ ap (λ (t : Bool). after_load t i (takes_branch i b.walk.state) (run_from xs) b.walk vs) e)
 
   pub exact : (xs : List Line) → IsExact xs
   exact [] b c awake = (
@@ -332,7 +332,7 @@ module _ (V : List Value) where
 
 -- the order
 prefix_before : (Lt : Value → Value → Type 0) (p : List Value) (v w : Value) (vs ws : List Value)
-    → Lt v w → IsBefore Lt (p ++ v ∷ vs) (p ++ w ∷ ws)
+    → Lt v w → IsLexicallyBefore Lt (p ++ v ∷ vs) (p ++ w ∷ ws)
 prefix_before Lt [] v w vs ws lt = inl lt
 prefix_before Lt (x ∷ p) v w vs ws lt = inr (refl, prefix_before Lt p v w vs ws lt)
 
@@ -365,7 +365,7 @@ pairs_flat_map Q R f (x ∷ xs) rising each cross =
     cross x y (All-contains (Q x) xs y (pairs_head Q x xs rising) within) a b h found)
 
 abbrev IsEarlier : Beginning → Beginning → Type 0
-IsEarlier b c = IsBefore IsLess b.values c.values
+IsEarlier b c = IsLexicallyBefore IsLess b.values c.values
 
 module _ (V : List Value) (rising : AllPairs IsLess V) where
   by_one_rises : (x : Line) (xs : List Line) (b a : Beginning) → next V x b ≡ a ∷ []
@@ -396,8 +396,8 @@ module _ (V : List Value) (rising : AllPairs IsLess V) where
       cross v w lt a c h k =
           let (vs, p) = begins v a h in
           let (ws, q) = begins w c k in
-          subst (λ (us : List Value). IsBefore IsLess us c.values) (sym p)
-          (subst (λ (us : List Value). IsBefore IsLess (b.values ++ v ∷ vs) us) (sym q)
+          subst (λ (us : List Value). IsLexicallyBefore IsLess us c.values) (sym p)
+          (subst (λ (us : List Value). IsLexicallyBefore IsLess (b.values ++ v ∷ vs) us) (sym q)
           (prefix_before IsLess b.values v w vs ws lt))
 
   by_line_rises : (o : Option ℕ) (x : Line) (xs : List Line) (b : Beginning) → b.stopped ≡ false
@@ -405,7 +405,7 @@ module _ (V : List Value) (rising : AllPairs IsLess V) where
       → ((a : Beginning) → a.stopped ≡ false → AllPairs IsEarlier (all_from V xs a))
       → AllPairs IsEarlier (all_from V (x ∷ xs) b)
   by_line_rises (Some l) x xs b awake s ih =
-      by_one_rises x xs b (record b { walk = passed x l b.walk }) (next_seeking V x b l awake s)
+      by_one_rises x xs b (record b { walk = walk_past x l b.walk }) (next_seeking V x b l awake s)
       (ih _ awake)
   by_line_rises None (Label m) xs b awake s ih =
       by_one_rises (Label m) xs b b (next_label V m b awake s) (ih b awake)
@@ -421,7 +421,7 @@ module _ (V : List Value) (rising : AllPairs IsLess V) where
       go false true f e = by_load_rises i xs b awake s f e ih
       go false false f e =
           by_one_rises (Does i) xs b
-          (record b { walk = advanced i (goes i b.walk.state) NoValue b.walk })
+          (record b { walk = walk_after i (takes_branch i b.walk.state) NoValue b.walk })
           (next_plain V i b awake s f e) (ih _ awake)
 
   pub rises : (xs : List Line) (b : Beginning) → b.stopped ≡ false
@@ -471,10 +471,10 @@ map_twice g f (x ∷ xs) = ap (λ (ys : List _). g (f x) ∷ ys) (map_twice g f 
 
 -- all beginnings that are whole, as runs
 pub are_runs : (t : Thread) (V : List Value) → AllPairs IsLess V
-    → AreRuns t (Contains V) (map whole (all_from V t.lines (beginning_at t.first)))
+    → AreThreadRuns t (Contains V) (map whole (all_from V t.lines (beginning_at t.first)))
 are_runs t V rising = record {
   rising =
-      pairs_map (λ r s. IsBefore IsLess r.values s.values) whole
+      pairs_map (λ r s. IsLexicallyBefore IsLess r.values s.values) whole
       (all_from V t.lines (beginning_at t.first))
       (rises V rising t.lines (beginning_at t.first) refl);
   exact = λ r. (forth r, back r);
@@ -483,17 +483,17 @@ are_runs t V rising = record {
     bs : List Beginning
     bs = all_from V t.lines (beginning_at t.first)
 
-    forth : (r : Run) → Contains (map whole bs) r → IsRun t (Contains V) r
+    forth : (r : Run) → Contains (map whole bs) r → IsThreadRun t (Contains V) r
     forth r h =
         let (b, within, e) = map_contains whole bs r h in
         let x = (exact V t.lines (beginning_at t.first) b refl).0 within in
-        subst (λ (s : Run). IsRun t (Contains V) s) e (
+        subst (λ (s : Run). IsThreadRun t (Contains V) s) e (
           subst (λ (vs : List Value). All (Contains V) vs) (sym x.values) x.allowed,
           subst (λ (vs : List Value). run_of t.lines t.first vs ≡ Some (ended b.stopped b.walk))
               (sym x.values) x.run,
         )
 
-    back : (r : Run) → IsRun t (Contains V) r → Contains (map whole bs) r
+    back : (r : Run) → IsThreadRun t (Contains V) r → Contains (map whole bs) r
     back r h =
         contains_map whole bs (record {
           values = r.values;
@@ -514,10 +514,10 @@ has_runs t V n rising e = (
 )
 
 pub shows_runs : (t : Thread) (V : List Value) (runs : List made.Run) → AllPairs IsLess V
-    → map shown runs ≡ map shown_whole (all_from V t.lines (beginning_at t.first))
+    → map run_shown runs ≡ map shown_whole (all_from V t.lines (beginning_at t.first))
     → ShowsRuns t V runs
 shows_runs t V runs rising e = (
   map whole (all_from V t.lines (beginning_at t.first)),
   are_runs t V rising,
-  e ∙ sym (map_twice shown_of whole (all_from V t.lines (beginning_at t.first))),
+  e ∙ sym (map_twice shown_run whole (all_from V t.lines (beginning_at t.first))),
 )

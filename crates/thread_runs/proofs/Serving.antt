@@ -17,8 +17,8 @@ use Rattle.thread_runs.specs.declared.state.State.{State}
 use Rattle.thread_runs.specs.declared.run.Run as made
 use Rattle.thread_runs.specs.Machine.{address_of, event_of, is_load, is_fault}
 use Rattle.thread_runs.specs.Runs.{IsLess}
-use Rattle.thread_runs.specs.AllRuns.{Beginning, beginning_at, gone_over, over_line, over_instruction, executes, with_load, next, all_from, values_or, served, all_over, whole, shown, shown_of, shown_whole, thread_of}
-use Rattle.thread_runs.specs.Held.{MayHold, AreLeft, none, stays, goes, AreHeld, IsUnserved, ShowsServed}
+use Rattle.thread_runs.specs.AllRuns.{Beginning, beginning_at, gone_over, beginning_past, over_instruction, executes, with_load, next, all_from, values_or, served, all_over, whole, run_shown, shown_run, shown_whole, thread_of}
+use Rattle.thread_runs.specs.Held.{MayHold, AreLeft, none, stays, goes, AreLocationValues, IsUnserved, ShowsServed}
 use Rattle.thread_runs.proofs.RunsExact.{contains_one, one_contains, flat_map_contains, map_contains, map_twice, are_runs}
 
 -- lists of which some are left out
@@ -101,12 +101,12 @@ module _ (e : Event) where
       does i true = h
       does i false = Contains-append_left b.walk.events (event_of i NoValue b.walk.state) e h
 
-      line : (o : Option ℕ) (y : Line) → Has (over_line o y b)
+      line : (o : Option ℕ) (y : Line) → Has (beginning_past o y b)
       line (Some l) y = h
       line None (Label m) = h
       line None (Does i) = does i (is_fault i b.walk.state)
 
-      go : (s : Bool) → Has (if s then b else over_line b.walk.seeking x b)
+      go : (s : Bool) → Has (if s then b else beginning_past b.walk.seeking x b)
       go true = h
       go false = line b.walk.seeking x
 
@@ -134,7 +134,7 @@ module _ (e : Event) where
       let (a, within, found) = flat_map_contains (all_from V xs) (next V x b) c d in
       all_have V xs a c (next_has V x b a h within) found
 
-module _ (p : Program) (V : List Value) (held : List (Vec Value Global)) (are : AreHeld p V held)
+module _ (p : Program) (V : List Value) (held : List (Vec Value Global)) (are : AreLocationValues p V held)
   where
     -- what a load of the address does not take
     abbrev IsOut : Value → Value → Type 0
@@ -224,7 +224,7 @@ module _ (p : Program) (V : List Value) (held : List (Vec Value Global)) (are : 
     all_left (Does i ∷ xs) b = does_left i xs b (all_left xs)
 
     pub shows_served : (t : ℕ) (runs : List made.Run) → AllPairs IsLess V
-        → map shown runs
+        → map run_shown runs
         ≡ map shown_whole (all_over V held (thread_of p t).lines
         (beginning_at (thread_of p t).first)) → ShowsServed p t V runs
     shows_served t runs rising e = (
@@ -236,6 +236,6 @@ module _ (p : Program) (V : List Value) (held : List (Vec Value Global)) (are : 
           (all_over V held (thread_of p t).lines (beginning_at (thread_of p t).first))
           (all_left (thread_of p t).lines (beginning_at (thread_of p t).first)),
       e
-          ∙ sym (map_twice shown_of whole (all_over V held (thread_of p t).lines
+          ∙ sym (map_twice shown_run whole (all_over V held (thread_of p t).lines
           (beginning_at (thread_of p t).first))),
     )

@@ -15,8 +15,8 @@ use Rattle.thread_runs.specs.declared.instruction.Event.{Event}
 use Rattle.thread_runs.specs.declared.instruction.Event.TheVariants.{Reads, Writes, Orders}
 use Rattle.thread_runs.specs.declared.instruction.Program.{Program}
 use Rattle.thread_runs.specs.declared.state.State.{State}
-use Rattle.thread_runs.specs.Machine.{after, event_of, is_load, is_fault, goes, register, with_register, operated, sum_of}
-use Rattle.thread_runs.specs.Runs.{Walk, Outcome, started, ends, advanced, passed, supplied, obeyed, one, run_from}
+use Rattle.thread_runs.specs.Machine.{state_after, event_of, is_load, is_fault, takes_branch, register, with_register, operated, sum_of}
+use Rattle.thread_runs.specs.Runs.{Walk, Outcome, walk_at, ends, walk_after, walk_past, after_load, after_instruction, after_line, run_from}
 use Rattle.thread_runs.specs.AllRuns.{thread_of}
 use Rattle.thread_runs.specs.Held.{MayHold, same_value, line_may_put, may_hold, line_may_store, thread_may_store}
 use Rattle.thread_runs.proofs.RunsExact.{contains_one}
@@ -84,7 +84,7 @@ module _ (lines : List Line) (first : State) where
   ]
 
   after_holds : (i : Instruction) (v : Value) (s : State) → Contains lines (Does i) → Holds s
-      → Holds (after i v s)
+      → Holds (state_after i v s)
   after_holds (Immediate d n) v s c h =
       written s d (Number n) h (put (Does (Immediate d n)) c d (Number n)
       (and_from (nat_eq d d) (nat_eq n n) (nat_same d) (nat_same n)))
@@ -164,28 +164,28 @@ module _ (lines : List Line) (first : State) where
   module _ (xs : List Line) (rest : Goes xs) where
     advanced_told : (i : Instruction) (b : Bool) (v : Value) (w : Walk) (vs : List Value)
         (o : Outcome) → Contains lines (Does i) → Holds w.state → Told w.events
-        → run_from xs (advanced i b v w) vs ≡ Some o → Told o.walk.events
+        → run_from xs (walk_after i b v w) vs ≡ Some o → Told o.walk.events
     advanced_told i b v w vs o c h t e =
-        rest (advanced i b v w) vs o (after_holds i v w.state c h)
+        rest (walk_after i b v w) vs o (after_holds i v w.state c h)
         (told_more w.events (event_of i v w.state) t (event_told i v w.state c h)) e
 
     supplied_told : (l : Bool) (i : Instruction) (b : Bool) (w : Walk) (vs : List Value)
         (o : Outcome) → Contains lines (Does i) → Holds w.state → Told w.events
-        → supplied l i b (run_from xs) w vs ≡ Some o → Told o.walk.events
+        → after_load l i b (run_from xs) w vs ≡ Some o → Told o.walk.events
     supplied_told true i b w [] o c h t e = absurd cc
     supplied_told true i b w (v ∷ vs) o c h t e = advanced_told i b v w vs o c h t e
     supplied_told false i b w vs o c h t e = advanced_told i b NoValue w vs o c h t e
 
     obeyed_told : (f : Bool) (i : Instruction) (w : Walk) (vs : List Value) (o : Outcome)
         → Contains lines (Does i) → Holds w.state → Told w.events
-        → obeyed f i (run_from xs) w vs ≡ Some o → Told o.walk.events
+        → after_instruction f i (run_from xs) w vs ≡ Some o → Told o.walk.events
     obeyed_told true i w vs o c h t e = ends_told true w vs o t e
-    obeyed_told false i w vs o c h t e = supplied_told (is_load i) i (goes i w.state) w vs o c h t e
+    obeyed_told false i w vs o c h t e = supplied_told (is_load i) i (takes_branch i w.state) w vs o c h t e
 
     one_told : (s : Option ℕ) (x : Line) (w : Walk) (vs : List Value) (o : Outcome)
-        → Contains lines x → Holds w.state → Told w.events → one s x (run_from xs) w vs ≡ Some o
+        → Contains lines x → Holds w.state → Told w.events → after_line s x (run_from xs) w vs ≡ Some o
         → Told o.walk.events
-    one_told (Some l) x w vs o c h t e = rest (passed x l w) vs o h t e
+    one_told (Some l) x w vs o c h t e = rest (walk_past x l w) vs o h t e
     one_told None (Label m) w vs o c h t e = rest w vs o h t e
     one_told None (Does i) w vs o c h t e = obeyed_told (is_fault i w.state) i w vs o c h t e
 
@@ -209,7 +209,7 @@ never_held p location initial v there other none (inl e) =
 never_held p location initial v there other none (inr s) =
     true_false
     (run_told (thread_of p s.0).lines (thread_of p s.0).first (thread_of p s.0).lines (λ x d. d)
-    (started (thread_of p s.0).first) s.2 s.3
+    (walk_at (thread_of p s.0).first) s.2 s.3
     (first_holds (thread_of p s.0).lines (thread_of p s.0).first)
     (λ l u d. absurd (no_member (Writes (Address l) u) d)) s.4 location v s.5)
     (none s.0 s.1)

@@ -8,13 +8,13 @@ use Rattle.thread_runs.specs.declared.instruction.Instruction.{Instruction}
 use Rattle.thread_runs.specs.declared.instruction.Line.{Line}
 use Rattle.thread_runs.specs.declared.instruction.Line.TheVariants.{Label, Does}
 use Rattle.thread_runs.specs.declared.state.State.{State}
-use Rattle.thread_runs.specs.Machine.{address_of, is_load, is_fault, goes}
+use Rattle.thread_runs.specs.Machine.{address_of, is_load, is_fault, takes_branch}
 use Rattle.thread_runs.specs.declared.value.Comparison.TheVariants.{Equal}
 use Rattle.thread_runs.specs.declared.instruction.Program.{Program}
 use Rattle.thread_runs.specs.declared.instruction.Event.{Event}
 use Rattle.thread_runs.specs.declared.instruction.RunStep.{RunStep}
 use Rattle.thread_runs.specs.declared.run.Run as made
-use Rattle.thread_runs.specs.Runs.{Walk, Run, Thread, AreRuns, started, ended, advanced, passed}
+use Rattle.thread_runs.specs.Runs.{Walk, Run, Thread, AreThreadRuns, walk_at, ended, walk_after, walk_past}
 
 -- the beginning of a run: the values that its loads took, and whether it stopped at a fault
 pub record Beginning : Type 0 where
@@ -23,33 +23,34 @@ pub record Beginning : Type 0 where
   pub walk : Walk
 
 abbrev pub beginning_at : State → Beginning
-beginning_at s = record { values = []; stopped = false; walk = started s }
+beginning_at s = record { values = []; stopped = false; walk = walk_at s }
 
 -- an instruction that is no load
 abbrev pub over_instruction : Bool → Instruction → Beginning → Beginning
 over_instruction true i b = record b { stopped = true }
-over_instruction false i b = record b { walk = advanced i (goes i b.walk.state) NoValue b.walk }
+over_instruction false i b =
+    record b { walk = walk_after i (takes_branch i b.walk.state) NoValue b.walk }
 
-abbrev pub over_line : Option ℕ → Line → Beginning → Beginning
-over_line (Some l) x b = record b { walk = passed x l b.walk }
-over_line None (Label m) b = b
-over_line None (Does i) b = over_instruction (is_fault i b.walk.state) i b
+abbrev pub beginning_past : Option ℕ → Line → Beginning → Beginning
+beginning_past (Some l) x b = record b { walk = walk_past x l b.walk }
+beginning_past None (Label m) b = b
+beginning_past None (Does i) b = over_instruction (is_fault i b.walk.state) i b
 
 abbrev pub gone_over : Line → Beginning → Beginning
-gone_over x b = if b.stopped then b else over_line b.walk.seeking x b
+gone_over x b = if b.stopped then b else beginning_past b.walk.seeking x b
 
 -- whether the run goes on by executing an instruction, which is a fault or not
-abbrev pub goes_on : Bool → Option ℕ → Bool → Bool
-goes_on false None false = true
-goes_on _ _ _ = false
+abbrev pub is_executing : Bool → Option ℕ → Bool → Bool
+is_executing false None false = true
+is_executing _ _ _ = false
 
 abbrev pub executes : Instruction → Beginning → Bool
-executes i b = goes_on b.stopped b.walk.seeking (is_fault i b.walk.state)
+executes i b = is_executing b.stopped b.walk.seeking (is_fault i b.walk.state)
 
 -- the load takes the value
 abbrev pub with_load : Instruction → Beginning → Value → Beginning
 with_load i b v =
-    record { values = b.values ++ v ∷ []; stopped = false; walk = advanced i false v b.walk }
+    record { values = b.values ++ v ∷ []; stopped = false; walk = walk_after i false v b.walk }
 
 abbrev pub spread : List Value → Instruction → Beginning → List Beginning
 spread V i b = if executes i b then map (with_load i b) V else gone_over (Does i) b ∷ []
@@ -93,7 +94,7 @@ abbrev pub whole : Beginning → Run
 whole b = record { values = b.values; outcome = ended b.stopped b.walk }
 
 -- what a run shows
-pub record Shown : Type 0 where
+pub record ShownRun : Type 0 where
   pub values : List Value
   pub steps : List RunStep
   pub events : List Event
@@ -101,8 +102,8 @@ pub record Shown : Type 0 where
   pub faulted : Bool
 
 -- its events, of which at most 128 are kept
-abbrev pub shown_of : Run → Shown
-shown_of r = record {
+abbrev pub shown_run : Run → ShownRun
+shown_run r = record {
   values = r.values;
   steps = r.outcome.walk.steps;
   events = take 128 r.outcome.walk.events;
@@ -110,11 +111,11 @@ shown_of r = record {
   faulted = r.outcome.faulted;
 }
 
-abbrev pub shown_whole : Beginning → Shown
-shown_whole b = shown_of (whole b)
+abbrev pub shown_whole : Beginning → ShownRun
+shown_whole b = shown_run (whole b)
 
-abbrev pub shown : made.Run → Shown
-shown r =
+abbrev pub run_shown : made.Run → ShownRun
+run_shown r =
     record {
       values = r.values.items;
       steps = r.steps.items;
@@ -126,11 +127,11 @@ shown r =
 -- the list shows all runs of the thread whose loads take these values, in order
 abbrev pub ShowsRuns : Thread → List Value → List made.Run → Type 0
 ShowsRuns t V runs =
-    (all : List Run) × AreRuns t (Contains V) all × (map shown runs ≡ map shown_of all)
+    (all : List Run) × AreThreadRuns t (Contains V) all × (map run_shown runs ≡ map shown_run all)
 
 -- how many runs a thread has over these values
 abbrev pub HasRuns : Thread → List Value → ℕ → Type 0
-HasRuns t V n = (all : List Run) × AreRuns t (Contains V) all × (length all ≡ n)
+HasRuns t V n = (all : List Run) × AreThreadRuns t (Contains V) all × (length all ≡ n)
 
 -- the thread of a program, with the state in which it begins
 abbrev pub lines_at : Option (Vec Line Global) → List Line

@@ -5,7 +5,7 @@ use Rattle.thread_runs.specs.declared.value.Value.{Value}
 use Rattle.thread_runs.specs.declared.instruction.Instruction.{Instruction}
 use Rattle.thread_runs.specs.declared.instruction.Line.{Line}
 use Rattle.thread_runs.specs.declared.instruction.Line.TheVariants.{Label, Does}
-use Rattle.thread_runs.specs.Machine.{is_load, is_branch, target}
+use Rattle.thread_runs.specs.Machine.{is_load, is_branch, branch_target}
 use Rattle.thread_runs.specs.Runs.{Outcome, Thread, found_at, free_run_of}
 
 -- a free run with its choices and its values
@@ -19,12 +19,12 @@ abbrev pub IsFreeRun : Thread → (Value → Type 0) → FreeRun → Type 0
 IsFreeRun t P r = All P r.values × (free_run_of t.lines t.first r.choices r.values ≡ Some r.outcome)
 
 -- two free runs differ where their choices or their values do
-abbrev pub IsOther : FreeRun → FreeRun → Type 0
-IsOther r s = r.choices ≡ s.choices → r.values ≡ s.values → ⊥
+abbrev pub IsOtherFreeRun : FreeRun → FreeRun → Type 0
+IsOtherFreeRun r s = r.choices ≡ s.choices → r.values ≡ s.values → ⊥
 
 -- the list has just the free runs of the thread over the values with the property, each once
 pub record AreFreeRuns (t : Thread) (P : Value → Type 0) (runs : List FreeRun) : Type 0 where
-  pub once : AllPairs IsOther runs
+  pub once : AllPairs IsOtherFreeRun runs
   pub exact : (r : FreeRun) → Contains runs r ↔ IsFreeRun t P r
 
 abbrev pub HasFreeRuns : Thread → List Value → ℕ → Type 0
@@ -38,8 +38,8 @@ abbrev pub count_one : ℕ → Option ℕ → Line → (Option ℕ → ℕ) → 
 count_one size (Some l) x go = go (found_at x l)
 count_one size None (Label m) go = go None
 count_one size None (Does i) go =
-    if is_branch i then go (target i true) + go (target i false)
-    else sized size i (go (target i false))
+    if is_branch i then go (branch_target i true) + go (branch_target i false)
+    else sized size i (go (branch_target i false))
 
 abbrev pub count_free : ℕ → List Line → Option ℕ → ℕ
 count_free size [] seeking = 1

@@ -15,18 +15,18 @@ use Rattle.thread_runs.specs.declared.instruction.Event.TheVariants.{Reads, Writ
 use Rattle.thread_runs.specs.declared.state.State.{State}
 use Rattle.thread_runs.specs.declared.run.Run as made
 use Rattle.thread_runs.specs.Machine.{register}
-use Rattle.thread_runs.specs.Runs.{Outcome, Run, AreRuns, run_of}
-use Rattle.thread_runs.specs.AllRuns.{shown, shown_of, thread_of}
+use Rattle.thread_runs.specs.Runs.{Outcome, Run, AreThreadRuns, run_of}
+use Rattle.thread_runs.specs.AllRuns.{run_shown, shown_run, thread_of}
 
 -- some run of a thread of the program stores the value at the location
-abbrev pub IsStored : Program → ℕ → Value → Type 0
-IsStored p location v =
+abbrev pub SomeRunStores : Program → ℕ → Value → Type 0
+SomeRunStores p location v =
     (t : ℕ) × (t < vec_len p.threads) × (vs : List Value) × (o : Outcome)
     × (run_of (thread_of p t).lines (thread_of p t).first vs ≡ Some o)
     × Contains o.walk.events (Writes (Address location) v)
 
 abbrev pub MayHold : Program → ℕ → Value → Type 0
-MayHold p location v = (slice_get p.initial.items location ≡ Some v) ⊎ IsStored p location v
+MayHold p location v = (slice_get p.initial.items location ≡ Some v) ⊎ SomeRunStores p location v
 
 -- the second list has those of the first that stay; of each that is left out the fact holds
 pub data AreLeft {X : Type 0} (Out : X → Type 0) : List X → List X → Type 0 where
@@ -35,8 +35,8 @@ pub data AreLeft {X : Type 0} (Out : X → Type 0) : List X → List X → Type 
   goes : {x : X} {xs ys : List X} → Out x → AreLeft Out xs ys → AreLeft Out (x ∷ xs) ys
 
 -- for each of some first locations the values of the list that it may hold, and maybe others
-abbrev pub AreHeld : Program → List Value → List (Vec Value Global) → Type 0
-AreHeld p V held =
+abbrev pub AreLocationValues : Program → List Value → List (Vec Value Global) → Type 0
+AreLocationValues p V held =
     (location : ℕ) (vs : Vec Value Global) → slice_get held location ≡ Some vs
     → AreLeft (λ v. MayHold p location v → ⊥) V vs.items
 
@@ -50,9 +50,9 @@ IsUnserved p r =
 -- are unserved
 abbrev pub ShowsServed : Program → ℕ → List Value → List made.Run → Type 0
 ShowsServed p t V runs =
-    (all : List Run) × AreRuns (thread_of p t) (Contains V) all
+    (all : List Run) × AreThreadRuns (thread_of p t) (Contains V) all
     × (served : List Run) × AreLeft (IsUnserved p) all served
-    × (map shown runs ≡ map shown_of served)
+    × (map run_shown runs ≡ map shown_run served)
 
 -- what the text tells: both are one value
 abbrev pub same_value : Value → Value → Bool

@@ -6,13 +6,13 @@ use Rattle.thread_runs.specs.declared.value.Value.TheVariants.{NoValue}
 use Rattle.thread_runs.specs.declared.instruction.Instruction.{Instruction}
 use Rattle.thread_runs.specs.declared.instruction.Line.{Line}
 use Rattle.thread_runs.specs.declared.instruction.Line.TheVariants.{Label, Does}
-use Rattle.thread_runs.specs.Machine.{State, is_fault, is_load, goes}
-use Rattle.thread_runs.specs.Runs.{Walk, Outcome, started, advanced, passed, run_of}
+use Rattle.thread_runs.specs.Machine.{State, is_fault, is_load, takes_branch}
+use Rattle.thread_runs.specs.Runs.{Walk, Outcome, walk_at, walk_after, walk_past, run_of}
 
 -- the walk with the instruction executed: what it loads, and its branch taken or not, as the state
 -- says
 abbrev pub executing : Instruction → Value → Walk → Walk
-executing i loaded w = advanced i (goes i w.state) loaded w
+executing i loaded w = walk_after i (takes_branch i w.state) loaded w
 
 abbrev pub at_the_end : Walk → Outcome
 at_the_end w = record { faulted = false; walk = w }
@@ -26,7 +26,7 @@ pub data GoesOver : List Line → Walk → List Value → Outcome → Type 0 whe
   ends : {w : Walk} → GoesOver [] w [] (at_the_end w)
   -- a thread that looks for a label passes over each line, and has found the label behind its own
   looks : {x : Line} {xs : List Line} {w : Walk} {vs : List Value} {o : Outcome} (label : ℕ)
-      → w.seeking ≡ Some label → GoesOver xs (passed x label w) vs o → GoesOver (x ∷ xs) w vs o
+      → w.seeking ≡ Some label → GoesOver xs (walk_past x label w) vs o → GoesOver (x ∷ xs) w vs o
   -- otherwise a label does nothing
   passes : {label : ℕ} {xs : List Line} {w : Walk} {vs : List Value} {o : Outcome}
       → w.seeking ≡ None → GoesOver xs w vs o → GoesOver (Label label ∷ xs) w vs o
@@ -45,4 +45,4 @@ pub data GoesOver : List Line → Walk → List Value → Outcome → Type 0 whe
 -- the run whose loads take these values is the one that goes so over the lines
 abbrev pub GoesLineByLine : List Line → State → List Value → Type 0
 GoesLineByLine lines first values =
-    (o : Outcome) → (run_of lines first values ≡ Some o) ↔ GoesOver lines (started first) values o
+    (o : Outcome) → (run_of lines first values ≡ Some o) ↔ GoesOver lines (walk_at first) values o

@@ -97,16 +97,17 @@ abbrev pub operated : Operation → ℕ → ℕ → State → Value
 operated o a b s = if cancels o a b then Number 0 else outcome_of o (register s a) (register s b)
 
 -- the state after the instruction, which has loaded the value if it is a load
-abbrev pub after : Instruction → Value → State → State
-after (Immediate d n) v s = with_register s d (Number n)
-after (Move d a) v s = with_register s d (register s a)
-after (AddImmediate d a n) v s = with_register s d (sum_of (register s a) (Number n))
-after (Operate o d a b) v s = with_register s d (operated o a b s)
-after (Load d a) v s = with_register s d v
-after (LoadIndexed d a b) v s = with_register s d v
-after (Compare a b) v s = record s { compared = comparison_of (register s a) (register s b) }
-after (CompareImmediate a n) v s = record s { compared = comparison_of (register s a) (Number n) }
-after _ v s = s
+abbrev pub state_after : Instruction → Value → State → State
+state_after (Immediate d n) v s = with_register s d (Number n)
+state_after (Move d a) v s = with_register s d (register s a)
+state_after (AddImmediate d a n) v s = with_register s d (sum_of (register s a) (Number n))
+state_after (Operate o d a b) v s = with_register s d (operated o a b s)
+state_after (Load d a) v s = with_register s d v
+state_after (LoadIndexed d a b) v s = with_register s d v
+state_after (Compare a b) v s = record s { compared = comparison_of (register s a) (register s b) }
+state_after (CompareImmediate a n) v s =
+    record s { compared = comparison_of (register s a) (Number n) }
+state_after _ v s = s
 
 abbrev pub list_of : Option Event → List Event
 list_of None = []
@@ -157,12 +158,12 @@ is_branch (Branch c l) = true
 is_branch _ = false
 
 -- whether a branch is taken here
-abbrev pub goes : Instruction → State → Bool
-goes (Branch c l) s = is_taken c s.compared
-goes _ s = false
+abbrev pub takes_branch : Instruction → State → Bool
+takes_branch (Branch c l) s = is_taken c s.compared
+takes_branch _ s = false
 
 -- the label at which the thread goes on, if not at the next line
-abbrev pub target : Instruction → Bool → Option ℕ
-target (Branch c l) b = if b then Some l else None
-target (Jump l) b = Some l
-target _ b = None
+abbrev pub branch_target : Instruction → Bool → Option ℕ
+branch_target (Branch c l) b = if b then Some l else None
+branch_target (Jump l) b = Some l
+branch_target _ b = None

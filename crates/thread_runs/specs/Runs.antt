@@ -13,13 +13,13 @@ use Rattle.thread_runs.specs.declared.instruction.Event.TheVariants.{Writes}
 pub use Rattle.thread_runs.specs.Machine.{
   State,
   offset,
-  after,
+  state_after,
   event_of,
   is_fault,
   is_load,
   is_branch,
-  goes,
-  target,
+  takes_branch,
+  branch_target,
 }
 
 -- a thread on its way: the label that it is looking for, and what it has done
@@ -33,17 +33,17 @@ pub record Outcome : Type 0 where
   pub faulted : Bool
   pub walk : Walk
 
-abbrev pub started : State → Walk
-started s = record { state = s; seeking = None; steps = []; events = [] }
+abbrev pub walk_at : State → Walk
+walk_at s = record { state = s; seeking = None; steps = []; events = [] }
 
 abbrev pub ended : Bool → Walk → Outcome
 ended f w = record { faulted = f; walk = w }
 
 -- one instruction more, with the value that it loads, and with its branch taken or not
-abbrev pub advanced : Instruction → Bool → Value → Walk → Walk
-advanced i b v w = record {
-  state = after i v w.state;
-  seeking = target i b;
+abbrev pub walk_after : Instruction → Bool → Value → Walk → Walk
+walk_after i b v w = record {
+  state = state_after i v w.state;
+  seeking = branch_target i b;
   steps = w.steps ++ record { instruction = i; loaded = v } ∷ [];
   events = w.events ++ event_of i v w.state;
 }
@@ -53,41 +53,41 @@ abbrev pub found_at : Line → ℕ → Option ℕ
 found_at (Label m) l = if nat_eq l m then None else Some l
 found_at (Does i) l = Some l
 
-abbrev pub passed : Line → ℕ → Walk → Walk
-passed x l w = record w { seeking = found_at x l }
+abbrev pub walk_past : Line → ℕ → Walk → Walk
+walk_past x l w = record w { seeking = found_at x l }
 
 -- what comes next: the walk and the values that are left
-abbrev pub Next : Type 0
-Next = Walk → List Value → Option Outcome
+abbrev pub Continuation : Type 0
+Continuation = Walk → List Value → Option Outcome
 
 -- the walk ends here, if no value is left
-abbrev pub ends : Bool → Next
+abbrev pub ends : Bool → Continuation
 ends f w [] = Some (ended f w)
 ends f w (v ∷ vs) = None
 
 -- a load takes the next value
-abbrev pub supplied : Bool → Instruction → Bool → Next → Next
-supplied true i b go w [] = None
-supplied true i b go w (v ∷ vs) = go (advanced i b v w) vs
-supplied false i b go w vs = go (advanced i b NoValue w) vs
+abbrev pub after_load : Bool → Instruction → Bool → Continuation → Continuation
+after_load true i b go w [] = None
+after_load true i b go w (v ∷ vs) = go (walk_after i b v w) vs
+after_load false i b go w vs = go (walk_after i b NoValue w) vs
 
 -- an instruction stops the run if it is a fault
-abbrev pub obeyed : Bool → Instruction → Next → Next
-obeyed true i go w vs = ends true w vs
-obeyed false i go w vs = supplied (is_load i) i (goes i w.state) go w vs
+abbrev pub after_instruction : Bool → Instruction → Continuation → Continuation
+after_instruction true i go w vs = ends true w vs
+after_instruction false i go w vs = after_load (is_load i) i (takes_branch i w.state) go w vs
 
-abbrev pub one : Option ℕ → Line → Next → Next
-one (Some l) x go w vs = go (passed x l w) vs
-one None (Label m) go w vs = go w vs
-one None (Does i) go w vs = obeyed (is_fault i w.state) i go w vs
+abbrev pub after_line : Option ℕ → Line → Continuation → Continuation
+after_line (Some l) x go w vs = go (walk_past x l w) vs
+after_line None (Label m) go w vs = go w vs
+after_line None (Does i) go w vs = after_instruction (is_fault i w.state) i go w vs
 
 -- the run whose loads take these values in order, if it executes just as many
-abbrev pub run_from : List Line → Next
+abbrev pub run_from : List Line → Continuation
 run_from [] w vs = ends false w vs
-run_from (x ∷ xs) w vs = one w.seeking x (run_from xs) w vs
+run_from (x ∷ xs) w vs = after_line w.seeking x (run_from xs) w vs
 
 abbrev pub run_of : List Line → State → List Value → Option Outcome
-run_of lines s vs = run_from lines (started s) vs
+run_of lines s vs = run_from lines (walk_at s) vs
 
 -- a free run: a branch takes the next choice, and nothing is a fault
 abbrev pub FreeNext : Type 0
@@ -97,22 +97,23 @@ abbrev pub free_ends : FreeNext
 free_ends w [] vs = ends false w vs
 free_ends w (b ∷ bs) vs = None
 
-abbrev pub free_obeyed : Bool → Instruction → FreeNext → FreeNext
-free_obeyed true i go w [] vs = None
-free_obeyed true i go w (b ∷ bs) vs = supplied (is_load i) i b (λ u us. go u bs us) w vs
-free_obeyed false i go w bs vs = supplied (is_load i) i false (λ u us. go u bs us) w vs
+abbrev pub after_free_instruction : Bool → Instruction → FreeNext → FreeNext
+after_free_instruction true i go w [] vs = None
+after_free_instruction true i go w (b ∷ bs) vs =
+    after_load (is_load i) i b (λ u us. go u bs us) w vs
+after_free_instruction false i go w bs vs = after_load (is_load i) i false (λ u us. go u bs us) w vs
 
-abbrev pub free_one : Option ℕ → Line → FreeNext → FreeNext
-free_one (Some l) x go w bs vs = go (passed x l w) bs vs
-free_one None (Label m) go w bs vs = go w bs vs
-free_one None (Does i) go w bs vs = free_obeyed (is_branch i) i go w bs vs
+abbrev pub after_free_line : Option ℕ → Line → FreeNext → FreeNext
+after_free_line (Some l) x go w bs vs = go (walk_past x l w) bs vs
+after_free_line None (Label m) go w bs vs = go w bs vs
+after_free_line None (Does i) go w bs vs = after_free_instruction (is_branch i) i go w bs vs
 
 abbrev pub free_from : List Line → FreeNext
 free_from [] w bs vs = free_ends w bs vs
-free_from (x ∷ xs) w bs vs = free_one w.seeking x (free_from xs) w bs vs
+free_from (x ∷ xs) w bs vs = after_free_line w.seeking x (free_from xs) w bs vs
 
 abbrev pub free_run_of : List Line → State → List Bool → List Value → Option Outcome
-free_run_of lines s bs vs = free_from lines (started s) bs vs
+free_run_of lines s bs vs = free_from lines (walk_at s) bs vs
 
 pub record Thread : Type 0 where
   pub lines : List Line
@@ -133,14 +134,14 @@ InDomain initial threads (suc k) v =
     ⊎ (StoresFreely threads (InDomain initial threads k) v × (v ≡ NoValue → ⊥))
 
 -- the instruction at an index, and the value that it loaded
-abbrev pub nothing : RunStep
-nothing = record { instruction = Jump 0; loaded = NoValue }
+abbrev pub no_step : RunStep
+no_step = record { instruction = Jump 0; loaded = NoValue }
 
 abbrev pub executed : List RunStep → ℕ → Instruction
-executed steps n = (slice_index_or steps n nothing).instruction
+executed steps n = (slice_index_or steps n no_step).instruction
 
 abbrev pub loaded_at : List RunStep → ℕ → Value
-loaded_at steps n = (slice_index_or steps n nothing).loaded
+loaded_at steps n = (slice_index_or steps n no_step).loaded
 
 -- a run with the values that it was given
 pub record Run : Type 0 where
@@ -148,14 +149,14 @@ pub record Run : Type 0 where
   pub outcome : Outcome
 
 -- the run is one of the thread, and takes values with the property
-abbrev pub IsRun : Thread → (Value → Type 0) → Run → Type 0
-IsRun t P r = All P r.values × (run_of t.lines t.first r.values ≡ Some r.outcome)
+abbrev pub IsThreadRun : Thread → (Value → Type 0) → Run → Type 0
+IsThreadRun t P r = All P r.values × (run_of t.lines t.first r.values ≡ Some r.outcome)
 
 -- the first list comes before the second where they first differ
-abbrev pub IsBefore : (Value → Value → Type 0) → List Value → List Value → Type 0
-IsBefore Lt xs [] = ⊥
-IsBefore Lt [] (y ∷ ys) = Unit {0}
-IsBefore Lt (x ∷ xs) (y ∷ ys) = Lt x y ⊎ ((x ≡ y) × IsBefore Lt xs ys)
+abbrev pub IsLexicallyBefore : (Value → Value → Type 0) → List Value → List Value → Type 0
+IsLexicallyBefore Lt xs [] = ⊥
+IsLexicallyBefore Lt [] (y ∷ ys) = Unit {0}
+IsLexicallyBefore Lt (x ∷ xs) (y ∷ ys) = Lt x y ⊎ ((x ≡ y) × IsLexicallyBefore Lt xs ys)
 
 -- numbers first, rising as signed numbers, then addresses
 abbrev pub IsLess : Value → Value → Type 0
@@ -166,6 +167,6 @@ IsLess _ _ = ⊥
 
 -- the list has just the runs of the thread over the values with the property, in lexicographic
 -- order
-pub record AreRuns (t : Thread) (P : Value → Type 0) (runs : List Run) : Type 0 where
-  pub rising : AllPairs (λ r s. IsBefore IsLess r.values s.values) runs
-  pub exact : (r : Run) → Contains runs r ↔ IsRun t P r
+pub record AreThreadRuns (t : Thread) (P : Value → Type 0) (runs : List Run) : Type 0 where
+  pub rising : AllPairs (λ r s. IsLexicallyBefore IsLess r.values s.values) runs
+  pub exact : (r : Run) → Contains runs r ↔ IsThreadRun t P r

@@ -6,21 +6,21 @@ use Rattle.thread_runs.specs.declared.value.Value.TheVariants.{NoValue}
 use Rattle.thread_runs.specs.Runs.{IsLess}
 
 -- it is a number or an address
-abbrev pub IsOne : Value → Type 0
-IsOne v = v ≡ NoValue → ⊥
+abbrev pub IsProperValue : Value → Type 0
+IsProperValue v = v ≡ NoValue → ⊥
 
 -- values in their order, each once
-pub record IsSet (values : List Value) : Type 0 where
+pub record IsValueSet (values : List Value) : Type 0 where
   pub rising : AllPairs IsLess values
-  pub proper : All IsOne values
+  pub proper : All IsProperValue values
 
 -- the new list has what the old one has, and the value if it is one
-abbrev pub IsAdded : Value → List Value → List Value → Type 0
-IsAdded value old new =
-    (v : Value) → Contains new v ↔ (Contains old v ⊎ ((v ≡ value) × IsOne value))
+abbrev pub IsValueAdded : Value → List Value → List Value → Type 0
+IsValueAdded value old new =
+    (v : Value) → Contains new v ↔ (Contains old v ⊎ ((v ≡ value) × IsProperValue value))
 
 -- the values before the index are less than the value, and it is less than the one there
-pub record IsIndexOf (value : Value) (values : List Value) (index : ℕ) : Type 0 where
+pub record IsInsertionIndex (value : Value) (values : List Value) (index : ℕ) : Type 0 where
   pub within : index ≤ length values
   pub before : (k : ℕ) → k < index → IsLess (slice_index_or values k value) value
   pub behind : index < length values → IsLess value (slice_index_or values index value)

@@ -4,7 +4,7 @@ ghost use Rattle.std.specs.List.{AllPairs};
 ghost use Rattle.thread_runs.specs.Runs.{IsLess};
 ghost use Rattle.std.specs.List.{flat_map};
 ghost use Rattle.thread_runs.specs.AllRuns as all;
-ghost use Rattle.thread_runs.specs.Held.{AreHeld, ShowsServed};
+ghost use Rattle.thread_runs.specs.Held.{AreLocationValues, ShowsServed};
 
 use crate::instruction::{Instruction, Line, Program};
 use crate::run::{Domain, Run};
@@ -115,7 +115,7 @@ impl Beginning {
 
     /// A beginning that is whole, as a run.
     fn into_run(self) -> Run
-        ensures { all.shown result ≡ all.shown_of (all.whole self) }
+        ensures { all.run_shown result ≡ all.shown_run (all.whole self) }
     {
         let Beginning {
             values,
@@ -295,7 +295,7 @@ pub fn run_count(
 }
 
 fn shown_runs(alloc: Global, beginnings: Vec<Beginning>) -> Result<Vec<Run>, AllocError>
-    ensures { IfOk result (λ v. map all.shown v.items ≡ map all.shown_whole beginnings.items) }
+    ensures { IfOk result (λ v. map all.run_shown v.items ≡ map all.shown_whole beginnings.items) }
 {
     let mut runs = Vec::new(alloc);
     for beginning in beginnings {
@@ -313,7 +313,7 @@ fn runs_over(
     held: &[Vec<Value>],
 ) -> Result<Vec<Run>, AllocError>
     ensures runs { IfOk result (λ v. thread < vec_len program.now.threads
-        → map all.shown v.items
+        → map all.run_shown v.items
         ≡ map all.shown_whole (all.all_over values.now held.now
         (all.thread_of program.now thread).lines
         (all.beginning_at (all.thread_of program.now thread).first))) }
@@ -356,7 +356,7 @@ pub fn served_runs_of(
     held: &[Vec<Value>],
 ) -> Result<Vec<Run>, AllocError>
     ensures { IfOk result (λ v. AllPairs IsLess domain.now.values.items
-        → AreHeld program.now domain.now.values.items held.now
+        → AreLocationValues program.now domain.now.values.items held.now
         → thread < vec_len program.now.threads
         → ShowsServed program.now thread domain.now.values.items v.items) }
 {

@@ -5,7 +5,7 @@ ghost use Rattle.thread_runs.specs.declared.value.Value.{Value};
 ghost use Rattle.thread_runs.specs.declared.state.State.{State};
 ghost use Rattle.thread_runs.specs.declared.instruction.Line.TheVariants.{Does};
 ghost use Rattle.thread_runs.specs.Runs.{IsLess, found_at};
-ghost use Rattle.thread_runs.specs.ValueSet.{IsSet};
+ghost use Rattle.thread_runs.specs.ValueSet.{IsValueSet};
 ghost use Rattle.thread_runs.specs.FreeWalks as free;
 ghost use Rattle.thread_runs.specs.AllRuns.{HasRuns};
 ghost use Rattle.thread_runs.specs.FreeRuns.{AreCounts, HasFreeRuns, capped, count_free, count_one};
@@ -222,7 +222,7 @@ struct FreeWalk {
 
 /// What the instruction stores.
 fn stored_value(instruction: Instruction, state: &State) -> Option<Value>
-    ensures { option_to_list result ≡ free.stored_by instruction state.now }
+    ensures { option_to_list result ≡ free.values_stored_by instruction state.now }
 {
     match instruction {
         Instruction::Store(d, _) => Some(register(state, d)),
@@ -271,7 +271,7 @@ impl FreeWalk {
 
     /// What it stores on a line.
     fn stored_at(&self, line: Line) -> Option<Value>
-        ensures { option_to_list result ≡ free.stored_at line self.now }
+        ensures { option_to_list result ≡ free.values_stored_at line self.now }
     {
         match self.seeking {
             Some(_) => None,
@@ -286,9 +286,9 @@ impl FreeWalk {
 /// Adds what the free run stores on the line, unless there are more values than a domain may
 /// have.
 fn note_one(walk: &FreeWalk, line: Line, stored: &mut Vec<Value>) -> Result<(), AllocError>
-    requires { IsSet stored.old.items }
-    ensures set { IsSet stored.new.items }
-    ensures added { OnOk result (free.AreAdded (Contains (free.stored_at line walk.now))
+    requires { IsValueSet stored.old.items }
+    ensures set { IsValueSet stored.new.items }
+    ensures added { OnOk result (free.AreAdded (Contains (free.values_stored_at line walk.now))
         stored.old.items stored.new.items) }
 {
     match walk.stored_at(line) {
@@ -306,8 +306,8 @@ fn note_one(walk: &FreeWalk, line: Line, stored: &mut Vec<Value>) -> Result<(), 
 
 /// Adds what the free runs store on the line.
 fn note_all(walks: &[FreeWalk], line: Line, stored: &mut Vec<Value>) -> Result<(), AllocError>
-    requires { IsSet stored.old.items }
-    ensures set { IsSet stored.new.items }
+    requires { IsValueSet stored.old.items }
+    ensures set { IsValueSet stored.new.items }
     ensures added { OnOk result (free.AreAdded (free.SomeStores line walks.now) stored.old.items
         stored.new.items) }
 {
@@ -351,7 +351,7 @@ fn push_choices(
     next: &mut Vec<FreeWalk>,
 ) -> Result<(), AllocError>
     ensures { OnOk result (next.new.items
-        ≡ next.old.items ++ free.chosen on there instruction walk.now) }
+        ≡ next.old.items ++ free.branch_walks on there instruction walk.now) }
 {
     if on {
         next.push(walk.advanced(instruction, false, Value::NoValue))?;
@@ -463,7 +463,7 @@ fn goes_by(
 
 /// Whether the line is a store.
 fn is_store(line: Line) -> bool
-    ensures { result ≡ free.has_store line }
+    ensures { result ≡ free.is_store_line line }
 {
     match line {
         Line::Label(_) => false,
@@ -498,8 +498,8 @@ pub fn add_stored(
     values: &[Value],
     stored: &mut Vec<Value>,
 ) -> Result<(), AllocError>
-    requires { IsSet stored.old.items }
-    ensures set { IsSet stored.new.items }
+    requires { IsValueSet stored.old.items }
+    ensures set { IsValueSet stored.new.items }
     ensures added { OnOk result (free.AreAdded (free.Stores lines.now first values.now)
         stored.old.items stored.new.items) }
 {

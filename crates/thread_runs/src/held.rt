@@ -175,7 +175,7 @@ pub fn held_values(
     program: &Program,
     values: &[Value],
 ) -> Result<Vec<Vec<Value>>, AllocError>
-    ensures { IfOk result (λ v. held.AreHeld program.now values.now v.items) }
+    ensures { IfOk result (λ v. held.AreLocationValues program.now values.now v.items) }
 {
     let mut held = Vec::new(alloc);
     if !is_worth_while(alloc, program, values.len())? {

@@ -1,6 +1,6 @@
 //! One thread: its machine, its runs over a domain of values, and its free runs. Read
-//! specs/Machine.antt first, then specs/Runs.antt (`AreRuns`) and specs/LineByLine.antt (a run,
-//! told line by line).
+//! specs/Machine.antt first, then specs/Runs.antt (`AreThreadRuns`) and specs/LineByLine.antt (a
+//! run, told line by line).
 #![tactic(auto)]
 
 mod enumerate;

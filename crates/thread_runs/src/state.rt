@@ -114,7 +114,7 @@ fn operated(operation: Operation, a: u8, b: u8, state: &State) -> Value
 
 /// The step of the instruction, which has loaded the value if it is a load.
 pub fn apply(instruction: Instruction, loaded: Value, state: &mut State)
-    ensures { state.new ≡ machine.after instruction loaded state.old }
+    ensures { state.new ≡ machine.state_after instruction loaded state.old }
 {
     match instruction {
         Instruction::Immediate(d, n) => put(state, d, Value::Number(n)),
@@ -214,7 +214,7 @@ pub fn is_branch(instruction: Instruction) -> bool
 
 /// Whether a branch is taken here.
 pub fn goes(instruction: Instruction, state: &State) -> bool
-    ensures { result ≡ machine.goes instruction state.now }
+    ensures { result ≡ machine.takes_branch instruction state.now }
 {
     match instruction {
         Instruction::Branch(condition, _) => is_taken(condition, state.compared),
@@ -224,7 +224,7 @@ pub fn goes(instruction: Instruction, state: &State) -> bool
 
 /// The label at which the thread goes on, or `None` if it goes on at the next line.
 pub fn target(instruction: Instruction, jumps: bool) -> Option<usize>
-    ensures { result ≡ machine.target instruction jumps }
+    ensures { result ≡ machine.branch_target instruction jumps }
 {
     match instruction {
         Instruction::Branch(_, label) => { if jumps { Some(label) } else { None } }

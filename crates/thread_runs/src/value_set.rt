@@ -3,7 +3,7 @@ ghost use Rattle.std.specs.Prelude.{◌≡◌, ◌≤◌, ◌↔◌, OnOk, lengt
 ghost use Rattle.std.specs.declared.cmp.Ordering.TheVariants.{Less, Equal, Greater};
 ghost use Rattle.thread_runs.specs.Machine as machine;
 ghost use Rattle.thread_runs.specs.Runs.{IsLess};
-ghost use Rattle.thread_runs.specs.ValueSet.{IsOne, IsSet, IsAdded, IsIndexOf};
+ghost use Rattle.thread_runs.specs.ValueSet.{IsProperValue, IsValueSet, IsValueAdded, IsInsertionIndex};
 
 use crate::value::{Value, is_value};
 use std::alloc::AllocError;
@@ -32,7 +32,7 @@ fn is_less(v: Value, w: Value) -> bool
 /// Which of the two values comes first.
 fn order(v: Value, w: Value) -> Ordering
     ensures less { result ≡ Less ↔ IsLess v w }
-    ensures equal { IsOne v → IsOne w → result ≡ Equal ↔ v ≡ w }
+    ensures equal { IsProperValue v → IsProperValue w → result ≡ Equal ↔ v ≡ w }
     ensures greater { result ≡ Greater ↔ IsLess w v }
 {
     if is_less(v, w) {
@@ -46,10 +46,10 @@ fn order(v: Value, w: Value) -> Ordering
 
 /// The index at which a missing value belongs in sorted values, or `None` if it is among them.
 fn missing_index(values: &[Value], value: Value) -> Option<usize>
-    requires one { IsOne value }
-    requires proper { All IsOne values.now }
+    requires one { IsProperValue value }
+    requires proper { All IsProperValue values.now }
     ensures there { result ≡ None → Contains values.now value }
-    ensures missing { IfSome result (λ index. IsIndexOf value values.now index) }
+    ensures missing { IfSome result (λ index. IsInsertionIndex value values.now index) }
 {
     for index in 0..values.len() {
         match order(values[index], value) {
@@ -63,12 +63,12 @@ fn missing_index(values: &[Value], value: Value) -> Option<usize>
 
 /// Adds a value to sorted values, which stay sorted. No value, or one that is there, adds nothing.
 pub fn add_value(values: &mut Vec<Value>, value: Value) -> Result<(), AllocError>
-    requires { IsSet values.old.items }
-    ensures set { IsSet values.new.items }
+    requires { IsValueSet values.old.items }
+    ensures set { IsValueSet values.new.items }
     ensures longer { length values.old.items ≤ length values.new.items }
     ensures unchanged { length values.old.items ≡ length values.new.items
         → values.old.items ≡ values.new.items }
-    ensures added { OnOk result (IsAdded value values.old.items values.new.items) }
+    ensures added { OnOk result (IsValueAdded value values.old.items values.new.items) }
 {
     if !is_value(value) {
         return Ok(());

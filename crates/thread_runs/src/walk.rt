@@ -43,7 +43,7 @@ impl Model for Walk {
 impl Walk {
     /// A walk at the first line, where nothing is done.
     pub fn started(alloc: Global, state: State) -> Walk
-        ensures { result ≡ runs.started state }
+        ensures { result ≡ runs.walk_at state }
     {
         Walk {
             state,
@@ -72,7 +72,7 @@ impl Walk {
         jumps: bool,
         loaded: Value,
     ) -> Result<(), AllocError>
-        ensures { OnOk result (self.new ≡ runs.advanced instruction jumps loaded self.old) }
+        ensures { OnOk result (self.new ≡ runs.walk_after instruction jumps loaded self.old) }
     {
         if let Some(event) = event(instruction, loaded, &self.state) {
             self.events.push(event)?;
@@ -88,7 +88,7 @@ impl Walk {
 
     /// Passes over a line.
     pub fn pass(&mut self, line: Line, label: usize)
-        ensures { self.new ≡ runs.passed line label self.old }
+        ensures { self.new ≡ runs.walk_past line label self.old }
     {
         self.seeking = match line {
             Line::Label(here) => { if label == here { None } else { Some(label) } }
@@ -119,7 +119,7 @@ impl Walk {
 
     /// Whether the instruction, if it is a branch, is taken now.
     pub fn goes(&self, instruction: Instruction) -> bool
-        ensures { result ≡ runs.goes instruction self.now.state }
+        ensures { result ≡ runs.takes_branch instruction self.now.state }
     {
         goes(instruction, &self.state)
     }

@@ -2,7 +2,7 @@
 use Rattle.std.proofs.Common.{◌≡◌, ℕ, ◌+◌, ◌<◌, ◌≤◌, List, [], ◌∷◌, ◌++◌, length, get_or, map, drop, refl, sym, ap, ◌∙◌, arith, append_assoc}
 use Rattle.std.specs.List.{zip}
 use Rattle.std.proofs.lemmas.List.{at_drop_more, at_drop_all}
-use Rattle.text_values.specs.Joined.{between}
+use Rattle.text_values.specs.Joined.{separation}
 use Rattle.text_values.proofs.Separated.{from}
 use Rattle.verdict.specs.Text.{held_text}
 use Rattle.verdict.specs.declared.answer.FinalValue.{FinalValue}
@@ -20,25 +20,25 @@ none_left locations (p ∷ ps) = refl
 pub one_printed : (locations : List (List ℕ)) (sign : List ℕ) (ps : List ShownPlace)
     (vs : List FinalValue) (i : ℕ) (p : ShownPlace) (v : FinalValue) (old new whole : List ℕ)
     → i < length ps → i < length vs → v ≡ get_or vs i v
-    → new ≡ old ++ (between sign i ++ held_text locations (get_or ps i p) v)
+    → new ≡ old ++ (separation sign i ++ held_text locations (get_or ps i p) v)
     → old ++ from sign i (texts locations (drop i ps) (drop i vs)) ≡ whole
     → new ++ from sign (i + 1) (texts locations (drop (i + 1) ps) (drop (i + 1) vs)) ≡ whole
 one_printed locations sign ps vs i p v old new whole lt lt' is put e =
     ap (λ (l : List ℕ). l ++ rest) put ∙ regrouped
     ∙ ap
     (λ (x : FinalValue). old
-    ++ (between sign i ++ (held_text locations (get_or ps i p) x ++ rest))) is
+    ++ (separation sign i ++ (held_text locations (get_or ps i p) x ++ rest))) is
     ∙ ap (λ (l : List ℕ). old ++ l) (sym begins) ∙ e
   where
     rest : List ℕ
     rest = from sign (i + 1) (texts locations (drop (i + 1) ps) (drop (i + 1) vs))
 
-    regrouped : (old ++ (between sign i ++ held_text locations (get_or ps i p) v)) ++ rest
-        ≡ old ++ (between sign i ++ (held_text locations (get_or ps i p) v ++ rest))
+    regrouped : (old ++ (separation sign i ++ held_text locations (get_or ps i p) v)) ++ rest
+        ≡ old ++ (separation sign i ++ (held_text locations (get_or ps i p) v ++ rest))
     regrouped = simp append_assoc
 
     begins : from sign i (texts locations (drop i ps) (drop i vs))
-        ≡ between sign i ++ (held_text locations (get_or ps i p) (get_or vs i v) ++ rest)
+        ≡ separation sign i ++ (held_text locations (get_or ps i p) (get_or vs i v) ++ rest)
     begins =
         at_drop_more (λ (l : List ShownPlace). from sign i (texts locations l (drop i vs))) ps i p
         lt

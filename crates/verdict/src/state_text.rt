@@ -2,7 +2,7 @@
 
 ghost use Rattle.std.specs.Prelude.{◌≡◌, ◌++◌, IfOk, OnOk, codes};
 ghost use Rattle.litmus_printing.specs.Printing.{place_text};
-ghost use Rattle.text_values.specs.Joined.{between};
+ghost use Rattle.text_values.specs.Joined.{separation};
 ghost use Rattle.verdict.specs.Text.{name_at, place_of, value_text, held_text, state_text};
 
 use crate::answer::FinalValue;
@@ -64,7 +64,7 @@ fn put_held(
 ) -> Result<(), AllocError>
     ensures { OnOk result (text.new.items
         ≡ text.old.items
-        ++ (between (codes " ") number ++ held_text locations.now place value)) }
+        ++ (separation (codes " ") number ++ held_text locations.now place value)) }
 {
     if number > 0 {
         put_bytes(text, b" ")?;

@@ -4,7 +4,7 @@ use Rattle.std.proofs.lemmas.Bool.{cases_lt}
 use Rattle.std.specs.List.{flat_map}
 use Rattle.std.proofs.lemmas.List.{length-map, append-nil, drop-drop}
 use Rattle.text_values.specs.declared.test.Thread.{Thread}
-use Rattle.text_values.specs.TestValue.{steps_of}
+use Rattle.text_values.specs.TestValue.{thread_steps}
 use Rattle.text_values.specs.declared.model.Item.{Item}
 use Rattle.text_values.specs.ModelValue.{Clause}
 use Rattle.text_values.specs.ModelValues.{clause_of, clauses_of}
@@ -52,14 +52,14 @@ same_clauses old new i j x y a b d e s = same_values clause_of old new i j x y a
 
 pub same_threads : (old new : List Thread) (i : ℕ) (x y : Thread) → i < length old → i < length new
     → x ≡ get_or old i x → y ≡ get_or new i y → x.steps.items ≡ y.steps.items
-    → element_at i (map steps_of old) ≡ element_at i (map steps_of new)
-same_threads old new i x y a b d e s = same_elements steps_of old new i i x y a b d e s
+    → element_at i (map thread_steps old) ≡ element_at i (map thread_steps new)
+same_threads old new i x y a b d e s = same_elements thread_steps old new i i x y a b d e s
 
 pub same_steps : (old new : List Thread) (i : ℕ) (x y : Thread) → i < length old → i < length new
     → x ≡ get_or old i x → y ≡ get_or new i y
-    → element_at i (map steps_of old) ≡ element_at i (map steps_of new)
+    → element_at i (map thread_steps old) ≡ element_at i (map thread_steps new)
     → x.steps.items ≡ y.steps.items
-same_steps old new i x y a b d e s = same_values steps_of old new i i x y a b d e s
+same_steps old new i x y a b d e s = same_values thread_steps old new i i x y a b d e s
 
 -- ---- texts
 

@@ -11,8 +11,8 @@ use Rattle.bit_relations.specs.Relation.{Events, IsEvents, IsMember}
 use Rattle.binding_graph.specs.declared.resolved.ResolvedItem.{ResolvedItem}
 use Rattle.candidates.specs.declared.candidate.Space.{Space}
 use Rattle.candidates.specs.declared.execution.Execution.{Execution}
-use Rattle.candidates.specs.Listed.{ListsExecutions, Shows}
-use Rattle.candidates.specs.Space.{Candidate, IsShown, Shown, candidate_count, candidates_in, shown_by, shown_in, shown_of}
+use Rattle.candidates.specs.Listed.{ListsExecutions, ShowsExecution}
+use Rattle.candidates.specs.Space.{Candidate, IsShownAt, Shown, candidate_count, candidates_in, shown_by, shown_in, shown_of}
 use Rattle.text_values.specs.declared.model.ModelText.{ModelText}
 use Rattle.text_values.specs.declared.predefined.TheConstants.{PREDEFINED}
 use Rattle.draw_graph.specs.declared.drawing.Cluster.{Cluster}
@@ -40,7 +40,7 @@ use Rattle.why_forbidden.specs.Told.{Scene}
 -- ---- one execution
 
 -- an execution shows what the candidate of its number does
-pub shown_at : (space : Space) (k : ℕ) (e : Execution) (one : Candidate) → IsShown space k e
+pub shown_at : (space : Space) (k : ℕ) (e : Execution) (one : Candidate) → IsShownAt space k e
     → IsAt space k one → shown_by e ≡ shown_of space.registers.items one
 shown_at space k e one shown is =
     let f = shown_of space.registers.items in
@@ -48,7 +48,7 @@ shown_at space k e one shown is =
     same_Some (shown_by e) (f one) (sym shown ∙ slice_get-map f cs k ∙ ap (option_map f) is)
 
 -- there is such a candidate, of so many events
-pub shown_there : (space : Space) (k : ℕ) (e : Execution) → IsShown space k e
+pub shown_there : (space : Space) (k : ℕ) (e : Execution) → IsShownAt space k e
     → (one : Candidate) × IsAt space k one
 shown_there space k e shown =
     let cs = candidates_in space.combinations.items in
@@ -56,18 +56,18 @@ shown_there space k e shown =
     let same : length (shown_in space) ≡ length cs = length-map cs (shown_of space.registers.items) in
     item_at cs k (omega (arith, inside, same))
 
-pub events_shown : (space : Space) (k : ℕ) (e : Execution) (one : Candidate) → IsShown space k e
+pub events_shown : (space : Space) (k : ℕ) (e : Execution) (one : Candidate) → IsShownAt space k e
     → IsAt space k one → e.events.items ≡ one.0.events.items
 events_shown space k e one shown is = ap (λ (s : Shown). s.events) (shown_at space k e one shown is)
 
-pub sources_shown : (space : Space) (k : ℕ) (e : Execution) (one : Candidate) → IsShown space k e
+pub sources_shown : (space : Space) (k : ℕ) (e : Execution) (one : Candidate) → IsShownAt space k e
     → IsAt space k one → e.sources.items ≡ one.1.0
 sources_shown space k e one shown is =
     ap (λ (s : Shown). s.sources) (shown_at space k e one shown is)
 
 -- whether the candidate has what the test asks for
 pub asked_is : (s : Subject) (k : ℕ) (e : Execution) (one : Candidate) (locations : List (List ℕ))
-    (satisfied : Bool) → IsShown s.space k e → IsAt s.space k one
+    (satisfied : Bool) → IsShownAt s.space k e → IsAt s.space k one
     → locations ≡ s.space.locations.items
     → satisfied ≡ is_satisfied locations (formula_of s.test.condition.proposition) (shown_by e)
     → satisfied ≡ has_asked s one
@@ -201,7 +201,7 @@ checks_within space columns model resolved checks items each k d lt =
 pub few_candidates : (test : Test) (space : Space) → ListsExecutions test space
     → candidate_count space ≤ 16384
 few_candidates test space lists =
-    let long : length (shown_in space) ≡ length lists.all = AllZip-long (Shows lists.initial) lists.all (shown_in space) lists.shown in
+    let long : length (shown_in space) ≡ length lists.all = AllZip-long (ShowsExecution lists.initial) lists.all (shown_in space) lists.shown in
     let same : length (shown_in space) ≡ candidate_count space = length-map (candidates_in space.combinations.items) (shown_of space.registers.items) in
     let few : length lists.all ≤ 16384 = lists.few in
     omega (arith, long, same, few)

@@ -3,7 +3,7 @@ use Rattle.std.proofs.Common.{ℕ, zero, suc, ◌≡◌, ◌<◌, ◌+◌, ◌�
 use Rattle.std.proofs.lemmas.List.{take_more}
 use Rattle.binding_graph.proofs.Labels.{zip_push}
 use Rattle.std.specs.List.{AllZip}
-use Rattle.bit_relations.specs.Pairs.{Restricted}
+use Rattle.bit_relations.specs.Pairs.{Restriction}
 use Rattle.bit_relations.specs.Relation.{Events, IsRelation, Relation}
 use Rattle.binding_kinds.specs.declared.kinds.Kind.TheVariants as kinds
 use Rattle.binding_graph.specs.declared.resolved.Source.TheVariants as sources
@@ -46,7 +46,7 @@ drawn_as R Q same a b drawn = let (r, alone) = drawn in (
 )
 
 among_as : (S T : ℕ → Type 0) (R Q : ℕ → ℕ → Type 0) → ((a : ℕ) → S a ↔ T a)
-    → ((a b : ℕ) → R a b ↔ Q a b) → (a b : ℕ) → Restricted R S a b ↔ Restricted Q T a b
+    → ((a b : ℕ) → R a b ↔ Q a b) → (a b : ℕ) → Restriction R S a b ↔ Restriction Q T a b
 among_as S T R Q events pairs a b = (
   (λ x. let (r, s, t) = x in ((pairs a b).0 r, (events a).0 s, (events b).0 t)),
   (λ x. let (r, s, t) = x in ((pairs a b).1 r, (events a).1 s, (events b).1 t)),
@@ -65,11 +65,11 @@ edges_as S T R Q events pairs edges old = record {
 }
   where
     forth : (a b : ℕ) → DrawnAmong S R a b → DrawnAmong T Q a b
-    forth = drawn_as (Restricted R S) (Restricted Q T) (among_as S T R Q events pairs)
+    forth = drawn_as (Restriction R S) (Restriction Q T) (among_as S T R Q events pairs)
 
     back : (a b : ℕ) → DrawnAmong T Q a b → DrawnAmong S R a b
     back =
-        drawn_as (Restricted Q T) (Restricted R S) (λ a b.
+        drawn_as (Restriction Q T) (Restriction R S) (λ a b.
         let both = among_as S T R Q events pairs a b in (both.1, both.0))
 
 -- ---- the value of a name of the language

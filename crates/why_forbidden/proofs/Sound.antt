@@ -7,7 +7,7 @@ use Rattle.text_values.specs.declared.model.ModelText.{ModelText}
 use Rattle.text_values.specs.declared.predefined.TheConstants.{PREDEFINED}
 use Rattle.binding_graph.specs.declared.resolved.ResolvedItem.{ResolvedItem}
 use Rattle.candidates.specs.declared.candidate.Space.{Space}
-use Rattle.candidates.specs.Listed.{ListsExecutions, Shows}
+use Rattle.candidates.specs.Listed.{ListsExecutions, ShowsExecution}
 use Rattle.candidates.specs.Space.{candidate_count, candidates_in, shown_in, shown_of}
 use Rattle.from_scratch.specs.Answers.{AreSound}
 use Rattle.from_scratch.specs.FromScratch.{AreItemsOf, IsFaultless, clauses_of, outermost}
@@ -25,6 +25,6 @@ sound_items model items none resolved = (
 pub few_candidates : (test : Test) (space : Space) → ListsExecutions test space
     → candidate_count space ≤ 16384
 few_candidates test space lists =
-    let as_many : length (shown_in space) ≡ length lists.all = AllZip-long (Shows lists.initial) lists.all (shown_in space) lists.shown in
+    let as_many : length (shown_in space) ≡ length lists.all = AllZip-long (ShowsExecution lists.initial) lists.all (shown_in space) lists.shown in
     let long : length (shown_in space) ≡ candidate_count space = length-map (candidates_in space.combinations.items) (shown_of space.registers.items) in
     omega (arith, lists.few, as_many, long)

@@ -11,7 +11,7 @@ use Rattle.binding_kinds.specs.declared.fault.ModelFault.{ModelFault}
 use Rattle.binding_kinds.specs.Numbers as model_faults
 use Rattle.candidates.specs.declared.candidate.Space.{Space}
 use Rattle.candidates.specs.declared.fault.EvalRefusal.{EvalRefusal}
-use Rattle.candidates.specs.Listed.{ListsExecutions, IsRefusal}
+use Rattle.candidates.specs.Listed.{ListsExecutions, IsSpaceRefusal}
 use Rattle.candidates.specs.Faults as refusals
 use Rattle.candidates.specs.Space.{Candidate, candidate_count, candidates_in, shown_of}
 use Rattle.cat_eval.specs.Executions.{events_of, PairsAt}
@@ -305,7 +305,7 @@ pub data IsDrawn (wanted : Wanted) (most : ℕ) (test : Test) (model : ModelText
   HasFault : (fault : ModelFault) → IsFaultOf model fault
       → text ≡ refused_comment (codes "M") (model_faults.number fault)
       → IsDrawn wanted most test model text
-  HasNoSpace : IsFaultless model → (refusal : EvalRefusal) → IsRefusal test refusal
+  HasNoSpace : IsFaultless model → (refusal : EvalRefusal) → IsSpaceRefusal test refusal
       → text ≡ refused_comment (codes "E") (refusals.number refusal)
       → IsDrawn wanted most test model text
   HasGraphs : IsFaultless model → AreDrawn wanted most test model text

@@ -12,7 +12,7 @@ use Rattle.binding_graph.specs.declared.resolved.ResolvedItem.{ResolvedItem}
 use Rattle.candidates.specs.declared.candidate.Space.{Space}
 use Rattle.candidates.specs.declared.fault.EvalRefusal.{EvalRefusal}
 use Rattle.candidates.specs.Faults as eval_refusals
-use Rattle.candidates.specs.Listed.{ListsExecutions, IsRefusal}
+use Rattle.candidates.specs.Listed.{ListsExecutions, IsSpaceRefusal}
 use Rattle.candidates.specs.Space.{candidate_count}
 use Rattle.from_scratch.specs.declared.cell.ItemAnswers.{ItemAnswers}
 use Rattle.from_scratch.specs.FromScratch.{AreItemsOf, IsFaultOf, IsFaultless}
@@ -70,7 +70,7 @@ IsOverSpace asked test model items text =
 
 abbrev pub IsSpaceRefused : Test → List ℕ → Type 0
 IsSpaceRefused test text =
-    (r : EvalRefusal) × IsRefusal test r
+    (r : EvalRefusal) × IsSpaceRefusal test r
     × (text ≡ refusal_text (codes "E") (eval_refusals.number r))
 
 abbrev pub IsSaidOver : Asked → Test → ModelText → List ResolvedItem → List ℕ → Type 0

@@ -1,7 +1,7 @@
 //! Which executions satisfy what a test asks for, and why a model forbids them.
 
 ghost use Rattle.std.specs.Prelude.{◌≡◌, ◌++◌, ◌-◌, ◌^◌, ◌<◌, ◌≤◌, IfOk, OnOk};
-ghost use Rattle.candidates.specs.Space.{candidate_count, IsShown};
+ghost use Rattle.candidates.specs.Space.{candidate_count, IsShownAt};
 ghost use Rattle.why_origins.specs.Origins.{AreAllRuns};
 ghost use Rattle.from_scratch.specs.Answers.{AreSound};
 ghost use Rattle.why_forbidden.specs.Checked.{IsFirstRefusal};
@@ -110,7 +110,7 @@ fn execution_outcome(
     candidate: usize,
     execution: &Execution,
 ) -> Result<Outcome, AllocError>
-    requires shown { IsShown space.now candidate execution.now }
+    requires shown { IsShownAt space.now candidate execution.now }
     requires runs { AreAllRuns test.now runs.now }
     ensures { IfOk result (IsOutcome (case_of test.now space.now judged.entry is_deep) candidate) }
 {

@@ -3,7 +3,7 @@
 ghost use Rattle.std.specs.Prelude.{◌≡◌, ◌<◌, ◌^◌, IfOk, false, length};
 ghost use Rattle.std.specs.List.{All};
 ghost use Rattle.candidates.specs.Listed.{ListsExecutions};
-ghost use Rattle.candidates.specs.Space.{IsShown, candidate_count};
+ghost use Rattle.candidates.specs.Space.{IsShownAt, candidate_count};
 ghost use Rattle.why_origins.specs.Origins.{AreAllRuns};
 ghost use Rattle.from_scratch.specs.FromScratch.{AreItemsOf, IsFaultless};
 ghost use Rattle.why_forbidden.specs.Drawable.{AddsDrawing, AreEdgesAt, AreReady, HasCount, IsGraphAt, subject_of};
@@ -188,7 +188,7 @@ fn drawing_of(
 ) -> Result<Drawing, AllocError>
     requires ready { AreReady (subject_of scene) scene.relations.now }
     requires runs { AreAllRuns scene.test.now scene.runs.now }
-    requires shown { IsShown scene.space.now candidate execution.now }
+    requires shown { IsShownAt scene.space.now candidate execution.now }
     requires judged { IsJudged scene.judged.checks.now candidate found.now }
     ensures { IfOk result (IsGraphAt (subject_of scene.entry) candidate found.now) }
 {

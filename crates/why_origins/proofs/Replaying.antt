@@ -7,7 +7,7 @@ use Rattle.std.proofs.lemmas.List.{get_or-map, length-append, length-map}
 use Rattle.text_values.specs.declared.test.Test.{Test}
 use Rattle.ppc_semantics.specs.Lowering.{ShowsTestRuns}
 use Rattle.run_combinations.specs.declared.combination.Event.{Event}
-use Rattle.thread_runs.specs.AllRuns.{ShowsRuns, Shown, shown, shown_of, thread_of}
+use Rattle.thread_runs.specs.AllRuns.{ShowsRuns, ShownRun, run_shown, shown_run, thread_of}
 use Rattle.thread_runs.specs.Runs.{Thread, Run, run_of}
 use Rattle.thread_runs.specs.declared.instruction.Instruction.{Instruction}
 use Rattle.thread_runs.specs.declared.run.Run as code_run
@@ -44,11 +44,11 @@ matched f g xs ys same x here =
 -- ---- the instructions of a thread
 
 by_run : (t : Thread) (domain values : List Value) (run : code_run.Run) (r : Run)
-    (xs : List (Option Instruction)) → shown run ≡ shown_of r
+    (xs : List (Option Instruction)) → run_shown run ≡ shown_run r
     → (run_of t.lines t.first r.values ≡ Some r.outcome) → Reads values run
     → xs ≡ made_in run.steps.items → AreMade t domain values xs
 by_run t domain values run r xs like goes reads is =
-    let taken : r.values ≡ values = sym (ap (λ (s : Shown). s.values) like) ∙ reads in
+    let taken : r.values ≡ values = sym (ap (λ (s : ShownRun). s.values) like) ∙ reads in
     inl (
       r.outcome.walk.steps,
       (
@@ -57,7 +57,7 @@ by_run t domain values run r xs like goes reads is =
             goes,
         refl,
       ),
-      is ∙ ap made_in (ap (λ (s : Shown). s.steps) like),
+      is ∙ ap made_in (ap (λ (s : ShownRun). s.steps) like),
     )
 
 without : (t : Thread) (domain values : List Value) (runs : List code_run.Run)
@@ -65,10 +65,10 @@ without : (t : Thread) (domain values : List Value) (runs : List code_run.Run)
 without t domain values runs shows none o within goes =
     let (all, are, like) = shows in
     let r : Run = record { values = values; outcome = o } in
-    let (run, there, alike) = matched shown_of shown all runs (sym like) r ((are.exact r).1 (within, goes)) in
+    let (run, there, alike) = matched shown_run run_shown all runs (sym like) r ((are.exact r).1 (within, goes)) in
     let (k, lt, is) = there in
     none k run lt (subst (λ (x : code_run.Run). Reads values x) (sym is)
-    (sym (ap (λ (s : Shown). s.values) alike)))
+    (sym (ap (λ (s : ShownRun). s.values) alike)))
 
 made_as : (t : Thread) (domain values : List Value) (runs : List code_run.Run)
     (found : Option code_run.Run) (xs : List (Option Instruction)) → ShowsRuns t domain runs
@@ -77,7 +77,7 @@ made_as t domain values runs None xs shows none is =
     inr (without t domain values runs shows none, is)
 made_as t domain values runs (Some run) xs shows reader is =
     let (all, are, like) = shows in
-    let (r, there, alike) = matched shown shown_of runs all like run reader.0 in
+    let (r, there, alike) = matched run_shown shown_run runs all like run reader.0 in
     by_run t domain values run r xs alike ((are.exact r).0 there).1 reader.1 is
 
 pub thread_made : (test : Test) (n : ℕ) (domain values : List Value) (runs : List code_run.Run)

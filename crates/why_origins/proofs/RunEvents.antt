@@ -18,9 +18,9 @@ use Rattle.thread_runs.specs.declared.instruction.Line.{Line}
 use Rattle.thread_runs.specs.declared.instruction.Line.TheVariants.{Label, Does}
 use Rattle.thread_runs.specs.declared.instruction.RunStep.{RunStep}
 use Rattle.thread_runs.specs.declared.state.State.{State}
-use Rattle.thread_runs.specs.Machine.{register, sum_of, is_load, is_fault, is_address, goes, event_of}
-use Rattle.thread_runs.specs.Runs.{Walk, Outcome, Run, started, advanced, passed, ends, supplied, obeyed, one, run_from, run_of}
-use Rattle.run_combinations.specs.Events.{action_in, with_action, thread_events, initial_stores, stores_to, fence_of}
+use Rattle.thread_runs.specs.Machine.{register, sum_of, is_load, is_fault, is_address, takes_branch, event_of}
+use Rattle.thread_runs.specs.Runs.{Walk, Outcome, Run, walk_at, walk_after, walk_past, ends, after_load, after_instruction, after_line, run_from, run_of}
+use Rattle.run_combinations.specs.Events.{action_in, with_action, thread_events, initial_stores, makes_store, fence_of_instruction}
 use Rattle.run_combinations.specs.declared.combination.Action.{Action}
 use Rattle.run_combinations.specs.declared.combination.Action.TheVariants.{Fence as FenceAction}
 use Rattle.run_combinations.specs.declared.combination.Event.{Event}
@@ -46,8 +46,8 @@ true_false e = cc
 no_fence : {f : Fence} → Some f ≡ None → ⊥
 no_fence e = cc
 
-read_comes : (t : ℕ) (i : Instruction) (x v : Value) → makes_event i ≡ true → stores_to i ≡ false
-    → fence_of i ≡ None → not (is_address x) ≡ false
+read_comes : (t : ℕ) (i : Instruction) (x v : Value) → makes_event i ≡ true → makes_store i ≡ false
+    → fence_of_instruction i ≡ None → not (is_address x) ≡ false
     → AllZip ComesFrom (Some i ∷ []) (thread_events t (Reads x v ∷ []))
 read_comes t i (Number n) v makes never unfenced h = absurd cc
 read_comes t i (Address l) v makes never unfenced h = (
@@ -66,7 +66,7 @@ read_comes t i (Address l) v makes never unfenced h = (
 read_comes t i NoValue v makes never unfenced h = absurd cc
 
 write_comes : (t : ℕ) (i : Instruction) (x v : Value) → makes_event i ≡ true → is_load i ≡ false
-    → fence_of i ≡ None → not (is_address x) ≡ false
+    → fence_of_instruction i ≡ None → not (is_address x) ≡ false
     → AllZip ComesFrom (Some i ∷ []) (thread_events t (Writes x v ∷ []))
 write_comes t i (Number n) v makes never unfenced h = absurd cc
 write_comes t i (Address l) v makes never unfenced h = (
@@ -131,7 +131,7 @@ KeepsOn t xs =
     → Agrees t o.walk
 
 agrees_more : (t : ℕ) (i : Instruction) (b : Bool) (v : Value) (w : Walk)
-    → is_fault i w.state ≡ false → Agrees t w → Agrees t (advanced i b v w)
+    → is_fault i w.state ≡ false → Agrees t w → Agrees t (walk_after i b v w)
 agrees_more t i b v w sound h =
     let steps : made_in (w.steps ++ step_of i v ∷ []) ≡ made_in w.steps ++ made_in (step_of i v ∷ []) = filter_map-append made_by w.steps (step_of i v ∷ []) in
     let es : thread_events t (w.events ++ event_of i v w.state) ≡ thread_events t w.events ++ thread_events t (event_of i v w.state) = flat_map-append (λ e. with_action t (action_in e)) w.events (event_of i v w.state) in
@@ -152,27 +152,27 @@ ends_agree t f w (v ∷ vs) o e h = absurd cc
 
 module _ (t : ℕ) (xs : List Line) (rest : KeepsOn t xs) where
   advanced_agree : (i : Instruction) (b : Bool) (v : Value) (w : Walk) (vs : List Value)
-      (o : Outcome) → is_fault i w.state ≡ false → run_from xs (advanced i b v w) vs ≡ Some o
+      (o : Outcome) → is_fault i w.state ≡ false → run_from xs (walk_after i b v w) vs ≡ Some o
       → Agrees t w → Agrees t o.walk
   advanced_agree i b v w vs o sound e h =
-      rest (advanced i b v w) vs o e (agrees_more t i b v w sound h)
+      rest (walk_after i b v w) vs o e (agrees_more t i b v w sound h)
 
   supplied_agree : (l : Bool) (i : Instruction) (b : Bool) (w : Walk) (vs : List Value)
-      (o : Outcome) → is_fault i w.state ≡ false → supplied l i b (run_from xs) w vs ≡ Some o
+      (o : Outcome) → is_fault i w.state ≡ false → after_load l i b (run_from xs) w vs ≡ Some o
       → Agrees t w → Agrees t o.walk
   supplied_agree true i b w [] o sound e h = absurd cc
   supplied_agree true i b w (v ∷ vs) o sound e h = advanced_agree i b v w vs o sound e h
   supplied_agree false i b w vs o sound e h = advanced_agree i b NoValue w vs o sound e h
 
   obeyed_agree : (f : Bool) (i : Instruction) (w : Walk) (vs : List Value) (o : Outcome)
-      → is_fault i w.state ≡ f → obeyed f i (run_from xs) w vs ≡ Some o → Agrees t w
+      → is_fault i w.state ≡ f → after_instruction f i (run_from xs) w vs ≡ Some o → Agrees t w
       → Agrees t o.walk
   obeyed_agree true i w vs o is e h = ends_agree t true w vs o e h
-  obeyed_agree false i w vs o is e h = supplied_agree (is_load i) i (goes i w.state) w vs o is e h
+  obeyed_agree false i w vs o is e h = supplied_agree (is_load i) i (takes_branch i w.state) w vs o is e h
 
   one_agree : (s : Option ℕ) (x : Line) (w : Walk) (vs : List Value) (o : Outcome)
-      → one s x (run_from xs) w vs ≡ Some o → Agrees t w → Agrees t o.walk
-  one_agree (Some l) x w vs o e h = rest (passed x l w) vs o e h
+      → after_line s x (run_from xs) w vs ≡ Some o → Agrees t w → Agrees t o.walk
+  one_agree (Some l) x w vs o e h = rest (walk_past x l w) vs o e h
   one_agree None (Label m) w vs o e h = rest w vs o e h
   one_agree None (Does i) w vs o e h = obeyed_agree (is_fault i w.state) i w vs o refl e h
 
@@ -183,7 +183,7 @@ lines_agree t (x ∷ xs) w vs o e h = one_agree t xs (lines_agree t xs) w.seekin
 pub run_agrees : (t : ℕ) (lines : List Line) (s : State) (vs : List Value) (o : Outcome)
     → run_of lines s vs ≡ Some o
     → AllZip ComesFrom (made_in o.walk.steps) (thread_events t o.walk.events)
-run_agrees t lines s vs o e = lines_agree t lines (started s) vs o e tt
+run_agrees t lines s vs o e = lines_agree t lines (walk_at s) vs o e tt
 
 -- ---- what the loads of a thread read
 

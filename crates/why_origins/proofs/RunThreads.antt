@@ -13,9 +13,9 @@ use Rattle.thread_runs.specs.declared.instruction.Program.{Program}
 use Rattle.thread_runs.specs.declared.instruction.RunStep.{RunStep}
 use Rattle.thread_runs.specs.declared.value.Value.{Value}
 use Rattle.thread_runs.specs.AllRuns.{thread_of}
-use Rattle.thread_runs.specs.Runs.{Thread, Outcome, Run, IsRun, run_of, started}
+use Rattle.thread_runs.specs.Runs.{Thread, Outcome, Run, IsThreadRun, run_of, walk_at}
 use Rattle.ppc_semantics.specs.Domain.{threads_from, threads_of}
-use Rattle.ppc_semantics.specs.Lowering.{IsProgram, IsTestFault}
+use Rattle.ppc_semantics.specs.Lowering.{IsProgram, IsTestDomainFault}
 use Rattle.ppc_semantics.specs.declared.fault.DomainFault.TheVariants as faults
 use Rattle.ppc_semantics.specs.declared.fault.DomainRefusal.{DomainRefusal}
 use Rattle.ppc_semantics.specs.declared.fault.DomainRefusal.TheVariants as no_domain
@@ -25,7 +25,7 @@ use Rattle.run_combinations.specs.declared.combination.Event.{Event}
 use Rattle.candidates.specs.declared.candidate.Space.{Space}
 use Rattle.candidates.specs.declared.fault.EvalRefusal.TheVariants.{TooManyEvents, TooManyValues, TooManyRuns, TooManyCombinations}
 use Rattle.candidates.specs.Executions.{IsExecution, events, events_from, over_runs, product}
-use Rattle.candidates.specs.Listed.{ListsExecutions, Shows}
+use Rattle.candidates.specs.Listed.{ListsExecutions, ShowsExecution}
 use Rattle.candidates.specs.Space.{shown_in}
 use Rattle.candidates.proofs.Elements.{behind_first, in_first}
 use Rattle.candidates.proofs.LoadValues as loads
@@ -103,32 +103,32 @@ same_thread p q n same lt =
 -- ---- the runs of an execution
 
 module _ (test : Test) (p : Program) (of_test : IsProgram test p) (V : List Value) (rs : List Run)
-    (are : AllZip (λ t r. IsRun t (Contains V) r) (threads_of p) rs) where
+    (are : AllZip (λ t r. IsThreadRun t (Contains V) r) (threads_of p) rs) where
   goes_all : AllZip Goes (threads_of p) rs
-  goes_all = zip_weaker (λ t r. IsRun t (Contains V) r) Goes (λ t r h. h.1) (threads_of p) rs are
+  goes_all = zip_weaker (λ t r. IsThreadRun t (Contains V) r) Goes (λ t r h. h.1) (threads_of p) rs are
 
   many : length rs ≡ vec_len test.threads
   many =
       let a : vec_len p.threads ≡ length p.threads.items = p.threads.ok.0 in
       let b : vec_len test.threads ≡ length test.threads.items = test.threads.ok.0 in
       let c : length p.threads.items ≡ length test.threads.items = of_test.threads.each_one in
-      let d : length rs ≡ length (threads_of p) = AllZip-long (λ t r. IsRun t (Contains V) r) (threads_of p) rs are in
+      let d : length rs ≡ length (threads_of p) = AllZip-long (λ t r. IsThreadRun t (Contains V) r) (threads_of p) rs are in
       omega (arith, a, b, c, d, count_from p (vec_len p.threads))
 
   run_at : (n : ℕ) → n < length rs
-      → (r : Run) × (slice_get rs n ≡ Some r) × IsRun (thread_of p n) (Contains V) r
+      → (r : Run) × (slice_get rs n ≡ Some r) × IsThreadRun (thread_of p n) (Contains V) r
   run_at n lt =
-      let d : length rs ≡ length (threads_of p) = AllZip-long (λ t r. IsRun t (Contains V) r) (threads_of p) rs are in
-      matched_by (λ t r. IsRun t (Contains V) r) (threads_of p) rs n (thread_of p n) are
+      let d : length rs ≡ length (threads_of p) = AllZip-long (λ t r. IsThreadRun t (Contains V) r) (threads_of p) rs are in
+      matched_by (λ t r. IsThreadRun t (Contains V) r) (threads_of p) rs n (thread_of p n) are
       (thread_from p (vec_len p.threads) n
       (omega (arith, d, lt, count_from p (vec_len p.threads))))
 
   located : (k : ℕ) (r : Run) → slice_get rs k ≡ Some r → AreLocated r.outcome.walk.events
   located k r is =
-      let (t, there, h) = matching (λ t r. IsRun t (Contains V) r) (threads_of p) rs k r are is in
-      run_located t.lines (started t.first) r.values r.outcome h.1 tt
+      let (t, there, h) = matching (λ t r. IsThreadRun t (Contains V) r) (threads_of p) rs k r are is in
+      run_located t.lines (walk_at t.first) r.values r.outcome h.1 tt
 
-  values_of_run : (n : ℕ) (r : Run) → slice_get rs n ≡ Some r → IsRun (thread_of p n) (Contains V) r
+  values_of_run : (n : ℕ) (r : Run) → slice_get rs n ≡ Some r → IsThreadRun (thread_of p n) (Contains V) r
       → values_read n (events p.initial.items rs) ≡ r.values
   values_of_run n r is h =
       thread_values n p.initial.items rs r located is
@@ -137,7 +137,7 @@ module _ (test : Test) (p : Program) (of_test : IsProgram test p) (V : List Valu
   -- the instructions of a thread are those of its run
   made_as : (domain : List Value) → domain ≡ V
       → (t : Thread) (n : ℕ) (r : Run) (xs : List (Option Instruction)) → t ≡ thread_of p n
-      → slice_get rs n ≡ Some r → IsRun (thread_of p n) (Contains V) r
+      → slice_get rs n ≡ Some r → IsThreadRun (thread_of p n) (Contains V) r
       → AreMade t domain (values_read n (events p.initial.items rs)) xs
       → xs ≡ made_in r.outcome.walk.steps
   made_as domain same t n r xs thread is h made =
@@ -159,13 +159,13 @@ module _ (test : Test) (p : Program) (of_test : IsProgram test p) (V : List Valu
       ]
 
   made_on : (domain : List Value) → domain ≡ V → (n : ℕ) (r : Run) (xs : List (Option Instruction))
-      → n < length rs → slice_get rs n ≡ Some r → IsRun (thread_of p n) (Contains V) r
+      → n < length rs → slice_get rs n ≡ Some r → IsThreadRun (thread_of p n) (Contains V) r
       → AreMadeOn test n domain (values_read n (events p.initial.items rs)) xs
       → xs ≡ made_in r.outcome.walk.steps
   made_on domain same n r xs lt is h on =
       let (q, is_program, made) = on in
       let a : Alike q p = programs_alike test q p is_program of_test in
-      let d : length rs ≡ length (threads_of p) = AllZip-long (λ t r. IsRun t (Contains V) r) (threads_of p) rs are in
+      let d : length rs ≡ length (threads_of p) = AllZip-long (λ t r. IsThreadRun t (Contains V) r) (threads_of p) rs are in
       made_as domain same (thread_of q n) n r xs
       (same_thread q p n a.threads (omega (arith, lt, d, count_from p (vec_len p.threads)))) is
       h made
@@ -211,7 +211,7 @@ runs_come m (t ∷ ts) (r ∷ rs) h =
 -- ---- the whole
 
 not_refused : (test : Test) (space : Space) (r : DomainRefusal) → ListsExecutions test space
-    → IsTestFault test (faults.Refused r) → ⊥
+    → IsTestDomainFault test (faults.Refused r) → ⊥
 not_refused test space no_domain.TooManyEvents lists fault =
     (one_outcome test).listed_or_refused space TooManyEvents lists fault
 not_refused test space no_domain.TooManyValues lists fault =
@@ -222,7 +222,7 @@ not_refused test space no_domain.TooManyCombinations lists fault =
     (one_outcome test).listed_or_refused space TooManyCombinations lists fault
 
 module _ (test : Test) (p : Program) (of_test : IsProgram test p) (V : List Value) (rs : List Run)
-    (are : AllZip (λ t r. IsRun t (Contains V) r) (threads_of p) rs) where
+    (are : AllZip (λ t r. IsThreadRun t (Contains V) r) (threads_of p) rs) where
   of_runs : (domain : List Value) → domain ≡ V
       → (es : List Event) (xs made : List (Option Instruction)) → es ≡ events p.initial.items rs
       → AreMadeBelow test domain es (vec_len test.threads) made
@@ -252,7 +252,7 @@ module _ (test : Test) (p : Program) (of_test : IsProgram test p) (V : List Valu
 
 pub show_runs : (test : Test) (space : Space) → ShowRuns test space
 show_runs test space lists k e xs there are =
-    let (x, at, shows) = matching (Shows lists.initial) lists.all (shown_in space) k e lists.shown there in
+    let (x, at, shows) = matching (ShowsExecution lists.initial) lists.all (shown_in space) k e lists.shown there in
     let h = lists.executions in
     let execution = filtered_at (IsExecution lists.initial (threads_of h.program) (Contains h.values)) (flat_map (over_runs lists.initial) (product h.executions.runs)) lists.all h.executions.executions k x at in
     let is : e.events ≡ events h.program.initial.items x.runs = shows.events ∙ ap (λ (vs : List Value). events vs x.runs) h.starts in

@@ -4,7 +4,7 @@ use Rattle.std.specs.Prelude.{Vec, ℕ, ◌≡◌, ◌⊎◌, ◌+◌, ◌++◌,
 use Rattle.std.specs.List.{All, Contains, filter_map}
 use Rattle.std.specs.declared.alloc.Global.{Global}
 use Rattle.text_values.specs.declared.test.Test.{Test}
-use Rattle.ppc_semantics.specs.Lowering.{IsProgram, IsTestDomain, IsTestFault, ShowsTestRuns}
+use Rattle.ppc_semantics.specs.Lowering.{IsProgram, IsTestDomain, IsTestDomainFault, ShowsTestRuns}
 use Rattle.ppc_semantics.specs.declared.fault.DomainFault.TheVariants as faults
 use Rattle.ppc_semantics.specs.declared.fault.DomainRefusal.{DomainRefusal}
 use Rattle.run_combinations.specs.declared.combination.Action.{Action}
@@ -102,7 +102,7 @@ abbrev pub AreMadeIn : Test → List Event → List (Option Instruction) → Typ
 AreMadeIn test events xs =
     ((domain : List Value) × IsTestDomain test domain
     × AreMadeBelow test domain events (vec_len test.threads) xs)
-    ⊎ ((r : DomainRefusal) × IsTestFault test (faults.Refused r) × (xs ≡ []))
+    ⊎ ((r : DomainRefusal) × IsTestDomainFault test (faults.Refused r) × (xs ≡ []))
 
 -- for each event its instruction: first the initial stores, and then the events of the threads
 pub record AreInstructions (test : Test) (events : List Event) (xs : List (Option Instruction))
@@ -123,7 +123,7 @@ abbrev pub AreAllRuns : Test → List (Vec code_run.Run Global) → Type 0
 AreAllRuns test threads =
     ((domain : List Value) × IsTestDomain test domain
     × AreRunsOver test domain (vec_len test.threads) threads)
-    ⊎ ((r : DomainRefusal) × IsTestFault test (faults.Refused r) × (threads ≡ []))
+    ⊎ ((r : DomainRefusal) × IsTestDomainFault test (faults.Refused r) × (threads ≡ []))
 
 -- this run reads these values, or none does
 abbrev pub Reads : List Value → code_run.Run → Type 0

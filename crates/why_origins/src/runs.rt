@@ -2,7 +2,7 @@
 
 ghost use Rattle.std.specs.Prelude.{◌≡◌, ◌↔◌, IfOk, IsTrue, vec_len};
 ghost use Rattle.std.specs.Option.{option_map};
-ghost use Rattle.thread_runs.specs.ValueSet.{IsSet};
+ghost use Rattle.thread_runs.specs.ValueSet.{IsValueSet};
 ghost use Rattle.why_origins.specs.Origins.{AreAllRuns, AreRunsOver, IsReader, Reads};
 
 use ppc_semantics::{Domain, DomainFault, Run, Value, domain, runs};
@@ -12,7 +12,7 @@ use text_values::Test;
 
 // The runs of each thread over a domain.
 fn runs_over(alloc: Global, test: &Test, domain: &Domain) -> Result<Vec<Vec<Run>>, AllocError>
-    requires { IsSet domain.now.values.items }
+    requires { IsValueSet domain.now.values.items }
     ensures { IfOk result (λ v.
         AreRunsOver test.now domain.now.values.items (vec_len test.now.threads) v.items) }
 {

@@ -6,7 +6,7 @@ use Rattle.std.proofs.Math.Seq.{drop-cons, get_or-append_seam}
 use Rattle.std.proofs.lemmas.Bool.{cases_lt}
 use Rattle.std.proofs.lemmas.List.{append-nil, drop_all, get_or_append_left, get_or_read, length-append}
 use Rattle.std.proofs.lemmas.List.Elements.{All-drop, All-tail}
-use Rattle.bit_relations.specs.Pairs.{Composed, Identity, Path, Plus}
+use Rattle.bit_relations.specs.Pairs.{Composite, Identity, Path, Plus}
 use Rattle.bit_relations.specs.Relation.{Relation, Has, IsRegular, IsRelation, no_slot}
 use Rattle.bit_relations.proofs.Closing.{Plus-within}
 use Rattle.relation_cycles.specs.Cycles.{IsPathFrom}
@@ -120,13 +120,13 @@ module _ (n : ℕ) (links : List Link) (rests : List Relation) (rest : Relation)
   -- the link, and what is behind it
   pub composed_rest : (pairs next : Relation) → AreLinksOn n links
       → IsRelation pairs l.relation.count (LinkPairs l)
-      → (rest.count ≡ pairs.count → IsRelation next pairs.count (Composed (Has pairs) (Has rest)))
+      → (rest.count ≡ pairs.count → IsRelation next pairs.count (Composite (Has pairs) (Has rest)))
       → IsRelation rest n (Leads n (drop (left + 1) links))
       → IsRelation next n (Leads n (drop left links))
   composed_rest pairs next all are composed behind =
       let on : IsLinkOn n l = link_on all in
       let size : pairs.count ≡ n = are.count ∙ on.count in
-      let made : IsRelation next pairs.count (Composed (Has pairs) (Has rest)) = composed (behind.count ∙ sym size) in
+      let made : IsRelation next pairs.count (Composite (Has pairs) (Has rest)) = composed (behind.count ∙ sym size) in
       subst (λ (ls : List Link). IsRelation next n (Leads n ls)) (sym drop_link) (record {
         count = made.count ∙ size;
         regular = made.regular;
@@ -162,7 +162,7 @@ pub rests_step : (n : ℕ) (links : List Link) (rests : List Relation) (rest : R
     (l : Link) (pairs next : Relation) → 0 < left → length rests + left ≡ length links
     → l ≡ get_or links (left - 1) l
     → IsRelation pairs l.relation.count (LinkPairs l)
-    → (rest.count ≡ pairs.count → IsRelation next pairs.count (Composed (Has pairs) (Has rest)))
+    → (rest.count ≡ pairs.count → IsRelation next pairs.count (Composite (Has pairs) (Has rest)))
     → (AreLinksOn n links → IsRestsSoFar n links rests rest left) → AreLinksOn n links
     → IsRestsSoFar n links (rests ++ rest ∷ []) next (left - 1)
 rests_step n links rests rest left l pairs next some whole is are composed old all =
@@ -203,7 +203,7 @@ module _ (n : ℕ) (links : List Link) (rests : List Relation) (index : ℕ) (l 
   leads_on from to next are has all begins runs w = ((rest_is (are all)).pairs next to).0 has
 
   pub leads_nowhere : (from to at : ℕ) → (AreLinksOn n links → AreRests n links rests)
-      → StillLeads n links from to index at → (Composed (LinkPairs l) (Has rest) at to → ⊥)
+      → StillLeads n links from to index at → (Composite (LinkPairs l) (Has rest) at to → ⊥)
       → AreLinksOn n links → from < n → IsNoWalk links from to
   leads_nowhere from to at are leads none all begins runs w =
       let on : Leads n (l ∷ drop (index + 1) links) at to = subst (λ (ls : List Link). Leads n ls at to) (drop_link n links [] rest index l lt is) (leads all begins runs w) in

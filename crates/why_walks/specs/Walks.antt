@@ -3,7 +3,7 @@
 use Rattle.std.specs.Prelude.{ℕ, ◌≡◌, ◌<◌, ◌-◌, ◌⊎◌, List, [], ◌∷◌, Vec, drop, length, map, slice_index_or}
 use Rattle.std.specs.List.{All}
 use Rattle.std.specs.declared.alloc.Global.{Global}
-use Rattle.bit_relations.specs.Pairs.{Composed, Identity, Opt, Plus, Star}
+use Rattle.bit_relations.specs.Pairs.{Composite, Identity, Opt, Plus, Star}
 use Rattle.bit_relations.specs.Relation.{Relation, Has, IsRegular, IsRelation, no_slot}
 use Rattle.relation_cycles.specs.Cycles.{IsPathFrom, IsShortestPath}
 use Rattle.why_walks.specs.declared.factor.Repeats.{Repeats}
@@ -90,7 +90,7 @@ LinkPairs l = Repeated l.repeats l.relation.count (Has l.relation)
 -- the pairs that factors in turn lead from and to
 abbrev pub Leads : ℕ → List Link → ℕ → ℕ → Type 0
 Leads n [] = Identity n
-Leads n (l ∷ ls) = Composed (LinkPairs l) (Leads n ls)
+Leads n (l ∷ ls) = Composite (LinkPairs l) (Leads n ls)
 
 -- of the last factor, the one before it, and so on, the pairs that those behind it lead from and to
 abbrev pub AreRests : ℕ → List Link → List Relation → Type 0

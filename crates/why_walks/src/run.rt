@@ -1,7 +1,7 @@
 //! Walks through relations in turn.
 
 ghost use Rattle.std.specs.Prelude.{◌≡◌, ◌↔◌, ◌<◌, ◌≤◌, IfOk, IfSome, IsTrue, MatchOption, None, length};
-ghost use Rattle.bit_relations.specs.Pairs.{Composed, Plus};
+ghost use Rattle.bit_relations.specs.Pairs.{Composite, Plus};
 ghost use Rattle.bit_relations.specs.Relation.{Has, IsRelation};
 ghost use Rattle.why_walks.specs.Walks.{AreLinksOn, AreRests, IsFirstRun, IsFirstWalk, IsLeastMiddle, IsNoWalk, IsOneStep, IsRunInto, IsWalk, LinkPairs, runs_of};
 ghost use Rattle.relation_cycles.specs.Cycles.{IsShortestPath};
@@ -103,7 +103,7 @@ fn whole(link: &Link) -> Rel
 
 fn then(left: &Rel, right: &Rel) -> Rel
     ensures { right.now.count ≡ left.now.count
-        → IsRelation result left.now.count (Composed (Has left.now) (Has right.now)) }
+        → IsRelation result left.now.count (Composite (Has left.now) (Has right.now)) }
 {
     if left.count() == right.count() {
         left.compose(right)
@@ -132,7 +132,7 @@ fn rests(alloc: Global, links: &[Link], count: usize) -> Result<Vec<Rel>, AllocE
 
 // The least event that a relation leads to and from which the other leads on.
 fn least_middle(left: &Rel, right: &Rel, from: usize, to: usize) -> Option<usize>
-    ensures { MatchOption result (Composed (Has left.now) (Has right.now) from to → ⊥)
+    ensures { MatchOption result (Composite (Has left.now) (Has right.now) from to → ⊥)
         (IsLeastMiddle (Has left.now) (Has right.now) from to) }
 {
     for event in 0..left.count() {
@@ -152,7 +152,7 @@ fn run_into(
     to: usize,
 ) -> Result<Option<(Vec<usize>, usize)>, AllocError>
     ensures { IfOk result (λ found. MatchOption found
-        (Composed (LinkPairs link.now) (Has rest.now) from to → ⊥)
+        (Composite (LinkPairs link.now) (Has rest.now) from to → ⊥)
         (λ run. IsRunInto link.now rest.now from run.0.items run.1 to)) }
 {
     let Some(next) = least_middle(&whole(link), rest, from, to) else {

@@ -23,7 +23,7 @@ use Rattle.cat_eval.specs.Meaning.{MeansSet, Means}
 use Rattle.cat_eval.specs.Named.{WithOwn, Of}
 use Rattle.cat_eval.specs.Values.{IsFor, IsMeant, column_len}
 use Rattle.cat_eval.proofs.Visits.{holds_same, empty_same}
-use Rattle.relation_columns.specs.Runs.{value_at, set_at, no_set}
+use Rattle.relation_columns.specs.Runs.{rel_at, set_at, no_set}
 use Rattle.why_witness.specs.declared.witness.Witness.{Witness}
 use Rattle.why_witness.specs.Values.{AreValues, IsValueAt, IsGroupOf}
 use Rattle.why_witness.specs.Refusals.{IsRefusal}
@@ -111,7 +111,7 @@ module _ (check : CheckCode) (found : Option Witness) (n : ℕ) (sets : Source �
   of_set values kinds.OfAny is meant h = absurd is
 
 pub relation_refused : (check : CheckCode) (values : List Relation) (k : ℕ) (r : Relation)
-    (found : Option Witness) → r ≡ value_at values k
+    (found : Option Witness) → r ≡ rel_at values k
     → IsExplanation check.negated (Holds check.word (Has r)) (Breaks check.word (Has r)) found
     → IsRefusal check (columns.Relations values) k found
 relation_refused check values k r found is h = λ space inputs one are at.

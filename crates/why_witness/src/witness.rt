@@ -6,7 +6,7 @@ ghost use Rattle.cat_eval.specs.Checks.{Holds, IsEmptySet};
 ghost use Rattle.cat_eval.specs.Values.{column_len};
 ghost use Rattle.why_witness.specs.Refusals.{IsRefusal};
 ghost use Rattle.why_witness.specs.Witnesses.{Breaks, BreaksSet, IsExplanation};
-ghost use Rattle.relation_columns.specs.Runs.{value_at, set_at};
+ghost use Rattle.relation_columns.specs.Runs.{rel_at, set_at};
 
 use binding_graph::CheckCode;
 use bit_relations::{EventSet, Rel};
@@ -106,7 +106,7 @@ fn relation_refusal(
 
 fn pair_relation(values: &RunColumn, candidate: usize) -> Rel
     requires { candidate < length values.now }
-    ensures { result ≡ value_at values.now candidate }
+    ensures { result ≡ rel_at values.now candidate }
 {
     let mut relation = Rel::empty(0);
     values.read(&mut Cursor::new(), candidate, &mut relation);

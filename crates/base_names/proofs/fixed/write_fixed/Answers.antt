@@ -1,6 +1,6 @@
 use Rattle.text_values.specs.declared.predefined.Predefined.TheVariants as names
 use Rattle.text_values.specs.declared.instruction.Fence.TheVariants.{Sync, LightweightSync, Eieio, Isync}
-use Rattle.base_names.specs.Events.{Listed, Fenced}
+use Rattle.base_names.specs.Events.{ListedPairs, Fenced}
 use Rattle.base_names.proofs.Named.{from_nothing, nothing_is, linked_is, identity_is, external_is, links_program, links_both}
 use Rattle.base_names.proofs.fixed.write_fixed.Goals as goal
 
@@ -43,25 +43,25 @@ returns-in-Internal c =
 pub returns-in-AddressDependency : goal.returns-in-AddressDependency
 returns-in-AddressDependency c =
     rw c.in-AddressDependency.is (from_nothing
-    (Listed c.args.combination.now.dependencies.addr_pairs.items) c.clear.ensures
+    (ListedPairs c.args.combination.now.dependencies.addr_pairs.items) c.clear.ensures
     (rw c.deref.ensures.value at c.put_pairs.ensures))
 
 pub returns-in-DataDependency : goal.returns-in-DataDependency
 returns-in-DataDependency c =
     rw c.in-DataDependency.is (from_nothing
-    (Listed c.args.combination.now.dependencies.data_pairs.items) c.clear.ensures
+    (ListedPairs c.args.combination.now.dependencies.data_pairs.items) c.clear.ensures
     (rw c.deref-in-DataDependency.ensures.value at c.put_pairs-in-DataDependency.ensures))
 
 pub returns-in-ControlDependency : goal.returns-in-ControlDependency
 returns-in-ControlDependency c =
     rw c.in-ControlDependency.is (from_nothing
-    (Listed c.args.combination.now.dependencies.ctrl_pairs.items) c.clear.ensures
+    (ListedPairs c.args.combination.now.dependencies.ctrl_pairs.items) c.clear.ensures
     (rw c.deref-in-ControlDependency.ensures.value at c.put_pairs-in-ControlDependency.ensures))
 
 pub returns-in-ControlIsyncDependency : goal.returns-in-ControlIsyncDependency
 returns-in-ControlIsyncDependency c =
     rw c.in-ControlIsyncDependency.is (from_nothing
-    (Listed c.args.combination.now.dependencies.ctrlisync_pairs.items) c.clear.ensures
+    (ListedPairs c.args.combination.now.dependencies.ctrlisync_pairs.items) c.clear.ensures
     (rw c.deref-in-ControlIsyncDependency.ensures.value at
     c.put_pairs-in-ControlIsyncDependency.ensures))
 

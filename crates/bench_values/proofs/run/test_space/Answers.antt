@@ -1,5 +1,5 @@
 use Rattle.std.proofs.Common.{refl, subst}
-use Rattle.candidates.specs.Listed.{IsRefusedFor}
+use Rattle.candidates.specs.Listed.{IsSpaceFault}
 use Rattle.bench_values.proofs.run.test_space.Goals as goal
 
 pub returns-in-Ok : goal.returns-in-Ok
@@ -18,6 +18,6 @@ returns-in-Err-Refused c = λ parts has.
       test = c.args.test.now;
       has_parts = has;
       of_test =
-          subst (IsRefusedFor c.args.test.now) c.in-Err-Refused.field-0-is
+          subst (IsSpaceFault c.args.test.now) c.in-Err-Refused.field-0-is
           c.in-Err-Refused.ensures.refused;
     })

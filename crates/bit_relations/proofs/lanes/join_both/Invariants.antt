@@ -1,10 +1,10 @@
 use Rattle.std.proofs.Common.{◌*◌}
-use Rattle.bit_relations.specs.Rows.{RowsHave, AreWritten, UnionWhere}
+use Rattle.bit_relations.specs.Rows.{RowsHave, AreRowsFilled, UnionWhere}
 use Rattle.bit_relations.proofs.lanes.join_both.Given as goal
 
 abbrev pub invariant-loop-block : goal.invariant-loop-block
 invariant-loop-block l =
-    AreWritten l.initial.own l.own (8 * l.block) (UnionWhere (RowsHave l.initial.own)
+    AreRowsFilled l.initial.own l.own (8 * l.block) (UnionWhere (RowsHave l.initial.own)
     (RowsHave l.initial.own) l.k l.own_word)
-    × AreWritten l.initial.other l.other (8 * l.block) (UnionWhere (RowsHave l.initial.other)
+    × AreRowsFilled l.initial.other l.other (8 * l.block) (UnionWhere (RowsHave l.initial.other)
     (RowsHave l.initial.own) l.k l.other_word)

@@ -1,12 +1,12 @@
 use Rattle.bit_relations.specs.Pairs.{PlusBelow}
 use Rattle.std.proofs.Common.{ℕ, ◌↔◌}
-use Rattle.bit_relations.specs.Relation.{AreColumns, wide}
+use Rattle.bit_relations.specs.Relation.{AreRelColumns, wide}
 use Rattle.bit_relations.specs.Rows.{RowsHave}
 use Rattle.bit_relations.proofs.rows.close_both.Given as goal
 
 abbrev pub invariant-loop-middle : goal.invariant-loop-middle
 invariant-loop-middle l =
-    AreColumns l.count l.low l.high
+    AreRelColumns l.count l.low l.high
     × ((a b : ℕ)
     → RowsHave (wide l.low l.high) a b
     ↔ PlusBelow (RowsHave (wide l.initial.low l.initial.high)) l.middle a b)

@@ -1,7 +1,7 @@
 use Rattle.bit_relations.specs.Relation.{wide}
-use Rattle.bit_relations.specs.Rows.{RowsHave, AreWritten, Inverted}
+use Rattle.bit_relations.specs.Rows.{RowsHave, AreRowsFilled, InverseFrom}
 use Rattle.bit_relations.proofs.rows.invert.Given as goal
 
 abbrev pub invariant-loop-a : goal.invariant-loop-a
 invariant-loop-a l =
-    AreWritten l.initial.words l.words l.a (Inverted l.at l.part (RowsHave (wide l.low l.high)))
+    AreRowsFilled l.initial.words l.words l.a (InverseFrom l.at l.part (RowsHave (wide l.low l.high)))

@@ -1,7 +1,7 @@
 use Rattle.std.proofs.Common.{ℕ, List, take, ◌++◌}
 use Rattle.std.specs.Prelude.{IsTrue, IfSome}
 use Rattle.base_names.specs.Known.{Known}
-use Rattle.base_names.specs.Candidate.{IsReading, IsOrdered}
+use Rattle.base_names.specs.Candidate.{HasReadsFrom, HasCoherence}
 use Rattle.cat_eval.specs.Candidates.{reading_so}
 use Rattle.cat_eval.specs.Steady.{EndsWith}
 use Rattle.cat_eval.specs.Worlds.{IsReady, AreWorlds}
@@ -10,9 +10,9 @@ use Rattle.cat_eval.proofs.walk.enter_orders.Given as goal
 abbrev pub invariant-loop-index : goal.invariant-loop-index
 invariant-loop-index g l =
     IsReady l.needs.names.items l.base l.combination
-    × ((sources : List ℕ) → IsReading l.initial.base l.combination sources
-    → IsReading l.base l.combination sources)
-    × ((sources : List ℕ) → (IsTrue l.needs.reads → IsReading l.initial.base l.combination sources)
+    × ((sources : List ℕ) → HasReadsFrom l.initial.base l.combination sources
+    → HasReadsFrom l.base l.combination sources)
+    × ((sources : List ℕ) → (IsTrue l.needs.reads → HasReadsFrom l.initial.base l.combination sources)
     → (first : _) (bases : List Known)
     → (IsTrue l.initial.again → EndsWith bases l.initial.base)
     → g.V.Enter.has_taken first bases l.initial.visitor
@@ -22,4 +22,4 @@ invariant-loop-index g l =
     × g.V.Enter.has_taken first (bases ++ more) l.visitor
     × (IsTrue l.again → EndsWith (bases ++ more) l.base))
     × (IsTrue l.needs.orders
-    → IfSome l.previous (λ earlier. IsOrdered l.base l.combination earlier.now))
+    → IfSome l.previous (λ earlier. HasCoherence l.base l.combination earlier.now))

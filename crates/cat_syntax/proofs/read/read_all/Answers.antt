@@ -1,7 +1,7 @@
 use Rattle.std.proofs.Common.{List, Ok, ap, sym, subst, ◌∙◌, arith}
 use Rattle.cat_syntax.specs.ParserState.{state_of}
 use Rattle.cat_syntax.specs.ReadingTexts.{FailsAt}
-use Rattle.cat_grammar.specs.Running.{Ran, items_of}
+use Rattle.cat_grammar.specs.Running.{ItemsResult, items_of}
 use Rattle.text_values.specs.ModelValue.{Clause}
 use Rattle.cat_syntax.proofs.Texts.{at_start, too_long, fits, refused}
 use Rattle.cat_syntax.proofs.read.read_all.Goals as goal
@@ -22,4 +22,4 @@ returns-in-Err-clause-reads c =
     let parser = c.new-parser.result in
     let started = at_start c.args.form parser.form (state_of parser) c.args.bytes.now c.new-parser.ensures.form c.new-parser.ensures.start in
     refused c.args.form c.args.bytes.now c.in-Err.fault (omega arith) (subst
-    (λ (r : Ran). FailsAt c.in-Err.fault r) started c.in-Err.ensures.steps)
+    (λ (r : ItemsResult). FailsAt c.in-Err.fault r) started c.in-Err.ensures.steps)

@@ -1,6 +1,6 @@
 use Rattle.std.proofs.Common.{ℕ, ◌+◌, ◌≡◌, ◌∙◌, sym, subst, arith, rules, List}
 use Rattle.std.proofs.lemmas.Bool.{false≢true}
-use Rattle.dataflow.specs.Dependencies.{ArePairs}
+use Rattle.dataflow.specs.Dependencies.{ArePairsOfWords}
 use Rattle.dataflow.proofs.PairLists.{UpTo, one_more, none_more, row_done, all_done, all_within}
 use Rattle.dataflow.proofs.pass.pairs.Goals as goal
 use Rattle.dataflow.proofs.pass.pairs.Goals.{then-has+in_ok-push, else-has}
@@ -33,7 +33,7 @@ loop-from-preserved c =
     c.loop-to.invariant)
 
 found : (c : goal.After-loop-from)
-    → ArePairs c.args.columns.now c.args.count c.loop-from.pairs.items
+    → ArePairsOfWords c.args.columns.now c.args.count c.loop-from.pairs.items
 found c =
     let full : c.loop-from.from ≡ c.args.count = omega (arith, c.loop-from-test.false, c.loop-from.auto.from-end) in
     all_done c.args.columns.now c.args.count c.loop-from.pairs.items (subst

@@ -1,7 +1,7 @@
 use Rattle.std.proofs.Common.{ℕ, ap, set, ◌≡◌, sym, ◌∙◌, arith, rules}
 use Rattle.thread_runs.specs.Runs.{executed}
-use Rattle.dataflow.specs.Taints.{IsWithinFile}
-use Rattle.dataflow.specs.Chains.{event_place}
+use Rattle.dataflow.specs.Taints.{HasRegistersInFile}
+use Rattle.dataflow.specs.Chains.{event_index}
 use Rattle.dataflow.proofs.ReachLoop.{reached_first, reached_event, reached_other, reached_as, instruction_at, below_128}
 use Rattle.dataflow.proofs.taints.reach.Goals as goal
 use Rattle.dataflow.proofs.taints.reach.Goals.{then-is_event, else-is_event}
@@ -14,25 +14,25 @@ loop-step-init c =
 pub bounds-columns-index : goal.bounds-columns-index
 bounds-columns-index c =
     let lt = below_128 c.args.steps.now c.loop-step.step-index _ (instruction_at c.args.steps.now c.loop-step.step-index _ c.loop-step-test.true) (sym c.is_event.ensures ∙ c.if-is_event.true) c.loop-step-test.true c.requires.few in
-    let here : c.loop-step.index ≡ event_place (executed c.args.steps.now) c.loop-step.step-index = c.loop-step.invariant.here in
+    let here : c.loop-step.index ≡ event_index (executed c.args.steps.now) c.loop-step.step-index = c.loop-step.invariant.here in
     omega (arith, lt, here)
 
 pub note-requires : goal.note-requires
 note-requires c =
     let lt = below_128 c.args.steps.now c.loop-step.step-index _ (instruction_at c.args.steps.now c.loop-step.step-index _ c.loop-step-test.true) (sym c.is_event.ensures ∙ c.if-is_event.true) c.loop-step-test.true c.requires.few in
-    let here : c.loop-step.index ≡ event_place (executed c.args.steps.now) c.loop-step.step-index = c.loop-step.invariant.here in
+    let here : c.loop-step.index ≡ event_index (executed c.args.steps.now) c.loop-step.step-index = c.loop-step.invariant.here in
     λ load. omega (arith, lt, here)
 
 pub overflow_add-index : goal.overflow_add-index
 overflow_add-index c =
     let lt = below_128 c.args.steps.now c.loop-step.step-index _ (instruction_at c.args.steps.now c.loop-step.step-index _ c.loop-step-test.true) (sym c.is_event.ensures ∙ c.if-is_event.true) c.loop-step-test.true c.requires.few in
-    let here : c.loop-step.index ≡ event_place (executed c.args.steps.now) c.loop-step.step-index = c.loop-step.invariant.here in
+    let here : c.loop-step.index ≡ event_index (executed c.args.steps.now) c.loop-step.step-index = c.loop-step.invariant.here in
     omega (arith, lt, here)
 
 pub loop-step-preserved : goal.loop-step-preserved
 loop-step-preserved c =
     let same = instruction_at c.args.steps.now c.loop-step.step-index _ c.loop-step-test.true in
-    let inside : IsWithinFile _ = record { operands = c.registers_fit.ensures.operands; addresses = c.registers_fit.ensures.addresses; stored = c.registers_fit.ensures.stored } in
+    let inside : HasRegistersInFile _ = record { operands = c.registers_fit.ensures.operands; addresses = c.registers_fit.ensures.addresses; stored = c.registers_fit.ensures.stored } in
     elim c.if-is_event.branch [
       | then-is_event w ↦
           let event = sym c.is_event.ensures ∙ w.if-is_event.true in

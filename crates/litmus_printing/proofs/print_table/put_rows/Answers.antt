@@ -1,6 +1,6 @@
 use Rattle.std.proofs.Common.{ap, ◌∙◌, ◌+◌, ◌-◌, ◌++◌}
 use Rattle.std.specs.Prelude.{map}
-use Rattle.text_values.specs.TestValue.{steps_of}
+use Rattle.text_values.specs.TestValue.{thread_steps}
 use Rattle.litmus_printing.specs.Printing.{rows_text}
 use Rattle.litmus_printing.proofs.Separated.{rows_more}
 use Rattle.litmus_printing.proofs.print_table.put_rows.Goals as goal
@@ -11,7 +11,7 @@ loop-number-preserved c =
     (λ l. l
     ++ rows_text (c.loop-number.number + 1)
     (c.longest-most.result - (c.loop-number.number + 1))
-    (map steps_of c.args.threads.now)) c.in_ok-put_row.ensures
+    (map thread_steps c.args.threads.now)) c.in_ok-put_row.ensures
     ∙ rows_more c.loop-number.text.items c.loop-number.number c.longest-most.result
-    (map steps_of c.args.threads.now) c.loop-number-test.true
+    (map thread_steps c.args.threads.now) c.loop-number-test.true
     ∙ c.loop-number.invariant

@@ -1,11 +1,11 @@
 use Rattle.std.proofs.Common.{take}
 use Rattle.std.specs.List.{AllPairs, flat_map}
-use Rattle.ppc_semantics.specs.Lowering.{IsBefore, Adds, place_names}
+use Rattle.ppc_semantics.specs.Lowering.{IsNameBefore, Gains, place_names}
 use Rattle.ppc_semantics.proofs.lowering.note_places.Given as goal
 
 abbrev pub invariant-loop-place : goal.invariant-loop-place
 invariant-loop-place l = record {
-  rising : AllPairs IsBefore l.names.items;
-  added : Adds (flat_map place_names (take l.place-index l.places)) l.initial.names.items
+  rising : AllPairs IsNameBefore l.names.items;
+  added : Gains (flat_map place_names (take l.place-index l.places)) l.initial.names.items
       l.names.items;
 }

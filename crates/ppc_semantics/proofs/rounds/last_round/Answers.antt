@@ -1,6 +1,6 @@
 use Rattle.std.proofs.Common.{ℕ, ◌≡◌, ◌+◌, List, arith, sym, subst}
 use Rattle.thread_runs.specs.declared.value.Value.{Value}
-use Rattle.ppc_semantics.specs.Domain.{load_total, IsRound}
+use Rattle.ppc_semantics.specs.Domain.{load_total, IsDomainAt}
 use Rattle.ppc_semantics.proofs.Bounds.{few_loads, going, going_fault, passed_on, stopped_round, stopped_within}
 use Rattle.ppc_semantics.proofs.rounds.last_round.Goals as goal
 
@@ -16,7 +16,7 @@ loop-round-preserved c =
     going c.args.program.now _ _ c.in_ok-next.next.items c.deref-in-loop-round-2.ensures.value
     c.in_ok-next.ensures.set
     (λ proper. c.in_ok-next.ensures.round c.loop-round.round (subst
-    (λ (V : List Value). IsRound c.args.program.now c.loop-round.round V)
+    (λ (V : List Value). IsDomainAt c.args.program.now c.loop-round.round V)
     (sym c.deref-in-loop-round.ensures.value) (c.loop-round.invariant.round proper)))
     (λ proper j lt. c.loop-round.invariant.within proper j (omega arith))
     c.in_ok-check_round-2.ensures.few c.in_ok-check_round-2.ensures.runs
@@ -40,7 +40,7 @@ returns-in_err-check_round-2-clause-fault c =
       c.load_count-round-end.ensures,
     ))
     (λ proper. c.in_ok-next.ensures.round c.loop-round.round (subst
-    (λ (V : List Value). IsRound c.args.program.now c.loop-round.round V)
+    (λ (V : List Value). IsDomainAt c.args.program.now c.loop-round.round V)
     (sym c.deref-in-loop-round.ensures.value) (c.loop-round.invariant.round proper)))
     (λ proper j lt. c.loop-round.invariant.within proper j (omega arith))
     c.in_err-check_round-2.field-0.0 c.in_err-check_round-2.ensures.fault)
@@ -79,7 +79,7 @@ pub returns-clause-round : goal.returns-clause-round
 returns-clause-round c = λ proper.
     let few = few_loads c.args.program.now in
     let e : c.loop-round.round ≡ load_total c.args.program.now = omega (arith, few, c.load_count-round-end.ensures) in
-    subst (λ (k : ℕ). IsRound c.args.program.now k c.loop-round.values.items) e
+    subst (λ (k : ℕ). IsDomainAt c.args.program.now k c.loop-round.values.items) e
     (c.loop-round.invariant.round proper)
 
 pub returns-clause-within : goal.returns-clause-within

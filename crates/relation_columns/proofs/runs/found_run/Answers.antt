@@ -1,5 +1,5 @@
 use Rattle.std.proofs.Common.{◌<◌, ◌+◌, ◌-◌, ◌/◌, arith, length}
-use Rattle.relation_columns.specs.Storage.{ends_of}
+use Rattle.relation_columns.specs.Storage.{run_ends}
 use Rattle.relation_columns.proofs.Expanding.{start_at, as_many_ends}
 use Rattle.relation_columns.proofs.runs.found_run.Goals as goal
 
@@ -14,7 +14,7 @@ halves-preserved-then-end_at-at g c =
       under,
       before.1,
       rw
-          (start_at 0 (ends_of c.args.runs.now) middle (middle - 1) (omega (arith, above))
+          (start_at 0 (run_ends c.args.runs.now) middle (middle - 1) (omega (arith, above))
           (omega (arith, inside, as_many_ends c.args.runs.now)))
           (omega (arith, c.end_at.ensures, c.if-end_at-at.true)),
     )

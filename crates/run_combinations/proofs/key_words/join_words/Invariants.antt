@@ -1,7 +1,7 @@
 use Rattle.bit_relations.specs.Pairs.{Union}
-use Rattle.bit_relations.specs.Rows.{RowsHave, AreWritten}
+use Rattle.bit_relations.specs.Rows.{RowsHave, AreRowsFilled}
 use Rattle.run_combinations.proofs.key_words.join_words.Given as goal
 
 abbrev pub invariant-loop-a : goal.invariant-loop-a
 invariant-loop-a l =
-    AreWritten l.initial.words l.words l.a (Union (RowsHave l.initial.words) (RowsHave l.others))
+    AreRowsFilled l.initial.words l.words l.a (Union (RowsHave l.initial.words) (RowsHave l.others))

@@ -2,7 +2,7 @@ use Rattle.std.proofs.Common.{ℕ, List, Vec, ◌≡◌, take, length, arith, ap
 use Rattle.std.proofs.Math.Seq.{take-length}
 use Rattle.std.specs.declared.alloc.Global.{Global}
 use Rattle.thread_runs.specs.declared.run.Run.{Run}
-use Rattle.run_combinations.specs.Parts.{NamesRuns, AreBelow, HasWritesOf, IsMade, AreThreads}
+use Rattle.run_combinations.specs.Parts.{NamesRuns, AreBelow, HasWritesOf, IsMade, AreThreadParts}
 use Rattle.std.specs.List.{AllZip}
 use Rattle.run_combinations.specs.declared.part.Sketch.{Sketch}
 use Rattle.run_combinations.proofs.Parting.{each_length, named_at, threads_more}
@@ -48,10 +48,10 @@ returns c =
     let n : c.loop-thread.thread ≡ length c.args.runs.now = omega arith in
     subst
     (λ (l : List (Vec Run Global)).
-    AreThreads 0 l c.args.sketches.now c.loop-thread.threads.items)
+    AreThreadParts 0 l c.args.sketches.now c.loop-thread.threads.items)
     (ap (λ (k : ℕ). take k c.args.runs.now) n ∙ take-length c.args.runs.now)
     (subst
-    (λ (l : List (Vec Sketch Global)). AreThreads 0
+    (λ (l : List (Vec Sketch Global)). AreThreadParts 0
     (take c.loop-thread.thread c.args.runs.now) l c.loop-thread.threads.items)
     (ap (λ (k : ℕ). take k c.args.sketches.now) (n ∙ e) ∙ take-length c.args.sketches.now)
     c.loop-thread.invariant)

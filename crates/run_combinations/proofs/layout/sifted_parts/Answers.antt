@@ -1,7 +1,7 @@
 use Rattle.std.proofs.Common.{List, Vec, ◌≡◌, length, subst, sym, ◌∙◌}
 use Rattle.std.specs.declared.alloc.Global.{Global}
 use Rattle.thread_runs.specs.declared.run.Run.{Run}
-use Rattle.run_combinations.specs.Parts.{AreSome, NamesRuns, AreThreads}
+use Rattle.run_combinations.specs.Parts.{AreSome, NamesRuns, AreThreadParts}
 use Rattle.std.specs.List.{AllZip}
 use Rattle.run_combinations.specs.declared.part.Sketch.{Sketch}
 use Rattle.run_combinations.proofs.Parting.{each_length}
@@ -48,8 +48,8 @@ returns c =
     (λ (l : List (Vec Run Global)).
     AllSketches c.args.domain.now.values.items l c.in_ok-sketches.sketches.items) e1
     made) in
-    let parts : AreThreads 0 c.deref-2.result.now c.deref-3.result.now c.in_ok-threads.threads.items = c.in_ok-threads.ensures in
-    let threads : AreThreads 0 c.in_ok-runs.runs.items c.sift.new.threads c.in_ok-threads.threads.items = subst (λ (l : List (Vec Run Global)). AreThreads 0 l c.sift.new.threads c.in_ok-threads.threads.items) e2 (subst (λ (l : List (Vec Sketch Global)). AreThreads 0 c.deref-2.result.now l c.in_ok-threads.threads.items) e3 parts) in (
+    let parts : AreThreadParts 0 c.deref-2.result.now c.deref-3.result.now c.in_ok-threads.threads.items = c.in_ok-threads.ensures in
+    let threads : AreThreadParts 0 c.in_ok-runs.runs.items c.sift.new.threads c.in_ok-threads.threads.items = subst (λ (l : List (Vec Run Global)). AreThreadParts 0 l c.sift.new.threads c.in_ok-threads.threads.items) e2 (subst (λ (l : List (Vec Sketch Global)). AreThreadParts 0 c.deref-2.result.now l c.in_ok-threads.threads.items) e3 parts) in (
       c.in_ok-runs.runs.items,
       c.in_ok-runs.ensures,
       record {

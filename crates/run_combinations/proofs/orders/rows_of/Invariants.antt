@@ -1,6 +1,6 @@
 use Rattle.std.proofs.Common.{◌≡◌, ◌-◌, ◌^◌, min}
-use Rattle.run_combinations.specs.Orders.{rows_of}
+use Rattle.run_combinations.specs.Orders.{arrangement_count}
 use Rattle.run_combinations.proofs.orders.rows_of.Given as goal
 
 abbrev pub invariant-loop-positions : goal.invariant-loop-positions
-invariant-loop-positions l = l.rows ≡ min (rows_of l.count l.positions) (2 ^ 64 - 1)
+invariant-loop-positions l = l.rows ≡ min (arrangement_count l.count l.positions) (2 ^ 64 - 1)

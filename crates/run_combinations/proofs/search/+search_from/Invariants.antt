@@ -1,7 +1,7 @@
 use Rattle.std.proofs.Common.{ℕ, ◌≤◌, Option, min, take, length}
 use Rattle.thread_runs.specs.declared.value.Value.{Value}
 use Rattle.run_combinations.specs.Keys.{AreKeys, ThreadsAreKeyed}
-use Rattle.run_combinations.specs.Search.{prefix_lists, tally, combinations, AllFit, Searched}
+use Rattle.run_combinations.specs.Search.{prefix_lists, tally, combinations, AllPrefixesFit, TalliesAll}
 use Rattle.run_combinations.proofs.Cutting.{IsBack}
 use Rattle.run_combinations.proofs.Searching.{going_on}
 use Rattle.run_combinations.proofs.search.+search_from.Given as goal
@@ -14,9 +14,9 @@ invariant-loop-run l = record {
   found : (key : ℕ → Value → Option (ℕ × ℕ))
       → AreKeys key l.initial.prefix.runs.events.items l.initial.prefix.reads
       l.initial.prefix.writes → ThreadsAreKeyed key l.threads
-      → AllFit (min l.locations 128) (combinations (prefix_lists l.initial.prefix) l.threads)
+      → AllPrefixesFit (min l.locations 128) (combinations (prefix_lists l.initial.prefix) l.threads)
       → l.initial.found.count ≤ 16384
-      → Searched (min l.locations 128)
+      → TalliesAll (min l.locations 128)
       (going_on (prefix_lists l.initial.prefix) l.others 0 (take l.run l.part-items))
       (tally l.initial.found) (tally l.found) × (l.found.count ≤ 16384);
   back : IsBack l.initial.prefix l.prefix;

@@ -1,6 +1,6 @@
 use Rattle.std.proofs.Common.{◌≡◌, List, [], false, map, ap}
 use Rattle.run_combinations.specs.Combinations.{combination_lists}
-use Rattle.run_combinations.specs.Search.{Tally, nothing, tally, all_combinations, location_count}
+use Rattle.run_combinations.specs.Search.{Tally, no_tally, tally, all_combinations, location_count}
 use Rattle.run_combinations.specs.declared.combination.Combination.{Combination}
 use Rattle.run_combinations.proofs.Searching.{found_all, found_over}
 use Rattle.run_combinations.proofs.search.find_combinations.Goals as goal
@@ -8,7 +8,7 @@ use Rattle.run_combinations.proofs.search.find_combinations.Goals as goal
 abbrev tally_of : List Combination → Tally
 tally_of cs = record { kept = map combination_lists cs; count = 0; faulted = false }
 
-empty_tally : (cs : List Combination) → cs ≡ [] → tally_of cs ≡ nothing
+empty_tally : (cs : List Combination) → cs ≡ [] → tally_of cs ≡ no_tally
 empty_tally cs e = ap (λ (c : List Combination). tally_of c) e
 
 pub returns-then-branch : goal.returns-then-branch

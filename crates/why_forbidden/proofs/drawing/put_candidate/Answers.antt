@@ -1,5 +1,5 @@
 use Rattle.std.proofs.Common.{◌≡◌, ◌∙◌, arith, length, refl}
-use Rattle.candidates.specs.Space.{IsShown}
+use Rattle.candidates.specs.Space.{IsShownAt}
 use Rattle.why_forbidden.specs.Drawable.{subject_of}
 use Rattle.why_forbidden.proofs.Graphing.{asked_is, none_is, shown_there, wanted_is}
 use Rattle.why_forbidden.proofs.drawing.put_candidate.Goals as goal
@@ -11,7 +11,7 @@ returns-then-not-is_wanted c =
     let e = c.in-Some.execution in
     let found = c.in_ok-found.found in
     let some = rw c.in-Some.is at c.in_ok-execution.ensures.some in
-    let shown : IsShown space k e = some.1 in
+    let shown : IsShownAt space k e = some.1 in
     let (one, is) = shown_there space k e shown in
     let subject = subject_of c.args.scene in
     let has = asked_is subject k e one c.deref.result.now c.is_satisfied-satisfied.result shown is c.deref.ensures.value c.is_satisfied-satisfied.ensures in
@@ -34,7 +34,7 @@ returns c =
     let e = c.in-Some.execution in
     let found = c.in_ok-found.found in
     let some = rw c.in-Some.is at c.in_ok-execution.ensures.some in
-    let shown : IsShown space k e = some.1 in
+    let shown : IsShownAt space k e = some.1 in
     let (one, is) = shown_there space k e shown in
     let subject = subject_of c.args.scene in
     let has = asked_is subject k e one c.deref.result.now c.is_satisfied-satisfied.result shown is c.deref.ensures.value c.is_satisfied-satisfied.ensures in

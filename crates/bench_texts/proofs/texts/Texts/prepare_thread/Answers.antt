@@ -1,5 +1,5 @@
 use Rattle.std.proofs.Common.{refl, ap, length, subst}
-use Rattle.text_values.specs.TestValue.{steps_of}
+use Rattle.text_values.specs.TestValue.{thread_steps}
 use Rattle.bench_texts.specs.declared.change.Change.TheVariants as changes
 use Rattle.bench_texts.specs.BenchTexts.{changed_at, with_thread, with_tests}
 use Rattle.bench_texts.specs.Held.{texts_of}
@@ -21,17 +21,17 @@ returns-in-Ok-clause-answer c =
     (SetThread c.args.test.now c.args.thread c.args.text.now)
     (changes.SetThread c.in_ok-at.at c.args.thread c.in-Ok.other) c.limited_alike.result
     (rw (c.in_ok-at.ensures.1, lt-ltb _ _ below) refl) (
-      steps_of c.in-Ok.other,
+      thread_steps c.in-Ok.other,
       c.in-Ok.ensures.found,
       ap
-          (λ i. with_tests (changed_at i (with_thread c.args.thread (steps_of c.in-Ok.other)))
+          (λ i. with_tests (changed_at i (with_thread c.args.thread (thread_steps c.in-Ok.other)))
           (texts_of c.args.self.now)) c.in_ok-at.ensures.0,
     )
     (λ r put. subst (λ i. IsTestPut i r) c.in_ok-at.ensures.0 put)
     (c.limited_alike.ensures
     (texts_after (changes.SetThread c.in_ok-at.at c.args.thread c.in-Ok.other)
     (texts_of c.args.self.now))
-    (length-changed_at (with_thread c.args.thread (steps_of c.in-Ok.other))
+    (length-changed_at (with_thread c.args.thread (thread_steps c.in-Ok.other))
     (texts_of c.args.self.now).tests c.in_ok-at.at) refl)
 
 pub returns-in-Ok-clause-ready : goal.returns-in-Ok-clause-ready
@@ -48,5 +48,5 @@ returns-in-Ok-clause-ready c =
     (c.limited_alike.ensures
     (texts_after (changes.SetThread c.in_ok-at.at c.args.thread c.in-Ok.other)
     (texts_of c.args.self.now))
-    (length-changed_at (with_thread c.args.thread (steps_of c.in-Ok.other))
+    (length-changed_at (with_thread c.args.thread (thread_steps c.in-Ok.other))
     (texts_of c.args.self.now).tests c.in_ok-at.at) refl)

@@ -2,7 +2,7 @@ use Rattle.std.proofs.Common.{◌≡◌, ◌<◌, Vec, List, length, get_or, ap,
 use Rattle.std.specs.declared.alloc.Global.{Global}
 use Rattle.thread_runs.specs.declared.value.Value.{Value}
 use Rattle.run_combinations.specs.Combinations.{candidates_of}
-use Rattle.candidates.specs.Space.{candidates_in, IsExecution}
+use Rattle.candidates.specs.Space.{candidates_in, IsCandidateOf}
 use Rattle.candidates.proofs.Alike.{shown_there}
 use Rattle.run_combinations.specs.declared.combination.Combination.{Combination}
 use Rattle.candidates.proofs.Spaces.{place_within, found_there}
@@ -31,7 +31,7 @@ returns-then-has-clause-some c =
           c.loop-combination.invariant
           (subst
           (λ (l : List (Vec (List Value) Global)). HoldsAt
-          (λ t. IsExecution l c.combination-item.result t c.in_ok-found.found)
+          (λ t. IsCandidateOf l c.combination-item.result t c.in_ok-found.found)
           (candidates_of c.combination-item.result) c.loop-combination.left)
           c.deref.ensures.value c.in_ok-found.ensures)),
     )

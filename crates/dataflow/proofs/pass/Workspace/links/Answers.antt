@@ -1,22 +1,22 @@
 use Rattle.std.proofs.Common.{length, false, true}
 use Rattle.thread_runs.specs.Runs.{executed}
-use Rattle.dataflow.specs.Chains.{event_place, is_plain, is_narrow, IsAddr, IsData, IsNeed, IsCtrl, IsCtrlIsync}
+use Rattle.dataflow.specs.Chains.{event_index, is_no_access, is_narrow, IsAddr, IsData, IsNeed, IsCtrl, IsCtrlIsync}
 use Rattle.dataflow.proofs.LinkLists.{list_of, reach_loads, ctrl_loads, ctrlisync_loads}
 use Rattle.dataflow.proofs.pass.Workspace.links.Goals as goal
 
 pub returns-then-count-gt128-clause-within : goal.returns-then-count-gt128-clause-within
 returns-then-count-gt128-clause-within c =
-    c.no_links.ensures.within (event_place (executed c.args.run.now.steps.items)
+    c.no_links.ensures.within (event_index (executed c.args.run.now.steps.items)
     (length c.args.run.now.steps.items))
 
 pub returns-clause-exact : goal.returns-clause-exact
 returns-clause-exact c = λ few. record {
   addr =
-      list_of IsAddr _ _ _ _ _ _ (reach_loads is_plain false) c.deref.ensures.value
+      list_of IsAddr _ _ _ _ _ _ (reach_loads is_no_access false) c.deref.ensures.value
       c.deref-2.ensures.value c.event_count-count.ensures c.reach.ensures.columns
       c.in_ok-addr_pairs.ensures.exact;
   «data» =
-      list_of IsData _ _ _ _ _ _ (reach_loads is_plain true) c.deref.ensures.value
+      list_of IsData _ _ _ _ _ _ (reach_loads is_no_access true) c.deref.ensures.value
       c.deref-3.ensures.value c.event_count-count.ensures c.reach-2.ensures.columns
       c.in_ok-data_pairs.ensures.exact;
   ctrl =

@@ -3,7 +3,7 @@ use Rattle.litmus_table.specs.declared.late.PlacedThread.{PlacedThread}
 use Rattle.litmus_table.specs.Checks.{IsFoundAt}
 use Rattle.litmus_table.specs.Late.{first_late}
 use Rattle.litmus_table.specs.Reading.{thread_of, threads_of}
-use Rattle.litmus_table.specs.Within.{AllAtMost, AreWithin, IsFoundWithin}
+use Rattle.litmus_table.specs.Within.{AllAtMost, AreThreadsUpTo, IsFoundWithin}
 use Rattle.litmus_table.proofs.Places.{thread_within}
 use Rattle.litmus_table.proofs.Walk.{found_in, passed, stopped, all_passed}
 use Rattle.litmus_table.proofs.table.Table.check_labels.Goals as goal
@@ -13,7 +13,7 @@ returns-in-Some-clause-within c = λ n h.
     let ts = c.deref-thread-items.result.now in
     let i = c.loop-thread.thread-index in
     let same : ts ≡ c.args.self.now.threads.items = c.deref-thread-items.ensures.value in
-    let there : AreWithin n (threads_of ts) = subst (λ (us : List PlacedThread). AreWithin n (threads_of us)) (sym same) h in
+    let there : AreThreadsUpTo n (threads_of ts) = subst (λ (us : List PlacedThread). AreThreadsUpTo n (threads_of us)) (sym same) h in
     let lt : i < length ts = omega arith in
     let item : c.thread-item.result ≡ get_or ts i c.thread-item.result = c.thread-item.is in
     let here : AllAtMost n c.thread-item.result.offsets.items = subst (λ (t : PlacedThread). AllAtMost n t.offsets.items) (sym item) (thread_within n ts i c.thread-item.result there lt) in

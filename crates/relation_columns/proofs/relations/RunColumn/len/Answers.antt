@@ -1,11 +1,11 @@
 use Rattle.std.proofs.Common.{◌∙◌, sym, ap, length}
 use Rattle.relation_columns.specs.Runs.{last_end}
-use Rattle.relation_columns.specs.Storage.{ends_of}
+use Rattle.relation_columns.specs.Storage.{run_ends}
 use Rattle.relation_columns.proofs.Expanding.{length-runs}
 use Rattle.relation_columns.proofs.relations.RunColumn.len.Goals as goal
 
 pub returns : goal.returns
 returns c =
     c.end_of.ensures
-    ∙ (ap (λ rs. last_end 0 (ends_of rs)) c.deref.ensures.value
+    ∙ (ap (λ rs. last_end 0 (run_ends rs)) c.deref.ensures.value
     ∙ (sym (length-runs _ _ c.self.invariant.0) ∙ ap length c.self.view_is))

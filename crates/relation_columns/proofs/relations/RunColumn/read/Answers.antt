@@ -1,31 +1,31 @@
 use Rattle.std.proofs.Common.{◌≡◌, ◌<◌, ap, length}
 use Rattle.bit_relations.specs.Relation.{no_slot}
-use Rattle.relation_columns.specs.Storage.{ends_of}
+use Rattle.relation_columns.specs.Storage.{run_ends}
 use Rattle.relation_columns.proofs.Expanding.{as_many_ends, inside_runs, read_end, read_same, read_value}
 use Rattle.relation_columns.proofs.relations.RunColumn.read.Goals as goal
 
 pub run_at-run-requires-clause-inside : goal.run_at-run-requires-clause-inside
 run_at-run-requires-clause-inside c =
-    let same : ends_of c.as_slice-runs.result.now ≡ ends_of c.self.inside.runs.items = ap (λ rs. ends_of rs) c.as_slice-runs.ensures.value in
+    let same : run_ends c.as_slice-runs.result.now ≡ run_ends c.self.inside.runs.items = ap (λ rs. run_ends rs) c.as_slice-runs.ensures.value in
     inside_runs _ _ _ _ _ c.self.invariant.0 c.self.view_is same c.requires
 
 pub returns-clause-value : goal.returns-clause-value
 returns-clause-value c =
-    let same : ends_of c.as_slice-runs.result.now ≡ ends_of c.self.inside.runs.items = ap (λ rs. ends_of rs) c.as_slice-runs.ensures.value in
-    let inside : c.run_at-run.result < length (ends_of c.as_slice-runs.result.now) = rw (as_many_ends c.as_slice-runs.result.now) c.run_at-run.ensures.run in
+    let same : run_ends c.as_slice-runs.result.now ≡ run_ends c.self.inside.runs.items = ap (λ rs. run_ends rs) c.as_slice-runs.ensures.value in
+    let inside : c.run_at-run.result < length (run_ends c.as_slice-runs.result.now) = rw (as_many_ends c.as_slice-runs.result.now) c.run_at-run.ensures.run in
     read_value no_slot _ _ _ _ _ _ _ c.self.invariant.0 c.self.view_is same inside
     c.run_at-run.ensures.from_start c.run_at-run.ensures.open (rw
     (c.as_slice-runs.ensures.value, c.deref.ensures.value) at c.read_value.ensures)
 
 pub returns-clause-within : goal.returns-clause-within
 returns-clause-within c =
-    let same : ends_of c.as_slice-runs.result.now ≡ ends_of c.self.inside.runs.items = ap (λ rs. ends_of rs) c.as_slice-runs.ensures.value in
-    let inside : c.run_at-run.result < length (ends_of c.as_slice-runs.result.now) = rw (as_many_ends c.as_slice-runs.result.now) c.run_at-run.ensures.run in
+    let same : run_ends c.as_slice-runs.result.now ≡ run_ends c.self.inside.runs.items = ap (λ rs. run_ends rs) c.as_slice-runs.ensures.value in
+    let inside : c.run_at-run.result < length (run_ends c.as_slice-runs.result.now) = rw (as_many_ends c.as_slice-runs.result.now) c.run_at-run.ensures.run in
     read_end _ _ _ _ _ _ c.self.invariant.0 c.self.view_is same inside c.end_at.ensures
 
 pub returns-clause-same : goal.returns-clause-same
 returns-clause-same c =
-    let same : ends_of c.as_slice-runs.result.now ≡ ends_of c.self.inside.runs.items = ap (λ rs. ends_of rs) c.as_slice-runs.ensures.value in
-    let inside : c.run_at-run.result < length (ends_of c.as_slice-runs.result.now) = rw (as_many_ends c.as_slice-runs.result.now) c.run_at-run.ensures.run in
+    let same : run_ends c.as_slice-runs.result.now ≡ run_ends c.self.inside.runs.items = ap (λ rs. run_ends rs) c.as_slice-runs.ensures.value in
+    let inside : c.run_at-run.result < length (run_ends c.as_slice-runs.result.now) = rw (as_many_ends c.as_slice-runs.result.now) c.run_at-run.ensures.run in
     read_same no_slot _ _ _ _ _ _ _ c.self.invariant.0 c.self.view_is same inside
     c.run_at-run.ensures.from_start c.run_at-run.ensures.open c.end_at.ensures

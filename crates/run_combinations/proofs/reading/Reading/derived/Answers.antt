@@ -1,6 +1,6 @@
 use Rattle.std.proofs.Common.{◌≡◌, ◌<◌, ◌^◌, false, IsTrue, sym, subst, ◌∙◌, arith, rules}
 use Rattle.bit_relations.specs.Relation.{Events}
-use Rattle.run_combinations.specs.Rounds.{IsRound}
+use Rattle.run_combinations.specs.Rounds.{IsArisingRound}
 use Rattle.run_combinations.proofs.Members.{wider_grows, few_fit}
 use Rattle.run_combinations.proofs.Arising.{round_keeps, round_count, round_arises, nothing_more}
 use Rattle.run_combinations.proofs.reading.Reading.derived.Goals as goal
@@ -34,6 +34,6 @@ returns c es pairs shows x =
           shows
           (let h = c.loop-derived.invariant.count in let f = shows.few in omega (arith, h, f))
           (subst
-          (λ (n : Events). IsRound c.args.self.now c.args.way.now c.args.without
+          (λ (n : Events). IsArisingRound c.args.self.now c.args.way.now c.args.without
           c.loop-derived.derived n) e c.loop-derived.invariant.round) x,
     )

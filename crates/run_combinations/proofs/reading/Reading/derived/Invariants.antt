@@ -1,11 +1,11 @@
 use Rattle.std.proofs.Common.{◌≡◌, ◌-◌, ◌^◌, min}
-use Rattle.run_combinations.specs.Rounds.{IsRound, AllArise}
+use Rattle.run_combinations.specs.Rounds.{IsArisingRound, AllArise}
 use Rattle.run_combinations.proofs.reading.Reading.derived.Given as goal
 
 abbrev pub invariant-loop-derived : goal.invariant-loop-derived
 invariant-loop-derived l = record {
   count : l.derived.count ≡ min l.self.count 128;
-  round : IsRound l.self l.way l.without l.derived l.next;
+  round : IsArisingRound l.self l.way l.without l.derived l.next;
   arise : AllArise l.self l.way l.without l.derived;
 }
 

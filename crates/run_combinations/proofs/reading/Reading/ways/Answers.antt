@@ -1,7 +1,7 @@
 use Rattle.std.proofs.Common.{arith}
 use Rattle.std.proofs.lemmas.List.{length-map}
 use Rattle.run_combinations.specs.Lists.{lists_of}
-use Rattle.run_combinations.specs.Rounds.{HasOver, HasWays}
+use Rattle.run_combinations.specs.Rounds.{HasOver, HasReadChoices}
 use Rattle.run_combinations.proofs.Searching.{tells_true, tells_false}
 use Rattle.run_combinations.proofs.Finding.{over_all}
 use Rattle.run_combinations.proofs.reading.Reading.ways.Goals as goal
@@ -9,7 +9,7 @@ use Rattle.run_combinations.proofs.reading.Reading.ways.Goals as goal
 pub returns-then-not-branch : goal.returns-then-not-branch
 returns-then-not-branch c =
     tells_false c.in_ok-extend_ways.field-0
-    (HasWays c.args.self.now (lists_of c.extend_ways.new.ways.items))
+    (HasReadChoices c.args.self.now (lists_of c.extend_ways.new.ways.items))
     (HasOver c.args.self.now c.args.limit) c.if-not-branch.true
     (c.in_ok-extend_ways.ensures c.in_ok-ways.ensures)
 
@@ -17,7 +17,7 @@ pub returns-then-len-limit : goal.returns-then-len-limit
 returns-then-len-limit c =
     over_all c.args.self.now c.args.limit (lists_of c.extend_ways.new.ways.items)
     (tells_true c.in_ok-extend_ways.field-0
-    (HasWays c.args.self.now (lists_of c.extend_ways.new.ways.items))
+    (HasReadChoices c.args.self.now (lists_of c.extend_ways.new.ways.items))
     (HasOver c.args.self.now c.args.limit) c.if-not-branch.false
     (c.in_ok-extend_ways.ensures c.in_ok-ways.ensures))
     (omega (
@@ -31,7 +31,7 @@ returns-then-len-limit c =
 pub returns : goal.returns
 returns c = (
   tells_true c.in_ok-extend_ways.field-0
-      (HasWays c.args.self.now (lists_of c.extend_ways.new.ways.items))
+      (HasReadChoices c.args.self.now (lists_of c.extend_ways.new.ways.items))
       (HasOver c.args.self.now c.args.limit) c.if-not-branch.false
       (c.in_ok-extend_ways.ensures c.in_ok-ways.ensures),
   omega (arith, c.if-len-limit.false, c.len.ensures, c.extend_ways.new.ways.ok.0),
