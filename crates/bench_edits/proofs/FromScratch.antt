@@ -21,7 +21,7 @@ use Rattle.bench_values.specs.Values.{NodeContent, OfSpace, OfRefusal, OfColumn,
 use Rattle.bench_values.proofs.PartTests.{of_each}
 use Rattle.from_scratch.specs.Answers.{AreSaid}
 use Rattle.from_scratch.specs.Cell.{IsEvaluationFrom}
-use Rattle.from_scratch.specs.FromScratch.{outermost, clauses_of, IsFaultless, AreItemsOf, IsResultOf, IsFromScratch}
+use Rattle.from_scratch.specs.FromScratch.{outermost, bare_items, IsFaultless, AreItemsOf, IsResultOf, IsFromScratch}
 use Rattle.from_scratch.proofs.Knowing.{risen_at}
 use Rattle.from_scratch.proofs.Ordered.{resolved_ordered}
 use Rattle.from_scratch.proofs.Rising.{resolved_rising}
@@ -61,7 +61,7 @@ module _ (test : Test) (model : ModelText) (cell : Cell) (solved : IsSolved test
       → Fits cell.table cell.is_needed k r
   item_fits k r e = record {
     rises =
-        risen_at cell.items k r e (resolved_rising outermost 0 (clauses_of model) cell.items
+        risen_at cell.items k r e (resolved_rising outermost 0 (bare_items model) cell.items
         solved.no_fault solved.of_model.0);
     asked = λ check. solved.checks k (r, e, check);
     closed = λ needs node. solved.names k r needs e node;
@@ -78,7 +78,7 @@ module _ (test : Test) (model : ModelText) (cell : Cell) (solved : IsSolved test
       (sym (answers_reversed cell.table cell.items))
       (all_said space cell.table cell.is_needed is_space (reverse cell.items)
       (each_reversed (Fits cell.table cell.is_needed) cell.items item_fits)
-      (resolved_ordered PREDEFINED (clauses_of model) cell.items solved.of_model.0))
+      (resolved_ordered PREDEFINED (bare_items model) cell.items solved.of_model.0))
 
   by_space : (space : Space) → ListsExecutions test space
       → cell.table.space ≡ OfSpace (space_content space) → IsFromScratch test model cell.outcome

@@ -12,7 +12,7 @@ use Rattle.binding_kinds.specs.declared.scope.Input.{Input}
 use Rattle.binding_graph.specs.declared.resolved.ResolvedItem.{ResolvedItem}
 use Rattle.binding_graph.specs.declared.resolved.Role.{Role}
 use Rattle.binding_graph.specs.declared.resolved.Role.TheVariants as roles
-use Rattle.binding_graph.specs.Reach.{UsesAt, IsReached, AreReached}
+use Rattle.binding_graph.specs.Reach.{ItemUses, IsReached, AreReached}
 use Rattle.binding_graph.proofs.Reaching.{leads_more}
 use Rattle.bench_items.specs.Items.{RoleContent, Group, Check, Silent, role_content}
 use Rattle.bench_items.specs.Naming.{SeenName, names_in, number_of}
@@ -265,7 +265,7 @@ module _ (numbers : List ℕ) (texts : List Item) (items : List ResolvedItem) (u
       → IsAmong (cell_items numbers texts items used) (number_at numbers f)
   function_among reached index r inside at f q applied found =
       let is = ((reached.exact index).0 (has_contains used index inside)).1 in
-      let uses : UsesAt items index f = (r, at, inr (has_contains r.functions.items f applied)) in
+      let uses : ItemUses items index f = (r, at, inr (has_contains r.functions.items f applied)) in
       let more : IsReached items f = record { from = is.from; is_check = is.is_check; through = is.through ++ f ∷ []; leads = leads_more items is.from is.through index f is.leads uses } in
       record {
         item = cell_item numbers (number_at numbers f) (clause_at texts f) q;

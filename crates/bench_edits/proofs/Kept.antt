@@ -7,7 +7,7 @@ use Rattle.std.proofs.lemmas.List.Elements.{All-cons}
 use Rattle.std.proofs.lemmas.Bool.{or_right}
 use Rattle.text_values.specs.declared.test.Test.{Test}
 use Rattle.text_values.specs.declared.model.Item.{Item}
-use Rattle.binding_kinds.specs.Value.{clause_of}
+use Rattle.binding_kinds.specs.Value.{bare_item}
 use Rattle.binding_graph.specs.declared.resolved.ResolvedItem.{ResolvedItem}
 use Rattle.binding_graph.specs.declared.resolved.Role.{Role}
 use Rattle.binding_graph.specs.declared.resolved.Role.TheVariants as roles
@@ -81,7 +81,7 @@ numbers_among id ns (readings.Faulty fault) k h = absurd h
 one_read : (id : ℕ) (ns : List ℕ) (items : List Item) (r : Reading) → IsReading items r
     → length ns ≡ length items → AreApart ns → IsRead (reading_by id ns r)
 one_read id ns items (readings.Sound resolved used) h paired apart = (
-  map clause_of items,
+  map bare_item items,
   record {
     no_fault = (h.0).no_fault;
     resolved = (h.0).as_resolved;

@@ -6,7 +6,7 @@ use Rattle.std.proofs.lemmas.Bool.Decides.{eqb_tells, leb_tells}
 use Rattle.std.proofs.lemmas.List.{length-append, length-map, map-append}
 use Rattle.text_values.specs.declared.test.Test.{Test}
 use Rattle.text_values.specs.declared.model.Item.{Item}
-use Rattle.binding_kinds.specs.Value.{clause_of}
+use Rattle.binding_kinds.specs.Value.{bare_item}
 use Rattle.binding_kinds.specs.declared.fault.ModelFault.{ModelFault}
 use Rattle.memo_core.specs.Step.{Has}
 use Rattle.bench_items.specs.Naming.{SeenName}
@@ -450,7 +450,7 @@ ordered_in : (id : ℕ) (numbers : List ℕ) (is : List Item) (rd : Reading) →
     → IsOrderedModel (reading_by id numbers rd)
 ordered_in id numbers is (readings.Sound resolved used) read =
     ordered_items (arc_value resolved).items.items used.items
-    (resolved_closed (map clause_of is) (arc_value resolved).items.items read.0.as_resolved)
+    (resolved_closed (map bare_item is) (arc_value resolved).items.items read.0.as_resolved)
     read.1
 ordered_in id numbers is (readings.Faulty fault) read = tt
 

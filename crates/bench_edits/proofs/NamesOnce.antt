@@ -4,9 +4,9 @@ use Rattle.std.proofs.lemmas.Option.{none-some, same_Some}
 use Rattle.binding_kinds.specs.declared.fault.ModelFault.{ModelFault}
 use Rattle.binding_kinds.specs.declared.fault.ModelFault.TheVariants as faults
 use Rattle.binding_kinds.specs.declared.scope.Used.{Used}
-use Rattle.binding_kinds.specs.Value.{Naming, Bound, Clause, Group, Check, Mute, Defined}
+use Rattle.binding_kinds.specs.Value.{Naming, Bound, BareItem, Group, Check, Mute, Defined}
 use Rattle.binding_kinds.specs.Senses.{Sense}
-use Rattle.binding_kinds.specs.Faults.{width, IsAmong, IsFaultIn, IsFaultOfItem, IsFault, with_own, extended, senses_after}
+use Rattle.binding_kinds.specs.Faults.{width, IsAmong, IsFaultIn, IsFaultOfItem, IsFault, with_own, names_after, senses_after}
 use Rattle.binding_graph.specs.declared.resolved.Body.{Body}
 use Rattle.binding_graph.specs.declared.resolved.ResolvedItem.{ResolvedItem}
 use Rattle.binding_graph.specs.declared.resolved.Role.{Role}
@@ -85,7 +85,7 @@ none_once p q x at also = absurd (none-some x at)
 check_once : (role : Role) → (bound_names role ≡ []) → StandsOnce (bound_names role)
 check_once role e = subst (λ (l : List (List ℕ)). StandsOnce l) (sym e) none_once
 
-item_once : (ss : List Sense) (us : List Usage) (names own : List Naming) (item : ℕ) (c : Clause)
+item_once : (ss : List Sense) (us : List Usage) (names own : List Naming) (item : ℕ) (c : BareItem)
     (r : ResolvedItem)
     → ((index : ℕ) (k : ModelFault) → IsFaultOfItem ss names item c index k → ⊥)
     → IsResolvedIn ss us names own (length names) c r → StandsOnce (bound_names r.role)
@@ -107,7 +107,7 @@ item_once ss us names own item (Defined n ps b) r none h = check_once r.role (ap
 
 -- each item of a model without fault
 pub names_once : (ss : List Sense) (us : List Usage) (names : List Naming) (at : ℕ)
-    (cs : List Clause) (rs : List ResolvedItem)
+    (cs : List BareItem) (rs : List ResolvedItem)
     → ((i p : ℕ) (l : ModelFault) → IsFault ss names at cs i p l → ⊥)
     → AreResolved ss us names at cs rs
     → (index : ℕ) (r : ResolvedItem) → slice_get rs index ≡ Some r → StandsOnce (bound_names r.role)
@@ -116,11 +116,11 @@ names_once ss us names at [] (q ∷ rs) none h index r found = absurd h
 names_once ss us names at (c ∷ cs) [] none h index r found = absurd h
 names_once ss us names at (c ∷ cs) (q ∷ rs) none h zero r found =
     subst (λ (x : ResolvedItem). StandsOnce (bound_names x.role)) (some_item found)
-    (item_once ss us names (extended ss names at c) at c q
+    (item_once ss us names (names_after ss names at c) at c q
     (λ index k f. none 0 index k (inl (refl, f))) h.0)
   where
     some_item : Some q ≡ Some r → q ≡ r
     some_item e = cc
 names_once ss us names at (c ∷ cs) (q ∷ rs) none h (suc index) r found =
-    names_once (senses_after ss names c) (usages_after us names at c) (extended ss names at c)
+    names_once (senses_after ss names c) (usages_after us names at c) (names_after ss names at c)
     (at + 1) cs rs (λ i p l f. none (1 + i) p l (inr (i, refl, f))) h.1 index r found

@@ -13,7 +13,7 @@ use Rattle.bench_items.specs.Items.{role_content}
 use Rattle.bench_values.specs.Makes as nodes
 use Rattle.bench_values.specs.Spaces.{SpaceContent, space_content}
 use Rattle.bench_values.specs.Values.{NodeContent, OfSpace, OfCheck, check_in, space_of, columns_of, answers_of}
-use Rattle.from_scratch.specs.Answers.{HasAnswers, IsValued, IsSaidAs, IsSaidBy, AreSaid, AreOrdered}
+use Rattle.from_scratch.specs.Answers.{HasAnswers, AreItemColumns, IsSaidAs, IsSaidBy, AreSaid, AreOrdered}
 use Rattle.bench_edits.specs.Solved.{Table, is_node, flag_name}
 use Rattle.bench_edits.proofs.KeptNodes.{answers_over}
 use Rattle.bench_edits.proofs.Latest.{Each, late_answers, late_names}
@@ -177,7 +177,7 @@ module _ (space : Space) (table : Table) (needed : ℕ → Bool)
     (is_space : table.space ≡ OfSpace (space_content space)) where
   check_given : (rs : List ResolvedItem) (r : ResolvedItem) → Each (Fits table needed) rs
       → AreOrdered (r ∷ rs) → Fits table needed (length rs) r → is_check r.role ≡ true
-      → Gives (HasAnswers space (λ j ds. IsValued space rs j ds) r) (table.outputs (length rs))
+      → Gives (HasAnswers space (λ j ds. AreItemColumns space rs j ds) r) (table.outputs (length rs))
   check_given rs r before ordered fits is =
       let needs = fits.asked is in
       let solved = fits.solved needs (check_is_node r.role is) in
@@ -199,5 +199,5 @@ module _ (space : Space) (table : Table) (needed : ℕ → Bool)
       → Say (λ cs fs. AreSaid space rs cs fs) (late_names rs) (late_answers table rs)
   all_said [] fits ordered = record { said = (refl, refl); as_many = refl }
   all_said (r ∷ rs) fits ordered =
-      let h = item_said (λ cs fs. AreSaid space rs cs fs) (HasAnswers space (λ j ds. IsValued space rs j ds) r) (late_names rs) (late_answers table rs) (table.outputs (length rs)) r.role (check_given rs r fits.1 ordered fits.0) (all_said rs fits.1 ordered.1) in
+      let h = item_said (λ cs fs. AreSaid space rs cs fs) (HasAnswers space (λ j ds. AreItemColumns space rs j ds) r) (late_names rs) (late_answers table rs) (table.outputs (length rs)) r.role (check_given rs r fits.1 ordered fits.0) (all_said rs fits.1 ordered.1) in
       record { said = h.said; as_many = h.as_many }

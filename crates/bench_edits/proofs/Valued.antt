@@ -15,7 +15,7 @@ use Rattle.bench_items.specs.Items.{role_content}
 use Rattle.bench_values.specs.Makes as nodes
 use Rattle.bench_values.specs.Spaces.{SpaceContent, space_content}
 use Rattle.bench_values.specs.Values.{NodeContent, OfSpace, OfColumn, space_of, columns_of}
-use Rattle.from_scratch.specs.Answers.{AreNamed, IsValued, IsBound, AreOrdered, IsRising}
+use Rattle.from_scratch.specs.Answers.{AreNamed, AreItemColumns, IsBound, AreOrdered, IsRisingRole}
 use Rattle.from_scratch.proofs.Knowing.{least_of}
 use Rattle.bench_edits.specs.Solved.{Table, IsValueOf, IsSolvedItem, is_node}
 use Rattle.bench_edits.proofs.KeptNodes.{columns_over}
@@ -23,7 +23,7 @@ use Rattle.bench_edits.proofs.Latest.{Each}
 
 -- what is known of the item at this index
 pub record Fits (table : Table) (needed : ℕ → Bool) (index : ℕ) (r : ResolvedItem) : Type 0 where
-  pub rises : IsRising r.role
+  pub rises : IsRisingRole r.role
   pub asked : is_check r.role ≡ true → needed index ≡ true
   pub closed : needed index ≡ true → is_node r.role ≡ true
       → AllByRecursion (λ name. needed name.item ≡ true) r.inputs.items
@@ -66,7 +66,7 @@ pub record AreColumnsOf (space : Space) (rs : List ResolvedItem) (names : List I
     (values : List NodeContent) : Type 0 where
   pub inputs : List (Bor Column)
   pub columns : columns_of values ≡ map (λ b. b.now) inputs
-  pub named : AreNamed (λ j ds. IsValued space rs j ds) names inputs
+  pub named : AreNamed (λ j ds. AreItemColumns space rs j ds) names inputs
 
 module _ (space : Space) (table : Table) (needed : ℕ → Bool)
     (is_space : table.space ≡ OfSpace (space_content space)) where
@@ -74,7 +74,7 @@ module _ (space : Space) (table : Table) (needed : ℕ → Bool)
   abbrev IsGiven : List ResolvedItem → Input → Type 0
   IsGiven rs name =
       (cs : List Column) × (table.outputs name.item ≡ map OfColumn cs)
-      × IsValued space rs name.item cs
+      × AreItemColumns space rs name.item cs
 
   inputs_given : (rs : List ResolvedItem) (names : List Input) (values : List NodeContent)
       → ((name : Input) → IsBound rs name → needed name.item ≡ true → IsGiven rs name)
@@ -102,7 +102,7 @@ module _ (space : Space) (table : Table) (needed : ℕ → Bool)
       → AllByRecursion (IsBound rs) r.inputs.items
       → ((name : Input) → IsBound rs name → needed name.item ≡ true → IsGiven rs name)
       → (cs : List Column) × (table.outputs (length rs) ≡ map OfColumn cs)
-      × IsValued space (r ∷ rs) (length rs) cs
+      × AreItemColumns space (r ∷ rs) (length rs) cs
   group_given rs r fits needs more bound each =
       let solved = fits.solved needs (group_is_node r.role more) in
       let are = inputs_given rs r.inputs.items solved.0 each bound (fits.closed needs (group_is_node r.role more)) solved.1 in
@@ -138,7 +138,7 @@ module _ (space : Space) (table : Table) (needed : ℕ → Bool)
       let g = group_given rs r fits.0 (subst (λ (k : ℕ). needed k ≡ true) here.0 needs) (omega (arith, here.1)) ordered.0 (given rs fits.1 ordered.1) in (
         g.0,
         ap (λ (k : ℕ). table.outputs k) here.0 ∙ g.1,
-        subst (λ (k : ℕ). IsValued space (r ∷ rs) k g.0) (sym here.0) g.2,
+        subst (λ (k : ℕ). AreItemColumns space (r ∷ rs) k g.0) (sym here.0) g.2,
       )
   given (r ∷ rs) fits ordered name (inr later) needs =
       let g = given rs fits.1 ordered.1 name later needs in (g.0, g.1, inr g.2)

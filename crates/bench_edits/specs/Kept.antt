@@ -9,7 +9,7 @@ use Rattle.memo_core.specs.declared.keys.Kind.TheVariants as kinds
 use Rattle.memo_core.specs.declared.keys.Node.{Node}
 use Rattle.memo_core.specs.Step.{Has}
 use Rattle.binding_kinds.specs.declared.scope.Input.{Input}
-use Rattle.binding_kinds.specs.Value.{Clause}
+use Rattle.binding_kinds.specs.Value.{BareItem}
 use Rattle.binding_kinds.specs.Faults.{HasNoFault}
 use Rattle.binding_graph.specs.declared.resolved.ResolvedItem.{ResolvedItem}
 use Rattle.binding_graph.specs.declared.resolved.Role.{Role}
@@ -31,7 +31,7 @@ use Rattle.bench_edits.specs.Settled.{CellNodes}
 
 -- the text has no fault; the items are those of it, each with a number of its own, and these are
 -- the indexes of those that checks and flags reach
-pub record IsReadFrom (clauses : List Clause) (numbers : List ℕ) (items : List ResolvedItem)
+pub record IsReadFrom (clauses : List BareItem) (numbers : List ℕ) (items : List ResolvedItem)
     (used : List ℕ) : Type 0 where
   pub no_fault : HasNoFault [] predefined_names 0 clauses
   pub resolved : AreResolved [] [] predefined_names 0 clauses items
@@ -42,7 +42,7 @@ pub record IsReadFrom (clauses : List Clause) (numbers : List ℕ) (items : List
 -- a model without fault is read from some text
 abbrev pub IsRead : ModelReading → Type 0
 IsRead (Sound id numbers items used) =
-    (clauses : List Clause) × IsReadFrom clauses numbers items used
+    (clauses : List BareItem) × IsReadFrom clauses numbers items used
 IsRead (Faulty id fault) = ⊤
 
 abbrev pub id_in : ModelReading → ℕ

@@ -10,9 +10,9 @@ use Rattle.text_values.specs.declared.model.Item.TheVariants as items
 use Rattle.text_values.specs.declared.model.CheckWord.{CheckWord}
 use Rattle.text_values.specs.ModelValue.{Term}
 use Rattle.text_values.specs.ModelValues.{clause_of, term_of}
-use Rattle.binding_kinds.specs.Faults.{extended, senses_after}
+use Rattle.binding_kinds.specs.Faults.{names_after, senses_after}
 use Rattle.binding_kinds.specs.Senses.{Sense}
-use Rattle.binding_kinds.specs.Value.{Naming, Bound, bound_of, clause_of as outline_of}
+use Rattle.binding_kinds.specs.Value.{Naming, Bound, bound_of, bare_item as outline_of}
 use Rattle.binding_graph.specs.declared.resolved.ResolvedItem.{ResolvedItem}
 use Rattle.binding_graph.specs.declared.resolved.Role.{Role}
 use Rattle.binding_graph.specs.declared.resolved.Role.TheVariants as roles
@@ -114,8 +114,8 @@ kinds_of_roles ss us names at [] [] h index r kind found e =
 kinds_of_roles ss us names at [] (q ∷ rs) h index r kind found e = absurd h
 kinds_of_roles ss us names at (x ∷ xs) [] h index r kind found e = absurd h
 kinds_of_roles ss us names at (x ∷ xs) (q ∷ rs) h zero r kind found e =
-    one_kind ss us names (extended ss names at (outline_of x)) (length names) kind x q h.0
+    one_kind ss us names (names_after ss names at (outline_of x)) (length names) kind x q h.0
     (ap (λ (p : ResolvedItem). role_kind p.role) (same_Some q r found) ∙ e)
 kinds_of_roles ss us names at (x ∷ xs) (q ∷ rs) h (suc index) r kind found e =
     kinds_of_roles (senses_after ss names (outline_of x)) (usages_after us names at (outline_of x))
-    (extended ss names at (outline_of x)) (at + 1) xs rs h.1 index r kind found e
+    (names_after ss names at (outline_of x)) (at + 1) xs rs h.1 index r kind found e

@@ -16,7 +16,7 @@ use Rattle.binding_graph.specs.declared.resolved.ResolvedItem.{ResolvedItem}
 use Rattle.binding_graph.specs.declared.resolved.Role.{Role}
 use Rattle.binding_graph.specs.declared.resolved.Role.TheVariants as roles
 use Rattle.binding_laws.specs.Reread as reread
-use Rattle.binding_laws.specs.Reread.{outermost, IsItemOf}
+use Rattle.binding_laws.specs.Reread.{outer_namings, IsItemOf}
 use Rattle.binding_laws.proofs.Seen.{beside}
 use Rattle.bench_slot_laws.specs.Roles.{IsSaidAgain, AreBeforeAndAfter}
 use Rattle.bench_slot_laws.proofs.Roles.{roles_again}
@@ -48,7 +48,7 @@ pub record IsOfItem (w : WrittenState) (of : ℕ) (keys : List SlotKey) : Type 0
   pub model : WrittenModel
   pub there : Has w.models model
   pub items : List ResolvedItem
-  pub sound : reread.IsSound (outermost PREDEFINED) (read_model model items)
+  pub sound : reread.IsReadModel (outer_namings PREDEFINED) (read_model model items)
   pub held : AreHeld w.state model.numbers items
   pub index : ℕ
   pub item : ResolvedItem
@@ -61,7 +61,7 @@ pub record IsOfSound (w : WrittenState) (keys : List SlotKey) : Type 0 where
   pub model : WrittenModel
   pub there : Has w.models model
   pub items : List ResolvedItem
-  pub sound : reread.IsSound (outermost PREDEFINED) (read_model model items)
+  pub sound : reread.IsReadModel (outer_namings PREDEFINED) (read_model model items)
   pub held : AreHeld w.state model.numbers items
   pub used : List ℕ
   pub keys_are : keys ≡ verdict_keys model.numbers items used
@@ -81,7 +81,7 @@ module _ (w : WrittenState) (whole : IsWhole w) where
   All ss = Each (λ p. IsOfModel w p.kind p.of p.inputs) ss
 
   module _ (m : WrittenModel) (there : Has w.models m) (items : List ResolvedItem)
-      (sound : reread.IsSound (outermost PREDEFINED) (read_model m items))
+      (sound : reread.IsReadModel (outer_namings PREDEFINED) (read_model m items))
       (held : AreHeld w.state m.numbers items) where
     role_slots : (role : Role) (own : ℕ) (keys : List SlotKey) → IsOfItem w own keys
         → All (slots_of role own keys)

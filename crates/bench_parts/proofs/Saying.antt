@@ -10,7 +10,7 @@ use Rattle.text_values.specs.ModelValue as texts
 use Rattle.text_values.specs.ModelValue.{Term, Binding, Function, Checking, Flagging, Showing, Including}
 use Rattle.text_values.specs.ModelValues.{binding_of, clause_of}
 use Rattle.binding_kinds.specs.Value as outlines
-use Rattle.binding_kinds.specs.Value.{Bound, Group, Check, Mute, Defined, bound_of, clause_of as outline_of}
+use Rattle.binding_kinds.specs.Value.{Bound, Group, Check, Mute, Defined, bound_of, bare_item as outline_of}
 use Rattle.memo_core.specs.Step.{Has}
 use Rattle.binding_laws.specs.ItemLaws.{label_of, SayTheSame}
 use Rattle.bench_parts.specs.Contents.{PartContent, OfText}
@@ -21,7 +21,7 @@ use Rattle.bench_parts.specs.Written.{WrittenModel, WrittenState, StandsAt, IsWh
 abbrev bound_by : List ℕ × Term → Bound
 bound_by b = record { name = b.0; body = b.1 }
 
-abbrev outline_by : texts.Clause → outlines.Clause
+abbrev outline_by : texts.Clause → outlines.BareItem
 outline_by (Binding recursive group) = Group recursive (map bound_by group)
 outline_by (Function name parameters body) = Defined name parameters body
 outline_by (Checking check label) = Check check.word check.body

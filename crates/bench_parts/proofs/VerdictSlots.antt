@@ -21,7 +21,7 @@ use Rattle.binding_graph.specs.declared.resolved.Role.{Role}
 use Rattle.binding_graph.specs.declared.resolved.Role.TheVariants as roles
 use Rattle.binding_graph.specs.Resolved.{IsLabelled, IsLabelledAs, AreLabelled}
 use Rattle.binding_laws.specs.Reread as reread
-use Rattle.binding_laws.specs.Reread.{outermost}
+use Rattle.binding_laws.specs.Reread.{outer_namings}
 use Rattle.binding_laws.proofs.Seen.{beside}
 use Rattle.bench_nodes.specs.declared.table.SlotKey.{SlotKey}
 use Rattle.bench_nodes.specs.declared.table.SlotKey.TheVariants as slots
@@ -86,7 +86,7 @@ record IsAnswer (w : WrittenState) (of : ℕ) : Type 0 where
   pub model : WrittenModel
   pub there : Has w.models model
   pub items : List ResolvedItem
-  pub sound : reread.IsSound (outermost PREDEFINED) (read_model model items)
+  pub sound : reread.IsReadModel (outer_namings PREDEFINED) (read_model model items)
   pub held : AreHeld w.state model.numbers items
   pub index : ℕ
   pub item : ResolvedItem
@@ -123,7 +123,7 @@ flag_known w whole of a =
         → node_kind (clause_of x) ≡ Some kinds.Check
     text_kind x e =
         sym (ap (λ (o : Option Item). option_and_then (λ i. node_kind (clause_of i)) o) e)
-        ∙ (kinds_of_roles [] [] (outermost PREDEFINED) 0 a.model.items a.items (a.sound).as_resolved
+        ∙ (kinds_of_roles [] [] (outer_namings PREDEFINED) 0 a.model.items a.items (a.sound).as_resolved
         a.index a.item kinds.Check a.item_at a.is_check)
 
 same_flag : (w v : WrittenState) (of : ℕ) → IsFlagKnown w of → IsFlagKnown v of
@@ -164,7 +164,7 @@ each_key w test (slots.Fault id ∷ ks) h = (tt, each_key w test ks h.1)
 each_key w test (slots.Value kind of name ∷ ks) h = (h.0, each_key w test ks h.1)
 
 module _ (w : WrittenState) (m : WrittenModel) (there : Has w.models m) (items : List ResolvedItem)
-    (sound : reread.IsSound (outermost PREDEFINED) (read_model m items))
+    (sound : reread.IsReadModel (outer_namings PREDEFINED) (read_model m items))
     (held : AreHeld w.state m.numbers items) where
   flag_answers : (own : ℕ) (role : Role) → Each (SlotAnswers w) (flag_key role own)
   flag_answers own (roles.Group recursive bodies) = tt

@@ -4,7 +4,7 @@ use Rattle.std.specs.List.{AllZip, AllByRecursion as Each}
 use Rattle.memo_core.specs.declared.keys.Kind.{Kind}
 use Rattle.memo_core.specs.declared.keys.Kind.TheVariants as kinds
 use Rattle.text_values.specs.declared.model.Item.{Item}
-use Rattle.binding_kinds.specs.Value.{Naming, clause_of as outline_of}
+use Rattle.binding_kinds.specs.Value.{Naming, bare_item as outline_of}
 use Rattle.binding_graph.specs.declared.resolved.ResolvedItem.{ResolvedItem}
 use Rattle.binding_graph.specs.declared.resolved.Role.{Role}
 use Rattle.binding_graph.specs.declared.resolved.Role.TheVariants as resolved_roles

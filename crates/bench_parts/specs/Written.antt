@@ -10,7 +10,7 @@ use Rattle.text_values.specs.ModelValues.{clause_of}
 use Rattle.memo_core.specs.Step.{Has}
 use Rattle.binding_graph.specs.declared.resolved.ResolvedItem.{ResolvedItem}
 use Rattle.binding_laws.specs.Reread as reread
-use Rattle.binding_laws.specs.Reread.{ReadModel, outermost}
+use Rattle.binding_laws.specs.Reread.{ReadModel, outer_namings}
 use Rattle.bench_items.specs.Naming.{SeenName}
 use Rattle.bench_nodes.specs.Nodes.{part_stamp}
 use Rattle.bench_slots.specs.Tables.{ModelReading, Sound, Faulty}
@@ -82,7 +82,7 @@ read_model m items = record { numbers = m.numbers; items = m.items; resolved = i
 -- reading
 abbrev pub IsReadAs : WrittenModel → ModelReading → Type 0
 IsReadAs m (Sound id numbers items used) =
-    (numbers ≡ m.numbers) × reread.IsSound (outermost PREDEFINED) (read_model m items)
+    (numbers ≡ m.numbers) × reread.IsReadModel (outer_namings PREDEFINED) (read_model m items)
 IsReadAs m (Faulty id fault) = ⊤
 
 abbrev pub IsPaired : WrittenModel → Type 0

@@ -12,10 +12,10 @@ use Rattle.binding_kinds.specs.declared.scope.Binder.TheVariants as binders
 use Rattle.binding_kinds.specs.declared.scope.Found.{Found}
 use Rattle.binding_kinds.specs.declared.scope.Input.{Input}
 use Rattle.binding_kinds.specs.declared.scope.Used.{Used}
-use Rattle.binding_kinds.specs.Value.{Naming, Bound, Clause, Group, Check, Mute, Defined}
+use Rattle.binding_kinds.specs.Value.{Naming, Bound, BareItem, Group, Check, Mute, Defined}
 use Rattle.binding_kinds.specs.Kinds.{found}
 use Rattle.binding_kinds.specs.Senses.{Sense}
-use Rattle.binding_kinds.specs.Faults.{with_own, with_all, extended, senses_after}
+use Rattle.binding_kinds.specs.Faults.{with_own, with_all, names_after, senses_after}
 use Rattle.binding_graph.specs.declared.resolved.Body.{Body}
 use Rattle.binding_graph.specs.declared.resolved.ResolvedItem.{ResolvedItem}
 use Rattle.binding_graph.specs.declared.resolved.Role.{Role}
@@ -53,8 +53,8 @@ all_keep P more ss outer (b ∷ bs) names item at h =
 
 extended_keep : (P : List Naming → Type 0)
     → ((n : Naming) (names : List Naming) → P names → P (n ∷ names))
-    → (ss : List Sense) (names : List Naming) (at : ℕ) (c : Clause) → P names
-    → P (extended ss names at c)
+    → (ss : List Sense) (names : List Naming) (at : ℕ) (c : BareItem) → P names
+    → P (names_after ss names at c)
 extended_keep P more ss names at (Group true bs) h = own_keep P more bs names at 0 h
 extended_keep P more ss names at (Group false bs) h = all_keep P more ss names bs names at 0 h
 extended_keep P more ss names at (Check w e) h = h
@@ -230,8 +230,8 @@ module _ (items : List ResolvedItem) where
     knowns : (u : Usage) → Has us u → AreKnown names us u.values u.functions
     knowns u there = (all u there).known
 
-    item_closed : (c : Clause) (r : ResolvedItem)
-        → IsResolvedIn ss us names (extended ss names at c) (length names) c r
+    item_closed : (c : BareItem) (r : ResolvedItem)
+        → IsResolvedIn ss us names (names_after ss names at c) (length names) c r
         → IsClosedItem items at r
     item_closed (Group true bs) r h =
         closed_by at names us _ _ r hold all
@@ -276,9 +276,9 @@ module _ (items : List ResolvedItem) where
       hold_more : NamesHold (IsEarlier (at + 1)) names
       hold_more slot i e = earlier_more at i (hold slot i e)
 
-      next_hold : (c : Clause)
-          → IsResolvedIn ss us names (extended ss names at c) (length names) c r
-          → NamesHold (IsEarlier (at + 1)) (extended ss names at c)
+      next_hold : (c : BareItem)
+          → IsResolvedIn ss us names (names_after ss names at c) (length names) c r
+          → NamesHold (IsEarlier (at + 1)) (names_after ss names at c)
       next_hold (Group true bs) h =
           own_hold (IsEarlier (at + 1)) bs names at 0 (length bs)
           (group_name bs (role_many (length names) (with_own names at 0 bs) true bs r.role h.0))
@@ -301,7 +301,7 @@ module _ (items : List ResolvedItem) where
       new_usage ps b = usage_of_function us names at ps b
 
       usage_new : (n : List ℕ) (ps : List (List ℕ)) (b : Term)
-          → IsResolvedIn ss us names (extended ss names at (Defined n ps b)) (length names)
+          → IsResolvedIn ss us names (names_after ss names at (Defined n ps b)) (length names)
           (Defined n ps b) r → IsUsageOf names (us ++ new_usage ps b ∷ []) (new_usage ps b)
       usage_new n ps b h =
           let k = term_known names us knowns names ps (length names) (seen_same names) b [] [] (nothing_known names us) in
@@ -328,9 +328,9 @@ module _ (items : List ResolvedItem) where
           by_end (x ∷ xs) w (inl e) f g = f (inl e)
           by_end (x ∷ xs) w (inr h) f g = by_end xs w h (λ i. f (inr i)) g
 
-      next_usages : (c : Clause)
-          → IsResolvedIn ss us names (extended ss names at c) (length names) c r
-          → AreUsages (usages_after us names at c) (extended ss names at c)
+      next_usages : (c : BareItem)
+          → IsResolvedIn ss us names (names_after ss names at c) (length names) c r
+          → AreUsages (usages_after us names at c) (names_after ss names at c)
       next_usages (Group true bs) h =
           extended_keep (AreUsages us) (usage_later us) ss names at (Group true bs) all
       next_usages (Group false bs) h =
@@ -360,7 +360,7 @@ module _ (items : List ResolvedItem) where
       let moved : at + suc k ≡ (at + 1) + k = omega arith in
       subst (λ (n : ℕ). slice_get items n ≡ Some q) moved (h (suc k) q e)
 
-  walk : (cs : List Clause) (rs : List ResolvedItem) (ss : List Sense) (us : List Usage)
+  walk : (cs : List BareItem) (rs : List ResolvedItem) (ss : List Sense) (us : List Usage)
       (names : List Naming) (at : ℕ) → Later at rs → AreUsages us names
       → NamesHold (IsEarlier at) names → AreResolved ss us names at cs rs
       → (k : ℕ) (r : ResolvedItem) → slice_get rs k ≡ Some r → IsClosedItem items (at + k) r
@@ -375,12 +375,12 @@ module _ (items : List ResolvedItem) where
       let moved : (at + 1) + k ≡ at + suc k = omega arith in
       let there = here_later at q rs later in
       subst (λ (n : ℕ). IsClosedItem items n r) moved
-      (walk cs rs (senses_after ss names c) (usages_after us names at c) (extended ss names at c)
+      (walk cs rs (senses_after ss names c) (usages_after us names at c) (names_after ss names at c)
       (at + 1) (rest_later at q rs later)
       (next_usages ss us names at all hold q there c h.0)
       (next_hold ss us names at all hold q there c h.0) h.1 k r e)
 
-pub resolved_closed : (cs : List Clause) (items : List ResolvedItem)
+pub resolved_closed : (cs : List BareItem) (items : List ResolvedItem)
     → AreResolved [] [] predefined_names 0 cs items → AreClosed items
 resolved_closed cs items h index r e =
     let none : 0 + index ≡ index = omega arith in

@@ -9,7 +9,7 @@ use Rattle.binding_kinds.specs.declared.scope.Input.{Input}
 use Rattle.binding_graph.specs.declared.resolved.ResolvedItem.{ResolvedItem}
 use Rattle.binding_graph.specs.declared.resolved.Role.{Role}
 use Rattle.binding_graph.specs.declared.resolved.Role.TheVariants as roles
-use Rattle.binding_graph.specs.Reach.{is_check, UsesAt, Leads, IsCheckAt, IsReached, AreReached}
+use Rattle.binding_graph.specs.Reach.{is_check, ItemUses, ReachesBy, IsCheckAt, IsReached, AreReached}
 use Rattle.bench_nodes.specs.declared.table.SlotKey.{SlotKey}
 use Rattle.bench_slots.proofs.Lists.{has_contains, contains_has, each_has, each_from_has}
 use Rattle.bench_slots.specs.Slots.{number_at, flag_key, answer_key, key_by, keys_by}
@@ -37,9 +37,9 @@ rising (x ∷ xs) h = (
 
 -- ---- one use more
 
-one_more_use : (items : List ResolvedItem) (cs : List ℕ) (a i k : ℕ) → Leads items a cs i
-    → UsesAt items i k → Leads items a (cs ++ k ∷ []) k
-one_more_use items [] a i k e u = (subst (λ (n : ℕ). UsesAt items n k) (sym e) u, refl)
+one_more_use : (items : List ResolvedItem) (cs : List ℕ) (a i k : ℕ) → ReachesBy items a cs i
+    → ItemUses items i k → ReachesBy items a (cs ++ k ∷ []) k
+one_more_use items [] a i k e u = (subst (λ (n : ℕ). ItemUses items n k) (sym e) u, refl)
 one_more_use items (c ∷ cs) a i k h u = (h.0, one_more_use items cs c i k h.1 u)
 
 module _ (items : List ResolvedItem) (used : List ℕ) (closed : AreClosed items)
@@ -145,7 +145,7 @@ module _ (items : List ResolvedItem) (closed : AreClosed items) (b : ℕ) (last 
         ),
       )
 
-  one_step : (a c : ℕ) → UsesAt items a c → ByNames c → ByNames a
+  one_step : (a c : ℕ) → ItemUses items a c → ByNames c → ByNames a
   one_step a c (r, at, inl h) (through, leads) =
       (c ∷ through, ((r, at, contains_has (map (λ n. n.item) r.inputs.items) c h), leads))
   one_step a c (r, at, inr h) (through, leads) =
@@ -153,7 +153,7 @@ module _ (items : List ResolvedItem) (closed : AreClosed items) (b : ℕ) (last 
       (each_has (IsPassedOn items r) r.functions.items (closed a r at).functions c
       (contains_has r.functions.items c h)) through leads
 
-  by_names : (cs : List ℕ) (a : ℕ) → Leads items a cs b → ByNames a
+  by_names : (cs : List ℕ) (a : ℕ) → ReachesBy items a cs b → ByNames a
   by_names [] a e = ([], e)
   by_names (c ∷ cs) a h = one_step a c h.0 (by_names cs c h.1)
 

@@ -9,7 +9,7 @@ use Rattle.memo_core.specs.declared.keys.Key.{Key}
 use Rattle.memo_core.specs.declared.keys.Key.TheVariants.{Part, Output}
 use Rattle.memo_core.specs.Step.{Has}
 use Rattle.binding_kinds.specs.declared.scope.Input.{Input}
-use Rattle.binding_kinds.specs.Value.{Clause, clause_of}
+use Rattle.binding_kinds.specs.Value.{BareItem, bare_item}
 use Rattle.binding_graph.specs.declared.resolved.Body.{Body}
 use Rattle.binding_graph.specs.declared.resolved.ResolvedItem.{ResolvedItem}
 use Rattle.binding_graph.specs.declared.resolved.Role.{Role}
@@ -151,15 +151,15 @@ module _ (ps : List Predefined) (m w : ReadModel) (histories later : ℕ → Lis
       → number_at m.numbers f ≡ number_at w.numbers g → IsSaidAgain m w (number_at m.numbers f)
       → seen_function m f ≡ seen_function w g
   function_alike f g a b e said =
-      let at_f : HasNumber m f a.number = ap (λ (p : Option ℕ × Option Clause). p.0) a.seen in
-      let at_g : HasNumber w g b.number = ap (λ (p : Option ℕ × Option Clause). p.0) b.seen in
+      let at_f : HasNumber m f a.number = ap (λ (p : Option ℕ × Option BareItem). p.0) a.seen in
+      let at_g : HasNumber w g b.number = ap (λ (p : Option ℕ × Option BareItem). p.0) b.seen in
       let number : a.number ≡ b.number = sym (number_is m f a.number at_f) ∙ e ∙ number_is w g b.number at_g in
-      let x = behind clause_of (slice_get m.items f) a.text (ap (λ (p : Option ℕ × Option Clause). p.1) a.seen) in
-      let y = behind clause_of (slice_get w.items g) b.text (ap (λ (p : Option ℕ × Option Clause). p.1) b.seen) in
+      let x = behind bare_item (slice_get m.items f) a.text (ap (λ (p : Option ℕ × Option BareItem). p.1) a.seen) in
+      let y = behind bare_item (slice_get w.items g) b.text (ap (λ (p : Option ℕ × Option BareItem). p.1) b.seen) in
       let again : IsSaidAgain m w a.number = subst (IsSaidAgain m w) (number_is m f a.number at_f) said in
       let at_other : HasNumber w g a.number = at_g ∙ ap (λ (n : ℕ). Some n) (sym number) in
       let text : a.text ≡ b.text = sym x.2 ∙ (again f g x.0 y.0 at_f x.1 at_other y.1).0 ∙ y.2 in
-      let pair : ◌≡◌ {A = Option ℕ × Option Clause} (Some a.number, Some a.text) (Some b.number, Some b.text) = λ i. (Some (number i), Some (text i)) in
+      let pair : ◌≡◌ {A = Option ℕ × Option BareItem} (Some a.number, Some a.text) (Some b.number, Some b.text) = λ i. (Some (number i), Some (text i)) in
       a.seen ∙ pair ∙ sym b.seen
 
   functions_alike : (fs gs : List ℕ) → Each (IsSeenFunction m) fs → Each (IsSeenFunction w) gs

@@ -17,8 +17,8 @@ use Rattle.binding_kinds.specs.Kinds.{found}
 use Rattle.binding_kinds.specs.Meanings.{parameter_of}
 use Rattle.binding_kinds.specs.Applicable.{applied_of}
 use Rattle.binding_kinds.specs.Senses.{count_of}
-use Rattle.binding_graph.specs.Inputs.{index_of, noted, with_binder, with_found, with_name}
-use Rattle.binding_graph.specs.Usages.{all_noted, is_among, with_item, with_items, Usage, usage_at, usage_seen, values_of, functions_of, with_meaning, with_values, with_values_among, with_functions, with_functions_among, with_all_values, with_all_functions}
+use Rattle.binding_graph.specs.Inputs.{index_of, with_used, with_binder, with_found, with_name}
+use Rattle.binding_graph.specs.Usages.{with_all_used, is_among, with_item, with_items, Usage, usage_at, usage_seen, values_of, functions_of, with_meaning, with_values, with_values_among, with_functions, with_functions_among, with_all_values, with_all_functions}
 use Rattle.bench_slots.proofs.Lists.{each_to}
 use Rattle.bench_slot_laws.proofs.Naming.{binder_at}
 
@@ -60,7 +60,7 @@ cover_grows us vs ws g f c = record {
 }
 
 -- what holds where a name is added and where it is there already
-noted_by : (P : List Used → Type 0) (vs : List Used) (u : Used) → P vs → P (u ∷ vs) → P (noted vs u)
+noted_by : (P : List Used → Type 0) (vs : List Used) (u : Used) → P vs → P (u ∷ vs) → P (with_used vs u)
 noted_by P vs u old new = at_test (is_some (index_of vs u.slot))
   where
     at_test : (b : Bool) → P (if b then vs else u ∷ vs)
@@ -77,11 +77,11 @@ same_item i j e = ap (λ (k : Input). k.item) (bound (some e))
     bound e = cc
 
 module _ (names : List Naming) where
-  noted_grows : (vs : List Used) (u : Used) → Grows vs (noted vs u)
+  noted_grows : (vs : List Used) (u : Used) → Grows vs (with_used vs u)
   noted_grows vs u k h = noted_by (λ ws. Has (items_in ws) k) vs u h (inr h)
 
   noted_bound : (vs : List Used) (u : Used) → Each (IsBoundBy names) vs → IsBoundBy names u
-      → Each (IsBoundBy names) (noted vs u)
+      → Each (IsBoundBy names) (with_used vs u)
   noted_bound vs u h b = noted_by (Each (IsBoundBy names)) vs u h (b, h)
 
   -- a name that is there already is of the same item
@@ -95,7 +95,7 @@ module _ (names : List Naming) where
   ]
 
   noted_has : (vs : List Used) (u : Used) → Each (IsBoundBy names) vs → IsBoundBy names u
-      → Has (items_in (noted vs u)) u.input.item
+      → Has (items_in (with_used vs u)) u.input.item
   noted_has vs u h b = at_test (is_some (index_of vs u.slot)) refl
     where
       at_test : (t : Bool) → is_some (index_of vs u.slot) ≡ t
@@ -104,20 +104,20 @@ module _ (names : List Naming) where
       at_test false e = inl refl
 
   all_bound : (ws vs : List Used) → Each (IsBoundBy names) vs → Each (IsBoundBy names) ws
-      → Each (IsBoundBy names) (all_noted vs ws)
+      → Each (IsBoundBy names) (with_all_used vs ws)
   all_bound [] vs h g = h
-  all_bound (w ∷ ws) vs h g = all_bound ws (noted vs w) (noted_bound vs w h g.0) g.1
+  all_bound (w ∷ ws) vs h g = all_bound ws (with_used vs w) (noted_bound vs w h g.0) g.1
 
-  all_grow : (ws vs : List Used) → Grows vs (all_noted vs ws)
+  all_grow : (ws vs : List Used) → Grows vs (with_all_used vs ws)
   all_grow [] vs k h = h
-  all_grow (w ∷ ws) vs k h = all_grow ws (noted vs w) k (noted_grows vs w k h)
+  all_grow (w ∷ ws) vs k h = all_grow ws (with_used vs w) k (noted_grows vs w k h)
 
   all_have : (ws vs : List Used) → Each (IsBoundBy names) vs → Each (IsBoundBy names) ws
-      → Each (λ w. Has (items_in (all_noted vs ws)) w.input.item) ws
+      → Each (λ w. Has (items_in (with_all_used vs ws)) w.input.item) ws
   all_have [] vs h g = tt
   all_have (w ∷ ws) vs h g = (
-    all_grow ws (noted vs w) w.input.item (noted_has vs w h g.0),
-    all_have ws (noted vs w) (noted_bound vs w h g.0) g.1,
+    all_grow ws (with_used vs w) w.input.item (noted_has vs w h g.0),
+    all_have ws (with_used vs w) (noted_bound vs w h g.0) g.1,
   )
 
   -- ---- functions
@@ -141,21 +141,21 @@ module _ (names : List Naming) where
       (known : (u : Usage) → Has us u → AreKnown names us u.values u.functions) where
     applied_known : (o : Option Usage) (vs : List Used) (fs : List ℕ)
         → ((u : Usage) → o ≡ Some u → Has us u) → AreKnown names us vs fs
-        → AreKnown names us (all_noted vs (values_of o)) (with_items fs (functions_of o))
+        → AreKnown names us (with_all_used vs (values_of o)) (with_items fs (functions_of o))
     applied_known None vs fs there k = k
     applied_known (Some u) vs fs there k =
         let own = known u (there u refl) in
         let have = all_have u.values vs k.bound own.bound in
-        let within : Grows u.values (all_noted vs u.values) = grows_within u.values (all_noted vs u.values) have in
+        let within : Grows u.values (with_all_used vs u.values) = grows_within u.values (with_all_used vs u.values) have in
         record {
           bound = all_bound u.values vs k.bound own.bound;
-          covered = items_covered (IsCovered us (all_noted vs u.values)) (u.item ∷ u.functions) fs
-              (each_to (IsCovered us vs) (IsCovered us (all_noted vs u.values))
-              (cover_grows us vs (all_noted vs u.values) (all_grow u.values vs)) fs
+          covered = items_covered (IsCovered us (with_all_used vs u.values)) (u.item ∷ u.functions) fs
+              (each_to (IsCovered us vs) (IsCovered us (with_all_used vs u.values))
+              (cover_grows us vs (with_all_used vs u.values) (all_grow u.values vs)) fs
               k.covered) (
                 record { usage = u; there = there u refl; item = refl; among = have },
-                each_to (IsCovered us u.values) (IsCovered us (all_noted vs u.values))
-                    (cover_grows us u.values (all_noted vs u.values) within) u.functions
+                each_to (IsCovered us u.values) (IsCovered us (with_all_used vs u.values))
+                    (cover_grows us u.values (with_all_used vs u.values) within) u.functions
                     own.covered,
               );
         }
@@ -192,8 +192,8 @@ module _ (names : List Naming) where
           record {
             bound = noted_bound vs u k.bound e;
             covered =
-                each_to (IsCovered us vs) (IsCovered us (noted vs u))
-                (cover_grows us vs (noted vs u) (noted_grows vs u)) fs k.covered;
+                each_to (IsCovered us vs) (IsCovered us (with_used vs u))
+                (cover_grows us vs (with_used vs u) (noted_grows vs u)) fs k.covered;
           }
       binder_known slot (binders.Applicable f) vs fs e k = k
 
@@ -235,7 +235,7 @@ module _ (names : List Naming) where
         term_known (On a) vs fs k = term_known a vs fs k
         term_known (Apply x ts) vs fs k =
             let o : Option Usage = usage_seen us seen_names ps (count_of ts) x in
-            terms_known ts (all_noted vs (values_of o)) (with_items fs (functions_of o))
+            terms_known ts (with_all_used vs (values_of o)) (with_items fs (functions_of o))
             (applied_known o vs fs
             (usage_there (applied_of (λ f. slice_get (map (λ u. u.arity) us) f)
             (count_of ts) (parameter_of (reverse ps) x) (found seen_names x))) k)

@@ -8,7 +8,7 @@ use Rattle.memo_core.specs.declared.keys.Key.TheVariants.{Part}
 use Rattle.memo_core.specs.Step.{Has}
 use Rattle.binding_graph.specs.declared.resolved.ResolvedItem.{ResolvedItem}
 use Rattle.binding_laws.specs.ItemLaws.{SayTheSame}
-use Rattle.binding_laws.specs.Reread.{ReadModel, HasNumber, outermost, IsSound, AreInOneOrder, IsItemOf}
+use Rattle.binding_laws.specs.Reread.{ReadModel, HasNumber, outer_namings, IsReadModel, AreInOneOrder, IsItemOf}
 use Rattle.bench_items.specs.Items.{role_content}
 use Rattle.bench_items.specs.Naming.{SeenName, AreNamed, item_outputs}
 use Rattle.bench_nodes.specs.Nodes.{keys_at}
@@ -31,8 +31,8 @@ GrewAtEnd m w histories later =
 -- a model as it is read before edits and after them, with the histories of its items
 pub record AreBeforeAndAfter (ps : List Predefined) (m w : ReadModel)
     (histories later : ℕ → List SeenName) : Type 0 where
-  pub sound : IsSound (outermost ps) m
-  pub still : IsSound (outermost ps) w
+  pub sound : IsReadModel (outer_namings ps) m
+  pub still : IsReadModel (outer_namings ps) w
   pub order : AreInOneOrder m w
   pub named : HoldNames histories m
   pub grown : GrewAtEnd m w histories later

@@ -1,7 +1,7 @@
 //! Laws of the items of a model without fault.
 
 ghost use Rattle.std.specs.Prelude.{◌≡◌, ℕ, List, [], Some, slice_get};
-ghost use Rattle.binding_kinds.specs.Value.{Clause};
+ghost use Rattle.binding_kinds.specs.Value.{BareItem};
 ghost use Rattle.binding_graph.specs.declared.resolved.ResolvedItem.{ResolvedItem};
 ghost use Rattle.binding_graph.specs.declared.resolved.Role.TheVariants as roles;
 ghost use Rattle.binding_graph.specs.Reach.{IsReached, AreReached};
@@ -14,7 +14,7 @@ ghost use Rattle.bench_slot_laws.specs.Roles.{RolesStay};
 /// Items that are resolved use names of earlier groups alone, and those that the functions use
 /// which they apply.
 pub fn resolved_items_are_closed()
-    ensures { (clauses : List Clause) (items : List ResolvedItem)
+    ensures { (clauses : List BareItem) (items : List ResolvedItem)
         → AreResolved [] [] predefined_names 0 clauses items → AreClosed items }
 {}
 

@@ -2,7 +2,7 @@
 use Rattle.std.specs.Prelude.{◌≡◌, List, [], length, map, reverse}
 use Rattle.text_values.specs.declared.predefined.TheConstants.{PREDEFINED}
 use Rattle.text_values.specs.declared.model.Item.{Item}
-use Rattle.binding_kinds.specs.Value.{Naming, clause_of}
+use Rattle.binding_kinds.specs.Value.{Naming, bare_item}
 use Rattle.binding_kinds.specs.Outermost.{naming_of}
 use Rattle.binding_kinds.specs.Faults.{HasNoFault, FirstFault}
 use Rattle.binding_graph.specs.declared.resolved.ResolvedItem.{ResolvedItem}
@@ -19,8 +19,8 @@ predefined_names = reverse (map naming_of PREDEFINED)
 -- the items have no fault, and are resolved to these
 pub record AreSound (items : List Item) (resolved : List ResolvedItem) : Type 0 where
   pub whole : length resolved ≡ length items
-  pub no_fault : HasNoFault [] predefined_names 0 (map clause_of items)
-  pub as_resolved : AreResolved [] [] predefined_names 0 (map clause_of items) resolved
+  pub no_fault : HasNoFault [] predefined_names 0 (map bare_item items)
+  pub as_resolved : AreResolved [] [] predefined_names 0 (map bare_item items) resolved
   pub labelled : AreLabelled items resolved
 
 -- the items resolved, with the indexes of those that checks and flags reach, or their first fault
@@ -29,4 +29,4 @@ IsReading items (readings.Sound resolved used) =
     AreSound items (arc_value resolved).items.items
     × AreReached (arc_value resolved).items.items used.items
 IsReading items (readings.Faulty fault) =
-    FirstFault [] predefined_names 0 (map clause_of items) fault
+    FirstFault [] predefined_names 0 (map bare_item items) fault

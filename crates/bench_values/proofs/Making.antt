@@ -18,7 +18,7 @@ use Rattle.cat_eval.specs.Columns.{ColumnsOf}
 use Rattle.cat_eval.specs.Values.{AnswersOf}
 use Rattle.verdict.specs.declared.answer.Outcome.{Outcome}
 use Rattle.verdict.specs.declared.judgement.Raised.{Raised}
-use Rattle.verdict.specs.Evaluated.{IsOutcome}
+use Rattle.verdict.specs.Evaluated.{IsOutcomeOn}
 use Rattle.verdict.specs.Kept.{Flag, of_raised}
 use Rattle.bench_items.specs.Items.{RoleContent, role_content}
 use Rattle.bench_items.specs.Naming.{SeenName, item_outputs}
@@ -81,7 +81,7 @@ pub outcome_over : (parts : VerdictParts) (values : List NodeContent) (s : Space
     (x : Result Outcome AllocError) → space_content s ≡ space_of values
     → observed ≡ parts.observed.items → checks ≡ checks_among parts.flags.items (answers_of values)
     → flags ≡ flags_among parts.flags.items (answers_of values)
-    → IfOk x (λ o. IsOutcome s.locations.items (shown_in s) parts.condition.quantifier
+    → IfOk x (λ o. IsOutcomeOn s.locations.items (shown_in s) parts.condition.quantifier
     (formula_of parts.condition.proposition) observed checks flags o)
     → IfOk x (λ o. IsVerdict (verdict_parts parts) (space_of values) (answers_of values) o)
 outcome_over parts values s observed checks flags (Ok o) over shows are raised made =

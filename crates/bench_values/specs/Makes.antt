@@ -15,7 +15,7 @@ use Rattle.verdict.specs.declared.answer.Outcome.{Outcome}
 use Rattle.verdict.specs.declared.answer.OutcomeResult.TheVariants.{Refused}
 use Rattle.verdict.specs.declared.answer.Refusal.{Refusal}
 use Rattle.verdict.specs.declared.answer.Refusal.TheVariants as refusals
-use Rattle.verdict.specs.Evaluated.{IsOutcome}
+use Rattle.verdict.specs.Evaluated.{IsOutcomeOn}
 use Rattle.verdict.specs.Kept.{Flag}
 use Rattle.bench_values.specs.Givens.{VerdictPartsContent, GivenContent, ForSpace, ForItem, ForVerdict, ForFault}
 use Rattle.bench_items.specs.Items.{RoleContent, Group, Check, Silent, role_content}
@@ -87,7 +87,7 @@ flags_among (Some name ∷ ns) (a ∷ more) = (name, a) ∷ flags_among ns more
 -- text
 abbrev pub IsVerdict : VerdictPartsContent → SpaceContent → List (List Bool) → Outcome → Type 0
 IsVerdict parts space answers o =
-    IsOutcome space.locations space.executions parts.kind parts.proposition parts.observed
+    IsOutcomeOn space.locations space.executions parts.kind parts.proposition parts.observed
     (checks_among parts.flags answers) (flags_among parts.flags answers) o
 
 -- where the test has no space, it says why

@@ -16,7 +16,7 @@ use Rattle.binding_kinds.specs.Value.{Naming}
 use Rattle.binding_kinds.specs.Kinds.{found}
 use Rattle.binding_kinds.specs.Meanings.{parameter_of}
 use Rattle.binding_kinds.specs.Applicable.{applied, applied_binder, applied_found, applied_of}
-use Rattle.binding_kinds.specs.Senses.{Sense, IsKept, AreKept, with_arity, sense_of_binder, sense_of}
+use Rattle.binding_kinds.specs.Senses.{Sense, HasSense, HaveSenses, with_arity, sense_of_binder, sense_of}
 use Rattle.binding_kinds.specs.Functions.{sense_seen}
 use Rattle.binding_kinds.proofs.Applications.{kept_at, kept_none}
 
@@ -29,7 +29,7 @@ pub record IsApplied (fs : List Function) (ss : List Sense) (f n : ℕ) (o : Opt
   pub one : Function
   pub sense : Sense
   pub there : slice_get fs f ≡ Some one
-  pub kept : IsKept one sense
+  pub kept : HasSense one sense
   pub arity : sense.arity ≡ n
   pub sense_is : o ≡ Some sense
 
@@ -42,7 +42,7 @@ abbrev of_result : Result Sense ModelFault → Option Sense
 of_result (Ok s) = Some s
 of_result (Err k) = None
 
-at_kept : (fs : List Function) (ss : List Sense) (n f : ℕ) (o : Option Function) → AreKept fs ss
+at_kept : (fs : List Function) (ss : List Sense) (n f : ℕ) (o : Option Function) → HaveSenses fs ss
     → slice_get fs f ≡ o
     → Tells fs ss n (of_result (with_arity n (slice_get ss f)))
     (applied f n (option_map (λ (g : Function). g.arity) o))
@@ -57,14 +57,14 @@ at_kept fs ss n f (Some one) kept e =
     (subst (λ (a : ℕ). Tells fs ss n (of_result (with_arity n (Some k.0))) (applied f n (Some a)))
     (sym k.2.arity) (at_test k.0 k.2 (nat_eq k.0.arity n) (λ t. eqb-true k.0.arity n t)))
   where
-    at_test : (s : Sense) → IsKept one s → (b : Bool) → (b ≡ true → s.arity ≡ n)
+    at_test : (s : Sense) → HasSense one s → (b : Bool) → (b ≡ true → s.arity ≡ n)
         → Tells fs ss n (of_result (if b then Ok s else Err faults.Arity))
         (if b then Ok f else Err faults.Arity)
     at_test s kept true same =
         record { one = one; sense = s; there = e; kept = kept; arity = same refl; sense_is = refl }
     at_test s kept false same = refl
 
-by_binder : (fs : List Function) (ss : List Sense) (n : ℕ) (b : Binder) → AreKept fs ss
+by_binder : (fs : List Function) (ss : List Sense) (n : ℕ) (b : Binder) → HaveSenses fs ss
     → Tells fs ss n (of_result (sense_of_binder ss n b)) (applied_binder
     (λ i. slice_get (map (λ (g : Function). g.arity) fs) i) n b)
 by_binder fs ss n (binders.Predefined p) kept = refl
@@ -76,7 +76,7 @@ by_binder fs ss n (binders.Applicable f) kept =
     (sym (slice_get-map (λ (g : Function). g.arity) fs f))
     (at_kept fs ss n f (slice_get fs f) kept refl)
 
-by_found : (fs : List Function) (ss : List Sense) (n : ℕ) (o : Option Found) → AreKept fs ss
+by_found : (fs : List Function) (ss : List Sense) (n : ℕ) (o : Option Found) → HaveSenses fs ss
     → Tells fs ss n (of_result (sense_of ss n o)) (applied_found
     (λ i. slice_get (map (λ (g : Function). g.arity) fs) i) n o)
 by_found fs ss n None kept = refl
@@ -84,7 +84,7 @@ by_found fs ss n (Some g) kept = by_binder fs ss n g.binder kept
 
 -- what a name in a body with so many arguments stands for
 pub seen_by : (fs : List Function) (ss : List Sense) (names : List Naming) (ps : List (List ℕ))
-    (n : ℕ) (x : List ℕ) (o : Option ℕ) → AreKept fs ss → parameter_of (reverse ps) x ≡ o
+    (n : ℕ) (x : List ℕ) (o : Option ℕ) → HaveSenses fs ss → parameter_of (reverse ps) x ≡ o
     → Tells fs ss n (sense_seen ss names ps n x) (applied_of
     (λ i. slice_get (map (λ (g : Function). g.arity) fs) i) n o (found names x))
 seen_by fs ss names ps n x (Some p) kept e = rw e refl
@@ -110,7 +110,7 @@ seen_by fs ss names ps n x None kept e =
         (sym w) h
 
 pub told_by : (fs : List Function) (ss : List Sense) (names : List Naming) (ps : List (List ℕ))
-    (n : ℕ) (x : List ℕ) (r : Result ℕ ModelFault) → AreKept fs ss
+    (n : ℕ) (x : List ℕ) (r : Result ℕ ModelFault) → HaveSenses fs ss
     → r
     ≡ applied_of (λ i. slice_get (map (λ (g : Function). g.arity) fs) i) n
     (parameter_of (reverse ps) x) (found names x)

@@ -20,7 +20,7 @@ use Rattle.binding_kinds.specs.Applicable.{is_no_parameter, is_parameter_at}
 use Rattle.binding_kinds.specs.Formula.{Formula, Value, Parameter, Everything, NoPairs, NoEvents, Joined, Marked, Complement, Identity, filled, constant_of, factor_of, HasParameters, postfix}
 use Rattle.binding_kinds.specs.declared.function.Function.{Function}
 use Rattle.binding_kinds.specs.Kinds.{found}
-use Rattle.binding_kinds.specs.Senses.{Sense, IsKept, count_of}
+use Rattle.binding_kinds.specs.Senses.{Sense, HasSense, count_of}
 use Rattle.binding_kinds.specs.Functions.{sense_seen, named_formula, bound_formula, applied_formula, formula_in, formulas_in}
 use Rattle.binding_kinds.proofs.Applications.{count_arguments}
 use Rattle.binding_kinds.proofs.Sizes.{some_piece}
@@ -359,7 +359,7 @@ on_ok_as (Err e) P Q to p = tt
 -- ---- functions
 
 pub put_large : (f : Function) (s : Sense) (old new : Template) (ts : List Template)
-    (ws : List (List Piece)) → IsKept f s → AllZip IsTemplate ts ws → f.is_oversized ≡ true
+    (ws : List (List Piece)) → HasSense f s → AllZip IsTemplate ts ws → f.is_oversized ≡ true
     → new.is_oversized ≡ true
     → IsGrown old new (pieces_with ws (postfix s.formula))
     (4096 < length (pieces_with ws (postfix s.formula)))
@@ -372,7 +372,7 @@ put_large f s old new ts ws kept all over new_over = record {
 }
 
 pub put_whole : {T E : Type 0} (f : Function) (s : Sense) (old new : Template) (r : Result T E)
-    (ws : List (List Piece)) (body : List Piece) → IsKept f s → f.is_oversized ≡ false
+    (ws : List (List Piece)) (body : List Piece) → HasSense f s → f.is_oversized ≡ false
     → body ≡ f.template.items
     → OnOk r (IsGrown old new (pieces_with ws body) (4096 < length (pieces_with ws body)))
     → OnOk r (IsGrown old new (pieces_with ws (postfix s.formula))

@@ -15,7 +15,7 @@ use Rattle.binding_kinds.specs.declared.scope.Binder.TheVariants as binders
 use Rattle.binding_kinds.specs.Value.{Naming}
 use Rattle.binding_kinds.specs.Kinds.{found}
 use Rattle.binding_kinds.specs.Formula.{Formula, Value, Parameter, Everything, NoPairs, NoEvents, Joined, Marked, Complement, Identity, filled, constant_of, factor_of, HasParameters, postfix}
-use Rattle.binding_kinds.specs.Senses.{Sense, AreKept, sense_of_binder, sense_of, with_arity, count_of, size_of_arguments, size_applied, size_in, sizes_in, kinds_in}
+use Rattle.binding_kinds.specs.Senses.{Sense, HaveSenses, sense_of_binder, sense_of, with_arity, count_of, size_of_arguments, size_applied, size_in, sizes_in, kinds_in}
 use Rattle.binding_kinds.specs.Functions.{sense_seen, bound_formula, named_formula, applied_formula, formulas_in}
 use Rattle.binding_kinds.specs.Fits.{IsFitApplied, IsFit}
 use Rattle.binding_kinds.proofs.Applications.{kept_back}
@@ -109,7 +109,7 @@ named_length (Some f) = at_binder f.binder
     at_binder (binders.Applicable g) = refl
 
 -- the parameters of a function are among its own
-within : (fs : List Function) (ss : List Sense) (n : ℕ) (b : Binder) (s : Sense) → AreKept fs ss
+within : (fs : List Function) (ss : List Sense) (n : ℕ) (b : Binder) (s : Sense) → HaveSenses fs ss
     → sense_of_binder ss n b ≡ Ok s → HasParameters n s.formula
 within fs ss n (binders.Predefined p) s kept e = absurd (let f : Err faults.Arity ≡ Ok s = e in cc)
 within fs ss n (binders.Bound i) s kept e = absurd (let f : Err faults.Arity ≡ Ok s = e in cc)
@@ -131,12 +131,12 @@ within fs ss n (binders.Applicable i) s kept e = at_function (slice_get ss i) re
         (kept_back fs ss i t kept is).1.within h
 
 function_within : (fs : List Function) (ss : List Sense) (n : ℕ) (o : Option Found) (s : Sense)
-    → AreKept fs ss → sense_of ss n o ≡ Ok s → HasParameters n s.formula
+    → HaveSenses fs ss → sense_of ss n o ≡ Ok s → HasParameters n s.formula
 function_within fs ss n None s kept e = absurd (let f : Err faults.Unbound ≡ Ok s = e in cc)
 function_within fs ss n (Some f) s kept e = within fs ss n f.binder s kept e
 
 applied_length : (fs : List Function) (ss : List Sense) (names : List Naming) (n : ℕ) (x : List ℕ)
-    (sizes : List ℕ) (gs : List Formula) (r : Result Sense ModelFault) → AreKept fs ss
+    (sizes : List ℕ) (gs : List Formula) (r : Result Sense ModelFault) → HaveSenses fs ss
     → sense_of ss n (found names x) ≡ r → length gs ≡ n → sizes ≡ lengths gs
     → size_applied r sizes ≡ length (postfix (applied_formula (sense_seen ss names [] n x) gs))
 applied_length fs ss names n x sizes gs (Err k) kept is long same =
@@ -153,7 +153,7 @@ long_formulas ss names (OneMore a others) = ap suc (long_formulas ss names other
 
 mutual
   pub size_is : (fs : List Function) (ss : List Sense) (names : List Naming) (t : Term)
-      → AreKept fs ss → size_in ss names t ≡ length (pieces_in ss names [] t)
+      → HaveSenses fs ss → size_in ss names t ≡ length (pieces_in ss names [] t)
   size_is fs ss names (Atom x) kept = named_length (found names x)
   size_is fs ss names AllEvents kept = refl
   size_is fs ss names EmptyRelation kept = refl
@@ -180,7 +180,7 @@ mutual
       (sizes_are fs ss names ts kept)
 
   sizes_are : (fs : List Function) (ss : List Sense) (names : List Naming) (ts : Terms)
-      → AreKept fs ss → sizes_in ss names ts ≡ lengths (formulas_in ss names [] ts)
+      → HaveSenses fs ss → sizes_in ss names ts ≡ lengths (formulas_in ss names [] ts)
   sizes_are fs ss names NoTerm kept = refl
   sizes_are fs ss names (OneMore a others) kept =
       ap (λ (n : ℕ). n ∷ sizes_in ss names others) (size_is fs ss names a kept)
@@ -194,7 +194,7 @@ small_applied (Ok s) sizes kinds h = h.0
 
 -- no application in what fits is too large
 pub fit_small : (fs : List Function) (ss : List Sense) (names : List Naming) (t : Term)
-    → AreKept fs ss → IsFit ss names t → HasLarge ss names [] t → ⊥
+    → HaveSenses fs ss → IsFit ss names t → HasLarge ss names [] t → ⊥
 fit_small fs ss names (Atom x) kept fit h = absurd h
 fit_small fs ss names AllEvents kept fit h = absurd h
 fit_small fs ss names EmptyRelation kept fit h = absurd h

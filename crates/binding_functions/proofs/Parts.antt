@@ -15,9 +15,9 @@ use Rattle.binding_kinds.specs.Kinds.{found, kind_found, is_turned}
 use Rattle.binding_kinds.specs.Combinations.{unknown}
 use Rattle.binding_kinds.specs.Meanings.{parameter_of}
 use Rattle.binding_kinds.specs.Verdict.{or_else, of_name}
-use Rattle.binding_kinds.specs.Senses.{Sense, IsKept, sense_of, count_of}
+use Rattle.binding_kinds.specs.Senses.{Sense, HasSense, sense_of, count_of}
 use Rattle.binding_kinds.specs.Functions.{sense_seen, is_at, under_at, is_under_in, is_under_among}
-use Rattle.binding_kinds.specs.First.{of_inside, of_applied, first_of_bodies, first_of_body}
+use Rattle.binding_kinds.specs.First.{fault_inside, apply_fault, first_of_bodies, first_of_body}
 use Rattle.binding_kinds.specs.Columns.{IsFilled, plain, none_gathered, of_infix, of_applied as applied_to, with_one, signature_in, gathered_in}
 use Rattle.binding_kinds.proofs.Applications.{count_arguments}
 use Rattle.binding_kinds.proofs.Tables.{filled_as, parameter_below, parameter_kind, other_kind, gathered_more, applied_signature, refused_signature}
@@ -36,7 +36,7 @@ pub parameter_part : (ss : List Sense) (names : List Naming) (ps : List (List �
     → IsFilled unknown (length ps) rows (λ kinds. plain (get_or kinds i OfAny))
     p.column.items) → IsBodyPart ss names ps rows under (Atom x) p
 parameter_part ss names ps rows under x i p is fault marks column = record {
-  fault = fault ∙ sym (ap (λ (o : Option ℕ). of_inside o (found names x)) is);
+  fault = fault ∙ sym (ap (λ (o : Option ℕ). fault_inside o (found names x)) is);
   marks = λ index lt. marks index lt ∙ sym (ap (λ (o : Option ℕ). under && is_at index o) is);
   column =
       λ few. filled_as unknown (length ps) rows _ _ p.column.items
@@ -56,7 +56,7 @@ pub other_part : (ss : List Sense) (names : List Naming) (ps : List (List ℕ)) 
     → IsFilled unknown (length ps) rows (λ kinds. plain kind) p.column.items
     → IsBodyPart ss names ps rows under (Atom x) p
 other_part ss names ps rows under x kind p is fault marks kind_is column = record {
-  fault = fault ∙ sym (ap (λ (o : Option ℕ). of_inside o (found names x)) is);
+  fault = fault ∙ sym (ap (λ (o : Option ℕ). fault_inside o (found names x)) is);
   marks =
       λ index lt. marks index lt
       ∙ (and_false under ∙ sym (ap (λ (o : Option ℕ). under && is_at index o) is));
@@ -160,9 +160,9 @@ more_parts ss names ps rows under turned xs e i before after one long part all f
 
 pub applied_part : (ss : List Sense) (names : List Naming) (ps : List (List ℕ)) (rows : ℕ)
     (under : Bool) (x : List ℕ) (xs : List Expression) (f : Function) (s : Sense)
-    (a : BodyArguments) (p : BodyPart) → IsKept f s → length xs ≡ s.arity
+    (a : BodyArguments) (p : BodyPart) → HasSense f s → length xs ≡ s.arity
     → sense_seen ss names ps (length xs) x ≡ Some s
-    → of_applied (parameter_of (reverse ps) x) (sense_of ss (length xs) (found names x)) ≡ None
+    → apply_fault (parameter_of (reverse ps) x) (sense_of ss (length xs) (found names x)) ≡ None
     → AreBodyParts ss names ps rows under s.is_under xs a → p.fault ≡ a.fault
     → p.under ≡ a.under
     → (length ps ≤ 8
@@ -173,7 +173,7 @@ applied_part ss names ps rows under x xs f s a p kept long seen faultless all fa
     let ts = terms_in xs in
     let count = count_arguments xs in
     let is : sense_seen ss names ps (count_of ts) x ≡ Some s = ap (λ (m : ℕ). sense_seen ss names ps m x) count ∙ seen in
-    let none : of_applied (parameter_of (reverse ps) x) (sense_of ss (count_of ts) (found names x)) ≡ None = ap (λ (m : ℕ). of_applied (parameter_of (reverse ps) x) (sense_of ss m (found names x))) count ∙ faultless in record {
+    let none : apply_fault (parameter_of (reverse ps) x) (sense_of ss (count_of ts) (found names x)) ≡ None = ap (λ (m : ℕ). apply_fault (parameter_of (reverse ps) x) (sense_of ss m (found names x))) count ∙ faultless in record {
       fault =
           fault
           ∙ (all.fault
@@ -193,7 +193,7 @@ applied_part ss names ps rows under x xs f s a p kept long seen faultless all fa
 pub refused_part : (ss : List Sense) (names : List Naming) (ps : List (List ℕ)) (rows : ℕ)
     (under : Bool) (x : List ℕ) (xs : List Expression) (k : ModelFault) (p : BodyPart)
     → sense_seen ss names ps (length xs) x ≡ None
-    → of_applied (parameter_of (reverse ps) x) (sense_of ss (length xs) (found names x)) ≡ Some k
+    → apply_fault (parameter_of (reverse ps) x) (sense_of ss (length xs) (found names x)) ≡ Some k
     → p.fault ≡ Some k → ((index : ℕ) → index < 8 → get_or p.under index false ≡ false)
     → IsFilled unknown (length ps) rows (λ kinds. plain OfAny) p.column.items
     → IsBodyPart ss names ps rows under (Apply x (terms_in xs)) p
@@ -201,7 +201,7 @@ refused_part ss names ps rows under x xs k p seen faulty fault marks column =
     let ts = terms_in xs in
     let count = count_arguments xs in
     let is : sense_seen ss names ps (count_of ts) x ≡ None = ap (λ (m : ℕ). sense_seen ss names ps m x) count ∙ seen in
-    let own : of_applied (parameter_of (reverse ps) x) (sense_of ss (count_of ts) (found names x)) ≡ Some k = ap (λ (m : ℕ). of_applied (parameter_of (reverse ps) x) (sense_of ss m (found names x))) count ∙ faulty in record {
+    let own : apply_fault (parameter_of (reverse ps) x) (sense_of ss (count_of ts) (found names x)) ≡ Some k = ap (λ (m : ℕ). apply_fault (parameter_of (reverse ps) x) (sense_of ss m (found names x))) count ∙ faulty in record {
       fault =
           fault
           ∙ sym (ap (λ (o : Option ModelFault). or_else o (first_of_bodies ss names ps ts)) own);

@@ -26,7 +26,7 @@ HasLarge ss names ps (Not a) = HasLarge ss names ps a
 HasLarge ss names ps (On a) = HasLarge ss names ps a
 HasLarge ss names ps (Apply x ts) = 4096 < length (pieces_in ss names ps (Apply x ts))
 
--- a piece with the arguments in the places of the parameters
+-- a piece with each parameter replaced by its argument
 abbrev pub piece_with : List (List Piece) → Piece → List Piece
 piece_with arguments (pieces.Value f) = pieces.Value f ∷ []
 piece_with arguments (pieces.Parameter index) = get_or arguments index (pieces.NoPairs ∷ [])

@@ -3,7 +3,7 @@
 ghost use Rattle.std.specs.Prelude.{◌≡◌, ◌≤◌, ◌^◌, ℕ, List, length, false, IfOk};
 ghost use Rattle.text_values.specs.ModelValue.{Term};
 ghost use Rattle.binding_kinds.specs.Value.{Naming};
-ghost use Rattle.binding_kinds.specs.Senses.{Sense, IsKept};
+ghost use Rattle.binding_kinds.specs.Senses.{Sense, HasSense};
 ghost use Rattle.binding_kinds.specs.Functions.{sense_of_function};
 ghost use Rattle.binding_functions.specs.Templates.{pieces_in, IsTemplate};
 ghost use Rattle.binding_functions.specs.Parts.{IsBodyPart};
@@ -39,7 +39,7 @@ pub fn function_of(
     ensures kept { (ss : List Sense) (names : List Naming) (ps : List (List ℕ)) (t : Term)
         → arity ≡ length ps → arity ≤ 8 → IsTemplate read.template (pieces_in ss names ps t)
         → IsBodyPart ss names ps (3 ^ arity) false t read.part
-        → IfOk result (λ f. IsKept f (sense_of_function ss names ps t)) }
+        → IfOk result (λ f. HasSense f (sense_of_function ss names ps t)) }
 {
     let ReadBody {
         template,

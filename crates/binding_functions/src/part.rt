@@ -9,9 +9,9 @@ ghost use Rattle.text_values.specs.ModelValues.{term_of};
 ghost use Rattle.binding_kinds.specs.Value.{Naming};
 ghost use Rattle.binding_kinds.specs.Kinds.{found, is_turned};
 ghost use Rattle.binding_kinds.specs.Meanings.{parameter_of};
-ghost use Rattle.binding_kinds.specs.Senses.{Sense, IsKept, sense_of};
+ghost use Rattle.binding_kinds.specs.Senses.{Sense, HasSense, sense_of};
 ghost use Rattle.binding_kinds.specs.Functions.{sense_seen};
-ghost use Rattle.binding_kinds.specs.First.{of_applied};
+ghost use Rattle.binding_kinds.specs.First.{apply_fault};
 ghost use Rattle.binding_functions.specs.Parts.{IsNameless, IsBodyPart, AreBodyParts};
 
 use binding_kinds::{
@@ -131,7 +131,7 @@ impl BodyPart {
     pub fn refused(columns: Columns, fault: ModelFault) -> Result<BodyPart, AllocError>
         ensures { (ss : List Sense) (names : List Naming) (ps : List (List ℕ)) (under : Bool)
             (x : List ℕ) (xs : List Expression) → sense_seen ss names ps (length xs) x ≡ None
-            → of_applied (parameter_of (reverse ps) x) (sense_of ss (length xs) (found names x))
+            → apply_fault (parameter_of (reverse ps) x) (sense_of ss (length xs) (found names x))
             ≡ Some fault
             → IfOk result (IsBodyPart ss names ps columns.rows under
             (Apply x (gathered (map term_of xs)))) }
@@ -228,9 +228,9 @@ impl BodyArguments {
     pub fn applied(self, alloc: Global, function: &Function) -> Result<BodyPart, AllocError>
         ensures { (ss : List Sense) (names : List Naming) (ps : List (List ℕ)) (rows : ℕ)
             (under : Bool) (x : List ℕ) (xs : List Expression) (s : Sense)
-            → IsKept function.now s → length xs ≡ s.arity
+            → HasSense function.now s → length xs ≡ s.arity
             → sense_seen ss names ps (length xs) x ≡ Some s
-            → of_applied (parameter_of (reverse ps) x) (sense_of ss (length xs) (found names x))
+            → apply_fault (parameter_of (reverse ps) x) (sense_of ss (length xs) (found names x))
             ≡ None → AreBodyParts ss names ps rows under s.is_under xs self
             → IfOk result (IsBodyPart ss names ps rows under
             (Apply x (gathered (map term_of xs)))) }

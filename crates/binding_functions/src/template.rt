@@ -3,7 +3,7 @@
 ghost use Rattle.std.specs.Prelude.{◌≡◌, ◌<◌, ◌+◌, ◌||◌, nat_lt, List, [], ◌∷◌, None, false, length, OnOk};
 ghost use Rattle.std.specs.List.{AllZip};
 ghost use Rattle.binding_kinds.specs.Formula.{postfix};
-ghost use Rattle.binding_kinds.specs.Senses.{Sense, IsKept};
+ghost use Rattle.binding_kinds.specs.Senses.{Sense, HasSense};
 ghost use Rattle.binding_kinds.specs.Functions.{named_formula};
 ghost use Rattle.binding_functions.specs.Templates.{piece_with, pieces_with, IsTemplate, IsGrown};
 
@@ -131,7 +131,7 @@ impl Template {
         function: &Function,
         arguments: &[Template],
     ) -> Result<(), AllocError>
-        ensures { (s : Sense) (wholes : List (List Piece)) → IsKept function.now s
+        ensures { (s : Sense) (wholes : List (List Piece)) → HasSense function.now s
             → AllZip IsTemplate arguments.now wholes
             → OnOk result (IsGrown self.old self.new (pieces_with wholes (postfix s.formula))
             (4096 < length (pieces_with wholes (postfix s.formula)))) }

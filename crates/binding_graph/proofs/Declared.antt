@@ -10,7 +10,7 @@ use Rattle.binding_kinds.specs.declared.scope.Binder.TheVariants as binders
 use Rattle.binding_kinds.specs.declared.scope.Used.{Used}
 use Rattle.text_values.specs.ModelValue.{Term}
 use Rattle.binding_kinds.specs.Value.{Naming, Defined, entry_of}
-use Rattle.binding_kinds.specs.Senses.{Sense, IsKept, AreKept}
+use Rattle.binding_kinds.specs.Senses.{Sense, HasSense, HaveSenses}
 use Rattle.binding_graph.specs.declared.resolved.ResolvedItem.{ResolvedItem}
 use Rattle.binding_graph.specs.declared.resolved.Role.TheVariants as roles
 use Rattle.binding_graph.specs.Usages.{Usage, usage_of, usage_of_function, usages_after, with_values, with_functions}
@@ -19,7 +19,7 @@ use Rattle.binding_kinds.proofs.Scopes.{rev_push}
 use Rattle.binding_kinds.proofs.Applications.{kept_long, kept_more}
 
 pub named_more : (es new : List Entry) (e : Entry) (fs : List Function) (ss : List Sense) (n : ℕ)
-    → AreKept fs ss → n ≡ length fs → new ≡ es ++ e ∷ [] → e.kind ≡ OfAny
+    → HaveSenses fs ss → n ≡ length fs → new ≡ es ++ e ∷ [] → e.kind ≡ OfAny
     → e.binder ≡ binders.Applicable n
     → (
     let m : Naming =
@@ -29,7 +29,7 @@ named_more es new e fs ss n kept count is kind binder =
     rw (is, rev_push entry_of es e, kind, binder, count, kept_long fs ss kept) refl
 
 pub functions_more : (fs new : List Function) (ss : List Sense) (f : Function) (s : Sense)
-    → AreKept fs ss → new ≡ fs ++ f ∷ [] → IsKept f s → AreKept new (ss ++ s ∷ [])
+    → HaveSenses fs ss → new ≡ fs ++ f ∷ [] → HasSense f s → HaveSenses new (ss ++ s ∷ [])
 functions_more fs new ss f s kept is one = rw is (kept_more fs ss f s kept one)
 
 pub usages_more : (fs new : List Function) (f : Function) (u : Usage) → new ≡ fs ++ f ∷ []

@@ -8,10 +8,10 @@ use Rattle.binding_kinds.specs.declared.fault.ModelFault.{ModelFault}
 use Rattle.binding_kinds.specs.declared.scope.Used.{Used}
 use Rattle.binding_kinds.specs.declared.scope.Input.{Input}
 use Rattle.binding_kinds.specs.Value.{Naming, Bound, bound_of}
-use Rattle.binding_kinds.specs.GroupNames.{names_of}
+use Rattle.binding_kinds.specs.GroupNames.{let_names}
 use Rattle.binding_kinds.specs.Verdict.{or_else}
-use Rattle.binding_kinds.specs.Senses.{Sense, kind_in, first_within}
-use Rattle.binding_kinds.specs.First.{of_binding, first_in}
+use Rattle.binding_kinds.specs.Senses.{Sense, kind_in, term_fault}
+use Rattle.binding_kinds.specs.First.{let_fault, first_in}
 use Rattle.binding_kinds.proofs.Applications.{or_else_assoc}
 use Rattle.binding_kinds.proofs.Scopes.{rev_more}
 use Rattle.binding_graph.specs.declared.resolved.Body.{Body}
@@ -19,7 +19,7 @@ use Rattle.binding_graph.specs.declared.uses.Uses.{Uses}
 use Rattle.binding_graph.specs.Inputs.{inputs_of}
 use Rattle.binding_graph.specs.Usages.{Usage, with_values, with_functions, with_all_values, with_all_functions}
 use Rattle.binding_graph.specs.Meaning.{IsCode}
-use Rattle.binding_graph.specs.Readings.{AreNoted, AreNamed}
+use Rattle.binding_graph.specs.Readings.{AreGrown, AreNamed}
 use Rattle.binding_graph.specs.Resolved.{AreBodies}
 use Rattle.binding_graph.proofs.Labels.{zip_push}
 use Rattle.binding_graph.proofs.Walks.{noted_none, noted_then}
@@ -30,20 +30,20 @@ use Rattle.binding_graph.proofs.Walks.{noted_none, noted_then}
 abbrev pub AreFaultless : List Sense → List Naming → ℕ → Bool → List Binding → ℕ → Type 0
 AreFaultless ss names from recursive g i =
     first_in ss names from recursive [] (map bound_of g)
-    ≡ first_in ss names from recursive (names_of (take i g)) (map bound_of (drop i g))
+    ≡ first_in ss names from recursive (let_names (take i g)) (map bound_of (drop i g))
 
 faults_next : (ss : List Sense) (names : List Naming) (from : ℕ) (recursive : Bool)
     (g : List Binding) (i : ℕ) (d : Binding) (own body r : Option ModelFault) → i < length g
     → AreFaultless ss names from recursive g i
-    → own ≡ of_binding ss names recursive (names_of (take i g)) (bound_of (get_or g i d))
-    → body ≡ first_within ss names from false (term_of (get_or g i d).body)
+    → own ≡ let_fault ss names recursive (let_names (take i g)) (bound_of (get_or g i d))
+    → body ≡ term_fault ss names from false (term_of (get_or g i d).body)
     → or_else own body ≡ r
     → first_in ss names from recursive [] (map bound_of g)
-    ≡ or_else r (first_in ss names from recursive (names_of (take (i + 1) g))
+    ≡ or_else r (first_in ss names from recursive (let_names (take (i + 1) g))
     (map bound_of (drop (i + 1) g)))
 faults_next ss names from recursive g i d own body r lt inv own_is body_is both =
-    let rest = first_in ss names from recursive (names_of (take (i + 1) g)) (map bound_of (drop (i + 1) g)) in
-    let e : first_in ss names from recursive (names_of (take i g)) (map bound_of (drop i g)) ≡ or_else own (or_else body rest) = rw (drop-cons g i d lt, rev_more (λ (b : Binding). b.name) g i d lt, own_is, body_is, add-one i) refl in
+    let rest = first_in ss names from recursive (let_names (take (i + 1) g)) (map bound_of (drop (i + 1) g)) in
+    let e : first_in ss names from recursive (let_names (take i g)) (map bound_of (drop i g)) ≡ or_else own (or_else body rest) = rw (drop-cons g i d lt, rev_more (λ (b : Binding). b.name) g i d lt, own_is, body_is, add-one i) refl in
     inv
     ∙ (e
     ∙ (sym (or_else_assoc own body rest)
@@ -52,8 +52,8 @@ faults_next ss names from recursive g i d own body r lt inv own_is body_is both 
 pub faultless_more : (ss : List Sense) (names : List Naming) (from : ℕ) (recursive : Bool)
     (g : List Binding) (i : ℕ) (d : Binding) (own body : Option ModelFault) → i < length g
     → AreFaultless ss names from recursive g i
-    → own ≡ of_binding ss names recursive (names_of (take i g)) (bound_of (get_or g i d))
-    → body ≡ first_within ss names from false (term_of (get_or g i d).body)
+    → own ≡ let_fault ss names recursive (let_names (take i g)) (bound_of (get_or g i d))
+    → body ≡ term_fault ss names from false (term_of (get_or g i d).body)
     → or_else own body ≡ None → AreFaultless ss names from recursive g (i + 1)
 faultless_more ss names from recursive g i d own body lt inv own_is body_is none =
     faults_next ss names from recursive g i d own body None lt inv own_is body_is none
@@ -61,8 +61,8 @@ faultless_more ss names from recursive g i d own body lt inv own_is body_is none
 pub faulty : (ss : List Sense) (names : List Naming) (from : ℕ) (recursive : Bool)
     (g : List Binding) (i : ℕ) (d : Binding) (own body : Option ModelFault) (k : ModelFault)
     → i < length g → AreFaultless ss names from recursive g i
-    → own ≡ of_binding ss names recursive (names_of (take i g)) (bound_of (get_or g i d))
-    → body ≡ first_within ss names from false (term_of (get_or g i d).body)
+    → own ≡ let_fault ss names recursive (let_names (take i g)) (bound_of (get_or g i d))
+    → body ≡ term_fault ss names from false (term_of (get_or g i d).body)
     → or_else own body ≡ Some k → Some k ≡ first_in ss names from recursive [] (map bound_of g)
 faulty ss names from recursive g i d own body k lt inv own_is body_is one =
     sym (faults_next ss names from recursive g i d own body (Some k) lt inv own_is body_is one)
@@ -74,7 +74,7 @@ faultless_all ss names from recursive g i past inv =
     sym (inv
     ∙ ap
     (λ (l : List Binding).
-    first_in ss names from recursive (names_of (take i g)) (map bound_of l))
+    first_in ss names from recursive (let_names (take i g)) (map bound_of l))
     (drop_all i g past))
 
 -- ---- the names and the kinds
@@ -112,9 +112,9 @@ AreMade ss us names from old now g i made =
 abbrev pub AreUsed : List Usage → List Naming → ℕ → Uses → Uses → List Binding → ℕ → Type 0
 AreUsed us names from old now g i =
     (new : Uses)
-    → AreNoted (with_all_values us names from (map bound_of (drop i g)))
+    → AreGrown (with_all_values us names from (map bound_of (drop i g)))
     (with_all_functions us names (map bound_of (drop i g))) now new
-    → AreNoted (with_all_values us names from (map bound_of g))
+    → AreGrown (with_all_values us names from (map bound_of g))
     (with_all_functions us names (map bound_of g)) old new
 
 pub made_more : (ss : List Sense) (us : List Usage) (names : List Naming) (from : ℕ)
@@ -131,7 +131,7 @@ made_more ss us names from old now new g i d made all r lt m is name code values
 
 pub used_more : (us : List Usage) (names : List Naming) (from : ℕ) (old now new : Uses)
     (g : List Binding) (i : ℕ) (d : Binding) → i < length g → AreUsed us names from old now g i
-    → AreNoted (with_values us names [] from (term_of (get_or g i d).body))
+    → AreGrown (with_values us names [] from (term_of (get_or g i d).body))
     (with_functions us names [] (term_of (get_or g i d).body)) now new
     → AreUsed us names from old new g (i + 1)
 used_more us names from old now new g i d lt m one = λ later h.
@@ -149,7 +149,7 @@ all_made ss us names from old now g i made m le = rw append-nil at (m [] (rw (dr
 
 pub all_used : (us : List Usage) (names : List Naming) (from : ℕ) (old now : Uses)
     (g : List Binding) (i : ℕ) → AreUsed us names from old now g i → length g ≤ i
-    → AreNoted (with_all_values us names from (map bound_of g))
+    → AreGrown (with_all_values us names from (map bound_of g))
     (with_all_functions us names (map bound_of g)) old now
 all_used us names from old now g i m le =
     m now (rw (drop_all i g le) (noted_none _ _ now (λ vs. refl) (λ fs. refl)))

@@ -13,7 +13,7 @@ use Rattle.std.specs.declared.alloc.AllocError.{AllocError}
 use Rattle.std.specs.declared.vec.Vec.{Vec}
 use Rattle.binding_kinds.specs.declared.scope.Input.{Input}
 use Rattle.binding_graph.specs.declared.resolved.ResolvedItem.{ResolvedItem}
-use Rattle.binding_graph.specs.Reach.{is_check, Uses, UsesAt, Leads, IsCheckAt, IsReached, AreReached, IsMarked, Marks, AreSpread}
+use Rattle.binding_graph.specs.Reach.{is_check, Uses, ItemUses, ReachesBy, IsCheckAt, IsReached, AreReached, IsMarked, Marks, AreSpread}
 
 -- ---- marks
 
@@ -164,14 +164,14 @@ pub marks_used : (items : List ResolvedItem) (index : ℕ) (r : ResolvedItem) (i
     (functions : List ℕ) (a b c : List Bool) (u v w : List ℕ) → slice_get items index ≡ Some r
     → inputs ≡ r.inputs.items → functions ≡ r.functions.items
     → Marks (Contains (map (λ i. i.item) inputs)) a b u v → Marks (Contains functions) b c v w
-    → Marks (UsesAt items index) a c u w
+    → Marks (ItemUses items index) a c u w
 marks_used items index r inputs functions a b c u v w is p q m n =
     marks_as (λ k. Contains (map (λ i. i.item) inputs) k ⊎ Contains functions k)
-    (UsesAt items index) a c u w to back (marks_then (Contains (map (λ i. i.item) inputs))
+    (ItemUses items index) a c u w to back (marks_then (Contains (map (λ i. i.item) inputs))
     (Contains functions) a b c u v w m n)
   where
     to : (k : ℕ) → Contains (map (λ i. i.item) inputs) k ⊎ Contains functions k
-        → UsesAt items index k
+        → ItemUses items index k
     to k (inl h) = (r, is, inl (subst (λ (l : List Input). Contains (map (λ i. i.item) l) k) p h))
     to k (inr h) = (r, is, inr (subst (λ (l : List ℕ). Contains l k) q h))
 
@@ -179,16 +179,16 @@ marks_used items index r inputs functions a b c u v w is p q m n =
     split k (inl h) = inl (subst (λ (l : List Input). Contains (map (λ i. i.item) l) k) (sym p) h)
     split k (inr h) = inr (subst (λ (l : List ℕ). Contains l k) (sym q) h)
 
-    back : (k : ℕ) → UsesAt items index k
+    back : (k : ℕ) → ItemUses items index k
         → Contains (map (λ i. i.item) inputs) k ⊎ Contains functions k
     back k h = split k (subst (λ (s : ResolvedItem). Uses s k) (same_Some h.0 r (sym h.1 ∙ is)) h.2)
 
 pub marks_no_item : (items : List ResolvedItem) (index : ℕ) (m : List Bool) (w : List ℕ)
-    → slice_get items index ≡ None → Marks (UsesAt items index) m m w w
+    → slice_get items index ≡ None → Marks (ItemUses items index) m m w w
 marks_no_item items index m w is =
-    marks_none (UsesAt items index) m w (λ k h lt. absurd (never k h))
+    marks_none (ItemUses items index) m w (λ k h lt. absurd (never k h))
   where
-    never : (k : ℕ) → UsesAt items index k → ⊥
+    never : (k : ℕ) → ItemUses items index k → ⊥
     never k h = none-some h.0 (sym is ∙ h.1)
 
 -- ---- the checks, one after another
@@ -255,14 +255,14 @@ checks_all items i a b u v all m =
 -- ---- paths
 
 pub leads_more : (items : List ResolvedItem) (a : ℕ) (through : List ℕ) (b c : ℕ)
-    → Leads items a through b → UsesAt items b c → Leads items a (through ++ c ∷ []) c
-leads_more items a [] b c e u = (subst (λ (j : ℕ). UsesAt items j c) (sym e) u, refl)
+    → ReachesBy items a through b → ItemUses items b c → ReachesBy items a (through ++ c ∷ []) c
+leads_more items a [] b c e u = (subst (λ (j : ℕ). ItemUses items j c) (sym e) u, refl)
 leads_more items a (d ∷ ds) b c h u = (h.0, leads_more items d ds b c h.1 u)
 
 reached_check : (items : List ResolvedItem) (k : ℕ) → IsCheckAt items k → IsReached items k
 reached_check items k h = record { from = k; is_check = h; through = []; leads = refl }
 
-reached_more : (items : List ResolvedItem) (b c : ℕ) → IsReached items b → UsesAt items b c
+reached_more : (items : List ResolvedItem) (b c : ℕ) → IsReached items b → ItemUses items b c
     → IsReached items c
 reached_more items b c h u =
     record { from = h.from; is_check = h.is_check; through = h.through ++ c ∷ []; leads = leads_more items h.from h.through b c h.leads u }
@@ -301,7 +301,7 @@ spread_start items n m w e h =
 
 -- the last of the waiting items has what it uses marked
 pub spread_more : (items : List ResolvedItem) (p : ℕ) (m n : List Bool) (v w : List ℕ)
-    → AreSpread items m (v ++ p ∷ []) → Marks (UsesAt items p) m n v w → AreSpread items n w
+    → AreSpread items m (v ++ p ∷ []) → Marks (ItemUses items p) m n v w → AreSpread items n w
 spread_more items p m n v w s h =
     record {
       count = h.count ∙ s.count;
@@ -314,7 +314,7 @@ spread_more items p m n v w s h =
     p_marked : IsMarked m p
     p_marked = s.waiting p (Contains-push v p)
 
-    sound_by : (k : ℕ) → IsMarked m k ⊎ (UsesAt items p k × Contains w k) → IsReached items k
+    sound_by : (k : ℕ) → IsMarked m k ⊎ (ItemUses items p k × Contains w k) → IsReached items k
     sound_by k (inl is) = s.sound k is
     sound_by k (inr u) = reached_more items p k (s.sound p p_marked) u.0
 
@@ -323,20 +323,20 @@ spread_more items p m n v w s h =
     waiting_by k (inr is) = is
 
     of_waiting : (k : ℕ) → Contains v k ⊎ (p ≡ k)
-        → Contains w k ⊎ ((b : ℕ) → UsesAt items k b → b < length n → IsMarked n b)
+        → Contains w k ⊎ ((b : ℕ) → ItemUses items k b → b < length n → IsMarked n b)
     of_waiting k (inl c) = inl (h.still k c)
     of_waiting k (inr e) =
-        inr (λ b u lt. h.marked b (subst (λ (j : ℕ). UsesAt items j b) (sym e) u)
+        inr (λ b u lt. h.marked b (subst (λ (j : ℕ). ItemUses items j b) (sym e) u)
         (let l = h.count in omega arith))
 
     of_marked : (k : ℕ)
-        → Contains (v ++ p ∷ []) k ⊎ ((b : ℕ) → UsesAt items k b → b < length m → IsMarked m b)
-        → Contains w k ⊎ ((b : ℕ) → UsesAt items k b → b < length n → IsMarked n b)
+        → Contains (v ++ p ∷ []) k ⊎ ((b : ℕ) → ItemUses items k b → b < length m → IsMarked m b)
+        → Contains w k ⊎ ((b : ℕ) → ItemUses items k b → b < length n → IsMarked n b)
     of_marked k (inl c) = of_waiting k (Contains-push_cases v p k c)
     of_marked k (inr all) = inr (λ b u lt. h.kept b (all b u (let l = h.count in omega arith)))
 
-    closed_by : (k : ℕ) → IsMarked m k ⊎ (UsesAt items p k × Contains w k)
-        → Contains w k ⊎ ((b : ℕ) → UsesAt items k b → b < length n → IsMarked n b)
+    closed_by : (k : ℕ) → IsMarked m k ⊎ (ItemUses items p k × Contains w k)
+        → Contains w k ⊎ ((b : ℕ) → ItemUses items k b → b < length n → IsMarked n b)
     closed_by k (inl is) = of_marked k (s.closed k is)
     closed_by k (inr u) = inl u.1
 
@@ -348,26 +348,26 @@ marked_within m k is (inl lt) = lt
 marked_within m k is (inr le) = absurd (true≢false (sym is ∙ get_or_past m k false le))
 
 uses_closed : (items : List ResolvedItem) (m : List Bool) → AreSpread items m [] → (k b : ℕ)
-    → IsMarked m k → UsesAt items k b → b < length m → IsMarked m b
+    → IsMarked m k → ItemUses items k b → b < length m → IsMarked m b
 uses_closed items m s k b is u lt = by_closed (s.closed k is)
   where
-    by_closed : Contains [] k ⊎ ((j : ℕ) → UsesAt items k j → j < length m → IsMarked m j)
+    by_closed : Contains [] k ⊎ ((j : ℕ) → ItemUses items k j → j < length m → IsMarked m j)
         → IsMarked m b
     by_closed (inl c) = absurd (no_element k c)
     by_closed (inr all) = all b u lt
 
-user_within : (items : List ResolvedItem) (a b : ℕ) → UsesAt items a b
+user_within : (items : List ResolvedItem) (a b : ℕ) → ItemUses items a b
     → (a < length items) ⊎ (length items ≤ a) → a < length items
 user_within items a b u (inl lt) = lt
 user_within items a b u (inr le) = absurd (none-some u.0 (sym (slice_get_past items a le) ∙ u.1))
 
 leads_within : (items : List ResolvedItem) (a : ℕ) (through : List ℕ) (b : ℕ)
-    → Leads items a through b → b < length items → a < length items
+    → ReachesBy items a through b → b < length items → a < length items
 leads_within items a [] b e lt = omega arith
 leads_within items a (c ∷ cs) b h lt = user_within items a c h.0 (cases_lt a (length items))
 
 leads_marked : (items : List ResolvedItem) (m : List Bool) → AreSpread items m []
-    → (a : ℕ) (through : List ℕ) (b : ℕ) → IsMarked m a → Leads items a through b → b < length items
+    → (a : ℕ) (through : List ℕ) (b : ℕ) → IsMarked m a → ReachesBy items a through b → b < length items
     → IsMarked m b
 leads_marked items m s a [] b is e lt = subst (λ (j : ℕ). IsMarked m j) e is
 leads_marked items m s a (c ∷ cs) b is h lt =

@@ -10,8 +10,8 @@ use Rattle.binding_kinds.specs.Kinds.{found}
 use Rattle.binding_kinds.specs.Meanings.{parameter_of, named_of}
 use Rattle.binding_kinds.specs.declared.sight.Named.TheVariants as named
 use Rattle.binding_kinds.specs.Applicable.{applied_of}
-use Rattle.binding_kinds.specs.First.{of_applied}
-use Rattle.binding_kinds.specs.Senses.{Sense, IsKept, AreKept, sense_of}
+use Rattle.binding_kinds.specs.First.{apply_fault}
+use Rattle.binding_kinds.specs.Senses.{Sense, HasSense, HaveSenses, sense_of}
 use Rattle.binding_kinds.specs.Functions.{sense_seen}
 use Rattle.binding_kinds.proofs.Bodies.{fault_of, applied_fault}
 use Rattle.binding_functions.proofs.Applied.{told_by, IsApplied}
@@ -49,18 +49,18 @@ seen_function fs names ps n x f o e is =
 
 -- a name that is no function of so many parameters
 refused : (fs : List Function) (ss : List Sense) (n : ℕ) (o : Option Found) (k : ModelFault)
-    → AreKept fs ss
+    → HaveSenses fs ss
     → Err k ≡ applied_of (λ i. slice_get (map (λ (f : Function). f.arity) fs) i) n None o
     → sense_of ss n o ≡ Err k
 refused fs ss n o k kept e =
     at_result (sense_of ss n o) (applied_fault fs ss n None o kept ∙ ap fault_of (sym e))
   where
-    at_result : (r : Result Sense ModelFault) → of_applied None r ≡ Some k → r ≡ Err k
+    at_result : (r : Result Sense ModelFault) → apply_fault None r ≡ Some k → r ≡ Err k
     at_result (Ok s) h = absurd (let bad : None ≡ Some k = h in cc)
     at_result (Err l) h = let q : Some l ≡ Some k = h in cc
 
 pub refused_plainly : (fs : List Function) (ss : List Sense) (names : List Naming)
-    (ps : List (List ℕ)) (n : ℕ) (x : List ℕ) (k : ModelFault) → AreKept fs ss
+    (ps : List (List ℕ)) (n : ℕ) (x : List ℕ) (k : ModelFault) → HaveSenses fs ss
     → Err k
     ≡ applied_of (λ i. slice_get (map (λ (f : Function). f.arity) fs) i) n
     (parameter_of (reverse ps) x) (found names x)
@@ -69,7 +69,7 @@ refused_plainly fs ss names ps n x k kept e none =
     refused fs ss n (found names x) k kept (rw none at e)
 
 pub unseen : (fs : List Function) (ss : List Sense) (names : List Naming) (ps : List (List ℕ))
-    (n : ℕ) (x : List ℕ) (f : ℕ) → AreKept fs ss
+    (n : ℕ) (x : List ℕ) (f : ℕ) → HaveSenses fs ss
     → Ok f
     ≡ applied_of (λ i. slice_get (map (λ (f : Function). f.arity) fs) i) n
     (parameter_of (reverse ps) x) (found names x) → slice_get fs f ≡ None → ⊥
@@ -78,15 +78,15 @@ unseen fs ss names ps n x f kept e none =
     let bad : None ≡ Some h.one = sym none ∙ h.there in cc
 
 pub seen_sense : (fs : List Function) (ss : List Sense) (names : List Naming) (ps : List (List ℕ))
-    (n : ℕ) (x : List ℕ) (f : ℕ) (one : Function) → AreKept fs ss
+    (n : ℕ) (x : List ℕ) (f : ℕ) (one : Function) → HaveSenses fs ss
     → Ok f
     ≡ applied_of (λ i. slice_get (map (λ (f : Function). f.arity) fs) i) n
     (parameter_of (reverse ps) x) (found names x) → slice_get fs f ≡ Some one
-    → (s : Sense) × (sense_seen ss names ps n x ≡ Some s) × (s.arity ≡ n) × IsKept one s
+    → (s : Sense) × (sense_seen ss names ps n x ≡ Some s) × (s.arity ≡ n) × HasSense one s
 seen_sense fs ss names ps n x f one kept e there =
     let h : IsApplied fs ss f n (sense_seen ss names ps n x) = told_by fs ss names ps n x (Ok f) kept e in
     let same : h.one ≡ one = let q : Some h.one ≡ Some one = sym h.there ∙ there in cc in
-    (h.sense, h.sense_is, h.arity, subst (λ (g : Function). IsKept g h.sense) same h.kept)
+    (h.sense, h.sense_is, h.arity, subst (λ (g : Function). HasSense g h.sense) same h.kept)
 
 -- where there are no parameters
 pub seen_plainly : (ss : List Sense) (names : List Naming) (ps : List (List ℕ)) (n : ℕ) (x : List ℕ)

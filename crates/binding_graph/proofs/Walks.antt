@@ -18,10 +18,10 @@ use Rattle.binding_kinds.specs.declared.scope.Found.{Found}
 use Rattle.binding_kinds.specs.declared.scope.Used.{Used}
 use Rattle.binding_kinds.specs.Value.{Naming}
 use Rattle.binding_kinds.specs.Kinds.{found, joined, takes, marked, narrowed, is_set, is_relation, is_turned}
-use Rattle.binding_kinds.specs.Combinations.{digit, number_of, unknown}
+use Rattle.binding_kinds.specs.Combinations.{digit, kinds_number, unknown}
 use Rattle.binding_kinds.specs.Formula.{factor_of}
 use Rattle.binding_kinds.specs.Verdict.{or_else, unless}
-use Rattle.binding_kinds.specs.Senses.{Sense, IsKept, AreKept, IsAlike, sense_of, count_of, size_with, size_of_arguments, kinds_in, sizes_in, first_among}
+use Rattle.binding_kinds.specs.Senses.{Sense, HasSense, HaveSenses, IsSameSize, sense_of, count_of, size_with, size_of_arguments, kinds_in, sizes_in, first_among}
 use Rattle.binding_kinds.proofs.Applications.{next, next_combination, next_size, next_fault, or_none, is_judged, fit_term, unfit_term, long_sizes, long_kinds, sizes_positive, count_arguments}
 use Rattle.binding_functions.specs.declared.template.Template.{Template}
 use Rattle.binding_functions.specs.Templates.{pieces_in, HasLarge, IsGrown}
@@ -29,17 +29,17 @@ use Rattle.binding_functions.proofs.Applied.{terms_in}
 use Rattle.binding_functions.proofs.Filling.{grown_then}
 use Rattle.binding_graph.specs.declared.uses.Uses.{Uses}
 use Rattle.binding_graph.specs.Inputs.{IsIndexed, with_name}
-use Rattle.binding_graph.specs.Usages.{Usage, usage_of, usage_seen, values_of, functions_of, all_noted, with_items, with_values, with_values_among, with_functions, with_functions_among}
-use Rattle.binding_graph.specs.Readings.{IsVerdict, AreJudged, AreNoted}
+use Rattle.binding_graph.specs.Usages.{Usage, usage_of, usage_seen, values_of, functions_of, with_all_used, with_items, with_values, with_values_among, with_functions, with_functions_among}
+use Rattle.binding_graph.specs.Readings.{IsFinding, AreJudged, AreGrown}
 
 -- ---- what is judged
 
 pub verdict_infix : (ss : List Sense) (names : List Naming) (from : ℕ) (under : Bool) (op : Infix)
-    (a b : Term) (x y z : Judged) → IsVerdict ss names from under a x
-    → IsVerdict ss names from (is_turned op under) b y
-    → IsAlike z.size (x.size + y.size + 1) → z.kind ≡ joined op x.kind y.kind
+    (a b : Term) (x y z : Judged) → IsFinding ss names from under a x
+    → IsFinding ss names from (is_turned op under) b y
+    → IsSameSize z.size (x.size + y.size + 1) → z.kind ≡ joined op x.kind y.kind
     → z.fault ≡ or_else x.fault (or_else (unless (takes op x.kind y.kind) faults.Kind) y.fault)
-    → IsVerdict ss names from under (Join op a b) z
+    → IsFinding ss names from under (Join op a b) z
 verdict_infix ss names from under op a b x y z left right size kind fault = record {
   kind = rw (← left.kind, ← right.kind) kind;
   size = let l = left.size in let r = right.size in omega (arith, l, r, size);
@@ -47,10 +47,10 @@ verdict_infix ss names from under op a b x y z left right size kind fault = reco
 }
 
 pub verdict_postfix : (ss : List Sense) (names : List Naming) (from : ℕ) (under : Bool)
-    (op : Postfix) (a : Term) (x z : Judged) → IsVerdict ss names from under a x
-    → IsAlike z.size (x.size + 1) → z.kind ≡ marked x.kind
+    (op : Postfix) (a : Term) (x z : Judged) → IsFinding ss names from under a x
+    → IsSameSize z.size (x.size + 1) → z.kind ≡ marked x.kind
     → z.fault ≡ or_else x.fault (unless (is_relation x.kind) faults.Kind)
-    → IsVerdict ss names from under (Mark op a) z
+    → IsFinding ss names from under (Mark op a) z
 verdict_postfix ss names from under op a x z inner size kind fault = record {
   kind = rw (← inner.kind) kind;
   size = let l = inner.size in omega (arith, l, size);
@@ -58,8 +58,8 @@ verdict_postfix ss names from under op a x z inner size kind fault = record {
 }
 
 pub verdict_complement : (ss : List Sense) (names : List Naming) (from : ℕ) (under : Bool)
-    (a : Term) (x z : Judged) → IsVerdict ss names from true a x → IsAlike z.size (x.size + 1)
-    → z.kind ≡ x.kind → z.fault ≡ x.fault → IsVerdict ss names from under (Not a) z
+    (a : Term) (x z : Judged) → IsFinding ss names from true a x → IsSameSize z.size (x.size + 1)
+    → z.kind ≡ x.kind → z.fault ≡ x.fault → IsFinding ss names from under (Not a) z
 verdict_complement ss names from under a x z inner size kind fault = record {
   kind = kind ∙ inner.kind;
   size = let l = inner.size in omega (arith, l, size);
@@ -67,10 +67,10 @@ verdict_complement ss names from under a x z inner size kind fault = record {
 }
 
 pub verdict_identity : (ss : List Sense) (names : List Naming) (from : ℕ) (under : Bool) (a : Term)
-    (x z : Judged) → IsVerdict ss names from under a x
-    → IsAlike z.size (x.size + 1) → z.kind ≡ narrowed x.kind
+    (x z : Judged) → IsFinding ss names from under a x
+    → IsSameSize z.size (x.size + 1) → z.kind ≡ narrowed x.kind
     → z.fault ≡ or_else (unless (is_set x.kind) faults.Kind) x.fault
-    → IsVerdict ss names from under (On a) z
+    → IsFinding ss names from under (On a) z
 verdict_identity ss names from under a x z inner size kind fault = record {
   kind = rw (← inner.kind) kind;
   size = let l = inner.size in omega (arith, l, size);
@@ -81,10 +81,10 @@ verdict_identity ss names from under a x z inner size kind fault = record {
 -- all
 pub record AreJudgedTo (ss : List Sense) (names : List Naming) (from : ℕ) (under : Bool)
     (f : Function) (s : Sense) (xs : List Expression) (i : ℕ) (a : Arguments) : Type 0 where
-  pub combination : a.combination + 3 ^ i * number_of (kinds_in ss names (terms_in (drop i xs)))
-      ≡ number_of (kinds_in ss names (terms_in xs))
+  pub combination : a.combination + 3 ^ i * kinds_number (kinds_in ss names (terms_in (drop i xs)))
+      ≡ kinds_number (kinds_in ss names (terms_in xs))
   pub size : f.is_oversized ≡ false
-      → IsAlike
+      → IsSameSize
       (a.size
       + size_of_arguments (factor_of s.formula) i
       (sizes_in ss names (terms_in (drop i xs))))
@@ -93,7 +93,7 @@ pub record AreJudgedTo (ss : List Sense) (names : List Naming) (from : ℕ) (und
       ≡ first_among ss names from under s.is_under 0 (terms_in xs)
 
 pub judged_none : (ss : List Sense) (names : List Naming) (from : ℕ) (under : Bool) (f : Function)
-    (s : Sense) (xs : List Expression) (a : Arguments) → IsKept f s → a.combination ≡ 0
+    (s : Sense) (xs : List Expression) (a : Arguments) → HasSense f s → a.combination ≡ 0
     → a.size ≡ f.constant → a.fault ≡ None → AreJudgedTo ss names from under f s xs 0 a
 judged_none ss names from under f s xs a kept combination size fault = record {
   combination = omega (arith, combination);
@@ -103,10 +103,10 @@ judged_none ss names from under f s xs a kept combination size fault = record {
 
 pub judged_more : (ss : List Sense) (names : List Naming) (from : ℕ) (under : Bool) (f : Function)
     (s : Sense) (xs : List Expression) (i : ℕ) (e : Expression) (a b : Arguments) (j : Judged)
-    (inner : Bool) → IsKept f s → length xs ≡ s.arity → i < length xs → e ≡ get_or xs i e
-    → inner ≡ (under || get_or f.under i false) → IsVerdict ss names from inner (term_of e) j
+    (inner : Bool) → HasSense f s → length xs ≡ s.arity → i < length xs → e ≡ get_or xs i e
+    → inner ≡ (under || get_or f.under i false) → IsFinding ss names from inner (term_of e) j
     → (i < 8 → a.combination < 6561 → b.combination ≡ a.combination + digit j.kind * 3 ^ i)
-    → IsAlike b.size (a.size + get_or f.factors i 0 * j.size)
+    → IsSameSize b.size (a.size + get_or f.factors i 0 * j.size)
     → b.fault ≡ or_else a.fault j.fault
     → AreJudgedTo ss names from under f s xs i a → AreJudgedTo ss names from under f s xs (i + 1) b
 judged_more ss names from under f s xs i e a b j inner kept long lt is inner_is one combination size
@@ -133,7 +133,7 @@ judged_all ss names from under f s xs i a past inv =
           let h =
           sym (ap
           (λ (l : List Expression). a.combination + 3 ^ i
-          * number_of (kinds_in ss names (terms_in l))) none) ∙ inv.combination in
+          * kinds_number (kinds_in ss names (terms_in l))) none) ∙ inv.combination in
           omega (arith, h);
       size =
           λ small.
@@ -154,7 +154,7 @@ judged_all ss names from under f s xs i a past inv =
 
 pub verdict_applied : (fs : List Function) (ss : List Sense) (names : List Naming) (from : ℕ)
     (under : Bool) (n : List ℕ) (xs : List Expression) (f : Function) (s : Sense)
-    (a : Arguments) (j : Judged) → AreKept fs ss → IsKept f s
+    (a : Arguments) (j : Judged) → HaveSenses fs ss → HasSense f s
     → sense_of ss (length xs) (found names n) ≡ Ok s → length xs ≡ s.arity
     → AreJudged ss names from under f s (terms_in xs) a
     → (f.is_oversized ≡ true
@@ -166,7 +166,7 @@ pub verdict_applied : (fs : List Function) (ss : List Sense) (names : List Namin
     ≡ or_else
     (unless (not (get_or f.signatures.items a.combination unknown).clashes)
     faults.Kind) a.fault) × (j.size ≡ a.size))
-    → IsVerdict ss names from under (Apply n (terms_in xs)) j
+    → IsFinding ss names from under (Apply n (terms_in xs)) j
 verdict_applied fs ss names from under n xs f s a j kept one there long known over large small =
     let ts = terms_in xs in
     let all = fit_term ss names from under n ts s j.kind j.size j.fault (ap (λ (m : ℕ). sense_of ss m (found names n)) (count_arguments xs) ∙ there)
@@ -181,7 +181,7 @@ verdict_applied fs ss names from under n xs f s a j kept one there long known ov
 pub verdict_unfit : (ss : List Sense) (names : List Naming) (from : ℕ) (under : Bool) (n : List ℕ)
     (xs : List Expression) (k : ModelFault) (j : Judged)
     → sense_of ss (length xs) (found names n) ≡ Err k → j.kind ≡ OfAny → j.size ≡ 1
-    → j.fault ≡ Some k → IsVerdict ss names from under (Apply n (terms_in xs)) j
+    → j.fault ≡ Some k → IsFinding ss names from under (Apply n (terms_in xs)) j
 verdict_unfit ss names from under n xs k j none kind size fault =
     let all = unfit_term ss names from under n (terms_in xs) k (ap (λ (m : ℕ). sense_of ss m (found names n)) (count_arguments xs) ∙ none) in
     record { kind = kind ∙ all.0; size = ap (λ (m : ℕ). min m 4097) (size ∙ all.1); fault = fault ∙ all.2 }
@@ -189,7 +189,7 @@ verdict_unfit ss names from under n xs k j none kind size fault =
 -- ---- what is used
 
 pub noted_none : (v : List Used → List Used) (f : List ℕ → List ℕ) (a : Uses)
-    → ((us : List Used) → v us ≡ us) → ((is : List ℕ) → f is ≡ is) → AreNoted v f a a
+    → ((us : List Used) → v us ≡ us) → ((is : List ℕ) → f is ≡ is) → AreGrown v f a a
 noted_none v f a values functions = record {
   indexed = λ ix. ix;
   listed = λ ix. ix;
@@ -203,7 +203,7 @@ pub noted_name : (from : ℕ) (o : Option Found) (a b : Uses)
     → (IsIndexed a.indexes.items a.values.items
     → reverse b.values.items ≡ with_name (reverse a.values.items) from o)
     → b.functions ≡ a.functions → b.applied ≡ a.applied
-    → AreNoted (λ us. with_name us from o) (λ is. is) a b
+    → AreGrown (λ us. with_name us from o) (λ is. is) a b
 noted_name from o a b indexed values functions applied = record {
   indexed = indexed;
   listed = λ ix. rw (functions, applied) ix;
@@ -212,7 +212,7 @@ noted_name from o a b indexed values functions applied = record {
 }
 
 pub noted_then : (v w : List Used → List Used) (f g : List ℕ → List ℕ) (a b c : Uses)
-    → AreNoted v f a b → AreNoted w g b c → AreNoted (λ us. w (v us)) (λ is. g (f is)) a c
+    → AreGrown v f a b → AreGrown w g b c → AreGrown (λ us. w (v us)) (λ is. g (f is)) a c
 noted_then v w f g a b c x y = record {
   indexed = λ ix. y.indexed (x.indexed ix);
   listed = λ ix. y.listed (x.listed ix);
@@ -225,15 +225,15 @@ abbrev pub AreNotedTo : List Usage → List Naming → List (List ℕ) → ℕ �
     → Uses → Type 0
 AreNotedTo us names ps from xs i old now =
     (new : Uses)
-    → AreNoted (with_values_among us names ps from (terms_in (drop i xs)))
+    → AreGrown (with_values_among us names ps from (terms_in (drop i xs)))
     (with_functions_among us names ps (terms_in (drop i xs))) now new
-    → AreNoted (with_values_among us names ps from (terms_in xs))
+    → AreGrown (with_values_among us names ps from (terms_in xs))
     (with_functions_among us names ps (terms_in xs)) old new
 
 pub noted_more : (us : List Usage) (names : List Naming) (ps : List (List ℕ)) (from : ℕ)
     (xs : List Expression) (i : ℕ) (e : Expression) (old now new : Uses) → i < length xs
     → e ≡ get_or xs i e
-    → AreNoted (with_values us names ps from (term_of e)) (with_functions us names ps (term_of e))
+    → AreGrown (with_values us names ps from (term_of e)) (with_functions us names ps (term_of e))
     now new → AreNotedTo us names ps from xs i old now
     → AreNotedTo us names ps from xs (i + 1) old new
 noted_more us names ps from xs i e old now new lt is one inv = λ later h.
@@ -245,7 +245,7 @@ noted_more us names ps from xs i e old now new lt is one inv = λ later h.
 pub noted_all : (us : List Usage) (names : List Naming) (ps : List (List ℕ)) (from : ℕ)
     (xs : List Expression) (i : ℕ) (old now : Uses) → length xs ≤ i
     → AreNotedTo us names ps from xs i old now
-    → AreNoted (with_values_among us names ps from (terms_in xs))
+    → AreGrown (with_values_among us names ps from (terms_in xs))
     (with_functions_among us names ps (terms_in xs)) old now
 noted_all us names ps from xs i old now past inv =
     inv now (rw (drop_all i xs past) (noted_none _ _ now (λ vs. refl) (λ is. refl)))
@@ -254,37 +254,37 @@ noted_all us names ps from xs i old now past inv =
 pub noted_applied : (us : List Usage) (names : List Naming) (ps : List (List ℕ)) (from : ℕ)
     (x : List ℕ) (xs : List Expression) (f : Function) (a b c : Uses)
     → usage_seen us names ps (length xs) x ≡ Some (usage_of f)
-    → AreNoted (λ vs. all_noted vs f.values.items)
+    → AreGrown (λ vs. with_all_used vs f.values.items)
     (λ is. with_items is (f.item ∷ f.functions.items)) a b
-    → AreNoted (with_values_among us names ps from (terms_in xs))
+    → AreGrown (with_values_among us names ps from (terms_in xs))
     (with_functions_among us names ps (terms_in xs)) b c
-    → AreNoted (with_values us names ps from (Apply x (terms_in xs)))
+    → AreGrown (with_values us names ps from (Apply x (terms_in xs)))
     (with_functions us names ps (Apply x (terms_in xs))) a c
 noted_applied us names ps from x xs f a b c seen first rest =
     let ts = terms_in xs in
     let is : usage_seen us names ps (count_of ts) x ≡ Some (usage_of f) = ap (λ (m : ℕ). usage_seen us names ps m x) (count_arguments xs) ∙ seen in
     subst
-    (λ (o : Option Usage). AreNoted
-    (λ vs. with_values_among us names ps from ts (all_noted vs (values_of o)))
+    (λ (o : Option Usage). AreGrown
+    (λ vs. with_values_among us names ps from ts (with_all_used vs (values_of o)))
     (λ fs. with_functions_among us names ps ts (with_items fs (functions_of o))) a c)
     (sym is)
-    (noted_then (λ vs. all_noted vs f.values.items) (with_values_among us names ps from ts)
+    (noted_then (λ vs. with_all_used vs f.values.items) (with_values_among us names ps from ts)
     (λ is. with_items is (f.item ∷ f.functions.items)) (with_functions_among us names ps ts)
     a b c first rest)
 
 pub noted_unapplied : (us : List Usage) (names : List Naming) (ps : List (List ℕ)) (from : ℕ)
     (x : List ℕ) (xs : List Expression) (a b : Uses)
     → usage_seen us names ps (length xs) x ≡ None
-    → AreNoted (with_values_among us names ps from (terms_in xs))
+    → AreGrown (with_values_among us names ps from (terms_in xs))
     (with_functions_among us names ps (terms_in xs)) a b
-    → AreNoted (with_values us names ps from (Apply x (terms_in xs)))
+    → AreGrown (with_values us names ps from (Apply x (terms_in xs)))
     (with_functions us names ps (Apply x (terms_in xs))) a b
 noted_unapplied us names ps from x xs a b seen rest =
     let ts = terms_in xs in
     let is : usage_seen us names ps (count_of ts) x ≡ None = ap (λ (m : ℕ). usage_seen us names ps m x) (count_arguments xs) ∙ seen in
     subst
-    (λ (o : Option Usage). AreNoted
-    (λ vs. with_values_among us names ps from ts (all_noted vs (values_of o)))
+    (λ (o : Option Usage). AreGrown
+    (λ vs. with_values_among us names ps from ts (with_all_used vs (values_of o)))
     (λ fs. with_functions_among us names ps ts (with_items fs (functions_of o))) a b)
     (sym is) rest
 

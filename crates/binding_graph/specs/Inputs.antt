@@ -13,13 +13,13 @@ index_of [] slot = None
 index_of (u ∷ us) slot = if u.slot == slot then Some (length us) else index_of us slot
 
 -- one more name, unless it is there
-abbrev pub noted : List Used → Used → List Used
-noted us u = if is_some (index_of us u.slot) then us else u ∷ us
+abbrev pub with_used : List Used → Used → List Used
+with_used us u = if is_some (index_of us u.slot) then us else u ∷ us
 
 -- A name counts where another item binds it.
 abbrev pub with_binder : List Used → ℕ → Binder → List Used
 with_binder us slot (binders.Predefined p) = us
-with_binder us slot (binders.Bound i) = noted us (record { slot = slot; input = i })
+with_binder us slot (binders.Bound i) = with_used us (record { slot = slot; input = i })
 with_binder us slot (binders.Applicable f) = us
 
 -- The names of the item itself have the slot `from` and those behind it.

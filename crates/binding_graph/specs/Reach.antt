@@ -17,24 +17,24 @@ abbrev pub Uses : ResolvedItem → ℕ → Type 0
 Uses r k = Contains (map (λ i. i.item) r.inputs.items) k ⊎ Contains r.functions.items k
 
 -- the item of the first number uses that of the second
-abbrev pub UsesAt : List ResolvedItem → ℕ → ℕ → Type 0
-UsesAt items a b = (r : ResolvedItem) × (slice_get items a ≡ Some r) × Uses r b
+abbrev pub ItemUses : List ResolvedItem → ℕ → ℕ → Type 0
+ItemUses items a b = (r : ResolvedItem) × (slice_get items a ≡ Some r) × Uses r b
 
 -- the first item uses the first of those between, each of these the next, and the last one the last
 -- item; where none is between, the first is the last
-abbrev pub Leads : List ResolvedItem → ℕ → List ℕ → ℕ → Type 0
-Leads items a [] b = a ≡ b
-Leads items a (c ∷ cs) b = UsesAt items a c × Leads items c cs b
+abbrev pub ReachesBy : List ResolvedItem → ℕ → List ℕ → ℕ → Type 0
+ReachesBy items a [] b = a ≡ b
+ReachesBy items a (c ∷ cs) b = ItemUses items a c × ReachesBy items c cs b
 
 abbrev pub IsCheckAt : List ResolvedItem → ℕ → Type 0
 IsCheckAt items a = (r : ResolvedItem) × (slice_get items a ≡ Some r) × (is_check r.role ≡ true)
 
--- a check or a flag leads there
+-- a check or a flag reaches it
 pub record IsReached (items : List ResolvedItem) (b : ℕ) : Type 0 where
   pub from : ℕ
   pub is_check : IsCheckAt items from
   pub through : List ℕ
-  pub leads : Leads items from through b
+  pub leads : ReachesBy items from through b
 
 -- the numbers of the items that checks and flags reach, rising
 pub record AreReached (items : List ResolvedItem) (indexes : List ℕ) : Type 0 where
@@ -65,4 +65,4 @@ pub record AreSpread (items : List ResolvedItem) (marks : List Bool) (waits : Li
   pub sound : (k : ℕ) → IsMarked marks k → IsReached items k
   pub waiting : (k : ℕ) → Contains waits k → IsMarked marks k
   pub closed : (k : ℕ) → IsMarked marks k
-      → Contains waits k ⊎ ((b : ℕ) → UsesAt items k b → b < length marks → IsMarked marks b)
+      → Contains waits k ⊎ ((b : ℕ) → ItemUses items k b → b < length marks → IsMarked marks b)

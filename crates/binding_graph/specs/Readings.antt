@@ -9,29 +9,29 @@ use Rattle.binding_kinds.specs.declared.judged.Judged.{Judged}
 use Rattle.binding_kinds.specs.declared.judged.Arguments.{Arguments}
 use Rattle.binding_kinds.specs.declared.scope.Used.{Used}
 use Rattle.binding_kinds.specs.Value.{Naming, Bound}
-use Rattle.binding_kinds.specs.Combinations.{number_of}
-use Rattle.binding_kinds.specs.Senses.{Sense, IsAlike, size_with, kind_in, kinds_in, size_in, sizes_in, first_within, first_among}
+use Rattle.binding_kinds.specs.Combinations.{kinds_number}
+use Rattle.binding_kinds.specs.Senses.{Sense, IsSameSize, size_with, kind_in, kinds_in, size_in, sizes_in, term_fault, first_among}
 use Rattle.binding_graph.specs.declared.resolved.Body.{Body}
 use Rattle.binding_graph.specs.declared.uses.Uses.{Uses}
 use Rattle.binding_graph.specs.Inputs.{IsIndexed}
 use Rattle.binding_graph.specs.Usages.{IsListed}
 
 -- what is judged of an expression, seen under a complement or not
-pub record IsVerdict (ss : List Sense) (names : List Naming) (from : ℕ) (under : Bool) (t : Term)
+pub record IsFinding (ss : List Sense) (names : List Naming) (from : ℕ) (under : Bool) (t : Term)
     (j : Judged) : Type 0 where
   pub kind : j.kind ≡ kind_in ss names t
-  pub size : IsAlike j.size (size_in ss names t)
-  pub fault : j.fault ≡ first_within ss names from under t
+  pub size : IsSameSize j.size (size_in ss names t)
+  pub fault : j.fault ≡ term_fault ss names from under t
 
 -- what is known of the arguments of a function
 pub record AreJudged (ss : List Sense) (names : List Naming) (from : ℕ) (under : Bool)
     (f : Function) (s : Sense) (ts : Terms) (a : Arguments) : Type 0 where
-  pub combination : a.combination ≡ number_of (kinds_in ss names ts)
-  pub size : f.is_oversized ≡ false → IsAlike a.size (size_with s (sizes_in ss names ts))
+  pub combination : a.combination ≡ kinds_number (kinds_in ss names ts)
+  pub size : f.is_oversized ≡ false → IsSameSize a.size (size_with s (sizes_in ss names ts))
   pub fault : a.fault ≡ first_among ss names from under s.is_under 0 ts
 
 -- the names that are used and the functions that are applied, the latest first, have grown so
-pub record AreNoted (used : List Used → List Used) (applied : List ℕ → List ℕ) (old new : Uses)
+pub record AreGrown (used : List Used → List Used) (applied : List ℕ → List ℕ) (old new : Uses)
     : Type 0 where
   pub indexed : IsIndexed old.indexes.items old.values.items
       → IsIndexed new.indexes.items new.values.items

@@ -6,9 +6,9 @@ use Rattle.text_values.specs.declared.model.Item as code_item
 use Rattle.text_values.specs.declared.model.Item.TheVariants as items
 use Rattle.binding_kinds.specs.declared.scope.Used.{Used}
 use Rattle.text_values.specs.ModelValue.{Term}
-use Rattle.binding_kinds.specs.Value.{Naming, Bound, Clause, Group, Check, Mute, Defined}
+use Rattle.binding_kinds.specs.Value.{Naming, Bound, BareItem, Group, Check, Mute, Defined}
 use Rattle.binding_kinds.specs.Senses.{Sense}
-use Rattle.binding_kinds.specs.Faults.{extended, senses_after}
+use Rattle.binding_kinds.specs.Faults.{names_after, senses_after}
 use Rattle.binding_graph.specs.declared.resolved.Body.{Body}
 use Rattle.binding_graph.specs.declared.resolved.Role.{Role}
 use Rattle.binding_graph.specs.declared.resolved.Role.TheVariants as roles
@@ -17,7 +17,7 @@ use Rattle.binding_graph.specs.Inputs.{inputs_of}
 use Rattle.binding_graph.specs.Usages.{Usage, with_values, with_functions, with_all_values, with_all_functions, usages_after}
 use Rattle.binding_graph.specs.Meaning.{IsCode}
 
--- The bodies are those of the bindings, each with its steps. Places among the inputs are counted as
+-- The bodies are those of the bindings, each with its steps. Indexes of inputs are counted as
 -- the inputs are first used, in the order of the text.
 abbrev pub AreBodies : List Sense → List Usage → List Naming → ℕ → List Used → List Bound
     → List Body → Type 0
@@ -69,7 +69,7 @@ IsFunction us names from ps body r =
     × HasUses r (with_values us names ps from body []) (with_functions us names ps body [])
 
 -- The bodies of a recursive group see its names, and other bodies the names before the item.
-abbrev pub IsResolvedIn : List Sense → List Usage → List Naming → List Naming → ℕ → Clause
+abbrev pub IsResolvedIn : List Sense → List Usage → List Naming → List Naming → ℕ → BareItem
     → ResolvedItem → Type 0
 IsResolvedIn ss us names own from (Group true bs) r = IsGroup ss us own from true bs r
 IsResolvedIn ss us names own from (Group false bs) r = IsGroup ss us names from false bs r
@@ -78,14 +78,14 @@ IsResolvedIn ss us names own from Mute r = (r.role ≡ roles.Silent) × HasUses 
 IsResolvedIn ss us names own from (Defined n ps b) r = IsFunction us names from ps b r
 
 -- each item after those names, of which the first has the number `at`, is resolved
-abbrev pub AreResolved : List Sense → List Usage → List Naming → ℕ → List Clause → List ResolvedItem
-    → Type 0
+abbrev pub AreResolved : List Sense → List Usage → List Naming → ℕ → List BareItem
+    → List ResolvedItem → Type 0
 AreResolved ss us names at [] [] = Unit {0}
 AreResolved ss us names at [] (r ∷ rs) = ⊥
 AreResolved ss us names at (c ∷ cs) [] = ⊥
 AreResolved ss us names at (c ∷ cs) (r ∷ rs) =
-    IsResolvedIn ss us names (extended ss names at c) (length names) c r
-    × AreResolved (senses_after ss names c) (usages_after us names at c) (extended ss names at c)
+    IsResolvedIn ss us names (names_after ss names at c) (length names) c r
+    × AreResolved (senses_after ss names c) (usages_after us names at c) (names_after ss names at c)
     (at + 1) cs rs
 
 -- this is a check or a flag: negated or not, and with that name where it is a flag

@@ -6,17 +6,17 @@ use Rattle.binding_kinds.specs.declared.fault.ModelFault.{ModelFault}
 use Rattle.binding_kinds.specs.declared.function.Function.{Function}
 use Rattle.binding_kinds.specs.declared.scope.Used.{Used}
 use Rattle.binding_kinds.specs.declared.scope.Found.{Found}
-use Rattle.binding_kinds.specs.Value.{Naming, Bound, Clause, Group, Check, Mute, Defined}
+use Rattle.binding_kinds.specs.Value.{Naming, Bound, BareItem, Group, Check, Mute, Defined}
 use Rattle.binding_kinds.specs.Kinds.{found}
 use Rattle.binding_kinds.specs.Meanings.{parameter_of}
 use Rattle.binding_kinds.specs.Applicable.{applied_of}
 use Rattle.binding_kinds.specs.Senses.{count_of}
-use Rattle.binding_graph.specs.Inputs.{noted, with_name}
+use Rattle.binding_graph.specs.Inputs.{with_used, with_name}
 
 -- the names, one after another
-abbrev pub all_noted : List Used → List Used → List Used
-all_noted vs [] = vs
-all_noted vs (u ∷ us) = all_noted (noted vs u) us
+abbrev pub with_all_used : List Used → List Used → List Used
+with_all_used vs [] = vs
+with_all_used vs (u ∷ us) = with_all_used (with_used vs u) us
 
 abbrev pub is_among : List ℕ → ℕ → Bool
 is_among [] item = false
@@ -79,7 +79,7 @@ abbrev mutual
   with_values us names ps from (Not a) vs = with_values us names ps from a vs
   with_values us names ps from (On a) vs = with_values us names ps from a vs
   with_values us names ps from (Apply x ts) vs =
-      with_values_among us names ps from ts (all_noted vs
+      with_values_among us names ps from ts (with_all_used vs
       (values_of (usage_seen us names ps (count_of ts) x)))
 
   pub with_values_among : List Usage → List Naming → List (List ℕ) → ℕ → Terms → List Used
@@ -132,7 +132,7 @@ usage_of_function us names item ps body = record {
 }
 
 -- the functions after the item of that number
-abbrev pub usages_after : List Usage → List Naming → ℕ → Clause → List Usage
+abbrev pub usages_after : List Usage → List Naming → ℕ → BareItem → List Usage
 usages_after us names item (Group r bs) = us
 usages_after us names item (Check w e) = us
 usages_after us names item Mute = us

@@ -5,13 +5,13 @@ ghost use Rattle.text_values.specs.ModelValues.{term_of};
 ghost use Rattle.binding_kinds.specs.Value.{Naming, Bound, entry_of, bound_of};
 ghost use Rattle.binding_kinds.specs.Kinds.{takes_body};
 ghost use Rattle.binding_kinds.specs.Verdict.{or_else, unless};
-ghost use Rattle.binding_kinds.specs.Senses.{Sense, AreKept, kind_in, first_within};
+ghost use Rattle.binding_kinds.specs.Senses.{Sense, HaveSenses, kind_in, term_fault};
 ghost use Rattle.binding_kinds.specs.First.{first_in};
-ghost use Rattle.binding_kinds.specs.Fits.{AreSound, AreKnown, IsFit};
+ghost use Rattle.binding_kinds.specs.Fits.{AreSoundSenses, AreKnown, IsFit};
 ghost use Rattle.binding_graph.specs.Inputs.{IsIndexed};
 ghost use Rattle.binding_graph.specs.Usages.{Usage, usage_of, with_values, with_functions, with_all_values, with_all_functions};
 ghost use Rattle.binding_graph.specs.Meaning.{IsCode};
-ghost use Rattle.binding_graph.specs.Readings.{IsVerdict, AreNoted, AreNamed, fault_of};
+ghost use Rattle.binding_graph.specs.Readings.{IsFinding, AreGrown, AreNamed, fault_of};
 ghost use Rattle.binding_graph.specs.Resolved.{AreBodies, IsGroup, IsCheck, IsLabelled};
 
 use crate::reading::read_term;
@@ -39,13 +39,13 @@ fn read_code(
     work: &mut Workspace,
 ) -> Result<Reading, AllocError>
     ensures judged { let names = reverse (map entry_of sight.now.entries.now) in
-        (senses : List Sense) → AreKept sight.now.functions.now senses
+        (senses : List Sense) → HaveSenses sight.now.functions.now senses
         → sight.now.parameters.now ≡ []
         → IfOk result (λ r.
-        IsVerdict senses names sight.now.from false (term_of term.now) r.judged) }
+        IsFinding senses names sight.now.from false (term_of term.now) r.judged) }
     ensures kind { IfOk result (λ r. r.code.kind ≡ r.judged.kind) }
     ensures code { let names = reverse (map entry_of sight.now.entries.now) in
-        (senses : List Sense) → AreKept sight.now.functions.now senses → AreSound senses
+        (senses : List Sense) → HaveSenses sight.now.functions.now senses → AreSoundSenses senses
         → sight.now.parameters.now ≡ []
         → IsIndexed work.old.uses.indexes.items work.old.uses.values.items
         → IsFit senses names (term_of term.now)
@@ -54,7 +54,7 @@ fn read_code(
     ensures uses { let us = map usage_of sight.now.functions.now in
         let names = reverse (map entry_of sight.now.entries.now) in
         let ps = sight.now.parameters.now in
-        OnOk result (AreNoted (with_values us names ps sight.now.from (term_of term.now))
+        OnOk result (AreGrown (with_values us names ps sight.now.from (term_of term.now))
         (with_functions us names ps (term_of term.now)) work.old.uses work.new.uses) }
 {
     work.template.clear();
@@ -101,17 +101,17 @@ pub fn read_bodies(
     work: &mut Workspace,
 ) -> Result<Result<Vec<Body>, ModelFault>, AllocError>
     ensures fault { let names = reverse (map entry_of sight.now.entries.now) in
-        (senses : List Sense) → AreKept sight.now.functions.now senses
+        (senses : List Sense) → HaveSenses sight.now.functions.now senses
         → sight.now.parameters.now ≡ []
         → IfOk result (λ r. fault_of r
         ≡ first_in senses names sight.now.from recursive [] (map bound_of group.now)) }
     ensures named { let names = reverse (map entry_of sight.now.entries.now) in
-        (senses : List Sense) → AreKept sight.now.functions.now senses
+        (senses : List Sense) → HaveSenses sight.now.functions.now senses
         → sight.now.parameters.now ≡ []
         → IfOk result (λ r. IfOk r (λ v. AreNamed senses names (map bound_of group.now) v.items)) }
     ensures bodies { let us = map usage_of sight.now.functions.now in
         let names = reverse (map entry_of sight.now.entries.now) in
-        (senses : List Sense) → AreKept sight.now.functions.now senses → AreSound senses
+        (senses : List Sense) → HaveSenses sight.now.functions.now senses → AreSoundSenses senses
         → AreKnown names → sight.now.parameters.now ≡ []
         → IsIndexed work.old.uses.indexes.items work.old.uses.values.items
         → IfOk result (λ r. IfOk r (λ v. AreBodies senses us names sight.now.from
@@ -119,7 +119,7 @@ pub fn read_bodies(
     ensures uses { let us = map usage_of sight.now.functions.now in
         let names = reverse (map entry_of sight.now.entries.now) in
         sight.now.parameters.now ≡ []
-        → IfOk result (λ r. IfOk r (λ v. AreNoted
+        → IfOk result (λ r. IfOk r (λ v. AreGrown
         (with_all_values us names sight.now.from (map bound_of group.now))
         (with_all_functions us names (map bound_of group.now)) work.old.uses
         work.new.uses)) }
@@ -175,17 +175,17 @@ pub fn read_check(
     work: &mut Workspace,
 ) -> Result<Result<ResolvedItem, ModelFault>, AllocError>
     ensures fault { let names = reverse (map entry_of sight.now.entries.now) in
-        (senses : List Sense) → AreKept sight.now.functions.now senses
+        (senses : List Sense) → HaveSenses sight.now.functions.now senses
         → sight.now.parameters.now ≡ []
         → IfOk result (λ r. fault_of r
         ≡ or_else
         (unless
         (takes_body check.now.word (kind_in senses names (term_of check.now.body)))
         ModelFault.Kind)
-        (first_within senses names sight.now.from false (term_of check.now.body))) }
+        (term_fault senses names sight.now.from false (term_of check.now.body))) }
     ensures item { let us = map usage_of sight.now.functions.now in
         let names = reverse (map entry_of sight.now.entries.now) in
-        (senses : List Sense) → AreKept sight.now.functions.now senses → AreSound senses
+        (senses : List Sense) → HaveSenses sight.now.functions.now senses → AreSoundSenses senses
         → AreKnown names → sight.now.parameters.now ≡ []
         → IfOk result (λ r. IfOk r (λ x. IsCheck senses us names sight.now.from check.now.word
         (term_of check.now.body) x)) }

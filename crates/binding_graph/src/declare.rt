@@ -3,8 +3,8 @@
 ghost use Rattle.std.specs.Prelude.{◌≡◌, ◌++◌, ◌∷◌, [], None, IfOk, OnOk, List, length, reverse, map};
 ghost use Rattle.text_values.specs.ModelValues.{term_of};
 ghost use Rattle.binding_kinds.specs.Value.{Naming, Bound, Defined, entry_of, bound_of};
-ghost use Rattle.binding_kinds.specs.Senses.{Sense, AreKept};
-ghost use Rattle.binding_kinds.specs.Faults.{with_own, with_all, extended, senses_after};
+ghost use Rattle.binding_kinds.specs.Senses.{Sense, HaveSenses};
+ghost use Rattle.binding_kinds.specs.Faults.{with_own, with_all, names_after, senses_after};
 ghost use Rattle.binding_kinds.specs.Verdict.{or_else, of_parameters};
 ghost use Rattle.binding_kinds.specs.First.{first_of_body};
 ghost use Rattle.binding_graph.specs.Usages.{usage_of, usages_after};
@@ -100,19 +100,19 @@ pub fn declare_function(
     parameters: &[Name],
     body: &Expression,
 ) -> Result<Option<ModelFault>, AllocError>
-    ensures fault { (senses : List Sense) → AreKept scope.old.functions.items senses
+    ensures fault { (senses : List Sense) → HaveSenses scope.old.functions.items senses
         → IfOk result (λ f. f
         ≡ or_else (of_parameters [] parameters.now) (first_of_body senses
         (reverse (map entry_of scope.old.entries.items)) parameters.now
         (term_of body.now))) }
-    ensures names { (senses : List Sense) → AreKept scope.old.functions.items senses
+    ensures names { (senses : List Sense) → HaveSenses scope.old.functions.items senses
         → IfOk result (λ f. f ≡ None
         → reverse (map entry_of scope.new.entries.items)
-        ≡ extended senses (reverse (map entry_of scope.old.entries.items)) index
+        ≡ names_after senses (reverse (map entry_of scope.old.entries.items)) index
         (Defined name.now parameters.now (term_of body.now))) }
-    ensures functions { (senses : List Sense) → AreKept scope.old.functions.items senses
+    ensures functions { (senses : List Sense) → HaveSenses scope.old.functions.items senses
         → IfOk result (λ f. f ≡ None
-        → AreKept scope.new.functions.items (senses_after senses
+        → HaveSenses scope.new.functions.items (senses_after senses
         (reverse (map entry_of scope.old.entries.items))
         (Defined name.now parameters.now (term_of body.now)))) }
     ensures usages { IfOk result (λ f. f ≡ None

@@ -4,7 +4,7 @@ ghost use Rattle.std.specs.Prelude.{◌≡◌, ◌≤◌, List, IfOk, length, ma
 ghost use Rattle.text_values.specs.ModelValues.{term_of};
 ghost use Rattle.binding_kinds.specs.Value.{entry_of};
 ghost use Rattle.binding_kinds.specs.First.{first_of_body};
-ghost use Rattle.binding_kinds.specs.Senses.{Sense, IsKept, AreKept};
+ghost use Rattle.binding_kinds.specs.Senses.{Sense, HasSense, HaveSenses};
 ghost use Rattle.binding_kinds.specs.Functions.{sense_of_function};
 ghost use Rattle.binding_graph.specs.Usages.{usage_of, usage_of_function};
 
@@ -34,7 +34,7 @@ pub fn read_whole(
     body: &Expression,
 ) -> Result<ReadFunction, AllocError>
     ensures fault { let names = reverse (map entry_of sight.now.entries.now) in
-        (senses : List Sense) → AreKept sight.now.functions.now senses
+        (senses : List Sense) → HaveSenses sight.now.functions.now senses
         → IfOk result (λ r. r.fault
         ≡ first_of_body senses names sight.now.parameters.now (term_of body.now)) }
     ensures usage { let us = map usage_of sight.now.functions.now in
@@ -43,9 +43,9 @@ pub fn read_whole(
         → IfOk result (λ r. usage_of r.function
         ≡ usage_of_function us names item sight.now.parameters.now (term_of body.now)) }
     ensures kept { let names = reverse (map entry_of sight.now.entries.now) in
-        (senses : List Sense) → AreKept sight.now.functions.now senses
+        (senses : List Sense) → HaveSenses sight.now.functions.now senses
         → length sight.now.parameters.now ≤ 8
-        → IfOk result (λ r. IsKept r.function (sense_of_function senses names
+        → IfOk result (λ r. HasSense r.function (sense_of_function senses names
         sight.now.parameters.now (term_of body.now))) }
 {
     let mut template = Template::new(alloc);
@@ -82,9 +82,9 @@ pub fn read_function(
         → IfOk result (λ f. usage_of f
         ≡ usage_of_function us names item sight.now.parameters.now (term_of body.now)) }
     ensures kept { let names = reverse (map entry_of sight.now.entries.now) in
-        (senses : List Sense) → AreKept sight.now.functions.now senses
+        (senses : List Sense) → HaveSenses sight.now.functions.now senses
         → length sight.now.parameters.now ≤ 8
-        → IfOk result (λ f. IsKept f (sense_of_function senses names sight.now.parameters.now
+        → IfOk result (λ f. HasSense f (sense_of_function senses names sight.now.parameters.now
         (term_of body.now))) }
 {
     Ok(read_whole(alloc, sight, item, body)?.function)

@@ -9,13 +9,13 @@ ghost use Rattle.binding_kinds.specs.Value.{Naming, entry_of};
 ghost use Rattle.binding_kinds.specs.Kinds.{found};
 ghost use Rattle.binding_kinds.specs.Meanings.{parameter_of};
 ghost use Rattle.binding_kinds.specs.Formula.{postfix};
-ghost use Rattle.binding_kinds.specs.Senses.{Sense, IsKept, AreKept, sense_of};
-ghost use Rattle.binding_kinds.specs.First.{of_applied};
+ghost use Rattle.binding_kinds.specs.Senses.{Sense, HasSense, HaveSenses, sense_of};
+ghost use Rattle.binding_kinds.specs.First.{apply_fault};
 ghost use Rattle.binding_kinds.specs.Functions.{sense_seen, named_formula};
 ghost use Rattle.binding_functions.specs.Templates.{pieces_in, HasLarge, IsTemplate, IsGrown};
 ghost use Rattle.binding_functions.specs.Parts.{IsNameless, IsBodyPart, AreBodyParts};
 ghost use Rattle.binding_graph.specs.Usages.{usage_of, with_meaning, with_values, with_values_among, with_functions, with_functions_among};
-ghost use Rattle.binding_graph.specs.Readings.{AreNoted};
+ghost use Rattle.binding_graph.specs.Readings.{AreGrown};
 
 use crate::reading::{applied, note_name, read_unapplied};
 use crate::uses::Uses;
@@ -43,14 +43,14 @@ impl Given {
     ) -> Result<BodyPart, AllocError>
         ensures part { (ss : List Sense) (names : List Naming) (ps : List (List ℕ)) (rows : ℕ)
             (under : Bool) (x : List ℕ) (xs : List Expression) (s : Sense)
-            → IsKept function.now s → length xs ≡ s.arity
+            → HasSense function.now s → length xs ≡ s.arity
             → sense_seen ss names ps (length xs) x ≡ Some s
-            → of_applied (parameter_of (reverse ps) x) (sense_of ss (length xs) (found names x))
+            → apply_fault (parameter_of (reverse ps) x) (sense_of ss (length xs) (found names x))
             ≡ None → AreBodyParts ss names ps rows under s.is_under xs self.body
             → IfOk result (IsBodyPart ss names ps rows under
             (Apply x (gathered (map term_of xs)))) }
         ensures template { (ss : List Sense) (names : List Naming) (ps : List (List ℕ)) (x : List ℕ)
-            (xs : List Expression) (s : Sense) → IsKept function.now s
+            (xs : List Expression) (s : Sense) → HasSense function.now s
             → sense_seen ss names ps (length xs) x ≡ Some s
             → AllZip IsTemplate self.templates.items
             (map (λ e. pieces_in ss names ps (term_of e)) xs)
@@ -94,7 +94,7 @@ fn inside_name(
     ensures template { OnOk result (IsGrown template.old template.new
         (postfix (named_formula (parameter_of (reverse sight.now.parameters.now) name.now)
         (found (reverse (map entry_of sight.now.entries.now)) name.now))) ⊥) }
-    ensures uses { OnOk result (AreNoted
+    ensures uses { OnOk result (AreGrown
         (λ vs. with_meaning vs sight.now.from
         (parameter_of (reverse sight.now.parameters.now) name.now)
         (found (reverse (map entry_of sight.now.entries.now)) name.now))
@@ -117,19 +117,19 @@ fn inside_arguments(
     uses: &mut Uses,
 ) -> Result<Given, AllocError>
     ensures body { let names = reverse (map entry_of sight.now.entries.now) in
-        (senses : List Sense) (s : Sense) → AreKept sight.now.functions.now senses
-        → IsKept function.now s → length arguments.now ≡ s.arity
+        (senses : List Sense) (s : Sense) → HaveSenses sight.now.functions.now senses
+        → HasSense function.now s → length arguments.now ≡ s.arity
         → IfOk result (λ g. AreBodyParts senses names sight.now.parameters.now columns.rows under
         s.is_under arguments.now g.body) }
     ensures templates { let names = reverse (map entry_of sight.now.entries.now) in
-        (senses : List Sense) → AreKept sight.now.functions.now senses
+        (senses : List Sense) → HaveSenses sight.now.functions.now senses
         → IfOk result (λ g. AllZip IsTemplate g.templates.items (map
         (λ e. pieces_in senses names sight.now.parameters.now (term_of e))
         arguments.now)) }
     ensures uses { let us = map usage_of sight.now.functions.now in
         let names = reverse (map entry_of sight.now.entries.now) in
         let ps = sight.now.parameters.now in
-        OnOk result (AreNoted
+        OnOk result (AreGrown
         (with_values_among us names ps sight.now.from (gathered (map term_of arguments.now)))
         (with_functions_among us names ps (gathered (map term_of arguments.now))) uses.old
         uses.new) }
@@ -158,11 +158,11 @@ fn inside_applied(
     uses: &mut Uses,
 ) -> Result<BodyPart, AllocError>
     ensures part { let names = reverse (map entry_of sight.now.entries.now) in
-        (senses : List Sense) → AreKept sight.now.functions.now senses
+        (senses : List Sense) → HaveSenses sight.now.functions.now senses
         → IfOk result (IsBodyPart senses names sight.now.parameters.now columns.rows under
         (Apply name.now (gathered (map term_of arguments.now)))) }
     ensures template { let names = reverse (map entry_of sight.now.entries.now) in
-        (senses : List Sense) → AreKept sight.now.functions.now senses
+        (senses : List Sense) → HaveSenses sight.now.functions.now senses
         → OnOk result (IsGrown template.old template.new
         (pieces_in senses names sight.now.parameters.now
         (Apply name.now (gathered (map term_of arguments.now))))
@@ -171,7 +171,7 @@ fn inside_applied(
     ensures uses { let us = map usage_of sight.now.functions.now in
         let names = reverse (map entry_of sight.now.entries.now) in
         let ps = sight.now.parameters.now in
-        OnOk result (AreNoted
+        OnOk result (AreGrown
         (with_values us names ps sight.now.from
         (Apply name.now (gathered (map term_of arguments.now))))
         (with_functions us names ps (Apply name.now (gathered (map term_of arguments.now))))
@@ -205,18 +205,18 @@ pub fn read_inside(
     uses: &mut Uses,
 ) -> Result<BodyPart, AllocError>
     ensures part { let names = reverse (map entry_of sight.now.entries.now) in
-        (senses : List Sense) → AreKept sight.now.functions.now senses
+        (senses : List Sense) → HaveSenses sight.now.functions.now senses
         → IfOk result (IsBodyPart senses names sight.now.parameters.now columns.rows under
         (term_of term.now)) }
     ensures template { let names = reverse (map entry_of sight.now.entries.now) in
-        (senses : List Sense) → AreKept sight.now.functions.now senses
+        (senses : List Sense) → HaveSenses sight.now.functions.now senses
         → OnOk result (IsGrown template.old template.new
         (pieces_in senses names sight.now.parameters.now (term_of term.now))
         (HasLarge senses names sight.now.parameters.now (term_of term.now))) }
     ensures uses { let us = map usage_of sight.now.functions.now in
         let names = reverse (map entry_of sight.now.entries.now) in
         let ps = sight.now.parameters.now in
-        OnOk result (AreNoted (with_values us names ps sight.now.from (term_of term.now))
+        OnOk result (AreGrown (with_values us names ps sight.now.from (term_of term.now))
         (with_functions us names ps (term_of term.now)) uses.old uses.new) }
 {
     match term {

@@ -2,11 +2,11 @@
 
 ghost use Rattle.std.specs.Prelude.{◌≡◌, ◌+◌, [], ◌∷◌, ◌++◌, List, None, Some, vec_len, IfOk, OnOk, MatchResult, reverse, map, length, true, false};
 ghost use Rattle.text_values.specs.ModelValues.{term_of};
-ghost use Rattle.binding_kinds.specs.Value.{Group, Defined, entry_of, clause_of, bound_of};
-ghost use Rattle.binding_kinds.specs.Senses.{Sense, AreKept};
-ghost use Rattle.binding_kinds.specs.Faults.{HasNoFault, FirstFault, with_own, with_all, extended, senses_after};
+ghost use Rattle.binding_kinds.specs.Value.{Group, Defined, entry_of, bare_item, bound_of};
+ghost use Rattle.binding_kinds.specs.Senses.{Sense, HaveSenses};
+ghost use Rattle.binding_kinds.specs.Faults.{HasNoFault, FirstFault, with_own, with_all, names_after, senses_after};
 ghost use Rattle.binding_kinds.specs.First.{first, first_of_item};
-ghost use Rattle.binding_kinds.specs.Fits.{AreSound, AreKnown};
+ghost use Rattle.binding_kinds.specs.Fits.{AreSoundSenses, AreKnown};
 ghost use Rattle.binding_kinds.specs.Outermost.{naming_of};
 ghost use Rattle.binding_graph.specs.Refusals.{IfRefused};
 ghost use Rattle.binding_graph.specs.Usages.{Usage, usage_of, usages_after};
@@ -31,11 +31,11 @@ use text_values::{Binding, Expression, Item, ModelText, Name, PREDEFINED};
 pub fn resolve(alloc: Global, text: &ModelText) -> Result<Resolved, ResolveFault>
     ensures whole { IfOk result (λ r. vec_len r.items ≡ vec_len text.now.items) }
     ensures fault { let names = reverse (map naming_of PREDEFINED) in
-        let clauses = map clause_of text.now.items.items in
+        let clauses = map bare_item text.now.items.items in
         MatchResult result (λ _. HasNoFault [] names 0 clauses)
         (λ e. IfRefused e (λ k. FirstFault [] names 0 clauses k)) }
     ensures items { let names = reverse (map naming_of PREDEFINED) in
-        let clauses = map clause_of text.now.items.items in
+        let clauses = map bare_item text.now.items.items in
         IfOk result (λ r. AreResolved [] [] names 0 clauses r.items.items) }
     ensures labels { IfOk result (λ r. AreLabelled text.now.items.items r.items.items) }
 {
@@ -52,12 +52,12 @@ fn resolve_all(
     items: &[Item],
 ) -> Result<Result<Vec<ResolvedItem>, ModelFault>, AllocError>
     ensures fault { let names = reverse (map naming_of PREDEFINED) in
-        IfOk result (λ r. MatchResult r (λ _. HasNoFault [] names 0 (map clause_of items.now))
-        (λ k. FirstFault [] names 0 (map clause_of items.now) k)) }
+        IfOk result (λ r. MatchResult r (λ _. HasNoFault [] names 0 (map bare_item items.now))
+        (λ k. FirstFault [] names 0 (map bare_item items.now) k)) }
     ensures whole { IfOk result (λ r. IfOk r (λ v. vec_len v ≡ length items.now)) }
     ensures items { let names = reverse (map naming_of PREDEFINED) in
         IfOk result (λ r.
-        IfOk r (λ v. AreResolved [] [] names 0 (map clause_of items.now) v.items)) }
+        IfOk r (λ v. AreResolved [] [] names 0 (map bare_item items.now) v.items)) }
     ensures labels { IfOk result (λ r. IfOk r (λ v. AreLabelled items.now v.items)) }
 {
     let mut scope = Scope::new(alloc)?;
@@ -71,17 +71,17 @@ fn find_items(
     work: &mut Workspace,
     items: &[Item],
 ) -> Result<(Vec<ResolvedItem>, Option<ModelFault>), AllocError>
-    ensures fault { (senses : List Sense) → AreKept scope.old.functions.items senses
+    ensures fault { (senses : List Sense) → HaveSenses scope.old.functions.items senses
         → IfOk result (λ r. r.1
         ≡ first senses (reverse (map entry_of scope.old.entries.items)) 0
-        (map clause_of items.now)) }
+        (map bare_item items.now)) }
     ensures whole { IfOk result (λ r. r.1 ≡ None → vec_len r.0 ≡ length items.now) }
     ensures items { let names = reverse (map entry_of scope.old.entries.items) in
-        (senses : List Sense) → AreKept scope.old.functions.items senses → AreSound senses
+        (senses : List Sense) → HaveSenses scope.old.functions.items senses → AreSoundSenses senses
         → AreKnown names
         → IfOk result (λ r. r.1 ≡ None
         → AreResolved senses (map usage_of scope.old.functions.items) names 0
-        (map clause_of items.now) r.0.items) }
+        (map bare_item items.now) r.0.items) }
     ensures labels { IfOk result (λ r. r.1 ≡ None → AreLabelled items.now r.0.items) }
 {
     let mut resolved = Vec::with_capacity(alloc, items.len())?;
@@ -100,18 +100,18 @@ pub fn resolve_items(
     scope: &mut Scope,
     items: &[Item],
 ) -> Result<Result<Vec<ResolvedItem>, ModelFault>, AllocError>
-    ensures fault { (senses : List Sense) → AreKept scope.old.functions.items senses
+    ensures fault { (senses : List Sense) → HaveSenses scope.old.functions.items senses
         → IfOk result (λ r. MatchResult r
         (λ _. HasNoFault senses (reverse (map entry_of scope.old.entries.items)) 0
-        (map clause_of items.now))
+        (map bare_item items.now))
         (λ k. FirstFault senses (reverse (map entry_of scope.old.entries.items)) 0
-        (map clause_of items.now) k)) }
+        (map bare_item items.now) k)) }
     ensures whole { IfOk result (λ r. IfOk r (λ v. vec_len v ≡ length items.now)) }
     ensures items { let names = reverse (map entry_of scope.old.entries.items) in
-        (senses : List Sense) → AreKept scope.old.functions.items senses → AreSound senses
+        (senses : List Sense) → HaveSenses scope.old.functions.items senses → AreSoundSenses senses
         → AreKnown names
         → IfOk result (λ r. IfOk r (λ v. AreResolved senses (map usage_of scope.old.functions.items)
-        names 0 (map clause_of items.now) v.items)) }
+        names 0 (map bare_item items.now) v.items)) }
     ensures labels { IfOk result (λ r. IfOk r (λ v. AreLabelled items.now v.items)) }
 {
     let mut work = Workspace::new(alloc);
@@ -139,27 +139,27 @@ fn read_item(
     item: &Item,
 ) -> Result<Result<ResolvedItem, ModelFault>, AllocError>
     ensures fault { let names = reverse (map entry_of scope.old.entries.items) in
-        (senses : List Sense) → AreKept scope.old.functions.items senses
-        → IfOk result (λ r. fault_of r ≡ first_of_item senses names index (clause_of item.now)) }
+        (senses : List Sense) → HaveSenses scope.old.functions.items senses
+        → IfOk result (λ r. fault_of r ≡ first_of_item senses names index (bare_item item.now)) }
     ensures names { let names = reverse (map entry_of scope.old.entries.items) in
-        (senses : List Sense) → AreKept scope.old.functions.items senses
+        (senses : List Sense) → HaveSenses scope.old.functions.items senses
         → IfOk result (λ r. IfOk r (λ x. reverse (map entry_of scope.new.entries.items)
-        ≡ extended senses names index (clause_of item.now))) }
+        ≡ names_after senses names index (bare_item item.now))) }
     ensures functions { let names = reverse (map entry_of scope.old.entries.items) in
-        (senses : List Sense) → AreKept scope.old.functions.items senses
-        → IfOk result (λ r. IfOk r (λ x. AreKept scope.new.functions.items
-        (senses_after senses names (clause_of item.now)))) }
+        (senses : List Sense) → HaveSenses scope.old.functions.items senses
+        → IfOk result (λ r. IfOk r (λ x. HaveSenses scope.new.functions.items
+        (senses_after senses names (bare_item item.now)))) }
     ensures usages { let names = reverse (map entry_of scope.old.entries.items) in
         IfOk result (λ r. IfOk r (λ x. map usage_of scope.new.functions.items
         ≡ usages_after (map usage_of scope.old.functions.items) names index
-        (clause_of item.now))) }
+        (bare_item item.now))) }
     ensures resolved { let us = map usage_of scope.old.functions.items in
         let names = reverse (map entry_of scope.old.entries.items) in
-        (senses : List Sense) → AreKept scope.old.functions.items senses → AreSound senses
+        (senses : List Sense) → HaveSenses scope.old.functions.items senses → AreSoundSenses senses
         → AreKnown names
         → IfOk result (λ r. IfOk r (λ x. IsResolvedIn senses us names
-        (extended senses names index (clause_of item.now)) (length names)
-        (clause_of item.now) x)) }
+        (names_after senses names index (bare_item item.now)) (length names)
+        (bare_item item.now) x)) }
     ensures label { IfOk result (λ r. IfOk r (λ x. IsLabelledAs item.now x)) }
 {
     match item {
@@ -224,20 +224,20 @@ fn read_plain(
     group: &[Binding],
 ) -> Result<Result<ResolvedItem, ModelFault>, AllocError>
     ensures fault { let names = reverse (map entry_of scope.old.entries.items) in
-        (senses : List Sense) → AreKept scope.old.functions.items senses
+        (senses : List Sense) → HaveSenses scope.old.functions.items senses
         → IfOk result (λ r. fault_of r
         ≡ first_of_item senses names index (Group false (map bound_of group.now))) }
     ensures names { let names = reverse (map entry_of scope.old.entries.items) in
-        (senses : List Sense) → AreKept scope.old.functions.items senses
+        (senses : List Sense) → HaveSenses scope.old.functions.items senses
         → IfOk result (λ r. IfOk r (λ x. reverse (map entry_of scope.new.entries.items)
         ≡ with_all senses names names index 0 (map bound_of group.now))) }
     ensures functions { OnOk result (scope.new.functions.items ≡ scope.old.functions.items) }
     ensures item { let us = map usage_of scope.old.functions.items in
         let names = reverse (map entry_of scope.old.entries.items) in
-        (senses : List Sense) → AreKept scope.old.functions.items senses → AreSound senses
+        (senses : List Sense) → HaveSenses scope.old.functions.items senses → AreSoundSenses senses
         → AreKnown names
         → IfOk result (λ r. IfOk r (λ x. IsResolvedIn senses us names
-        (extended senses names index (Group false (map bound_of group.now)))
+        (names_after senses names index (Group false (map bound_of group.now)))
         (length names) (Group false (map bound_of group.now)) x)) }
 {
     let sight = sight_of(scope, scope.entries.len());
@@ -260,7 +260,7 @@ fn read_recursive(
     group: &[Binding],
 ) -> Result<Result<ResolvedItem, ModelFault>, AllocError>
     ensures fault { let names = reverse (map entry_of scope.old.entries.items) in
-        (senses : List Sense) → AreKept scope.old.functions.items senses
+        (senses : List Sense) → HaveSenses scope.old.functions.items senses
         → IfOk result (λ r. fault_of r
         ≡ first_of_item senses names index (Group true (map bound_of group.now))) }
     ensures names { let names = reverse (map entry_of scope.old.entries.items) in
@@ -269,10 +269,10 @@ fn read_recursive(
     ensures functions { OnOk result (scope.new.functions.items ≡ scope.old.functions.items) }
     ensures item { let us = map usage_of scope.old.functions.items in
         let names = reverse (map entry_of scope.old.entries.items) in
-        (senses : List Sense) → AreKept scope.old.functions.items senses → AreSound senses
+        (senses : List Sense) → HaveSenses scope.old.functions.items senses → AreSoundSenses senses
         → AreKnown names
         → IfOk result (λ r. IfOk r (λ x. IsResolvedIn senses us names
-        (extended senses names index (Group true (map bound_of group.now)))
+        (names_after senses names index (Group true (map bound_of group.now)))
         (length names) (Group true (map bound_of group.now)) x)) }
 {
     let from = scope.entries.len();
@@ -295,18 +295,18 @@ fn read_defined(
     body: &Expression,
 ) -> Result<Result<ResolvedItem, ModelFault>, AllocError>
     ensures fault { let names = reverse (map entry_of scope.old.entries.items) in
-        (senses : List Sense) → AreKept scope.old.functions.items senses
+        (senses : List Sense) → HaveSenses scope.old.functions.items senses
         → IfOk result (λ r. fault_of r
         ≡ first_of_item senses names index
         (Defined name.now parameters.now (term_of body.now))) }
     ensures names { let names = reverse (map entry_of scope.old.entries.items) in
-        (senses : List Sense) → AreKept scope.old.functions.items senses
+        (senses : List Sense) → HaveSenses scope.old.functions.items senses
         → IfOk result (λ r. IfOk r (λ x. reverse (map entry_of scope.new.entries.items)
-        ≡ extended senses names index
+        ≡ names_after senses names index
         (Defined name.now parameters.now (term_of body.now)))) }
     ensures functions { let names = reverse (map entry_of scope.old.entries.items) in
-        (senses : List Sense) → AreKept scope.old.functions.items senses
-        → IfOk result (λ r. IfOk r (λ x. AreKept scope.new.functions.items (senses_after senses
+        (senses : List Sense) → HaveSenses scope.old.functions.items senses
+        → IfOk result (λ r. IfOk r (λ x. HaveSenses scope.new.functions.items (senses_after senses
         names (Defined name.now parameters.now (term_of body.now))))) }
     ensures usages { let names = reverse (map entry_of scope.old.entries.items) in
         IfOk result (λ r. IfOk r (λ x. map usage_of scope.new.functions.items
@@ -316,7 +316,7 @@ fn read_defined(
         let names = reverse (map entry_of scope.old.entries.items) in
         (senses : List Sense)
         → IfOk result (λ r. IfOk r (λ x. IsResolvedIn senses us names
-        (extended senses names index
+        (names_after senses names index
         (Defined name.now parameters.now (term_of body.now)))
         (length names)
         (Defined name.now parameters.now (term_of body.now)) x)) }

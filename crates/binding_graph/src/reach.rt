@@ -1,7 +1,7 @@
 //! What an item uses, and which items are used.
 
 ghost use Rattle.std.specs.Prelude.{◌≡◌, ℕ, ◌<◌, ◌≤◌, ◌↔◌, [], get_or, map, vec_len, All, AllPairs, Contains, IfOk, OnOk};
-ghost use Rattle.binding_graph.specs.Reach.{is_check, UsesAt, IsCheckAt, AreReached, IsMarked, Marks, AreSpread};
+ghost use Rattle.binding_graph.specs.Reach.{is_check, ItemUses, IsCheckAt, AreReached, IsMarked, Marks, AreSpread};
 
 use crate::resolved::{Resolved, ResolvedItem, Role};
 use binding_kinds::Input;
@@ -77,7 +77,7 @@ fn mark_used(
     items: &[ResolvedItem],
     index: usize,
 ) -> Result<(), AllocError>
-    ensures { OnOk result (Marks (UsesAt items.now index) marks.old.items marks.new.items
+    ensures { OnOk result (Marks (ItemUses items.now index) marks.old.items marks.new.items
         waiting.old.items waiting.new.items) }
 {
     if let Some(item) = items.get(index) {

@@ -9,13 +9,13 @@ ghost use Rattle.binding_kinds.specs.Value.{Naming, entry_of};
 ghost use Rattle.binding_kinds.specs.Kinds.{found, kind_found};
 ghost use Rattle.binding_kinds.specs.Meanings.{parameter_of, named_of};
 ghost use Rattle.binding_kinds.specs.Formula.{postfix};
-ghost use Rattle.binding_kinds.specs.Senses.{Sense, IsKept, AreKept, sense_of};
+ghost use Rattle.binding_kinds.specs.Senses.{Sense, HasSense, HaveSenses, sense_of};
 ghost use Rattle.binding_kinds.specs.Functions.{sense_seen, named_formula};
 ghost use Rattle.binding_kinds.specs.Verdict.{of_name};
-ghost use Rattle.binding_kinds.specs.First.{of_applied};
+ghost use Rattle.binding_kinds.specs.First.{apply_fault};
 ghost use Rattle.binding_functions.specs.Templates.{pieces_in, HasLarge, IsTemplate, IsGrown};
 ghost use Rattle.binding_graph.specs.Usages.{usage_of, usage_seen, with_meaning, with_values, with_values_among, with_functions, with_functions_among};
-ghost use Rattle.binding_graph.specs.Readings.{IsVerdict, AreJudged, AreNoted};
+ghost use Rattle.binding_graph.specs.Readings.{IsFinding, AreJudged, AreGrown};
 
 use crate::uses::Uses;
 use binding_functions::Template;
@@ -54,7 +54,7 @@ fn put_application(
 ) -> Result<Judged, AllocError>
     ensures judged { IfOk result (λ j. j ≡ judged) }
     ensures template { (ss : List Sense) (names : List Naming) (ps : List (List ℕ)) (x : List ℕ)
-        (xs : List Expression) (s : Sense) → IsKept function.now s
+        (xs : List Expression) (s : Sense) → HasSense function.now s
         → sense_seen ss names ps (length xs) x ≡ Some s
         → AllZip IsTemplate arguments.items (map (λ e. pieces_in ss names ps (term_of e)) xs)
         → OnOk result (IsGrown template.old template.new
@@ -88,7 +88,7 @@ pub fn note_name(
     ensures template { OnOk result (IsGrown template.old template.new
         (postfix (named_formula (parameter_of (reverse sight.now.parameters.now) name.now)
         (found (reverse (map entry_of sight.now.entries.now)) name.now))) ⊥) }
-    ensures uses { OnOk result (AreNoted
+    ensures uses { OnOk result (AreGrown
         (λ vs. with_meaning vs sight.now.from
         (parameter_of (reverse sight.now.parameters.now) name.now)
         (found (reverse (map entry_of sight.now.entries.now)) name.now))
@@ -122,7 +122,7 @@ fn read_name(
     ensures template { OnOk result (IsGrown template.old template.new
         (postfix (named_formula (parameter_of (reverse sight.now.parameters.now) name.now)
         (found (reverse (map entry_of sight.now.entries.now)) name.now))) ⊥) }
-    ensures uses { OnOk result (AreNoted
+    ensures uses { OnOk result (AreGrown
         (λ vs. with_meaning vs sight.now.from
         (parameter_of (reverse sight.now.parameters.now) name.now)
         (found (reverse (map entry_of sight.now.entries.now)) name.now))
@@ -143,20 +143,20 @@ pub fn applied<'a>(sight: &Sight<'a>, name: &Name, count: usize) -> Result<&'a F
         (λ f. usage_seen us names sight.now.parameters.now count name.now ≡ Some (usage_of f.now))
         (λ k. usage_seen us names sight.now.parameters.now count name.now ≡ None) }
     ensures sense { let names = reverse (map entry_of sight.now.entries.now) in
-        (senses : List Sense) → AreKept sight.now.functions.now senses
+        (senses : List Sense) → HaveSenses sight.now.functions.now senses
         → MatchResult result
         (λ f. (s : Sense)
         × (sense_seen senses names sight.now.parameters.now count name.now ≡ Some s)
-        × (s.arity ≡ count) × IsKept f.now s)
+        × (s.arity ≡ count) × HasSense f.now s)
         (λ k. (sense_seen senses names sight.now.parameters.now count name.now ≡ None)
         × (sight.now.parameters.now ≡ []
         → sense_of senses count (found names name.now) ≡ Err k)) }
     ensures fault { let names = reverse (map entry_of sight.now.entries.now) in
         let p = parameter_of (reverse sight.now.parameters.now) name.now in
-        (senses : List Sense) → AreKept sight.now.functions.now senses
+        (senses : List Sense) → HaveSenses sight.now.functions.now senses
         → MatchResult result
-        (λ f. of_applied p (sense_of senses count (found names name.now)) ≡ None)
-        (λ k. of_applied p (sense_of senses count (found names name.now)) ≡ Some k) }
+        (λ f. apply_fault p (sense_of senses count (found names name.now)) ≡ None)
+        (λ k. apply_fault p (sense_of senses count (found names name.now)) ≡ Some k) }
 {
     match sight.function(name, count) {
         Err(fault) => Err(fault),
@@ -179,7 +179,7 @@ pub fn read_unapplied(
     ensures { let us = map usage_of sight.now.functions.now in
         let names = reverse (map entry_of sight.now.entries.now) in
         let ps = sight.now.parameters.now in
-        OnOk result (AreNoted
+        OnOk result (AreGrown
         (with_values_among us names ps sight.now.from (gathered (map term_of arguments.now)))
         (with_functions_among us names ps (gathered (map term_of arguments.now))) uses.old
         uses.new) }
@@ -202,19 +202,19 @@ fn read_arguments(
     uses: &mut Uses,
 ) -> Result<Given, AllocError>
     ensures judged { let names = reverse (map entry_of sight.now.entries.now) in
-        (senses : List Sense) (s : Sense) → AreKept sight.now.functions.now senses
-        → sight.now.parameters.now ≡ [] → IsKept function.now s → length arguments.now ≡ s.arity
+        (senses : List Sense) (s : Sense) → HaveSenses sight.now.functions.now senses
+        → sight.now.parameters.now ≡ [] → HasSense function.now s → length arguments.now ≡ s.arity
         → IfOk result (λ g. AreJudged senses names sight.now.from under function.now s
         (gathered (map term_of arguments.now)) g.known) }
     ensures templates { let names = reverse (map entry_of sight.now.entries.now) in
-        (senses : List Sense) → AreKept sight.now.functions.now senses
+        (senses : List Sense) → HaveSenses sight.now.functions.now senses
         → IfOk result (λ g. AllZip IsTemplate g.templates.items (map
         (λ e. pieces_in senses names sight.now.parameters.now (term_of e))
         arguments.now)) }
     ensures uses { let us = map usage_of sight.now.functions.now in
         let names = reverse (map entry_of sight.now.entries.now) in
         let ps = sight.now.parameters.now in
-        OnOk result (AreNoted
+        OnOk result (AreGrown
         (with_values_among us names ps sight.now.from (gathered (map term_of arguments.now)))
         (with_functions_among us names ps (gathered (map term_of arguments.now))) uses.old
         uses.new) }
@@ -243,12 +243,12 @@ fn read_applied(
     uses: &mut Uses,
 ) -> Result<Judged, AllocError>
     ensures judged { let names = reverse (map entry_of sight.now.entries.now) in
-        (senses : List Sense) → AreKept sight.now.functions.now senses
+        (senses : List Sense) → HaveSenses sight.now.functions.now senses
         → sight.now.parameters.now ≡ []
-        → IfOk result (IsVerdict senses names sight.now.from under
+        → IfOk result (IsFinding senses names sight.now.from under
         (Apply name.now (gathered (map term_of arguments.now)))) }
     ensures template { let names = reverse (map entry_of sight.now.entries.now) in
-        (senses : List Sense) → AreKept sight.now.functions.now senses
+        (senses : List Sense) → HaveSenses sight.now.functions.now senses
         → OnOk result (IsGrown template.old template.new
         (pieces_in senses names sight.now.parameters.now
         (Apply name.now (gathered (map term_of arguments.now))))
@@ -257,7 +257,7 @@ fn read_applied(
     ensures uses { let us = map usage_of sight.now.functions.now in
         let names = reverse (map entry_of sight.now.entries.now) in
         let ps = sight.now.parameters.now in
-        OnOk result (AreNoted
+        OnOk result (AreGrown
         (with_values us names ps sight.now.from
         (Apply name.now (gathered (map term_of arguments.now))))
         (with_functions us names ps (Apply name.now (gathered (map term_of arguments.now))))
@@ -293,18 +293,18 @@ pub fn read_term(
     uses: &mut Uses,
 ) -> Result<Judged, AllocError>
     ensures judged { let names = reverse (map entry_of sight.now.entries.now) in
-        (senses : List Sense) → AreKept sight.now.functions.now senses
+        (senses : List Sense) → HaveSenses sight.now.functions.now senses
         → sight.now.parameters.now ≡ []
-        → IfOk result (IsVerdict senses names sight.now.from under (term_of term.now)) }
+        → IfOk result (IsFinding senses names sight.now.from under (term_of term.now)) }
     ensures template { let names = reverse (map entry_of sight.now.entries.now) in
-        (senses : List Sense) → AreKept sight.now.functions.now senses
+        (senses : List Sense) → HaveSenses sight.now.functions.now senses
         → OnOk result (IsGrown template.old template.new
         (pieces_in senses names sight.now.parameters.now (term_of term.now))
         (HasLarge senses names sight.now.parameters.now (term_of term.now))) }
     ensures uses { let us = map usage_of sight.now.functions.now in
         let names = reverse (map entry_of sight.now.entries.now) in
         let ps = sight.now.parameters.now in
-        OnOk result (AreNoted (with_values us names ps sight.now.from (term_of term.now))
+        OnOk result (AreGrown (with_values us names ps sight.now.from (term_of term.now))
         (with_functions us names ps (term_of term.now)) uses.old uses.new) }
 {
     match term {

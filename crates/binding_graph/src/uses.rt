@@ -1,8 +1,8 @@
 //! What an item uses.
 
 ghost use Rattle.std.specs.Prelude.{◌≡◌, ◌<◌, ℕ, [], ◌∷◌, None, true, false, get_or, reverse, map, vec_len, unwrap_or, IfOk, OnOk};
-ghost use Rattle.binding_graph.specs.Inputs.{IsIndexed, index_of, noted, with_found, with_name};
-ghost use Rattle.binding_graph.specs.Usages.{IsListed, all_noted, with_item, with_items};
+ghost use Rattle.binding_graph.specs.Inputs.{IsIndexed, index_of, with_used, with_found, with_name};
+ghost use Rattle.binding_graph.specs.Usages.{IsListed, with_all_used, with_item, with_items};
 
 use binding_kinds::{Binder, Found, Function, Input, Used};
 use std::alloc::{AllocError, Global};
@@ -115,7 +115,7 @@ impl Uses {
     fn note(&mut self, value: Used) -> Result<(), AllocError>
         ensures values { IsIndexed self.old.indexes.items self.old.values.items
             → OnOk result (reverse self.new.values.items
-            ≡ noted (reverse self.old.values.items) value) }
+            ≡ with_used (reverse self.old.values.items) value) }
         ensures indexed { IsIndexed self.old.indexes.items self.old.values.items
             → OnOk result (IsIndexed self.new.indexes.items self.new.values.items) }
         ensures functions { self.new.functions ≡ self.old.functions }
@@ -135,7 +135,7 @@ impl Uses {
     fn note_all(&mut self, values: &[Used]) -> Result<(), AllocError>
         ensures values { IsIndexed self.old.indexes.items self.old.values.items
             → OnOk result (reverse self.new.values.items
-            ≡ all_noted (reverse self.old.values.items) values.now) }
+            ≡ with_all_used (reverse self.old.values.items) values.now) }
         ensures indexed { IsIndexed self.old.indexes.items self.old.values.items
             → OnOk result (IsIndexed self.new.indexes.items self.new.values.items) }
         ensures functions { self.new.functions ≡ self.old.functions }
@@ -214,7 +214,7 @@ impl Uses {
     pub fn add_function(&mut self, function: &Function) -> Result<(), AllocError>
         ensures values { IsIndexed self.old.indexes.items self.old.values.items
             → OnOk result (reverse self.new.values.items
-            ≡ all_noted (reverse self.old.values.items) function.now.values.items) }
+            ≡ with_all_used (reverse self.old.values.items) function.now.values.items) }
         ensures functions { IsListed self.old.applied.items self.old.functions.items
             → OnOk result (reverse self.new.functions.items
             ≡ with_items (reverse self.old.functions.items)

@@ -17,13 +17,13 @@ use Rattle.binding_kinds.specs.declared.scope.Binder.TheVariants as binders
 use Rattle.binding_kinds.specs.declared.function.Function.{Function}
 use Rattle.binding_kinds.specs.Value.{Naming}
 use Rattle.binding_kinds.specs.Kinds.{found}
-use Rattle.binding_kinds.specs.Combinations.{digit, number_of, unknown}
+use Rattle.binding_kinds.specs.Combinations.{digit, kinds_number, unknown}
 use Rattle.binding_kinds.specs.Formula.{factor_of}
 use Rattle.binding_kinds.specs.Verdict.{or_else, unless}
 use Rattle.binding_kinds.proofs.Sizes.{kept_positive, kept_large}
 use Rattle.binding_kinds.specs.declared.signature.Signature.{Signature}
 use Rattle.binding_kinds.specs.declared.fault.ModelFault.{ModelFault}
-use Rattle.binding_kinds.specs.Senses.{Sense, size_of_arguments, size_with, with_arity, sense_of_binder, sense_of, count_of, size_applied, under_of, kind_in, first_within, first_among, size_in, sizes_in, kinds_in, kind_applied, fault_applied, ArePositive, IsKept, AreKept, IsAlike}
+use Rattle.binding_kinds.specs.Senses.{Sense, size_of_arguments, size_with, with_arity, sense_of_binder, sense_of, count_of, size_applied, under_of, kind_in, term_fault, first_among, size_in, sizes_in, kinds_in, kind_applied, fault_applied, ArePositive, HasSense, HaveSenses, IsSameSize}
 
 -- one fault after another
 pub or_else_assoc : (a b c : Option ModelFault) → or_else (or_else a b) c ≡ or_else a (or_else b c)
@@ -35,7 +35,7 @@ small_digit OfSet = omega arith
 small_digit OfRelation = omega arith
 small_digit OfAny = omega arith
 
-pub below_power : (ks : List Kind) → number_of ks < 3 ^ length ks
+pub below_power : (ks : List Kind) → kinds_number ks < 3 ^ length ks
 below_power [] = omega arith
 below_power (k ∷ ks) =
     let h = below_power ks in
@@ -43,17 +43,17 @@ below_power (k ∷ ks) =
     let e = pow-succ' 3 (length ks) in
     omega (arith, h, d, e)
 
-pub below_table : (ks : List Kind) → length ks ≤ 8 → number_of ks < 6561
+pub below_table : (ks : List Kind) → length ks ≤ 8 → kinds_number ks < 6561
 below_table ks le =
     let h = below_power ks in
     let p : 3 ^ length ks ≤ 3 ^ 8 = pow-le-pow_right (omega arith) le in
     omega (arith, h, p)
 
 -- one more argument of the number
-pub combined : (c t p : ℕ) (k : Kind) (ks : List Kind) → c + 3 ^ p * number_of (k ∷ ks) ≡ t
-    → (c + digit k * 3 ^ p) + 3 ^ (p + 1) * number_of ks ≡ t
+pub combined : (c t p : ℕ) (k : Kind) (ks : List Kind) → c + 3 ^ p * kinds_number (k ∷ ks) ≡ t
+    → (c + digit k * 3 ^ p) + 3 ^ (p + 1) * kinds_number ks ≡ t
 combined c t p k ks e =
-    let n = number_of ks in
+    let n = kinds_number ks in
     let q = 3 ^ p in
     let w : 3 ^ (p + 1) * n ≡ q * (3 * n) = ap (λ (m : ℕ). 3 ^ m * n) (add-one p) ∙ ap (λ (m : ℕ). m * n) (pow-succ' 3 p ∙ mul_comm 3 q) ∙ mul_assoc q 3 n in
     let v : q * (digit k + 3 * n) ≡ digit k * q + q * (3 * n) = spread q (digit k) (3 * n) in
@@ -62,7 +62,7 @@ combined c t p k ks e =
     spread : (q d m : ℕ) → q * (d + m) ≡ d * q + q * m
     spread q d m = mul-add q d m ∙ ap (λ (x : ℕ). x + q * m) (mul_comm q d)
 
-alike_mul : (f a b : ℕ) → IsAlike a b → IsAlike (f * a) (f * b)
+alike_mul : (f a b : ℕ) → IsSameSize a b → IsSameSize (f * a) (f * b)
 alike_mul zero a b e = omega arith
 alike_mul (suc f) a b e = elim (cases_lt 4096 a) [
   | inl large ↦
@@ -77,25 +77,25 @@ alike_mul (suc f) a b e = elim (cases_lt 4096 a) [
 
 -- one more argument of the size
 pub sized : (f : ℕ → ℕ) (index : ℕ) (ss : List ℕ) (before after g one s total : ℕ) → g ≡ f index
-    → IsAlike one s → IsAlike after (before + g * one)
-    → IsAlike (before + size_of_arguments f index (s ∷ ss)) total
-    → IsAlike (after + size_of_arguments f (suc index) ss) total
+    → IsSameSize one s → IsSameSize after (before + g * one)
+    → IsSameSize (before + size_of_arguments f index (s ∷ ss)) total
+    → IsSameSize (after + size_of_arguments f (suc index) ss) total
 sized f index ss before after g one s total g_is one_is after_is e =
-    let m : IsAlike (f index * one) (f index * s) = alike_mul (f index) one s one_is in
-    let a : IsAlike after (before + f index * one) = ap (λ (x : ℕ). min after 4097) g_is ∙ after_is ∙ ap (λ (x : ℕ). min (before + x * one) 4097) g_is in
+    let m : IsSameSize (f index * one) (f index * s) = alike_mul (f index) one s one_is in
+    let a : IsSameSize after (before + f index * one) = ap (λ (x : ℕ). min after 4097) g_is ∙ after_is ∙ ap (λ (x : ℕ). min (before + x * one) 4097) g_is in
     omega (arith, m, a, e)
 
 -- what is kept stands at the same index
-pub kept_at : (fs : List Function) (ss : List Sense) (i : ℕ) (f : Function) → AreKept fs ss
-    → slice_get fs i ≡ Some f → (s : Sense) × (slice_get ss i ≡ Some s) × IsKept f s
+pub kept_at : (fs : List Function) (ss : List Sense) (i : ℕ) (f : Function) → HaveSenses fs ss
+    → slice_get fs i ≡ Some f → (s : Sense) × (slice_get ss i ≡ Some s) × HasSense f s
 kept_at [] [] i f h e = absurd (let n : None ≡ Some f = e in cc)
 kept_at [] (s ∷ ss) i f h e = absurd h
 kept_at (g ∷ fs) [] i f h e = absurd h
 kept_at (g ∷ fs) (s ∷ ss) zero f h e =
-    let same : g ≡ f = cc in (s, refl, subst (λ x. IsKept x s) same h.0)
+    let same : g ≡ f = cc in (s, refl, subst (λ x. HasSense x s) same h.0)
 kept_at (g ∷ fs) (s ∷ ss) (suc i) f h e = kept_at fs ss i f h.1 e
 
-pub kept_none : (fs : List Function) (ss : List Sense) (i : ℕ) → AreKept fs ss
+pub kept_none : (fs : List Function) (ss : List Sense) (i : ℕ) → HaveSenses fs ss
     → slice_get fs i ≡ None → slice_get ss i ≡ None
 kept_none [] [] i h e = refl
 kept_none [] (s ∷ ss) i h e = absurd h
@@ -103,13 +103,13 @@ kept_none (g ∷ fs) [] i h e = absurd h
 kept_none (g ∷ fs) (s ∷ ss) zero h e = absurd (let n : Some g ≡ None = e in cc)
 kept_none (g ∷ fs) (s ∷ ss) (suc i) h e = kept_none fs ss i h.1 e
 
-pub kept_back : (fs : List Function) (ss : List Sense) (i : ℕ) (s : Sense) → AreKept fs ss
-    → slice_get ss i ≡ Some s → (f : Function) × IsKept f s
+pub kept_back : (fs : List Function) (ss : List Sense) (i : ℕ) (s : Sense) → HaveSenses fs ss
+    → slice_get ss i ≡ Some s → (f : Function) × HasSense f s
 kept_back [] [] i s h e = absurd (let n : None ≡ Some s = e in cc)
 kept_back [] (t ∷ ss) i s h e = absurd h
 kept_back (g ∷ fs) [] i s h e = absurd h
 kept_back (g ∷ fs) (t ∷ ss) zero s h e =
-    let same : t ≡ s = cc in (g, subst (λ x. IsKept g x) same h.0)
+    let same : t ≡ s = cc in (g, subst (λ x. HasSense g x) same h.0)
 kept_back (g ∷ fs) (t ∷ ss) (suc i) s h e = kept_back fs ss i s h.1 e
 
 pub long_sizes : (ss : List Sense) (names : List Naming) (ts : Terms)
@@ -119,7 +119,7 @@ long_sizes ss names (OneMore a others) = ap suc (long_sizes ss names others)
 
 -- the size of an application is positive where those of its arguments are
 applied_positive : (fs : List Function) (ss : List Sense) (n : ℕ) (o : Option Found)
-    (sizes : List ℕ) → AreKept fs ss → length sizes ≡ n → ArePositive sizes
+    (sizes : List ℕ) → HaveSenses fs ss → length sizes ≡ n → ArePositive sizes
     → 0 < size_applied (sense_of ss n o) sizes
 applied_positive fs ss n None sizes h long p = omega arith
 applied_positive fs ss n (Some f) sizes h long p = at_binder f.binder
@@ -143,7 +143,7 @@ applied_positive fs ss n (Some f) sizes h long p = at_binder f.binder
 
 mutual
   pub size_positive : (fs : List Function) (ss : List Sense) (names : List Naming) (t : Term)
-      → AreKept fs ss → 0 < size_in ss names t
+      → HaveSenses fs ss → 0 < size_in ss names t
   size_positive fs ss names (Atom x) h = omega arith
   size_positive fs ss names AllEvents h = omega arith
   size_positive fs ss names EmptyRelation h = omega arith
@@ -157,7 +157,7 @@ mutual
       (long_sizes ss names ts) (sizes_positive fs ss names ts h)
 
   pub sizes_positive : (fs : List Function) (ss : List Sense) (names : List Naming) (ts : Terms)
-      → AreKept fs ss → ArePositive (sizes_in ss names ts)
+      → HaveSenses fs ss → ArePositive (sizes_in ss names ts)
   sizes_positive fs ss names NoTerm h = tt
   sizes_positive fs ss names (OneMore a others) h =
       (size_positive fs ss names a h, sizes_positive fs ss names others h)
@@ -191,15 +191,15 @@ not_too_large s sizes kinds later le = (
 pub record IsJudged (s : Sense) (sizes : List ℕ) (kinds : List Kind) (later : Option ModelFault)
     (k : Kind) (size : ℕ) (fault : Option ModelFault) : Type 0 where
   pub kind : k ≡ kind_applied (Ok s) sizes kinds
-  pub size_is : IsAlike size (size_with s sizes)
+  pub size_is : IsSameSize size (size_with s sizes)
   pub fault_is : fault ≡ fault_applied (Ok s) sizes kinds later
 
 pub is_judged : (f : Function) (s : Sense) (sizes : List ℕ) (kinds : List Kind)
     (later : Option ModelFault) (k : Kind) (size all_size combination : ℕ)
     (fault all_fault : Option ModelFault)
-    → IsKept f s → length sizes ≡ s.arity → length kinds ≡ s.arity → ArePositive sizes
-    → combination ≡ number_of kinds
-    → (f.is_oversized ≡ false → IsAlike all_size (size_with s sizes)) → all_fault ≡ later
+    → HasSense f s → length sizes ≡ s.arity → length kinds ≡ s.arity → ArePositive sizes
+    → combination ≡ kinds_number kinds
+    → (f.is_oversized ≡ false → IsSameSize all_size (size_with s sizes)) → all_fault ≡ later
     → (f.is_oversized ≡ true → (k ≡ OfAny) × (fault ≡ Some faults.TooLarge) × (4096 < size))
     → (4096 < all_size → (k ≡ OfAny) × (fault ≡ Some faults.TooLarge) × (4096 < size))
     → (f.is_oversized ≡ false → all_size ≤ 4096
@@ -241,9 +241,9 @@ is_judged f s sizes kinds later k size all_size combination fault all_fault kept
     ]
 
 pub is_function : (fs : List Function) (ss : List Sense) (n i : ℕ) (o : Option Found) (f : Found)
-    (one : Function) → AreKept fs ss → o ≡ Some f → f.binder ≡ binders.Applicable i
+    (one : Function) → HaveSenses fs ss → o ≡ Some f → f.binder ≡ binders.Applicable i
     → slice_get fs i ≡ Some one → one.arity ≡ n
-    → (s : Sense) × (sense_of ss n o ≡ Ok s) × IsKept one s
+    → (s : Sense) × (sense_of ss n o ≡ Ok s) × HasSense one s
 is_function fs ss n i o f one h o_is b_is at arity =
     let k = kept_at fs ss i one h at in (
       k.0,
@@ -256,7 +256,7 @@ is_function fs ss n i o f one h o_is b_is at arity =
     same_arity e = rw e refl
 
 pub another_arity : (fs : List Function) (ss : List Sense) (n i : ℕ) (o : Option Found) (f : Found)
-    (one : Function) → AreKept fs ss → o ≡ Some f → f.binder ≡ binders.Applicable i
+    (one : Function) → HaveSenses fs ss → o ≡ Some f → f.binder ≡ binders.Applicable i
     → slice_get fs i ≡ Some one → one.arity ≢ n → sense_of ss n o ≡ Err faults.Arity
 another_arity fs ss n i o f one h o_is b_is at arity =
     let k = kept_at fs ss i one h at in
@@ -269,7 +269,7 @@ another_arity fs ss n i o f one h o_is b_is at arity =
     other_arity s false e = refl
 
 pub no_function : (fs : List Function) (ss : List Sense) (n i : ℕ) (o : Option Found) (f : Found)
-    → AreKept fs ss → o ≡ Some f → f.binder ≡ binders.Applicable i → slice_get fs i ≡ None
+    → HaveSenses fs ss → o ≡ Some f → f.binder ≡ binders.Applicable i → slice_get fs i ≡ None
     → sense_of ss n o ≡ Err faults.Arity
 no_function fs ss n i o f h o_is b_is at =
     ap (sense_of ss n) o_is ∙ ap (sense_of_binder ss n) b_is
@@ -288,7 +288,7 @@ count_arguments (x ∷ xs) = ap suc (count_arguments xs)
 pub unfit_term : (ss : List Sense) (names : List Naming) (from : ℕ) (under : Bool) (n : List ℕ)
     (ts : Terms) (k : ModelFault) → sense_of ss (count_of ts) (found names n) ≡ Err k
     → (OfAny ≡ kind_in ss names (Apply n ts)) × (1 ≡ size_in ss names (Apply n ts))
-    × (Some k ≡ first_within ss names from under (Apply n ts))
+    × (Some k ≡ term_fault ss names from under (Apply n ts))
 unfit_term ss names from under n ts k r = (
   sym (ap (λ x. kind_applied x (sizes_in ss names ts) (kinds_in ss names ts)) r),
   sym (ap (λ x. size_applied x (sizes_in ss names ts)) r),
@@ -301,7 +301,7 @@ pub unfit : (ss : List Sense) (names : List Naming) (from : ℕ) (under : Bool) 
     (n : List ℕ) (args : Vec Expression Global) (k : ModelFault)
     → e ≡ expressions.Applied n args → sense_of ss (length args.items) (found names n) ≡ Err k
     → (OfAny ≡ kind_in ss names (values.term_of e)) × (1 ≡ size_in ss names (values.term_of e))
-    × (Some k ≡ first_within ss names from under (values.term_of e))
+    × (Some k ≡ term_fault ss names from under (values.term_of e))
 unfit ss names from under e n args k is none =
     let ts = arguments_of args in
     let t : values.term_of e ≡ Apply n ts = ap values.term_of is ∙ applied_term n args in
@@ -314,8 +314,8 @@ pub fit_term : (ss : List Sense) (names : List Naming) (from : ℕ) (under : Boo
     → sense_of ss (count_of ts) (found names n) ≡ Ok s
     → IsJudged s (sizes_in ss names ts) (kinds_in ss names ts)
     (first_among ss names from under s.is_under 0 ts) k size fault
-    → (k ≡ kind_in ss names (Apply n ts)) × IsAlike size (size_in ss names (Apply n ts))
-    × (fault ≡ first_within ss names from under (Apply n ts))
+    → (k ≡ kind_in ss names (Apply n ts)) × IsSameSize size (size_in ss names (Apply n ts))
+    × (fault ≡ term_fault ss names from under (Apply n ts))
 fit_term ss names from under n ts s k size fault r judged = (
   judged.kind ∙ sym (ap (λ x. kind_applied x (sizes_in ss names ts) (kinds_in ss names ts)) r),
   judged.size_is
@@ -332,8 +332,8 @@ pub fit : (ss : List Sense) (names : List Naming) (from : ℕ) (under : Bool) (e
     → e ≡ expressions.Applied n args → sense_of ss (length args.items) (found names n) ≡ Ok s
     → IsJudged s (sizes_in ss names (arguments_of args)) (kinds_in ss names (arguments_of args))
     (first_among ss names from under s.is_under 0 (arguments_of args)) k size fault
-    → (k ≡ kind_in ss names (values.term_of e)) × IsAlike size (size_in ss names (values.term_of e))
-    × (fault ≡ first_within ss names from under (values.term_of e))
+    → (k ≡ kind_in ss names (values.term_of e)) × IsSameSize size (size_in ss names (values.term_of e))
+    × (fault ≡ term_fault ss names from under (values.term_of e))
 fit ss names from under e n args s k size fault is there judged =
     let ts = arguments_of args in
     let t : values.term_of e ≡ Apply n ts = ap values.term_of is ∙ applied_term n args in
@@ -362,29 +362,29 @@ pub next_combination : (ss : List Sense) (names : List Naming) (xs : List Expres
     (e : Expression) (c after : ℕ) (k : Kind) (n : ℕ) → n ≡ length xs → n ≤ 8 → i < length xs
     → e ≡ get_or xs i e
     → k ≡ kind_in ss names (values.term_of e) → (i < 8 → c < 6561 → after ≡ c + digit k * 3 ^ i)
-    → c + 3 ^ i * number_of (kinds_in ss names (gathered (map values.term_of (drop i xs))))
-    ≡ number_of (kinds_in ss names (gathered (map values.term_of xs)))
+    → c + 3 ^ i * kinds_number (kinds_in ss names (gathered (map values.term_of (drop i xs))))
+    ≡ kinds_number (kinds_in ss names (gathered (map values.term_of xs)))
     → after + 3 ^ (i + 1)
-    * number_of (kinds_in ss names (gathered (map values.term_of (drop (i + 1) xs))))
-    ≡ number_of (kinds_in ss names (gathered (map values.term_of xs)))
+    * kinds_number (kinds_in ss names (gathered (map values.term_of (drop (i + 1) xs))))
+    ≡ kinds_number (kinds_in ss names (gathered (map values.term_of xs)))
 next_combination ss names xs i e c after k n long few lt is k_is after_is inv =
     let rest = kinds_in ss names (gathered (map values.term_of (drop (i + 1) xs))) in
     let whole = kinds_in ss names (gathered (map values.term_of xs)) in
     let length_is : length whole ≡ length xs = long_kinds ss names (gathered (map values.term_of xs)) ∙ count_arguments xs in
-    let bound : number_of whole < 6561 = below_table whole (omega (arith, length_is, long, few)) in
+    let bound : kinds_number whole < 6561 = below_table whole (omega (arith, length_is, long, few)) in
     let small : c < 6561 = omega (arith, inv, bound) in
-    let open_inv : c + 3 ^ i * number_of (kind_in ss names (values.term_of e) ∷ rest) ≡ number_of whole =
-    sym (ap (λ (t : Terms). c + 3 ^ i * number_of (kinds_in ss names t)) (next xs i e lt is))
+    let open_inv : c + 3 ^ i * kinds_number (kind_in ss names (values.term_of e) ∷ rest) ≡ kinds_number whole =
+    sym (ap (λ (t : Terms). c + 3 ^ i * kinds_number (kinds_in ss names t)) (next xs i e lt is))
     ∙ inv in
-    ap (λ (m : ℕ). m + 3 ^ (i + 1) * number_of rest) (after_is (omega (arith, lt, long, few)) small
+    ap (λ (m : ℕ). m + 3 ^ (i + 1) * kinds_number rest) (after_is (omega (arith, lt, long, few)) small
     ∙ ap (λ (x : Kind). c + digit x * 3 ^ i) k_is)
-    ∙ combined c (number_of whole) i (kind_in ss names (values.term_of e)) rest open_inv
+    ∙ combined c (kinds_number whole) i (kind_in ss names (values.term_of e)) rest open_inv
 
 pub next_fault : (ss : List Sense) (names : List Naming) (from : ℕ) (under : Bool)
     (turned : ℕ → Bool) (xs : List Expression) (i : ℕ) (e : Expression)
     (before after one : Option ModelFault) (inner : Bool) (total : Option ModelFault)
     → i < length xs → e ≡ get_or xs i e
-    → inner ≡ (under || turned i) → one ≡ first_within ss names from inner (values.term_of e)
+    → inner ≡ (under || turned i) → one ≡ term_fault ss names from inner (values.term_of e)
     → after ≡ or_else before one
     → or_else before (first_among ss names from under turned i
     (gathered (map values.term_of (drop i xs)))) ≡ total
@@ -393,10 +393,10 @@ pub next_fault : (ss : List Sense) (names : List Naming) (from : ℕ) (under : B
 next_fault ss names from under turned xs i e before after one inner total lt is inner_is one_is
     after_is inv =
     let rest = gathered (map values.term_of (drop (i + 1) xs)) in
-    let open_inv : or_else before (or_else (first_within ss names from (under || turned i) (values.term_of e)) (first_among ss names from under turned (suc i) rest)) ≡ total =
+    let open_inv : or_else before (or_else (term_fault ss names from (under || turned i) (values.term_of e)) (first_among ss names from under turned (suc i) rest)) ≡ total =
     sym (ap (λ (t : Terms). or_else before (first_among ss names from under turned i t))
     (next xs i e lt is)) ∙ inv in
-    let one_is_so : one ≡ first_within ss names from (under || turned i) (values.term_of e) = one_is ∙ ap (λ (b : Bool). first_within ss names from b (values.term_of e)) inner_is in
+    let one_is_so : one ≡ term_fault ss names from (under || turned i) (values.term_of e) = one_is ∙ ap (λ (b : Bool). term_fault ss names from b (values.term_of e)) inner_is in
     ap (λ (n : ℕ). or_else after (first_among ss names from under turned n rest)) (add-one i)
     ∙ ap
     (λ (o : Option ModelFault). or_else o (first_among ss names from under turned (suc i) rest))
@@ -406,18 +406,18 @@ next_fault ss names from under turned xs i e before after one inner total lt is 
 
 pub next_size : (ss : List Sense) (names : List Naming) (f : ℕ → ℕ) (xs : List Expression) (i : ℕ)
     (e : Expression) (before after g one total : ℕ) → i < length xs → e ≡ get_or xs i e
-    → g ≡ f i → IsAlike one (size_in ss names (values.term_of e)) → IsAlike after (before + g * one)
-    → IsAlike
+    → g ≡ f i → IsSameSize one (size_in ss names (values.term_of e)) → IsSameSize after (before + g * one)
+    → IsSameSize
     (before
     + size_of_arguments f i (sizes_in ss names (gathered (map values.term_of (drop i xs)))))
     total
-    → IsAlike
+    → IsSameSize
     (after
     + size_of_arguments f (i + 1) (sizes_in ss names
     (gathered (map values.term_of (drop (i + 1) xs))))) total
 next_size ss names f xs i e before after g one total lt is g_is one_is after_is inv =
     let rest = sizes_in ss names (gathered (map values.term_of (drop (i + 1) xs))) in
-    let open_inv : IsAlike (before + size_of_arguments f i (size_in ss names (values.term_of e) ∷ rest)) total =
+    let open_inv : IsSameSize (before + size_of_arguments f i (size_in ss names (values.term_of e) ∷ rest)) total =
     sym (ap (λ (t : Terms). min (before + size_of_arguments f i (sizes_in ss names t)) 4097)
     (next xs i e lt is)) ∙ inv in
     ap (λ (n : ℕ). min (after + size_of_arguments f n rest) 4097) (add-one i)
@@ -460,15 +460,15 @@ pub finished : (fs : List Function) (ss : List Sense) (names : List Naming) (fro
     (under : Bool) (e : Expression) (n : List ℕ) (args : Vec Expression Global) (f : Function)
     (s : Sense) (m p all_comb all_size : ℕ) (all_fault : Option ModelFault) (k : Kind) (size : ℕ)
     (fault : Option ModelFault)
-    → AreKept fs ss → e ≡ expressions.Applied n args → m ≡ length args.items
-    → sense_of ss m (found names n) ≡ Ok s → IsKept f s → length args.items ≤ p
+    → HaveSenses fs ss → e ≡ expressions.Applied n args → m ≡ length args.items
+    → sense_of ss m (found names n) ≡ Ok s → HasSense f s → length args.items ≤ p
     → (length args.items ≡ s.arity
     → all_comb + 3 ^ p
-    * number_of (kinds_in ss names
+    * kinds_number (kinds_in ss names
     (gathered (map values.term_of (drop p args.items))))
-    ≡ number_of (kinds_in ss names (arguments_of args)))
+    ≡ kinds_number (kinds_in ss names (arguments_of args)))
     → (length args.items ≡ s.arity → f.is_oversized ≡ false
-    → IsAlike
+    → IsSameSize
     (all_size
     + size_of_arguments (factor_of s.formula) p (sizes_in ss names
     (gathered (map values.term_of (drop p args.items)))))
@@ -485,16 +485,16 @@ pub finished : (fs : List Function) (ss : List Sense) (names : List Naming) (fro
     ≡ or_else
     (unless (not (get_or f.signatures.items all_comb unknown).clashes)
     faults.Kind) all_fault) × (size ≡ all_size))
-    → (k ≡ kind_in ss names (values.term_of e)) × IsAlike size (size_in ss names (values.term_of e))
-    × (fault ≡ first_within ss names from under (values.term_of e))
+    → (k ≡ kind_in ss names (values.term_of e)) × IsSameSize size (size_in ss names (values.term_of e))
+    × (fault ≡ term_fault ss names from under (values.term_of e))
 finished fs ss names from under e n args f s m p all_comb all_size all_fault k size fault kept is
     m_is there one past comb sizes faulty over large small =
     let ts = arguments_of args in
     let none = drop_past args.items p past in
     let long : length args.items ≡ s.arity = sym m_is ∙ sym (found_arity ss m (found names n) s there) in
-    let comb_is : all_comb ≡ number_of (kinds_in ss names ts) =
-    let h = sym (ap (λ (l : List Expression). all_comb + 3 ^ p * number_of (kinds_in ss names (gathered (map values.term_of l)))) none) ∙ comb long in omega (arith, h) in
-    let size_is : f.is_oversized ≡ false → IsAlike all_size (size_with s (sizes_in ss names ts)) =
+    let comb_is : all_comb ≡ kinds_number (kinds_in ss names ts) =
+    let h = sym (ap (λ (l : List Expression). all_comb + 3 ^ p * kinds_number (kinds_in ss names (gathered (map values.term_of l)))) none) ∙ comb long in omega (arith, h) in
+    let size_is : f.is_oversized ≡ false → IsSameSize all_size (size_with s (sizes_in ss names ts)) =
     λ b.
     let h =
     sym (ap
@@ -521,15 +521,15 @@ finished fs ss names from under e n args f s m p all_comb all_size all_fault k s
     comb_is size_is fault_is over large small)
 
 -- as many functions as there are
-pub kept_long : (fs : List Function) (ss : List Sense) → AreKept fs ss → length fs ≡ length ss
+pub kept_long : (fs : List Function) (ss : List Sense) → HaveSenses fs ss → length fs ≡ length ss
 kept_long [] [] h = refl
 kept_long [] (s ∷ ss) h = absurd h
 kept_long (f ∷ fs) [] h = absurd h
 kept_long (f ∷ fs) (s ∷ ss) h = ap suc (kept_long fs ss h.1)
 
 -- one function more
-pub kept_more : (fs : List Function) (ss : List Sense) (f : Function) (s : Sense) → AreKept fs ss
-    → IsKept f s → AreKept (fs ++ f ∷ []) (ss ++ s ∷ [])
+pub kept_more : (fs : List Function) (ss : List Sense) (f : Function) (s : Sense) → HaveSenses fs ss
+    → HasSense f s → HaveSenses (fs ++ f ∷ []) (ss ++ s ∷ [])
 kept_more [] [] f s h one = (one, tt)
 kept_more [] (t ∷ ss) f s h one = absurd h
 kept_more (g ∷ fs) [] f s h one = absurd h

@@ -3,7 +3,7 @@ use Rattle.std.proofs.Common.{ℕ, zero, suc, ◌≡◌, ◌<◌, ◌+◌, ◌*�
 use Rattle.std.proofs.Math.Nat.{add-mul-mod_self_left, add-mul-div_left, div-div-eq-div-mul, div-one, pow-succ'}
 use Rattle.binding_kinds.specs.declared.kinds.Kind.{Kind}
 use Rattle.binding_kinds.specs.declared.kinds.Kind.TheVariants.{OfSet, OfRelation, OfAny}
-use Rattle.binding_kinds.specs.Combinations.{digit, number_of, is_any, has_any}
+use Rattle.binding_kinds.specs.Combinations.{digit, kinds_number, is_any, has_any}
 
 lowest : (k : Kind) (n : ℕ) → (digit k + 3 * n) % 3 ≡ digit k
 lowest k n = add-mul-mod_self_left (digit k) 3 n ∙ at_kind k
@@ -22,17 +22,17 @@ others k n = add-mul-div_left (digit k) n (omega arith) ∙ at_kind k
     at_kind OfAny = omega arith
 
 digit_at : (p : ℕ) (ks : List Kind) (d : Kind) → p < length ks
-    → number_of ks / 3 ^ p % 3 ≡ digit (get_or ks p d)
+    → kinds_number ks / 3 ^ p % 3 ≡ digit (get_or ks p d)
 digit_at p [] d lt = absurd (omega arith)
 digit_at zero (k ∷ ks) d lt =
-    ap (λ (n : ℕ). n % 3) (div-one (number_of (k ∷ ks))) ∙ lowest k (number_of ks)
+    ap (λ (n : ℕ). n % 3) (div-one (kinds_number (k ∷ ks))) ∙ lowest k (kinds_number ks)
 digit_at (suc p) (k ∷ ks) d lt =
-    ap (λ (n : ℕ). n % 3) (ap (λ (m : ℕ). number_of (k ∷ ks) / m) (pow-succ' 3 p)
-    ∙ sym (div-div-eq-div-mul (number_of (k ∷ ks)) 3 (3 ^ p))
-    ∙ ap (λ (n : ℕ). n / 3 ^ p) (others k (number_of ks)))
+    ap (λ (n : ℕ). n % 3) (ap (λ (m : ℕ). kinds_number (k ∷ ks) / m) (pow-succ' 3 p)
+    ∙ sym (div-div-eq-div-mul (kinds_number (k ∷ ks)) 3 (3 ^ p))
+    ∙ ap (λ (n : ℕ). n / 3 ^ p) (others k (kinds_number ks)))
     ∙ digit_at p ks d (omega arith)
 
-pub digit_of : (p n w : ℕ) (ks : List Kind) (d : Kind) → n ≡ number_of ks → w ≡ 3 ^ p
+pub digit_of : (p n w : ℕ) (ks : List Kind) (d : Kind) → n ≡ kinds_number ks → w ≡ 3 ^ p
     → p < length ks → n / w % 3 ≡ digit (get_or ks p d)
 digit_of p n w ks d n_is w_is lt = rw (n_is, w_is) (digit_at p ks d lt)
 
@@ -66,17 +66,17 @@ any_digit OfSet n e a b = absurd (a e)
 any_digit OfRelation n e a b = absurd (b e)
 any_digit OfAny n e a b = refl
 
-pub set_at : (p n w : ℕ) (ks : List Kind) (d : Kind) → n ≡ number_of ks → w ≡ 3 ^ p → p < length ks
+pub set_at : (p n w : ℕ) (ks : List Kind) (d : Kind) → n ≡ kinds_number ks → w ≡ 3 ^ p → p < length ks
     → n / w % 3 ≡ 0 → OfSet ≡ get_or ks p d
 set_at p n w ks d n_is w_is lt z =
     set_digit (get_or ks p d) (sym z ∙ digit_of p n w ks d n_is w_is lt)
 
-pub relation_at : (p n w : ℕ) (ks : List Kind) (d : Kind) → n ≡ number_of ks → w ≡ 3 ^ p
+pub relation_at : (p n w : ℕ) (ks : List Kind) (d : Kind) → n ≡ kinds_number ks → w ≡ 3 ^ p
     → p < length ks → n / w % 3 ≡ 1 → OfRelation ≡ get_or ks p d
 relation_at p n w ks d n_is w_is lt z =
     relation_digit (get_or ks p d) (sym z ∙ digit_of p n w ks d n_is w_is lt)
 
-pub any_at : (p n w : ℕ) (ks : List Kind) (d : Kind) → n ≡ number_of ks → w ≡ 3 ^ p → p < length ks
+pub any_at : (p n w : ℕ) (ks : List Kind) (d : Kind) → n ≡ kinds_number ks → w ≡ 3 ^ p → p < length ks
     → n / w % 3 ≢ 0 → n / w % 3 ≢ 1 → OfAny ≡ get_or ks p d
 any_at p n w ks d n_is w_is lt a b =
     any_digit (get_or ks p d) (n / w % 3) (digit_of p n w ks d n_is w_is lt) a b

@@ -11,8 +11,8 @@ use Rattle.binding_kinds.specs.declared.scope.Binder.{Binder}
 use Rattle.binding_kinds.specs.declared.scope.Binder.TheVariants as binders
 use Rattle.binding_kinds.specs.Value.{Naming}
 use Rattle.binding_kinds.specs.Kinds.{found, takes, is_relation, is_set, is_turned}
-use Rattle.binding_kinds.specs.Senses.{Sense, size_with, sense_of, count_of, sizes_in, kind_in, kinds_in, under_of, fault_applied, first_within, first_among}
-use Rattle.binding_kinds.specs.Faults.{width, widths, IsFaultOfUse, IsFaultOfName, IsFaultOfApplication, IsFaultAt, IsFaultAmong, IsFirst, IsNoLater}
+use Rattle.binding_kinds.specs.Senses.{Sense, size_with, sense_of, count_of, sizes_in, kind_in, kinds_in, under_of, fault_applied, term_fault, first_among}
+use Rattle.binding_kinds.specs.Faults.{width, widths, IsFaultOfUse, IsFaultOfName, IsFaultOfApplication, IsFaultAt, IsFaultAmong, IsFirst, IsFaultNoLater}
 use Rattle.binding_kinds.specs.Verdict.{or_else, unless, of_name, of_use, of_slot}
 
 -- the first of these faults, or that there is none
@@ -42,7 +42,7 @@ in_turn F G n (Some k) q low high f g = record {
   ];
 }
 
-later_stays : (n a b : ℕ) (k l : ModelFault) → IsNoLater a k b l → IsNoLater (n + a) k (n + b) l
+later_stays : (n a b : ℕ) (k l : ModelFault) → IsFaultNoLater a k b l → IsFaultNoLater (n + a) k (n + b) l
 later_stays n a b k l h =
     elim h [ inl lt ↦ inl (omega arith) | inr (e, r) ↦ inr (ap (λ (x : ℕ). n + x) e, r) ]
 
@@ -213,7 +213,7 @@ applied (Ok s) sizes kinds G later high g =
 
 mutual
   pub judged : (ss : List Sense) (names : List Naming) (from : ℕ) (under : Bool) (t : Term)
-      → Judges (IsFaultAt ss names from under t) (first_within ss names from under t)
+      → Judges (IsFaultAt ss names from under t) (term_fault ss names from under t)
   judged ss names from under (Atom x) = named from under (found names x)
   judged ss names from under AllEvents = λ p k h. absurd h
   judged ss names from under EmptyRelation = λ p k h. absurd h

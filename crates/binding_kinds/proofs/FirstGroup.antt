@@ -9,7 +9,7 @@ use Rattle.binding_kinds.specs.Value.{Naming, Bound}
 use Rattle.binding_kinds.specs.Senses.{Sense, kind_in}
 use Rattle.binding_kinds.specs.Faults.{width, IsAmong, IsFaultAt, IsFaultOfBinding, IsFaultIn}
 use Rattle.binding_kinds.specs.Verdict.{is_seen, is_of_set}
-use Rattle.binding_kinds.specs.First.{of_binding, first_in}
+use Rattle.binding_kinds.specs.First.{let_fault, first_in}
 use Rattle.binding_kinds.proofs.First.{Judges, in_turn, judged_after, inside, judged}
 
 pub seen_is : (ns : List (List ℕ)) (x : List ℕ) → is_seen ns x ≡ true → IsAmong ns x
@@ -42,7 +42,7 @@ set_of_true k e = rw e refl
 judged_binding : (ss : List Sense) (names : List Naming) (recursive : Bool)
     (earlier : List (List ℕ)) (b : Bound)
     → Judges (λ p k. (p ≡ 0) × IsFaultOfBinding ss names recursive earlier b k)
-    (of_binding ss names recursive earlier b)
+    (let_fault ss names recursive earlier b)
 judged_binding ss names recursive earlier b =
     at_tests recursive (is_seen earlier b.name) (is_of_set (kind_in ss names b.body))
     (seen_is earlier b.name) (is_seen_of earlier b.name) (of_set (kind_in ss names b.body))

@@ -6,13 +6,13 @@ use Rattle.text_values.specs.ModelValue.{Term, Terms, Atom, AllEvents, EmptyRela
 use Rattle.binding_kinds.specs.declared.fault.ModelFault.{ModelFault}
 use Rattle.binding_kinds.specs.declared.fault.ModelFault.TheVariants as faults
 use Rattle.binding_kinds.specs.declared.scope.Found.{Found}
-use Rattle.binding_kinds.specs.Value.{Naming, Clause, Group, Check, Mute, Defined}
+use Rattle.binding_kinds.specs.Value.{Naming, BareItem, Group, Check, Mute, Defined}
 use Rattle.binding_kinds.specs.Kinds.{found, takes_body}
 use Rattle.binding_kinds.specs.Meanings.{parameter_of}
 use Rattle.binding_kinds.specs.Senses.{Sense, sense_of, count_of, kind_in}
-use Rattle.binding_kinds.specs.Faults.{width, widths, IsAmong, IsFaultAt, IsFaultOfParameter, IsFaultOfParameters, IsFaultInside, IsFaultApplied, IsFaultOfBody, IsFaultOfBodies, IsFaultOfItem, FirstFault, HasNoFault, with_own, extended, senses_after}
+use Rattle.binding_kinds.specs.Faults.{width, widths, IsAmong, IsFaultAt, IsFaultOfParameter, IsFaultOfParameters, IsFaultInside, IsFaultApplied, IsFaultOfBody, IsFaultOfBodies, IsFaultOfItem, FirstFault, HasNoFault, with_own, names_after, senses_after}
 use Rattle.binding_kinds.specs.Verdict.{or_else, unless, is_seen, of_parameter, of_parameters}
-use Rattle.binding_kinds.specs.First.{of_inside, of_applied, first_of_body, first_of_bodies, first_of_item, first}
+use Rattle.binding_kinds.specs.First.{fault_inside, apply_fault, first_of_body, first_of_bodies, first_of_item, first}
 use Rattle.binding_kinds.proofs.First.{Judges, in_turn, judged_after, tested, named, judged}
 use Rattle.binding_kinds.proofs.FirstGroup.{seen_is, is_seen_of, judged_in}
 
@@ -77,7 +77,7 @@ judged_parameters earlier (x ∷ xs) =
     (judged_parameters (x ∷ earlier) xs))
 
 judged_inside : (o : Option ℕ) (f : Option Found)
-    → Judges (λ p k. (p ≡ 0) × IsFaultInside o f k) (of_inside o f)
+    → Judges (λ p k. (p ≡ 0) × IsFaultInside o f k) (fault_inside o f)
 judged_inside None f = named 0 false f
 judged_inside (Some i) f = λ p k h. absurd h.1
 
@@ -90,7 +90,7 @@ only l =
     }
 
 judged_applied : (o : Option ℕ) (f : Result Sense ModelFault)
-    → Judges (λ p k. (p ≡ 0) × IsFaultApplied o f k) (of_applied o f)
+    → Judges (λ p k. (p ≡ 0) × IsFaultApplied o f k) (apply_fault o f)
 judged_applied (Some i) f = only faults.Arity
 judged_applied None (Ok s) = λ p k h. absurd h.1
 judged_applied None (Err l) = only l
@@ -158,7 +158,7 @@ mutual
       (judged_body ss names ps a) (judged_after (IsFaultOfBodies ss names ps others) (width a) _
       (judged_bodies ss names ps others))
 
-pub judged_item : (ss : List Sense) (names : List Naming) (item : ℕ) (c : Clause)
+pub judged_item : (ss : List Sense) (names : List Naming) (item : ℕ) (c : BareItem)
     → Judges (IsFaultOfItem ss names item c) (first_of_item ss names item c)
 judged_item ss names item (Group true bs) =
     judged_in ss (with_own names item 0 bs) (length names) true [] bs
@@ -175,13 +175,13 @@ judged_item ss names item (Defined n ps b) =
     (judged_body ss names ps b))
 
 -- the first fault of the items, or that there is none
-abbrev pub JudgesItems : List Sense → List Naming → ℕ → List Clause → Option ModelFault → Type 0
+abbrev pub JudgesItems : List Sense → List Naming → ℕ → List BareItem → Option ModelFault → Type 0
 JudgesItems ss names from cs None = HasNoFault ss names from cs
 JudgesItems ss names from cs (Some k) = FirstFault ss names from cs k
 
-after_item : (ss : List Sense) (names : List Naming) (from : ℕ) (c : Clause) (cs : List Clause)
+after_item : (ss : List Sense) (names : List Naming) (from : ℕ) (c : BareItem) (cs : List BareItem)
     (o q : Option ModelFault) → Judges (IsFaultOfItem ss names from c) o
-    → JudgesItems (senses_after ss names c) (extended ss names from c) (from + 1) cs q
+    → JudgesItems (senses_after ss names c) (names_after ss names from c) (from + 1) cs q
     → JudgesItems ss names from (c ∷ cs) (or_else o q)
 after_item ss names from c cs None None f g =
     λ i p k h. elim h [ inl (e, a) ↦ f p k a | inr (after, e, b) ↦ g after p k b ]
@@ -207,13 +207,13 @@ after_item ss names from c cs (Some k) q f g = record {
   ];
 }
 
-pub judged_items : (ss : List Sense) (names : List Naming) (from : ℕ) (cs : List Clause)
+pub judged_items : (ss : List Sense) (names : List Naming) (from : ℕ) (cs : List BareItem)
     → JudgesItems ss names from cs (first ss names from cs)
 judged_items ss names from [] = λ i p k h. absurd h
 judged_items ss names from (c ∷ cs) =
     after_item ss names from c cs (first_of_item ss names from c)
-    (first (senses_after ss names c) (extended ss names from c) (from + 1) cs)
-    (judged_item ss names from c) (judged_items (senses_after ss names c) (extended ss names from c)
+    (first (senses_after ss names c) (names_after ss names from c) (from + 1) cs)
+    (judged_item ss names from c) (judged_items (senses_after ss names c) (names_after ss names from c)
     (from + 1) cs)
 
 -- parameters without fault are at most eight

@@ -10,13 +10,13 @@ use Rattle.binding_kinds.specs.declared.scope.Found.{Found}
 use Rattle.binding_kinds.specs.declared.scope.Binder.{Binder}
 use Rattle.binding_kinds.specs.declared.scope.Binder.TheVariants as binders
 use Rattle.text_values.specs.ModelValue.{Term, Terms, Atom, AllEvents, EmptyRelation, EmptySet, Join, Mark, Not, On, Apply, NoTerm, OneMore}
-use Rattle.binding_kinds.specs.Value.{Naming, Bound, Clause, Group, Check, Mute, Defined}
+use Rattle.binding_kinds.specs.Value.{Naming, Bound, BareItem, Group, Check, Mute, Defined}
 use Rattle.binding_kinds.specs.Kinds.{found, takes, is_relation, is_set, is_turned, joined, marked, narrowed, kind_found}
-use Rattle.binding_kinds.specs.Senses.{Sense, size_with, sense_of, count_of, sizes_in, kind_in, kinds_in, kind_applied, fault_applied, first_within, first_among, under_of}
-use Rattle.binding_kinds.specs.Faults.{with_own, with_all, extended, senses_after}
+use Rattle.binding_kinds.specs.Senses.{Sense, size_with, sense_of, count_of, sizes_in, kind_in, kinds_in, kind_applied, fault_applied, term_fault, first_among, under_of}
+use Rattle.binding_kinds.specs.Faults.{with_own, with_all, names_after, senses_after}
 use Rattle.binding_kinds.specs.Verdict.{or_else, unless, of_parameters}
-use Rattle.binding_kinds.specs.First.{of_binding, first_in, first_of_body, first_of_item}
-use Rattle.binding_kinds.specs.Fits.{IsKnown, IsValue, IsKnownValue, IsFitApplied, IsFit, AreFitArguments, AreFit, AreSound, kind_of, IsTyped, AreKnown}
+use Rattle.binding_kinds.specs.First.{let_fault, first_in, first_of_body, first_of_item}
+use Rattle.binding_kinds.specs.Fits.{IsKnown, IsValue, IsKnownValue, IsFitApplied, IsFit, AreFitArguments, AreFit, AreSoundSenses, kind_of, IsTyped, AreKnown}
 use Rattle.binding_kinds.specs.Formula.{Formula}
 use Rattle.binding_kinds.specs.Functions.{sense_seen, bound_formula, named_formula, applied_formula, formula_in, formulas_in, sense_of_function}
 use Rattle.binding_kinds.proofs.Applications.{found_arity, long_kinds}
@@ -56,13 +56,13 @@ fit_applied (Ok s) sizes kinds later e =
 mutual
   -- an expression without fault
   pub fit : (ss : List Sense) (names : List Naming) (from : ℕ) (under : Bool) (t : Term)
-      → AreKnown names → first_within ss names from under t ≡ None → IsFit ss names t
+      → AreKnown names → term_fault ss names from under t ≡ None → IsFit ss names t
   fit ss names from under (Atom x) h e = known_name names x from under (found names x) h refl e
   fit ss names from under AllEvents h e = tt
   fit ss names from under EmptyRelation h e = tt
   fit ss names from under EmptySet h e = tt
   fit ss names from under (Join op a b) h e =
-      let rest = none_later (first_within ss names from under a) _ e in
+      let rest = none_later (term_fault ss names from under a) _ e in
       let here = none_first (unless (takes op (kind_in ss names a) (kind_in ss names b)) faults.Kind) _ rest in (
         fit ss names from under a h (none_first _ _ e),
         fit ss names from (is_turned op under) b h (none_later
@@ -72,14 +72,14 @@ mutual
   fit ss names from under (Mark op a) h e = (
     fit ss names from under a h (none_first _ _ e),
     holds (is_relation (kind_in ss names a)) faults.Kind
-        (none_later (first_within ss names from under a) _ e),
+        (none_later (term_fault ss names from under a) _ e),
   )
   fit ss names from under (Not a) h e = fit ss names from true a h e
   fit ss names from under (On a) h e = (
     fit ss names from under a h (none_later (unless (is_set (kind_in ss names a)) faults.Kind) _
         e),
     holds (is_set (kind_in ss names a)) faults.Kind
-        (none_first _ (first_within ss names from under a) e),
+        (none_first _ (term_fault ss names from under a) e),
   )
   fit ss names from under (Apply x ts) h e =
       let f = sense_of ss (count_of ts) (found names x) in
@@ -93,7 +93,7 @@ mutual
   fit_arguments ss names from under turned i (OneMore a others) h e = (
     fit ss names from (under || turned i) a h (none_first _ _ e),
     fit_arguments ss names from under turned (suc i) others h
-        (none_later (first_within ss names from (under || turned i) a) _ e),
+        (none_later (term_fault ss names from (under || turned i) a) _ e),
   )
 
 -- ---- with the functions put in
@@ -121,7 +121,7 @@ seen_plainly ss names n x s e = rw e refl
 -- an application whose arguments are typed
 applied_typed : (ss : List Sense) (names : List Naming) (n : ℕ) (x : List ℕ) (sizes : List ℕ)
     (kinds : List Kind) (fs : List Formula) (r : Result Sense ModelFault)
-    → sense_of ss n (found names x) ≡ r → AreSound ss → length kinds ≡ n → AreTyped [] fs kinds
+    → sense_of ss n (found names x) ≡ r → AreSoundSenses ss → length kinds ≡ n → AreTyped [] fs kinds
     → IsFitApplied r sizes kinds
     → IsTyped [] (applied_formula (sense_seen ss names [] n x) fs)
     × (kind_of [] (applied_formula (sense_seen ss names [] n x) fs)
@@ -135,7 +135,7 @@ applied_typed ss names n x sizes kinds fs (Ok s) is sound long typed fit =
 
 mutual
   -- what fits is typed, with the same kind
-  pub fit_typed : (ss : List Sense) (names : List Naming) (t : Term) → AreSound ss
+  pub fit_typed : (ss : List Sense) (names : List Naming) (t : Term) → AreSoundSenses ss
       → IsFit ss names t
       → IsTyped [] (formula_in ss names [] t)
       × (kind_of [] (formula_in ss names [] t) ≡ kind_in ss names t)
@@ -161,7 +161,7 @@ mutual
       (formulas_in ss names [] ts) (sense_of ss (count_of ts) (found names x)) refl sound
       (long_kinds ss names ts) (arguments_typed ss names ts sound h.1) h.0
 
-  arguments_typed : (ss : List Sense) (names : List Naming) (ts : Terms) → AreSound ss
+  arguments_typed : (ss : List Sense) (names : List Naming) (ts : Terms) → AreSoundSenses ss
       → AreFitArguments ss names ts
       → AreTyped [] (formulas_in ss names [] ts) (kinds_in ss names ts)
   arguments_typed ss names NoTerm sound h = tt
@@ -169,7 +169,7 @@ mutual
       (fit_typed ss names a sound h.0, arguments_typed ss names others sound h.1)
 
 -- what fits is a set or a relation
-pub fit_known : (ss : List Sense) (names : List Naming) (t : Term) → AreSound ss → IsFit ss names t
+pub fit_known : (ss : List Sense) (names : List Naming) (t : Term) → AreSoundSenses ss → IsFit ss names t
     → IsKnown (kind_in ss names t)
 fit_known ss names t sound h =
     let l = fit_typed ss names t sound h in
@@ -180,10 +180,10 @@ pub fit_in : (ss : List Sense) (names : List Naming) (from : ℕ) (recursive : B
     → first_in ss names from recursive earlier bs ≡ None → AreFit ss names bs
 fit_in ss names from recursive earlier [] h e = tt
 fit_in ss names from recursive earlier (b ∷ bs) h e =
-    let rest = none_later (of_binding ss names recursive earlier b) _ e in (
+    let rest = none_later (let_fault ss names recursive earlier b) _ e in (
       fit ss names from false b.body h (none_first _ _ rest),
       fit_in ss names from recursive (b.name ∷ earlier) bs h (none_later
-          (first_within ss names from false b.body) _ rest),
+          (term_fault ss names from false b.body) _ rest),
     )
 
 pub known_own : (names : List Naming) (item at : ℕ) (bs : List Bound) → AreKnown names
@@ -192,7 +192,7 @@ known_own names item at [] h = h
 known_own names item at (b ∷ bs) h = known_own _ item (suc at) bs (tt, h)
 
 known_all : (ss : List Sense) (outer : List Naming) (item at : ℕ) (bs : List Bound)
-    (names : List Naming) → AreSound ss → AreKnown names → AreFit ss outer bs
+    (names : List Naming) → AreSoundSenses ss → AreKnown names → AreFit ss outer bs
     → AreKnown (with_all ss outer names item at bs)
 known_all ss outer item at [] names sound h f = h
 known_all ss outer item at (b ∷ bs) names sound h f =
@@ -201,8 +201,8 @@ known_all ss outer item at (b ∷ bs) names sound h f =
     f.1
 
 -- its names are known
-pub known_item : (ss : List Sense) (names : List Naming) (item : ℕ) (c : Clause) → AreSound ss
-    → AreKnown names → first_of_item ss names item c ≡ None → AreKnown (extended ss names item c)
+pub known_item : (ss : List Sense) (names : List Naming) (item : ℕ) (c : BareItem) → AreSoundSenses ss
+    → AreKnown names → first_of_item ss names item c ≡ None → AreKnown (names_after ss names item c)
 known_item ss names item (Group true bs) sound h e = known_own names item 0 bs h
 known_item ss names item (Group false bs) sound h e =
     known_all ss names item 0 bs names sound h (fit_in ss names (length names) false [] bs h e)
@@ -211,8 +211,8 @@ known_item ss names item Mute sound h e = h
 known_item ss names item (Defined n ps b) sound h e = (tt, h)
 
 -- after an item without fault the functions are sound
-pub sound_item : (ss : List Sense) (names : List Naming) (item : ℕ) (c : Clause) → AreSound ss
-    → AreKnown names → first_of_item ss names item c ≡ None → AreSound (senses_after ss names c)
+pub sound_item : (ss : List Sense) (names : List Naming) (item : ℕ) (c : BareItem) → AreSoundSenses ss
+    → AreKnown names → first_of_item ss names item c ≡ None → AreSoundSenses (senses_after ss names c)
 sound_item ss names item (Group r bs) sound h e = sound
 sound_item ss names item (Check w b) sound h e = sound
 sound_item ss names item Mute sound h e = sound

@@ -7,7 +7,7 @@ use Rattle.std.proofs.lemmas.Bool.{eq-eqb, cases_eq, cases_lt}
 use Rattle.binding_kinds.specs.declared.function.Piece.TheVariants as pieces
 use Rattle.binding_kinds.specs.declared.function.Function.{Function}
 use Rattle.binding_kinds.specs.Formula.{Formula, Value, Parameter, Everything, NoPairs, NoEvents, Joined, Marked, Complement, Identity, constant_of, factor_of, HasParameters, postfix}
-use Rattle.binding_kinds.specs.Senses.{Sense, size_of_arguments, size_with, ArePositive, IsKept}
+use Rattle.binding_kinds.specs.Senses.{Sense, size_of_arguments, size_with, ArePositive, HasSense}
 
 pub args_both : (f g : ℕ → ℕ) (from : ℕ) (sizes : List ℕ)
     → size_of_arguments (λ p. f p + g p) from sizes
@@ -90,14 +90,14 @@ some_piece (Identity a) =
     let l = some_piece a in
     let n = length-append (postfix a) (pieces.Identity ∷ []) in omega (arith, l, n)
 
-pub kept_positive : (f : Function) (s : Sense) → IsKept f s → (sizes : List ℕ)
+pub kept_positive : (f : Function) (s : Sense) → HasSense f s → (sizes : List ℕ)
     → length sizes ≡ s.arity → ArePositive sizes → 0 < size_with s sizes
 kept_positive f s kept sizes long pos =
     let h = size_least sizes s.formula pos (rw long kept.within) in
     let p = some_piece s.formula in
     omega (arith, h, p)
 
-pub kept_large : (f : Function) (s : Sense) → IsKept f s → (sizes : List ℕ) → f.is_oversized ≡ true
+pub kept_large : (f : Function) (s : Sense) → HasSense f s → (sizes : List ℕ) → f.is_oversized ≡ true
     → length sizes ≡ s.arity → ArePositive sizes → 4096 < size_with s sizes
 kept_large f s kept sizes over long pos =
     let h = size_least sizes s.formula pos (rw long kept.within) in

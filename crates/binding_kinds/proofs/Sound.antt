@@ -15,11 +15,11 @@ use Rattle.binding_kinds.specs.Kinds.{found, kind_found, takes, is_relation, is_
 use Rattle.binding_kinds.specs.Combinations.{has_any}
 use Rattle.binding_kinds.specs.Meanings.{parameter_of}
 use Rattle.binding_kinds.specs.Verdict.{or_else}
-use Rattle.binding_kinds.specs.First.{of_inside, of_applied, first_of_body, first_of_bodies}
+use Rattle.binding_kinds.specs.First.{fault_inside, apply_fault, first_of_body, first_of_bodies}
 use Rattle.binding_kinds.specs.Formula.{Formula, Value, Parameter, Everything, NoPairs, NoEvents, Joined, Marked, Complement, Identity, filled}
 use Rattle.binding_kinds.specs.Senses.{Sense, with_arity, sense_of_binder, sense_of, count_of}
 use Rattle.binding_kinds.specs.Functions.{with_parameters, sense_seen, kind_of_sense, clash_of_sense, kind_of_body, kinds_of_body, clashes_in, clash_among, bound_formula, named_formula, applied_formula, formula_in, formulas_in, sense_of_function}
-use Rattle.binding_kinds.specs.Fits.{IsKnown, IsKnownUnlessFunction, AreKnown, kind_of, IsTyped, AreKnownKinds, IsSound, AreSound}
+use Rattle.binding_kinds.specs.Fits.{IsKnown, IsKnownUnlessFunction, AreKnown, kind_of, IsTyped, AreKnownKinds, IsSoundSense, AreSoundSenses}
 use Rattle.binding_kinds.proofs.Applications.{found_arity}
 use Rattle.binding_kinds.proofs.Fitting.{typed_known, known_found}
 use Rattle.binding_kinds.proofs.Tables.{parameter_kind, other_kind, parameter_below}
@@ -79,10 +79,10 @@ typed_all_known js (f ∷ fs) (k ∷ ks) h =
 
 -- ---- functions
 
-sound_at : (ss : List Sense) (i : ℕ) (s : Sense) → AreSound ss → slice_get ss i ≡ Some s → IsSound s
+sound_at : (ss : List Sense) (i : ℕ) (s : Sense) → AreSoundSenses ss → slice_get ss i ≡ Some s → IsSoundSense s
 sound_at [] i s h e = absurd (let f : None ≡ Some s = e in cc)
 sound_at (t ∷ ss) zero s h e =
-    let same : t ≡ s = let f : Some t ≡ Some s = e in cc in subst IsSound same h.0
+    let same : t ≡ s = let f : Some t ≡ Some s = e in cc in subst IsSoundSense same h.0
 sound_at (t ∷ ss) (suc i) s h e = sound_at ss i s h.1 e
 
 -- ---- bodies
@@ -102,13 +102,13 @@ known_at (k ∷ ks) (suc i) h lt = known_at ks i h.1 (omega (arith, lt))
 
 -- a name of a body that is no parameter
 other_name : (ks : List Kind) (names : List Naming) (x : List ℕ) (o : Option Found) → AreKnown names
-    → found names x ≡ o → of_inside None o ≡ None
+    → found names x ≡ o → fault_inside None o ≡ None
     → IsTyped ks (named_formula None o) × (kind_found o ≡ kind_of ks (named_formula None o))
 other_name ks names x None known is e = absurd (let f : Some faults.Unbound ≡ None = e in cc)
 other_name ks names x (Some f) known is e = at_binder f.binder (known_found names x f known is) e
   where
     at_binder : (b : Binder) → IsKnownUnlessFunction b f.kind
-        → of_inside None (Some (record { slot = f.slot; kind = f.kind; binder = b })) ≡ None
+        → fault_inside None (Some (record { slot = f.slot; kind = f.kind; binder = b })) ≡ None
         → IsTyped ks (bound_formula f b) × (f.kind ≡ kind_of ks (bound_formula f b))
     at_binder (binders.Predefined p) k e = (k, refl)
     at_binder (binders.Bound i) k e = (k, refl)
@@ -116,7 +116,7 @@ other_name ks names x (Some f) known is e = at_binder f.binder (known_found name
 
 body_name : (names : List Naming) (ps : List (List ℕ)) (ks : List Kind) (x : List ℕ) (o : Option ℕ)
     → AreKnown names → length ks ≡ length ps → AreKnownKinds ks → parameter_of (reverse ps) x ≡ o
-    → of_inside o (found names x) ≡ None
+    → fault_inside o (found names x) ≡ None
     → IsTyped ks (named_formula o (found names x))
     × (kind_found (found (with_parameters ps ks names) x)
     ≡ kind_of ks (named_formula o (found names x)))
@@ -131,38 +131,38 @@ body_name names ps ks x (Some i) known long kinds is e = (
 -- what a name with arguments stands for in a body without fault
 seen_function : (ss : List Sense) (names : List Naming) (ps : List (List ℕ)) (n : ℕ) (x : List ℕ)
     (o : Option ℕ) (r : Result Sense ModelFault) → parameter_of (reverse ps) x ≡ o
-    → sense_of ss n (found names x) ≡ r → of_applied o r ≡ None
+    → sense_of ss n (found names x) ≡ r → apply_fault o r ≡ None
     → (s : Sense) × (sense_seen ss names ps n x ≡ Some s) × (sense_of ss n (found names x) ≡ Ok s)
 seen_function ss names ps n x (Some i) r is there e =
     absurd (let f : Some faults.Arity ≡ None = e in cc)
 seen_function ss names ps n x None (Err k) is there e = absurd (let f : Some k ≡ None = e in cc)
 seen_function ss names ps n x None (Ok s) is there e = (s, rw (is, there) refl, there)
 
-sound_binder : (ss : List Sense) (n : ℕ) (s : Sense) (b : Binder) → AreSound ss
-    → sense_of_binder ss n b ≡ Ok s → IsSound s
+sound_binder : (ss : List Sense) (n : ℕ) (s : Sense) (b : Binder) → AreSoundSenses ss
+    → sense_of_binder ss n b ≡ Ok s → IsSoundSense s
 sound_binder ss n s (binders.Predefined p) sound e =
     absurd (let f : Err faults.Arity ≡ Ok s = e in cc)
 sound_binder ss n s (binders.Bound i) sound e = absurd (let f : Err faults.Arity ≡ Ok s = e in cc)
 sound_binder ss n s (binders.Applicable i) sound e = at_function (slice_get ss i) refl e
   where
-    at_test : (t : Sense) (b : Bool) → IsSound t → (if b then Ok t else Err faults.Arity) ≡ Ok s
-        → IsSound s
+    at_test : (t : Sense) (b : Bool) → IsSoundSense t → (if b then Ok t else Err faults.Arity) ≡ Ok s
+        → IsSoundSense s
     at_test t true one h =
-        let same : t ≡ s = let q : Ok t ≡ Ok s = h in cc in subst IsSound same one
+        let same : t ≡ s = let q : Ok t ≡ Ok s = h in cc in subst IsSoundSense same one
     at_test t false one h = absurd (let f : Err faults.Arity ≡ Ok s = h in cc)
 
-    at_function : (o : Option Sense) → slice_get ss i ≡ o → with_arity n o ≡ Ok s → IsSound s
+    at_function : (o : Option Sense) → slice_get ss i ≡ o → with_arity n o ≡ Ok s → IsSoundSense s
     at_function None is h = absurd (let f : Err faults.Arity ≡ Ok s = h in cc)
     at_function (Some t) is h = at_test t (nat_eq t.arity n) (sound_at ss i t sound is) h
 
-pub sound_function : (ss : List Sense) (n : ℕ) (o : Option Found) (s : Sense) → AreSound ss
-    → sense_of ss n o ≡ Ok s → IsSound s
+pub sound_function : (ss : List Sense) (n : ℕ) (o : Option Found) (s : Sense) → AreSoundSenses ss
+    → sense_of ss n o ≡ Ok s → IsSoundSense s
 sound_function ss n None s sound e = absurd (let f : Err faults.Unbound ≡ Ok s = e in cc)
 sound_function ss n (Some f) s sound e = sound_binder ss n s f.binder sound e
 
 applied_body : (ss : List Sense) (names : List Naming) (ps : List (List ℕ)) (ks ls : List Kind)
     (n : ℕ) (x : List ℕ) (fs : List Formula) (s : Sense) (among : Bool)
-    → sense_seen ss names ps n x ≡ Some s → IsSound s → length ls ≡ s.arity → AreTyped ks fs ls
+    → sense_seen ss names ps n x ≡ Some s → IsSoundSense s → length ls ≡ s.arity → AreTyped ks fs ls
     → clash_of_sense (sense_seen ss names ps n x) among ls ≡ false
     → IsTyped ks (applied_formula (sense_seen ss names ps n x) fs)
     × (kind_of_sense (sense_seen ss names ps n x) ls
@@ -186,7 +186,7 @@ long_kinds ss names ps ks (OneMore a others) = ap suc (long_kinds ss names ps ks
 
 -- a body without fault, whose operators take their operands where the parameters have these kinds
 module _ (ss : List Sense) (names : List Naming) (ps : List (List ℕ)) (ks : List Kind)
-    (sound : AreSound ss) (known : AreKnown names) (long : length ks ≡ length ps)
+    (sound : AreSoundSenses ss) (known : AreKnown names) (long : length ks ≡ length ps)
     (kinds : AreKnownKinds ks) where
   mutual
     pub body_typed : (t : Term) → first_of_body ss names ps t ≡ None
@@ -217,7 +217,7 @@ module _ (ss : List Sense) (names : List Naming) (ps : List (List ℕ)) (ks : Li
         let l = body_typed a e both.0 in
         ((l.0, same_true _ _ (ap is_set (sym l.1)) (not_true _ both.1)), ap narrowed l.1)
     body_typed (Apply x ts) e c =
-        let faults = none_first (of_applied (parameter_of (reverse ps) x) (sense_of ss (count_of ts) (found names x))) (first_of_bodies ss names ps ts) e in
+        let faults = none_first (apply_fault (parameter_of (reverse ps) x) (sense_of ss (count_of ts) (found names x))) (first_of_bodies ss names ps ts) e in
         let f = seen_function ss names ps (count_of ts) x (parameter_of (reverse ps) x) (sense_of ss (count_of ts) (found names x)) refl refl faults.0 in
         let quiet = quiet_arguments (sense_seen ss names ps (count_of ts) x) f.0 (clash_among ss names ps ks ts) (kinds_of_body ss names ps ks ts) f.1 c in
         applied_body ss names ps ks (kinds_of_body ss names ps ks ts) (count_of ts) x
@@ -244,8 +244,8 @@ none_any (OfAny ∷ ks) h = absurd h.0
 
 -- a function whose body has no fault is sound
 pub function_sound : (ss : List Sense) (names : List Naming) (ps : List (List ℕ)) (t : Term)
-    → AreSound ss → AreKnown names → first_of_body ss names ps t ≡ None
-    → IsSound (sense_of_function ss names ps t)
+    → AreSoundSenses ss → AreKnown names → first_of_body ss names ps t ≡ None
+    → IsSoundSense (sense_of_function ss names ps t)
 function_sound ss names ps t sound known e ks long kinds quiet =
     let h = body_typed ss names ps ks sound known long kinds t e quiet in (
       h.0,
@@ -253,6 +253,6 @@ function_sound ss names ps t sound known e ks long kinds quiet =
           (none_any ks kinds) ∙ h.1,
     )
 
-pub sound_more : (ss : List Sense) (s : Sense) → AreSound ss → IsSound s → AreSound (ss ++ s ∷ [])
+pub sound_more : (ss : List Sense) (s : Sense) → AreSoundSenses ss → IsSoundSense s → AreSoundSenses (ss ++ s ∷ [])
 sound_more [] s sound one = (one, tt)
 sound_more (t ∷ ss) s sound one = (sound.0, sound_more ss s sound.1 one)

@@ -16,8 +16,8 @@ use Rattle.binding_kinds.specs.Kinds.{found, kind_found}
 use Rattle.binding_kinds.specs.Meanings.{parameter_of}
 use Rattle.binding_kinds.specs.declared.signature.Signature.{Signature}
 use Rattle.binding_kinds.specs.declared.function.Function.{Function}
-use Rattle.binding_kinds.specs.Combinations.{digit, number_of}
-use Rattle.binding_kinds.specs.Senses.{Sense, IsKept, count_of}
+use Rattle.binding_kinds.specs.Combinations.{digit, kinds_number}
+use Rattle.binding_kinds.specs.Senses.{Sense, HasSense, count_of}
 use Rattle.binding_kinds.specs.Functions.{with_parameters, sense_seen, kind_of_sense, clash_of_sense, kind_of_body, kinds_of_body, clashes_in, clash_among}
 use Rattle.binding_kinds.specs.Columns.{IsFilled, plain, of_applied, with_one, signature_in, gathered_in}
 use Rattle.binding_kinds.proofs.Applications.{below_power, below_table, count_arguments}
@@ -25,26 +25,26 @@ use Rattle.binding_kinds.proofs.Applications.{below_power, below_table, count_ar
 -- one more entry
 pub filled_more : {X : Type 0} (d : X) (arity n : ℕ) (made : List Kind → X) (xs ys : List X) (y : X)
     → ys ≡ xs ++ y ∷ [] → IsFilled d arity n made xs
-    → ((ks : List Kind) → length ks ≡ arity → number_of ks ≡ n → y ≡ made ks)
+    → ((ks : List Kind) → length ks ≡ arity → kinds_number ks ≡ n → y ≡ made ks)
     → IsFilled d arity (n + 1) made ys
 filled_more {X} d arity n made xs ys y is h new = record {
   long =
       let e = ap length is in
       let l = length-append xs (y ∷ []) in let k = h.long in omega (arith, e, l, k);
   entries =
-      λ ks e lt. ap (λ (l : List X). get_or l (number_of ks) d) is
-      ∙ at_index ks e lt (cases_lt (number_of ks) n);
+      λ ks e lt. ap (λ (l : List X). get_or l (kinds_number ks) d) is
+      ∙ at_index ks e lt (cases_lt (kinds_number ks) n);
 }
   where
-    at_index : (ks : List Kind) → length ks ≡ arity → number_of ks < n + 1
-        → (number_of ks < n) ⊎ (n ≤ number_of ks) → get_or (xs ++ y ∷ []) (number_of ks) d ≡ made ks
+    at_index : (ks : List Kind) → length ks ≡ arity → kinds_number ks < n + 1
+        → (kinds_number ks < n) ⊎ (n ≤ kinds_number ks) → get_or (xs ++ y ∷ []) (kinds_number ks) d ≡ made ks
     at_index ks e lt (inl less) =
         let k = h.long in
-        get_or_append_left xs (y ∷ []) d (number_of ks) (omega (arith, less, k))
+        get_or_append_left xs (y ∷ []) d (kinds_number ks) (omega (arith, less, k))
         ∙ h.entries ks e less
     at_index ks e lt (inr more) =
-        let same : number_of ks ≡ n = omega (arith, lt, more) in
-        get_or_push xs y d (number_of ks) (h.long ∙ sym same) ∙ new ks e same
+        let same : kinds_number ks ≡ n = omega (arith, lt, more) in
+        get_or_push xs y d (kinds_number ks) (h.long ∙ sym same) ∙ new ks e same
 
 pub filled_as : {X : Type 0} (d : X) (arity n : ℕ) (f g : List Kind → X) (xs : List X)
     → ((ks : List Kind) → length ks ≡ arity → f ks ≡ g ks) → IsFilled d arity n f xs
@@ -67,7 +67,7 @@ filled_all d o arity rows n f g all xs h le ge k =
 
 pub entry_at : {X : Type 0} (d w : X) (arity rows i : ℕ) (made : List Kind → X) (all : List X)
     (ks : List Kind) → IsFilled d arity rows made all → i < length all → length ks ≡ arity
-    → number_of ks ≡ i → get_or all i w ≡ made ks
+    → kinds_number ks ≡ i → get_or all i w ≡ made ks
 entry_at d w arity rows i made all ks h lt long same =
     let l = h.long in
     get_or_default all i w d lt
@@ -101,7 +101,7 @@ mapped_more d w o arity rows i before f all xs ys y lt y_is is h inv =
     h h inv
 
 -- a table has a combination of its kinds
-pub below_arity : (ks : List Kind) (arity : ℕ) → length ks ≡ arity → number_of ks < 3 ^ arity
+pub below_arity : (ks : List Kind) (arity : ℕ) → length ks ≡ arity → kinds_number ks < 3 ^ arity
 below_arity ks arity e =
     let h = below_power ks in let p = ap (λ (n : ℕ). 3 ^ n) e in omega (arith, h, p)
 
@@ -205,7 +205,7 @@ long_kinds ss names ps ks [] = refl
 long_kinds ss names ps ks (x ∷ xs) = ap suc (long_kinds ss names ps ks xs)
 
 number_last : (ks : List Kind) (k : Kind)
-    → number_of (ks ++ k ∷ []) ≡ number_of ks + digit k * 3 ^ length ks
+    → kinds_number (ks ++ k ∷ []) ≡ kinds_number ks + digit k * 3 ^ length ks
 number_last [] k = omega arith
 number_last (l ∷ ks) k =
     let h = number_last ks k in
@@ -254,18 +254,18 @@ pub gathered_more : (ss : List Sense) (names : List Naming) (ps : List (List ℕ
     ≡ gathered_in ss names ps (terms_in (xs ++ e ∷ [])) ks
 gathered_more ss names ps xs i e ks long =
     let count : length (kinds_of_body ss names ps ks (terms_in xs)) ≡ i = long_kinds ss names ps ks xs ∙ long in
-    let number : number_of (kinds_of_body ss names ps ks (terms_in (xs ++ e ∷ []))) ≡ number_of (kinds_of_body ss names ps ks (terms_in xs)) + digit (kind_of_body ss names ps ks (values.term_of e)) * 3 ^ i =
-    ap number_of (kinds_last ss names ps ks xs e)
+    let number : kinds_number (kinds_of_body ss names ps ks (terms_in (xs ++ e ∷ []))) ≡ kinds_number (kinds_of_body ss names ps ks (terms_in xs)) + digit (kind_of_body ss names ps ks (values.term_of e)) * 3 ^ i =
+    ap kinds_number (kinds_last ss names ps ks xs e)
     ∙ (number_last (kinds_of_body ss names ps ks (terms_in xs))
     (kind_of_body ss names ps ks (values.term_of e))
     ∙ ap
-    (λ (n : ℕ). number_of (kinds_of_body ss names ps ks (terms_in xs))
+    (λ (n : ℕ). kinds_number (kinds_of_body ss names ps ks (terms_in xs))
     + digit (kind_of_body ss names ps ks (values.term_of e)) * 3 ^ n) count) in
     let g : (n : ℕ) (b : Bool) → Gathered = λ n b. record { combination = n; clashes = b } in
     sym (ap (λ (n : ℕ). g n (clash_among ss names ps ks (terms_in (xs ++ e ∷ [])))) number
     ∙ ap
     (λ (b : Bool). g
-    (number_of (kinds_of_body ss names ps ks (terms_in xs))
+    (kinds_number (kinds_of_body ss names ps ks (terms_in xs))
     + digit (kind_of_body ss names ps ks (values.term_of e)) * 3 ^ i) b)
     (clash_last ss names ps ks xs e))
 
@@ -278,7 +278,7 @@ gathered_small ss names ps xs ks le =
 
 -- what an application makes, by what its name stands for
 pub applied_signature : (ss : List Sense) (names : List Naming) (ps : List (List ℕ)) (x : List ℕ)
-    (xs : List Expression) (f : Function) (s : Sense) (ks : List Kind) → IsKept f s
+    (xs : List Expression) (f : Function) (s : Sense) (ks : List Kind) → HasSense f s
     → sense_seen ss names ps (length xs) x ≡ Some s → length xs ≡ s.arity
     → of_applied f (gathered_in ss names ps (terms_in xs) ks)
     ≡ signature_in ss names ps (Apply x (terms_in xs)) ks

@@ -9,7 +9,7 @@ use Rattle.binding_kinds.specs.declared.column.Gathered.{Gathered}
 use Rattle.binding_kinds.specs.declared.function.Function.{Function}
 use Rattle.binding_kinds.specs.Value.{Naming}
 use Rattle.binding_kinds.specs.Kinds.{joined, takes, marked, narrowed, is_relation, is_set}
-use Rattle.binding_kinds.specs.Combinations.{digit, number_of, has_any, unknown}
+use Rattle.binding_kinds.specs.Combinations.{digit, kinds_number, has_any, unknown}
 use Rattle.binding_kinds.specs.Senses.{Sense}
 use Rattle.binding_kinds.specs.Functions.{kind_of_body, clashes_in, kinds_of_body, clash_among}
 
@@ -18,8 +18,8 @@ use Rattle.binding_kinds.specs.Functions.{kind_of_body, clashes_in, kinds_of_bod
 pub record IsFilled {X : Type 0} (other : X) (arity n : ℕ) (made : List Kind → X) (column : List X)
     : Type 0 where
   pub long : length column ≡ n
-  pub entries : (kinds : List Kind) → length kinds ≡ arity → number_of kinds < n
-      → get_or column (number_of kinds) other ≡ made kinds
+  pub entries : (kinds : List Kind) → length kinds ≡ arity → kinds_number kinds < n
+      → get_or column (kinds_number kinds) other ≡ made kinds
 
 abbrev pub plain : Kind → Signature
 plain k = record { kind = k; clashes = false }
@@ -67,4 +67,4 @@ signature_in ss names ps t ks =
 -- these arguments there
 abbrev pub gathered_in : List Sense → List Naming → List (List ℕ) → Terms → List Kind → Gathered
 gathered_in ss names ps ts ks =
-    record { combination = number_of (kinds_of_body ss names ps ks ts); clashes = clash_among ss names ps ks ts }
+    record { combination = kinds_number (kinds_of_body ss names ps ks ts); clashes = clash_among ss names ps ks ts }

@@ -10,9 +10,9 @@ digit OfRelation = 1
 digit OfAny = 2
 
 -- the number in base three whose digits are the kinds, the lowest first
-abbrev pub number_of : List Kind → ℕ
-number_of [] = 0
-number_of (k ∷ ks) = digit k + 3 * number_of ks
+abbrev pub kinds_number : List Kind → ℕ
+kinds_number [] = 0
+kinds_number (k ∷ ks) = digit k + 3 * kinds_number ks
 
 abbrev pub is_any : Kind → Bool
 is_any OfSet = false

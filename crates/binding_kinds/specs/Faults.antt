@@ -8,7 +8,7 @@ use Rattle.binding_kinds.specs.declared.kinds.Kind.TheVariants.{OfSet, OfRelatio
 use Rattle.binding_kinds.specs.declared.scope.Found.{Found}
 use Rattle.binding_kinds.specs.declared.scope.Binder.{Binder}
 use Rattle.binding_kinds.specs.declared.scope.Binder.TheVariants as binders
-use Rattle.binding_kinds.specs.Value.{Naming, Bound, Clause, Group, Check, Mute, Defined}
+use Rattle.binding_kinds.specs.Value.{Naming, Bound, BareItem, Group, Check, Mute, Defined}
 use Rattle.binding_kinds.specs.Kinds.{found, takes, is_relation, is_set, is_turned, takes_body}
 use Rattle.binding_kinds.specs.Meanings.{parameter_of}
 use Rattle.binding_kinds.specs.Senses.{Sense, size_with, sense_of, count_of, sizes_in, kind_in, kinds_in, under_of}
@@ -189,23 +189,23 @@ with_all ss outer names item at (b ∷ bs) =
     with_all ss outer (naming_at item at b (kind_in ss outer b.body) ∷ names) item (suc at) bs
 
 -- the names that are seen after the item of that number
-abbrev pub extended : List Sense → List Naming → ℕ → Clause → List Naming
-extended ss names item (Group true bs) = with_own names item 0 bs
-extended ss names item (Group false bs) = with_all ss names names item 0 bs
-extended ss names item (Check w e) = names
-extended ss names item Mute = names
-extended ss names item (Defined n ps b) =
+abbrev pub names_after : List Sense → List Naming → ℕ → BareItem → List Naming
+names_after ss names item (Group true bs) = with_own names item 0 bs
+names_after ss names item (Group false bs) = with_all ss names names item 0 bs
+names_after ss names item (Check w e) = names
+names_after ss names item Mute = names
+names_after ss names item (Defined n ps b) =
     record { name = n; kind = OfAny; binder = binders.Applicable (length ss) } ∷ names
 
 -- what the functions are after the item
-abbrev pub senses_after : List Sense → List Naming → Clause → List Sense
+abbrev pub senses_after : List Sense → List Naming → BareItem → List Sense
 senses_after ss names (Group r bs) = ss
 senses_after ss names (Check w e) = ss
 senses_after ss names Mute = ss
 senses_after ss names (Defined n ps b) = ss ++ sense_of_function ss names ps b ∷ []
 
 -- the item of that number has this fault at this index
-abbrev pub IsFaultOfItem : List Sense → List Naming → ℕ → Clause → ℕ → ModelFault → Type 0
+abbrev pub IsFaultOfItem : List Sense → List Naming → ℕ → BareItem → ℕ → ModelFault → Type 0
 IsFaultOfItem ss names item (Group true bs) index k =
     IsFaultIn ss (with_own names item 0 bs) (length names) true [] bs index k
 IsFaultOfItem ss names item (Group false bs) index k =
@@ -220,12 +220,12 @@ IsFaultOfItem ss names item (Defined n ps b) index k =
 
 -- Of the items, the first of which has the number `from`, the one that many behind the first has
 -- this fault at this index.
-abbrev pub IsFault : List Sense → List Naming → ℕ → List Clause → ℕ → ℕ → ModelFault → Type 0
+abbrev pub IsFault : List Sense → List Naming → ℕ → List BareItem → ℕ → ℕ → ModelFault → Type 0
 IsFault ss names from [] item index k = ⊥
 IsFault ss names from (c ∷ cs) item index k =
     ((item ≡ 0) × IsFaultOfItem ss names from c index k)
     ⊎ ((after : ℕ) × (item ≡ 1 + after)
-    × IsFault (senses_after ss names c) (extended ss names from c) (from + 1) cs after index
+    × IsFault (senses_after ss names c) (names_after ss names from c) (from + 1) cs after index
     k)
 
 -- which fault is answered at one index
@@ -239,23 +239,23 @@ rank faults.Kind = 5
 rank faults.SetInRec = 6
 
 -- one fault stands no later than another
-abbrev pub IsNoLater : ℕ → ModelFault → ℕ → ModelFault → Type 0
-IsNoLater index k other l = (index < other) ⊎ ((index ≡ other) × (rank k ≤ rank l))
+abbrev pub IsFaultNoLater : ℕ → ModelFault → ℕ → ModelFault → Type 0
+IsFaultNoLater index k other l = (index < other) ⊎ ((index ≡ other) × (rank k ≤ rank l))
 
 -- one of these faults is at that index, and none of them is earlier
 pub record IsFirst (Faulty : ℕ → ModelFault → Type 0) (k : ModelFault) : Type 0 where
   pub index : ℕ
   pub there : Faulty index k
-  pub none_before : (other : ℕ) (l : ModelFault) → Faulty other l → IsNoLater index k other l
+  pub none_before : (other : ℕ) (l : ModelFault) → Faulty other l → IsFaultNoLater index k other l
 
 -- the items have this fault as the first, by item and then by index
-pub record FirstFault (ss : List Sense) (names : List Naming) (from : ℕ) (items : List Clause)
+pub record FirstFault (ss : List Sense) (names : List Naming) (from : ℕ) (items : List BareItem)
     (k : ModelFault) : Type 0 where
   pub item : ℕ
   pub index : ℕ
   pub there : IsFault ss names from items item index k
   pub none_before : (i p : ℕ) (l : ModelFault) → IsFault ss names from items i p l
-      → (item < i) ⊎ ((item ≡ i) × IsNoLater index k p l)
+      → (item < i) ⊎ ((item ≡ i) × IsFaultNoLater index k p l)
 
-abbrev pub HasNoFault : List Sense → List Naming → ℕ → List Clause → Type 0
+abbrev pub HasNoFault : List Sense → List Naming → ℕ → List BareItem → Type 0
 HasNoFault ss names from items = (i p : ℕ) (l : ModelFault) → IsFault ss names from items i p l → ⊥

@@ -60,15 +60,15 @@ AreKnownKinds (k ∷ ks) = IsKnown k × AreKnownKinds ks
 
 -- with arguments of known kinds that clash nowhere, the function's body is typed, and has the kind
 -- that is said of it
-abbrev pub IsSound : Sense → Type 0
-IsSound s =
+abbrev pub IsSoundSense : Sense → Type 0
+IsSoundSense s =
     (ks : List Kind) → length ks ≡ s.arity → AreKnownKinds ks → s.clashes ks ≡ false
     → IsTyped ks s.formula
     × (s.kind_with ks ≡ kind_of ks s.formula)
 
-abbrev pub AreSound : List Sense → Type 0
-AreSound [] = Unit {0}
-AreSound (s ∷ ss) = IsSound s × AreSound ss
+abbrev pub AreSoundSenses : List Sense → Type 0
+AreSoundSenses [] = Unit {0}
+AreSoundSenses (s ∷ ss) = IsSoundSense s × AreSoundSenses ss
 
 -- a function takes its arguments: the application is not too large, and no operator of the body
 -- clashes

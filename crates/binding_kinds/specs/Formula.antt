@@ -18,7 +18,7 @@ pub data Formula : Type 0 where
   Complement : (a : Formula) → Formula
   Identity : (a : Formula) → Formula
 
--- with the arguments in the places of the parameters
+-- with each parameter replaced by its argument
 abbrev pub filled : List Formula → Formula → Formula
 filled arguments (Value f) = Value f
 filled arguments (Parameter index) = get_or arguments index NoPairs

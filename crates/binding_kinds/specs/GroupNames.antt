@@ -2,5 +2,5 @@
 use Rattle.std.specs.Prelude.{ℕ, List, map, reverse}
 use Rattle.text_values.specs.declared.model.Binding.{Binding}
 
-abbrev pub names_of : List Binding → List (List ℕ)
-names_of bs = reverse (map (λ b. b.name) bs)
+abbrev pub let_names : List Binding → List (List ℕ)
+let_names bs = reverse (map (λ b. b.name) bs)

@@ -12,7 +12,7 @@ use Rattle.binding_kinds.specs.declared.scope.Binder.TheVariants as binders
 use Rattle.binding_kinds.specs.declared.function.Function.{Function}
 use Rattle.binding_kinds.specs.Value.{Naming}
 use Rattle.binding_kinds.specs.Kinds.{found, kind_found, joined, marked, narrowed, takes, is_relation, is_set, is_turned}
-use Rattle.binding_kinds.specs.Combinations.{number_of, unknown}
+use Rattle.binding_kinds.specs.Combinations.{kinds_number, unknown}
 use Rattle.binding_kinds.specs.Formula.{Formula, constant_of, factor_of, HasParameters, postfix}
 use Rattle.binding_kinds.specs.Verdict.{or_else, unless, of_name}
 
@@ -118,23 +118,23 @@ fault_applied (Err k) sizes kinds later = Some k
 
 abbrev mutual
   -- the first fault of an expression, seen under a complement or not
-  pub first_within : List Sense → List Naming → ℕ → Bool → Term → Option ModelFault
-  first_within ss names from under (Atom x) = of_name from under (found names x)
-  first_within ss names from under AllEvents = None
-  first_within ss names from under EmptyRelation = None
-  first_within ss names from under EmptySet = None
-  first_within ss names from under (Join op a b) =
-      or_else (first_within ss names from under a)
+  pub term_fault : List Sense → List Naming → ℕ → Bool → Term → Option ModelFault
+  term_fault ss names from under (Atom x) = of_name from under (found names x)
+  term_fault ss names from under AllEvents = None
+  term_fault ss names from under EmptyRelation = None
+  term_fault ss names from under EmptySet = None
+  term_fault ss names from under (Join op a b) =
+      or_else (term_fault ss names from under a)
       (or_else (unless (takes op (kind_in ss names a) (kind_in ss names b)) faults.Kind)
-      (first_within ss names from (is_turned op under) b))
-  first_within ss names from under (Mark op a) =
-      or_else (first_within ss names from under a)
+      (term_fault ss names from (is_turned op under) b))
+  term_fault ss names from under (Mark op a) =
+      or_else (term_fault ss names from under a)
       (unless (is_relation (kind_in ss names a)) faults.Kind)
-  first_within ss names from under (Not a) = first_within ss names from true a
-  first_within ss names from under (On a) =
+  term_fault ss names from under (Not a) = term_fault ss names from true a
+  term_fault ss names from under (On a) =
       or_else (unless (is_set (kind_in ss names a)) faults.Kind)
-      (first_within ss names from under a)
-  first_within ss names from under (Apply x arguments) =
+      (term_fault ss names from under a)
+  term_fault ss names from under (Apply x arguments) =
       let f = sense_of ss (count_of arguments) (found names x) in
       fault_applied f (sizes_in ss names arguments) (kinds_in ss names arguments)
       (first_among ss names from under (under_of f) 0 arguments)
@@ -143,7 +143,7 @@ abbrev mutual
   pub first_among : List Sense → List Naming → ℕ → Bool → (ℕ → Bool) → ℕ → Terms → Option ModelFault
   first_among ss names from under is_under index NoTerm = None
   first_among ss names from under is_under index (OneMore a others) =
-      or_else (first_within ss names from (under || is_under index) a)
+      or_else (term_fault ss names from (under || is_under index) a)
       (first_among ss names from under is_under (suc index) others)
 
 abbrev pub ArePositive : List ℕ → Type 0
@@ -151,11 +151,11 @@ ArePositive [] = Unit {0}
 ArePositive (s ∷ ss) = (0 < s) × ArePositive ss
 
 -- what is kept of a function is so
-pub record IsKept (f : Function) (s : Sense) : Type 0 where
+pub record HasSense (f : Function) (s : Sense) : Type 0 where
   pub arity : f.arity ≡ s.arity
   pub few : s.arity ≤ 8
   pub kinds : (kinds : List Kind) → length kinds ≡ s.arity
-      → get_or f.signatures.items (number_of kinds) unknown
+      → get_or f.signatures.items (kinds_number kinds) unknown
       ≡ record { kind = s.kind_with kinds; clashes = s.clashes kinds }
   pub under : (index : ℕ) → index < s.arity → get_or f.under index false ≡ s.is_under index
   pub within : HasParameters s.arity s.formula
@@ -165,12 +165,12 @@ pub record IsKept (f : Function) (s : Sense) : Type 0 where
   pub factor : f.is_oversized ≡ false → (index : ℕ) → index < s.arity
       → get_or f.factors index 0 ≡ factor_of s.formula index
 
-abbrev pub AreKept : List Function → List Sense → Type 0
-AreKept [] [] = Unit {0}
-AreKept [] (s ∷ ss) = ⊥
-AreKept (f ∷ fs) [] = ⊥
-AreKept (f ∷ fs) (s ∷ ss) = IsKept f s × AreKept fs ss
+abbrev pub HaveSenses : List Function → List Sense → Type 0
+HaveSenses [] [] = Unit {0}
+HaveSenses [] (s ∷ ss) = ⊥
+HaveSenses (f ∷ fs) [] = ⊥
+HaveSenses (f ∷ fs) (s ∷ ss) = HasSense f s × HaveSenses fs ss
 
 -- the same size, as far as 4,096: of larger sizes nothing more is said
-abbrev pub IsAlike : ℕ → ℕ → Type 0
-IsAlike a b = min a 4097 ≡ min b 4097
+abbrev pub IsSameSize : ℕ → ℕ → Type 0
+IsSameSize a b = min a 4097 ≡ min b 4097

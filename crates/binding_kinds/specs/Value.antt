@@ -15,12 +15,12 @@ pub record Bound : Type 0 where
   pub name : List ℕ
   pub body : Term
 
--- an item
-pub data Clause : Type 0 where
-  Group : (recursive : Bool) (bounds : List Bound) → Clause
-  Check : (word : CheckWord) (body : Term) → Clause
-  Mute : Clause
-  Defined : (name : List ℕ) (parameters : List (List ℕ)) (body : Term) → Clause
+-- an item, as far as names, kinds and faults depend on it: without labels, paths and what is shown
+pub data BareItem : Type 0 where
+  Group : (recursive : Bool) (bounds : List Bound) → BareItem
+  Check : (word : CheckWord) (body : Term) → BareItem
+  Mute : BareItem
+  Defined : (name : List ℕ) (parameters : List (List ℕ)) (body : Term) → BareItem
 
 -- a name that stands for something
 pub record Naming : Type 0 where
@@ -31,13 +31,13 @@ pub record Naming : Type 0 where
 abbrev pub bound_of : code_binding.Binding → Bound
 bound_of b = record { name = b.name; body = term_of b.body }
 
-abbrev pub clause_of : code_item.Item → Clause
-clause_of (items.Let r g) = Group r (map bound_of g.items)
-clause_of (items.Function n ps b) = Defined n ps.items (term_of b)
-clause_of (items.Check c l) = Check c.word (term_of c.body)
-clause_of (items.Flag c l) = Check c.word (term_of c.body)
-clause_of (items.Show h s) = Mute
-clause_of (items.Include n) = Mute
+abbrev pub bare_item : code_item.Item → BareItem
+bare_item (items.Let r g) = Group r (map bound_of g.items)
+bare_item (items.Function n ps b) = Defined n ps.items (term_of b)
+bare_item (items.Check c l) = Check c.word (term_of c.body)
+bare_item (items.Flag c l) = Check c.word (term_of c.body)
+bare_item (items.Show h s) = Mute
+bare_item (items.Include n) = Mute
 
 abbrev pub entry_of : code_entry.Entry → Naming
 entry_of e = record { name = e.name; kind = e.kind; binder = e.binder }

@@ -4,7 +4,7 @@
 ghost use Rattle.std.specs.Prelude.{◌≡◌, ℕ, ◌<◌, ◌≤◌, ◌^◌, List, length, IfOk, get_or};
 ghost use Rattle.binding_kinds.specs.declared.kinds.Kind.{Kind};
 ghost use Rattle.binding_kinds.specs.declared.signature.Signature.{Signature};
-ghost use Rattle.binding_kinds.specs.Combinations.{number_of, unknown};
+ghost use Rattle.binding_kinds.specs.Combinations.{kinds_number, unknown};
 ghost use Rattle.binding_kinds.specs.Columns.{IsFilled, plain, of_infix, of_postfix, of_identity, none_gathered, with_one, of_applied, of_function};
 
 use crate::function::Function;
@@ -222,7 +222,7 @@ pub fn applied_column(
 
 /// What a function makes of arguments of one combination of kinds, of which its body makes that.
 fn sign_function(arity: usize, combination: usize, body: Signature) -> Signature
-    ensures { (kinds : List Kind) → combination ≡ number_of kinds → arity ≡ length kinds
+    ensures { (kinds : List Kind) → combination ≡ kinds_number kinds → arity ≡ length kinds
         → length kinds ≤ 8 → result ≡ of_function kinds body }
 {
     if has_any(combination, arity) {
@@ -245,7 +245,7 @@ pub fn signatures(
 ) -> Result<Vec<Signature>, AllocError>
     ensures { (made : List Kind → Signature) (kinds : List Kind)
         → IsFilled unknown arity (3 ^ arity) made column.now → length kinds ≡ arity → arity ≤ 8
-        → IfOk result (λ v. get_or v.items (number_of kinds) unknown
+        → IfOk result (λ v. get_or v.items (kinds_number kinds) unknown
         ≡ of_function kinds (made kinds)) }
 {
     let mut table = Vec::new(alloc);

@@ -5,7 +5,7 @@ ghost use Rattle.std.specs.Prelude.{◌≡◌, ◌+◌, ◌*◌, ◌^◌, ◌<�
 ghost use Rattle.binding_kinds.specs.Kinds.{kind_found, joined, takes, marked, narrowed, is_set, is_relation};
 ghost use Rattle.binding_kinds.specs.Verdict.{or_else, unless, of_name, of_slot};
 ghost use Rattle.binding_kinds.specs.Combinations.{digit, unknown};
-ghost use Rattle.binding_kinds.specs.Senses.{IsAlike};
+ghost use Rattle.binding_kinds.specs.Senses.{IsSameSize};
 
 use crate::fault::ModelFault;
 use crate::function::{Function, MAX_SIZE};
@@ -127,7 +127,7 @@ fn recursive_fault(from: usize, under: bool, slot: usize) -> Option<ModelFault>
 
 /// What an infix operator makes.
 pub fn judged_infix(op: Infix, first: Judged, second: Judged) -> Judged
-    ensures size { IsAlike result.size (first.size + second.size + 1) }
+    ensures size { IsSameSize result.size (first.size + second.size + 1) }
     ensures kind { result.kind ≡ joined op first.kind second.kind }
     ensures fault { result.fault
         ≡ or_else first.fault (or_else (unless (takes op first.kind second.kind) ModelFault.Kind)
@@ -143,7 +143,7 @@ pub fn judged_infix(op: Infix, first: Judged, second: Judged) -> Judged
 
 /// What a postfix operator makes.
 pub fn judged_postfix(inner: Judged) -> Judged
-    ensures size { IsAlike result.size (inner.size + 1) }
+    ensures size { IsSameSize result.size (inner.size + 1) }
     ensures kind { result.kind ≡ marked inner.kind }
     ensures fault { result.fault
         ≡ or_else inner.fault (unless (is_relation inner.kind) ModelFault.Kind) }
@@ -158,7 +158,7 @@ pub fn judged_postfix(inner: Judged) -> Judged
 
 /// A complement.
 pub fn judged_complement(inner: Judged) -> Judged
-    ensures size { IsAlike result.size (inner.size + 1) }
+    ensures size { IsSameSize result.size (inner.size + 1) }
     ensures kind { result.kind ≡ inner.kind }
     ensures fault { result.fault ≡ inner.fault }
 {
@@ -171,7 +171,7 @@ pub fn judged_complement(inner: Judged) -> Judged
 
 /// An identity.
 pub fn judged_identity(inner: Judged) -> Judged
-    ensures size { IsAlike result.size (inner.size + 1) }
+    ensures size { IsSameSize result.size (inner.size + 1) }
     ensures kind { result.kind ≡ narrowed inner.kind }
     ensures fault { result.fault
         ≡ or_else (unless (is_set inner.kind) ModelFault.Kind) inner.fault }
@@ -202,7 +202,7 @@ impl Arguments {
     pub fn with(self, function: &Function, index: usize, one: Judged) -> Arguments
         ensures combination { index < 8 → self.combination < 6561
             → result.combination ≡ self.combination + digit one.kind * 3 ^ index }
-        ensures size { IsAlike result.size
+        ensures size { IsSameSize result.size
             (self.size + get_or function.now.factors index 0 * one.size) }
         ensures fault { result.fault ≡ or_else self.fault one.fault }
     {

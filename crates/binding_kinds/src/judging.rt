@@ -4,9 +4,9 @@ ghost use Rattle.std.specs.Prelude.{◌≡◌, [], List, reverse, map, Ok, Err, 
 ghost use Rattle.binding_kinds.specs.Value.{Naming, entry_of, bound_of};
 ghost use Rattle.binding_kinds.specs.Kinds.{found};
 ghost use Rattle.binding_kinds.specs.Verdict.{is_seen, of_parameter, of_parameters};
-ghost use Rattle.binding_kinds.specs.First.{of_binding};
-ghost use Rattle.binding_kinds.specs.GroupNames.{names_of};
-ghost use Rattle.binding_kinds.specs.Senses.{Sense, IsKept, AreKept, sense_of, size_in, kind_in, first_within, IsAlike};
+ghost use Rattle.binding_kinds.specs.First.{let_fault};
+ghost use Rattle.binding_kinds.specs.GroupNames.{let_names};
+ghost use Rattle.binding_kinds.specs.Senses.{Sense, HasSense, HaveSenses, sense_of, size_in, kind_in, term_fault, IsSameSize};
 ghost use Rattle.text_values.specs.ModelValues.{term_of};
 
 use crate::fault::ModelFault;
@@ -27,9 +27,9 @@ pub fn function_of<'a>(
     count: usize,
 ) -> Result<&'a Function, ModelFault>
     ensures { let looked_for = found (reverse (map entry_of entries.now)) name.now in
-        (senses : List Sense) → AreKept functions.now senses
+        (senses : List Sense) → HaveSenses functions.now senses
         → MatchResult result
-        (λ f. (s : Sense) × (sense_of senses count looked_for ≡ Ok s) × IsKept f.now s)
+        (λ f. (s : Sense) × (sense_of senses count looked_for ≡ Ok s) × HasSense f.now s)
         (λ k. sense_of senses count looked_for ≡ Err k) }
 {
     let Some(found) = find(entries, name) else {
@@ -60,14 +60,14 @@ pub fn judge(
     under: bool,
     term: &Expression,
 ) -> Judged
-    ensures kind_in { (senses : List Sense) → AreKept functions.now senses
+    ensures kind_in { (senses : List Sense) → HaveSenses functions.now senses
         → result.kind ≡ kind_in senses (reverse (map entry_of entries.now)) (term_of term.now) }
-    ensures size_in { (senses : List Sense) → AreKept functions.now senses
-        → IsAlike result.size (size_in senses (reverse (map entry_of entries.now))
+    ensures size_in { (senses : List Sense) → HaveSenses functions.now senses
+        → IsSameSize result.size (size_in senses (reverse (map entry_of entries.now))
         (term_of term.now)) }
-    ensures first_within { (senses : List Sense) → AreKept functions.now senses
+    ensures first_within { (senses : List Sense) → HaveSenses functions.now senses
         → result.fault
-        ≡ first_within senses (reverse (map entry_of entries.now)) from under
+        ≡ term_fault senses (reverse (map entry_of entries.now)) from under
         (term_of term.now) }
 {
     match term {
@@ -108,7 +108,7 @@ pub fn judge(
 
 /// Whether one of the bindings has the name.
 fn is_seen(before: &[Binding], name: &Name) -> bool
-    ensures { result ≡ is_seen (names_of before.now) name.now }
+    ensures { result ≡ is_seen (let_names before.now) name.now }
 {
     let mut is_found = false;
     for binding in before {
@@ -129,7 +129,7 @@ pub fn binding_fault(
 ) -> Option<ModelFault>
     ensures { (senses : List Sense) → (names : List Naming)
         → body ≡ kind_in senses names (bound_of binding.now).body
-        → result ≡ of_binding senses names recursive (names_of before.now) (bound_of binding.now) }
+        → result ≡ let_fault senses names recursive (let_names before.now) (bound_of binding.now) }
 {
     if is_seen(before, &binding.name) {
         return Some(ModelFault::Duplicate);

@@ -1,7 +1,7 @@
 //! The kinds that an application makes of arguments of given kinds.
 
 ghost use Rattle.std.specs.Prelude.{◌≡◌, ◌≤◌, ◌<◌, ◌*◌, ◌^◌, List, length, get_or};
-ghost use Rattle.binding_kinds.specs.Combinations.{digit, number_of, has_any};
+ghost use Rattle.binding_kinds.specs.Combinations.{digit, kinds_number, has_any};
 
 use crate::kinds::Kind;
 
@@ -35,7 +35,7 @@ pub fn weight(index: usize) -> usize
 
 /// The kind at that index of a combination of kinds.
 pub fn kind_at(combination: usize, index: usize) -> Kind
-    ensures { (kinds : List Kind) → (other : Kind) → combination ≡ number_of kinds
+    ensures { (kinds : List Kind) → (other : Kind) → combination ≡ kinds_number kinds
         → index < length kinds → length kinds ≤ 8 → result ≡ get_or kinds index other }
 {
     let digit = combination / weight(index) % 3;
@@ -62,7 +62,7 @@ pub fn weighed(kind: Kind, index: usize) -> usize
 
 /// Whether one of the kinds of a combination fits every kind.
 pub fn has_any(combination: usize, arity: usize) -> bool
-    ensures { (kinds : List Kind) → combination ≡ number_of kinds → arity ≡ length kinds
+    ensures { (kinds : List Kind) → combination ≡ kinds_number kinds → arity ≡ length kinds
         → length kinds ≤ 8 → result ≡ has_any kinds }
 {
     let mut any = false;

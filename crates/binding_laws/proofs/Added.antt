@@ -6,9 +6,9 @@ use Rattle.std.proofs.lemmas.Option.{none-some, same_Some}
 use Rattle.binding_kinds.specs.declared.kinds.Kind.{Kind}
 use Rattle.binding_kinds.specs.declared.kinds.Kind.TheVariants.{OfRelation, OfAny}
 use Rattle.binding_kinds.specs.declared.scope.Binder.TheVariants as binders
-use Rattle.binding_kinds.specs.Value.{Naming, Bound, Clause, Group, Check, Mute, Defined}
+use Rattle.binding_kinds.specs.Value.{Naming, Bound, BareItem, Group, Check, Mute, Defined}
 use Rattle.binding_kinds.specs.Senses.{Sense, kind_in}
-use Rattle.binding_kinds.specs.Faults.{naming_at, with_own, with_all, extended}
+use Rattle.binding_kinds.specs.Faults.{naming_at, with_own, with_all, names_after}
 use Rattle.binding_laws.proofs.Told.{told, told_here, told_below, IsUnder, under_self, under_one, under_both, under_told}
 
 -- ---- the names of a group
@@ -39,7 +39,7 @@ kind_seen ss names false b = kind_in ss names b.body
 pub group_names : (ss : List Sense) (names : List Naming) (at : ℕ) (recursive : Bool)
     (bs : List Bound)
     → with_kinds (kind_seen ss names recursive) names at 0 bs
-    ≡ extended ss names at (Group recursive bs)
+    ≡ names_after ss names at (Group recursive bs)
 group_names ss names at true bs = own_kinds names at 0 bs
 group_names ss names at false bs = all_kinds ss names names at 0 bs
 
@@ -109,8 +109,8 @@ module _ (K : Bound → Kind) (item : ℕ) where
 
 -- ---- the names of an item
 
-pub extended_under : (ss : List Sense) (names : List Naming) (at : ℕ) (c : Clause)
-    → IsUnder names (extended ss names at c)
+pub extended_under : (ss : List Sense) (names : List Naming) (at : ℕ) (c : BareItem)
+    → IsUnder names (names_after ss names at c)
 extended_under ss names at (Group recursive bs) =
     subst (IsUnder names) (group_names ss names at recursive bs)
     (kinds_under (kind_seen ss names recursive) at bs names 0)
@@ -119,7 +119,7 @@ extended_under ss names at Mute = under_self names
 extended_under ss names at (Defined n ps b) =
     under_one (record { name = n; kind = OfAny; binder = binders.Applicable (length ss) }) names
 
-abbrev pub IsAdded : List Sense → List Naming → ℕ → Clause → ℕ → Naming → Type 0
+abbrev pub IsAdded : List Sense → List Naming → ℕ → BareItem → ℕ → Naming → Type 0
 IsAdded ss names at (Group recursive bs) slot n =
     IsAt (kind_seen ss names recursive) at bs names 0 slot n
 IsAdded ss names at (Check w e) slot n = ⊥
@@ -128,8 +128,8 @@ IsAdded ss names at (Defined x ps b) slot n =
     (slot ≡ length names)
     × (n ≡ record { name = x; kind = OfAny; binder = binders.Applicable (length ss) })
 
-pub new_name_is_added : (ss : List Sense) (names : List Naming) (at : ℕ) (c : Clause) (slot : ℕ)
-    (n : Naming) → told (extended ss names at c) slot ≡ Some n → length names ≤ slot
+pub new_name_is_added : (ss : List Sense) (names : List Naming) (at : ℕ) (c : BareItem) (slot : ℕ)
+    (n : Naming) → told (names_after ss names at c) slot ≡ Some n → length names ≤ slot
     → IsAdded ss names at c slot n
 new_name_is_added ss names at (Group recursive bs) slot n h le =
     kinds_new (kind_seen ss names recursive) at bs names 0 slot n
@@ -147,7 +147,7 @@ new_name_is_added ss names at (Defined x ps b) slot n h le =
 -- the name at a position of a group is seen later
 pub told_added : (ss : List Sense) (names : List Naming) (at : ℕ) (recursive : Bool)
     (bs : List Bound) (p : ℕ) (b : Bound) → slice_get bs p ≡ Some b
-    → told (extended ss names at (Group recursive bs)) (length names + p)
+    → told (names_after ss names at (Group recursive bs)) (length names + p)
     ≡ Some (naming_at at p b (kind_seen ss names recursive b))
 told_added ss names at recursive bs p b h =
     let none : 0 + p ≡ p = omega arith in

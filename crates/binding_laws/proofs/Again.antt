@@ -12,15 +12,15 @@ use Rattle.binding_kinds.specs.declared.scope.Binder.{Binder}
 use Rattle.binding_kinds.specs.declared.scope.Binder.TheVariants as binders
 use Rattle.binding_kinds.specs.declared.scope.Found.{Found}
 use Rattle.binding_kinds.specs.declared.scope.Input.{Input}
-use Rattle.binding_kinds.specs.Value.{Naming, Bound, Clause, Group, Check, Mute, Defined, clause_of}
+use Rattle.binding_kinds.specs.Value.{Naming, Bound, BareItem, Group, Check, Mute, Defined, bare_item}
 use Rattle.binding_kinds.specs.Kinds.{found}
 use Rattle.binding_kinds.specs.Fits.{IsValue}
-use Rattle.binding_kinds.specs.Faults.{extended, with_own}
+use Rattle.binding_kinds.specs.Faults.{names_after, with_own}
 use Rattle.binding_graph.specs.declared.resolved.ResolvedItem.{ResolvedItem}
 use Rattle.binding_graph.specs.Resolved.{IsResolvedIn}
 use Rattle.binding_graph.specs.Usages.{Usage}
 use Rattle.binding_laws.specs.ItemLaws.{Scope, with_names, Sight, Matching, IsSameFound, SayTheSame, first_scope, own_at, functions_before, IsFunctionAlike, IsNamedAlike, IsNamedAlikeIn, IsNamedAlikeAt, HasAlikeFunctions, IsItemAt, IsResolvedAlike, sight_at, seeing}
-use Rattle.binding_laws.specs.Reread.{ReadModel, HasNumber, outermost, IsSound, AreInOneOrder, IsItemOf, seen_input, seen_function, UseTheSame, ItemsAreReadAgain}
+use Rattle.binding_laws.specs.Reread.{ReadModel, HasNumber, outer_namings, IsReadModel, AreInOneOrder, IsItemOf, seen_input, seen_function, UseTheSame, ItemsAreReadAgain}
 use Rattle.binding_laws.proofs.AlikeTexts.{alike_by}
 use Rattle.binding_laws.proofs.Lists.{partners, partners_are}
 use Rattle.binding_laws.proofs.Named.{HasNames}
@@ -38,7 +38,7 @@ use Rattle.binding_laws.proofs.Matched.{matching, matches_outer, matches_used, m
 
 -- ---- orders
 
-order_turned : (names : List Naming) (m w : ReadModel) → IsSound names w → AreInOneOrder m w
+order_turned : (names : List Naming) (m w : ReadModel) → IsReadModel names w → AreInOneOrder m w
     → AreInOneOrder w m
 order_turned names m w well order a b c d first second ha hb hc hd lt =
     elim (cases_Bool (nat_le d c)) [
@@ -68,26 +68,26 @@ found_low names x f h =
     grind (arith, nat_tests, lt)
 
 -- how many names the item itself has
-abbrev own_count : Clause → ℕ
+abbrev own_count : BareItem → ℕ
 own_count (Group r bs) = length bs
 own_count (Check w e) = 0
 own_count Mute = 0
 own_count (Defined n ps b) = 0
 
-module _ (ps : List Predefined) (m w : ReadModel) (well : IsSound (outermost ps) m)
-    (other : IsSound (outermost ps) w) (order : AreInOneOrder m w) (back : AreInOneOrder w m)
+module _ (ps : List Predefined) (m w : ReadModel) (well : IsReadModel (outer_namings ps) m)
+    (other : IsReadModel (outer_namings ps) w) (order : AreInOneOrder m w) (back : AreInOneOrder w m)
     (k l : ℕ) (rs qs : List Input) (fs gs : List ℕ) (count : ℕ) where
   abbrev names : List Naming
-  names = outermost ps
+  names = outer_namings ps
 
   abbrev M : Matching
   M = matching ps m w k l rs qs fs gs count
 
   abbrev in_m : ℕ → Scope
-  in_m i = sees (outermost ps) m.items i
+  in_m i = sees (outer_namings ps) m.items i
 
   abbrev in_w : ℕ → Scope
-  in_w j = sees (outermost ps) w.items j
+  in_w j = sees (outer_namings ps) w.items j
 
   -- inputs and functions of both
   abbrev P : Input → Type 0
@@ -103,10 +103,10 @@ module _ (ps : List Predefined) (m w : ReadModel) (well : IsSound (outermost ps)
   T = HasSameFunction w m gs fs
 
   abbrev sight_m : ℕ → Sight
-  sight_m i = sight_at (outermost ps) m.items i
+  sight_m i = sight_at (outer_namings ps) m.items i
 
   abbrev sight_w : ℕ → Sight
-  sight_w j = sight_at (outermost ps) w.items j
+  sight_w j = sight_at (outer_namings ps) w.items j
 
   -- items of one number, of which the expression is a part
   module _ (i j number : ℕ) (at_left : HasNumber m i number) (at_right : HasNumber w j number) where
@@ -234,19 +234,19 @@ module _ (ps : List Predefined) (m w : ReadModel) (well : IsSound (outermost ps)
   -- ---- functions that stand for each other
 
   module _ (same : map (seen_function m) fs ≡ map (seen_function w) gs)
-      (left : Each (IsKeptFunction (outermost ps) m.items (outer_names ps) P Q) fs)
-      (right : Each (IsKeptFunction (outermost ps) w.items (outer_names ps) R T) gs) where
-    one_clause : (o q : Option Item) (a b : Item) → option_map clause_of o ≡ option_map clause_of q
-        → o ≡ Some a → q ≡ Some b → clause_of a ≡ clause_of b
+      (left : Each (IsKeptFunction (outer_namings ps) m.items (outer_names ps) P Q) fs)
+      (right : Each (IsKeptFunction (outer_namings ps) w.items (outer_names ps) R T) gs) where
+    one_clause : (o q : Option Item) (a b : Item) → option_map bare_item o ≡ option_map bare_item q
+        → o ≡ Some a → q ≡ Some b → bare_item a ≡ bare_item b
     one_clause o q a b e h g =
-        same_Some (clause_of a) (clause_of b) (sym (ap (option_map clause_of) h)
-        ∙ (e ∙ ap (option_map clause_of) g))
+        same_Some (bare_item a) (bare_item b) (sym (ap (option_map bare_item) h)
+        ∙ (e ∙ ap (option_map bare_item) g))
 
     -- functions of one clause
     function_alike : (i j number : ℕ) → HasNumber m i number → HasNumber w j number → (a b : Item)
         → slice_get m.items i ≡ Some a → slice_get w.items j ≡ Some b
         → (n v : List ℕ) (vs us : List (List ℕ)) (t u : Term)
-        → clause_of a ≡ Defined n vs t → clause_of b ≡ Defined v us u
+        → bare_item a ≡ Defined n vs t → bare_item b ≡ Defined v us u
         → Defined n vs t ≡ Defined v us u
         → AreKept P Q (in_m i).usages (in_m i).names vs (start names m.items i) t
         → AreKept R T (in_w j).usages (in_w j).names us (start names w.items j) u
@@ -259,15 +259,15 @@ module _ (ps : List Predefined) (m w : ReadModel) (well : IsSound (outermost ps)
 
     alike_functions : HasAlikeFunctions M names names m.items w.items
     alike_functions i j a b both is_a is_b =
-        let pair = partners_are (seen_function m) (seen_function w) (IsKeptFunction (outermost ps) m.items (outer_names ps) P Q) (IsKeptFunction (outermost ps) w.items (outer_names ps) R T) fs gs same left right i j both in
-        let texts : option_map clause_of (slice_get m.items i) ≡ option_map clause_of (slice_get w.items j) = ap (λ (p : Option ℕ × Option Clause). p.1) pair.same in
+        let pair = partners_are (seen_function m) (seen_function w) (IsKeptFunction (outer_namings ps) m.items (outer_names ps) P Q) (IsKeptFunction (outer_namings ps) w.items (outer_names ps) R T) fs gs same left right i j both in
+        let texts : option_map bare_item (slice_get m.items i) ≡ option_map bare_item (slice_get w.items j) = ap (λ (p : Option ℕ × Option BareItem). p.1) pair.same in
         let clause = one_clause (slice_get m.items i) (slice_get w.items j) a b texts is_a is_b in
         let number = beside m.items m.numbers i a well.numbered is_a in
-        let at_right : HasNumber w j number.0 = sym (ap (λ (p : Option ℕ × Option Clause). p.0) pair.same) ∙ number.1 in
+        let at_right : HasNumber w j number.0 = sym (ap (λ (p : Option ℕ × Option BareItem). p.0) pair.same) ∙ number.1 in
         let h = pair.left in
         let g = pair.right in
-        let ca : clause_of a ≡ Defined h.name h.parameters h.body = ap clause_of (same_Some a h.item (sym is_a ∙ h.there)) ∙ h.clause in
-        let cb : clause_of b ≡ Defined g.name g.parameters g.body = ap clause_of (same_Some b g.item (sym is_b ∙ g.there)) ∙ g.clause in
+        let ca : bare_item a ≡ Defined h.name h.parameters h.body = ap bare_item (same_Some a h.item (sym is_a ∙ h.there)) ∙ h.clause in
+        let cb : bare_item b ≡ Defined g.name g.parameters g.body = ap bare_item (same_Some b g.item (sym is_b ∙ g.there)) ∙ g.clause in
         let alike = function_alike i j number.0 number.1 at_right a b is_a is_b h.name g.name h.parameters g.parameters h.body g.body ca cb (sym ca ∙ (clause ∙ cb)) h.kept g.kept in
         (clause, subst (IsNamedAlikeAt M names names m.items w.items i j) (sym ca) alike)
 
@@ -307,15 +307,15 @@ module _ (ps : List Predefined) (m w : ReadModel) (well : IsSound (outermost ps)
       own_bodies all few bs h.1 g.1 a.1 b.1,
     )
 
-    item_alike : (c : Clause) → own_count c ≤ count
-        → HasNamesIn (in_m k) (extended (in_m k).senses (in_m k).names k c) c
-        → HasNamesIn (in_w l) (extended (in_w l).senses (in_w l).names l c) c
-        → IsKeptItem P Q (in_m k) (extended (in_m k).senses (in_m k).names k c)
+    item_alike : (c : BareItem) → own_count c ≤ count
+        → HasNamesIn (in_m k) (names_after (in_m k).senses (in_m k).names k c) c
+        → HasNamesIn (in_w l) (names_after (in_w l).senses (in_w l).names l c) c
+        → IsKeptItem P Q (in_m k) (names_after (in_m k).senses (in_m k).names k c)
         (start names m.items k) c
-        → IsKeptItem R T (in_w l) (extended (in_w l).senses (in_w l).names l c)
+        → IsKeptItem R T (in_w l) (names_after (in_w l).senses (in_w l).names l c)
         (start names w.items l) c
-        → IsNamedAlikeIn M (sight_m k) (sight_w l) (extended (in_m k).senses (in_m k).names k c)
-        (extended (in_w l).senses (in_w l).names l c) c
+        → IsNamedAlikeIn M (sight_m k) (sight_w l) (names_after (in_m k).senses (in_m k).names k c)
+        (names_after (in_w l).senses (in_w l).names l c) c
     item_alike (Group true bs) few h g a b = own_bodies bs few bs h g a b
     item_alike (Group false bs) few h g a b = bodies_same bs h g a b
     item_alike (Check o e) few h g a b = term_same k l number at_left at_right [] e h g a b
@@ -324,21 +324,21 @@ module _ (ps : List Predefined) (m w : ReadModel) (well : IsSound (outermost ps)
 
 -- ---- the law
 
-module _ (ps : List Predefined) (m w : ReadModel) (well : IsSound (outermost ps) m)
-    (other : IsSound (outermost ps) w) (order : AreInOneOrder m w) (back : AreInOneOrder w m)
+module _ (ps : List Predefined) (m w : ReadModel) (well : IsReadModel (outer_namings ps) m)
+    (other : IsReadModel (outer_namings ps) w) (order : AreInOneOrder m w) (back : AreInOneOrder w m)
     (number k l : ℕ) (x y : Item) (r q : ResolvedItem) (left : IsItemOf m number k x r)
     (right : IsItemOf w number l y q) (say : SayTheSame x y) (alike : UseTheSame m w r q) where
   abbrev in_left : Scope
-  in_left = sees (outermost ps) m.items k
+  in_left = sees (outer_namings ps) m.items k
 
   abbrev in_right : Scope
-  in_right = sees (outermost ps) w.items l
+  in_right = sees (outer_namings ps) w.items l
 
   abbrev own_left : List Naming
-  own_left = (sees (outermost ps) m.items (suc k)).names
+  own_left = (sees (outer_namings ps) m.items (suc k)).names
 
   abbrev own_right : List Naming
-  own_right = (sees (outermost ps) w.items (suc l)).names
+  own_right = (sees (outer_namings ps) w.items (suc l)).names
 
   abbrev rs : List Input
   rs = r.inputs.items
@@ -365,81 +365,81 @@ module _ (ps : List Predefined) (m w : ReadModel) (well : IsSound (outermost ps)
   right_functions = HasSameFunction w m gs fs
 
   abbrev both : Matching
-  both = matching ps m w k l rs qs fs gs (own_count (clause_of x))
+  both = matching ps m w k l rs qs fs gs (own_count (bare_item x))
 
   left_resolved : IsResolvedIn in_left.senses in_left.usages in_left.names own_left
-      (length in_left.names) (clause_of x) r
+      (length in_left.names) (bare_item x) r
   left_resolved = resolved_at ps m well k x r left.text left.item
 
   right_resolved : IsResolvedIn in_right.senses in_right.usages in_right.names own_right
-      (length in_right.names) (clause_of x) q
+      (length in_right.names) (bare_item x) q
   right_resolved =
       subst
-      (λ (c : Clause). IsResolvedIn in_right.senses in_right.usages in_right.names own_right
+      (λ (c : BareItem). IsResolvedIn in_right.senses in_right.usages in_right.names own_right
       (length in_right.names) c q)
       (sym say.0)
       (resolved_at ps w other l y q right.text right.item)
 
-  left_names : Each (IsNameOfGroup (outermost ps) m.items k) rs
-  left_names = item_inputs (outermost ps) m.items (outer_names ps) k (clause_of x) r left_resolved
+  left_names : Each (IsNameOfGroup (outer_namings ps) m.items k) rs
+  left_names = item_inputs (outer_namings ps) m.items (outer_names ps) k (bare_item x) r left_resolved
 
-  right_names : Each (IsNameOfGroup (outermost ps) w.items l) qs
-  right_names = item_inputs (outermost ps) w.items (outer_names ps) l (clause_of x) q right_resolved
+  right_names : Each (IsNameOfGroup (outer_namings ps) w.items l) qs
+  right_names = item_inputs (outer_namings ps) w.items (outer_names ps) l (bare_item x) q right_resolved
 
   left_kept : IsKeptItem left_inputs left_functions in_left own_left (length in_left.names)
-      (clause_of x)
+      (bare_item x)
   left_kept =
-      item_kept (outermost ps) m.items (outer_names ps) k left_inputs left_functions (clause_of x) r
+      item_kept (outer_namings ps) m.items (outer_names ps) k left_inputs left_functions (bare_item x) r
       left_resolved
-      (partners (seen_input m) (seen_input w) (IsNameOfGroup (outermost ps) w.items l) rs qs
+      (partners (seen_input m) (seen_input w) (IsNameOfGroup (outer_namings ps) w.items l) rs qs
       alike.inputs right_names)
       (partners (seen_function m) (seen_function w) (λ g. Unit {0}) fs gs alike.functions
       (each_unit gs))
 
   right_kept : IsKeptItem right_inputs right_functions in_right own_right (length in_right.names)
-      (clause_of x)
+      (bare_item x)
   right_kept =
-      item_kept (outermost ps) w.items (outer_names ps) l right_inputs right_functions (clause_of x)
+      item_kept (outer_namings ps) w.items (outer_names ps) l right_inputs right_functions (bare_item x)
       q right_resolved
-      (partners (seen_input w) (seen_input m) (IsNameOfGroup (outermost ps) m.items k) qs rs
+      (partners (seen_input w) (seen_input m) (IsNameOfGroup (outer_namings ps) m.items k) qs rs
       (sym alike.inputs) left_names)
       (partners (seen_function w) (seen_function m) (λ f. Unit {0}) gs fs (sym alike.functions)
       (each_unit fs))
 
   left_closed : Each
-      (IsKeptFunction (outermost ps) m.items (outer_names ps) left_inputs left_functions) fs
+      (IsKeptFunction (outer_namings ps) m.items (outer_names ps) left_inputs left_functions) fs
   left_closed =
-      item_functions (outermost ps) m.items (outer_names ps) k left_inputs left_functions
-      (clause_of x) r left_resolved left_kept
+      item_functions (outer_namings ps) m.items (outer_names ps) k left_inputs left_functions
+      (bare_item x) r left_resolved left_kept
 
   right_closed : Each
-      (IsKeptFunction (outermost ps) w.items (outer_names ps) right_inputs right_functions) gs
+      (IsKeptFunction (outer_namings ps) w.items (outer_names ps) right_inputs right_functions) gs
   right_closed =
-      item_functions (outermost ps) w.items (outer_names ps) l right_inputs right_functions
-      (clause_of x) q right_resolved right_kept
+      item_functions (outer_namings ps) w.items (outer_names ps) l right_inputs right_functions
+      (bare_item x) q right_resolved right_kept
 
-  resolved_alike : IsResolvedAlike both (outermost ps) (outermost ps) m.items w.items k l x
+  resolved_alike : IsResolvedAlike both (outer_namings ps) (outer_namings ps) m.items w.items k l x
   resolved_alike =
       let own_m = own_is ps m well k x left.text in
-      let own_w = ap (extended in_right.senses in_right.names l) say.0 ∙ own_is ps w other l y right.text in
-      let count = own_count (clause_of x) in
+      let own_w = ap (names_after in_right.senses in_right.names l) say.0 ∙ own_is ps w other l y right.text in
+      let count = own_count (bare_item x) in
       let names_right = subst (HasNamesIn in_right own_right) (sym say.0) (names_expected ps w other l y right.text) in
-      let same_names = item_alike ps m w well other order back k l rs qs fs gs count number left.has_number right.has_number (clause_of x) (omega arith)
-      (subst (λ (own : List Naming). HasNamesIn in_left own (clause_of x)) (sym own_m)
+      let same_names = item_alike ps m w well other order back k l rs qs fs gs count number left.has_number right.has_number (bare_item x) (omega arith)
+      (subst (λ (own : List Naming). HasNamesIn in_left own (bare_item x)) (sym own_m)
       (names_expected ps m well k x left.text))
-      (subst (λ (own : List Naming). HasNamesIn in_right own (clause_of x)) (sym own_w) names_right)
+      (subst (λ (own : List Naming). HasNamesIn in_right own (bare_item x)) (sym own_w) names_right)
       (subst
       (λ (own : List Naming). IsKeptItem left_inputs left_functions in_left own
-      (length in_left.names) (clause_of x))
+      (length in_left.names) (bare_item x))
       (sym own_m) left_kept)
       (subst
       (λ (own : List Naming). IsKeptItem right_inputs right_functions in_right own
-      (length in_right.names) (clause_of x))
+      (length in_right.names) (bare_item x))
       (sym own_w) right_kept) in
-      let sight_m = sight_at (outermost ps) m.items k in
-      let sight_w = sight_at (outermost ps) w.items l in
-      let first = own_m ∙ sym (own_names (first_scope (outermost ps)) 0 m.items k x left.text) in
-      let second = own_w ∙ sym (own_names (first_scope (outermost ps)) 0 w.items l y right.text) in
+      let sight_m = sight_at (outer_namings ps) m.items k in
+      let sight_w = sight_at (outer_namings ps) w.items l in
+      let first = own_m ∙ sym (own_names (first_scope (outer_namings ps)) 0 m.items k x left.text) in
+      let second = own_w ∙ sym (own_names (first_scope (outer_namings ps)) 0 w.items l y right.text) in
       record {
         pairing =
             is_pairing ps m w k l rs qs fs gs count well other alike.inputs left_names right_names;
@@ -449,20 +449,20 @@ module _ (ps : List Predefined) (m w : ReadModel) (well : IsSound (outermost ps)
         item =
             subst
             (λ (own : List Naming). IsNamedAlikeIn both sight_m sight_w own
-            (own_at (first_scope (outermost ps)) 0 w.items l) (clause_of x)) first
+            (own_at (first_scope (outer_namings ps)) 0 w.items l) (bare_item x)) first
             (subst
             (λ (own : List Naming). IsNamedAlikeIn both sight_m sight_w
-            (extended in_left.senses in_left.names k (clause_of x)) own (clause_of x))
+            (names_after in_left.senses in_left.names k (bare_item x)) own (bare_item x))
             second same_names);
       }
 
 pub items_again : ItemsAreReadAgain
 items_again ps m w number k l x y r q well other order left right say alike =
-    let back = order_turned (outermost ps) m w other order in
+    let back = order_turned (outer_namings ps) m w other order in
     let resolved = resolved_alike ps m w well other order back number k l x y r q left right say alike in
-    let at_left : IsItemAt (outermost ps) m.items m.resolved k x r = record { all = well.as_resolved; labels = well.labelled; text = left.text; item = left.item } in
-    let at_right : IsItemAt (outermost ps) w.items w.resolved l y q = record { all = other.as_resolved; labels = other.labelled; text = right.text; item = right.item } in
+    let at_left : IsItemAt (outer_namings ps) m.items m.resolved k x r = record { all = well.as_resolved; labels = well.labelled; text = left.text; item = left.item } in
+    let at_right : IsItemAt (outer_namings ps) w.items w.resolved l y q = record { all = other.as_resolved; labels = other.labelled; text = right.text; item = right.item } in
     (alike_by m.items w.items
     (both ps m w well other order back number k l x y r q left right say alike)
-    (outermost ps) (outermost ps) m.resolved w.resolved k l x y r q at_left at_right say
+    (outer_namings ps) (outer_namings ps) m.resolved w.resolved k l x y r q at_left at_right say
     resolved).0

@@ -18,7 +18,7 @@ use Rattle.binding_graph.specs.declared.resolved.ResolvedItem.{ResolvedItem}
 use Rattle.binding_graph.specs.declared.resolved.Role.{Role}
 use Rattle.binding_graph.specs.declared.resolved.Role.TheVariants as roles
 use Rattle.binding_graph.specs.Inputs.{inputs_of}
-use Rattle.binding_graph.specs.Meaning.{IsCode, set_of, relation_of, steps_of}
+use Rattle.binding_graph.specs.Meaning.{IsCode, set_tree, rel_tree, steps_of}
 use Rattle.binding_graph.specs.Resolved.{AreBodies, IsGroupRole, IsCheckRole, HasUses, IsLabelled}
 use Rattle.binding_graph.specs.Usages.{with_values, with_all_values}
 use Rattle.binding_graph.specs.Contents as content
@@ -69,7 +69,7 @@ module _ (p : Pairing) (from start : ℕ) (pairing : IsPairing p from start) whe
       let relations = relation_same p from start pairing us ws used (formula_in s.senses s.names [] t) (formula_in o.senses o.names [] t) form in
       let kinds = kind_same p s o t alike in
       let kind : c.kind ≡ d.kind = h.0 ∙ (kinds ∙ sym g.0) in
-      let all : steps_of (kind_in s.senses s.names t) (set_of us from (formula_in s.senses s.names [] t)) (relation_of us from (formula_in s.senses s.names [] t)) ≡ steps_of (kind_in o.senses o.names t) (set_of ws start (formula_in o.senses o.names [] t)) (relation_of ws start (formula_in o.senses o.names [] t)) =
+      let all : steps_of (kind_in s.senses s.names t) (set_tree us from (formula_in s.senses s.names [] t)) (rel_tree us from (formula_in s.senses s.names [] t)) ≡ steps_of (kind_in o.senses o.names t) (set_tree ws start (formula_in o.senses o.names [] t)) (rel_tree ws start (formula_in o.senses o.names [] t)) =
       λ i. steps_of (kinds i) (sets i) (relations i) in
       let steps : c.steps.items ≡ d.steps.items = h.1 ∙ (all ∙ sym g.1) in
       λ i. record { kind = kind i; steps = steps i }

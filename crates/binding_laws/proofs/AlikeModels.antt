@@ -4,7 +4,7 @@ use Rattle.std.specs.Prelude.{slice_get, unwrap_or}
 use Rattle.text_values.specs.declared.model.Item.{Item}
 use Rattle.text_values.specs.declared.model.Item.TheVariants as items
 use Rattle.text_values.specs.declared.model.ModelText.{ModelText}
-use Rattle.binding_kinds.specs.Value.{Naming, Clause, clause_of}
+use Rattle.binding_kinds.specs.Value.{Naming, BareItem, bare_item}
 use Rattle.binding_graph.specs.declared.resolved.ResolvedItem.{ResolvedItem}
 use Rattle.binding_graph.specs.Resolved.{IsResolvedIn, AreResolved, IsLabelled, IsLabelledAs, AreLabelled}
 use Rattle.binding_laws.specs.ItemLaws.{Scope, Pairing, IsItem, IsItemAt, HasSameNamesAt, DoTheSame, label_of, SayTheSame, scope_after, scope_at, own_at, first_scope, HaveAlikeItems}
@@ -35,7 +35,7 @@ label_given (items.Include n) r h = tt
 item_moved : (s : Scope) (own : List Naming) (from : ℕ) (x y : Item) (r : ResolvedItem)
     → SayTheSame x y → IsItem s own from y r → IsItem s own from x r
 item_moved s own from x y r e h = (
-  subst (λ (c : Clause). IsResolvedIn s.senses s.usages s.names own from c r) (sym e.0) h.0,
+  subst (λ (c : BareItem). IsResolvedIn s.senses s.usages s.names own from c r) (sym e.0) h.0,
   label_given x r (subst (λ (l : Option (Bool × Option (List ℕ))). IsLabelledBy l r) (sym e.1)
       (label_read y r h.1)),
 )
@@ -43,7 +43,7 @@ item_moved s own from x y r e h = (
 -- ---- the item of an index
 
 pub item_at : (s : Scope) (at : ℕ) (xs : List Item) (rs : List ResolvedItem) (k : ℕ) (x : Item)
-    (r : ResolvedItem) → AreResolved s.senses s.usages s.names at (map clause_of xs) rs
+    (r : ResolvedItem) → AreResolved s.senses s.usages s.names at (map bare_item xs) rs
     → AreLabelled xs rs → slice_get xs k ≡ Some x → slice_get rs k ≡ Some r
     → IsItem (scope_at s at xs k) (own_at s at xs k) (length (scope_at s at xs k).names) x r
 item_at s at [] rs k x r h l is_x is_r = absurd (let n : None ≡ Some x = is_x in cc)

@@ -11,7 +11,7 @@ use Rattle.binding_kinds.specs.declared.fault.ModelFault.TheVariants as faults
 use Rattle.binding_kinds.specs.declared.scope.Binder.{Binder}
 use Rattle.binding_kinds.specs.declared.scope.Binder.TheVariants as binders
 use Rattle.binding_kinds.specs.declared.scope.Found.{Found}
-use Rattle.binding_kinds.specs.Value.{Naming, Bound, Clause, Group, Check, Mute, Defined, clause_of}
+use Rattle.binding_kinds.specs.Value.{Naming, Bound, BareItem, Group, Check, Mute, Defined, bare_item}
 use Rattle.binding_kinds.specs.Kinds.{found}
 use Rattle.binding_kinds.specs.Meanings.{parameter_of}
 use Rattle.binding_kinds.specs.Applicable.{applied, applied_binder, applied_of}
@@ -231,7 +231,7 @@ module _ (m : Matching) (is js : List ℕ) (s o : Scope) (same : SeesSame m is j
   bounds_same (b ∷ bs) h = (names_same m is js s o same [] b.body h.0, bounds_same bs h.1)
 
 item_same : (m : Matching) (is js : List ℕ) (s o : Scope) → SeesSame m is js s o
-    → (own other : List Naming) (c : Clause)
+    → (own other : List Naming) (c : BareItem)
     → IsNamedAlikeIn m (record { functions = is; names = s.names })
     (record { functions = js; names = o.names }) own other c
     → HasSameNamesIn m.pairing s o own other c
@@ -247,13 +247,13 @@ item_same m is js s o same own other (Defined n ps b) h = names_same m is js s o
 plain : (i behind : ℕ) → i ≡ 0 + behind → i ≡ behind
 plain i behind h = omega (arith, h)
 
-abbrev parameters_in : Clause → List (List ℕ)
+abbrev parameters_in : BareItem → List (List ℕ)
 parameters_in (Group r bs) = []
 parameters_in (Check w e) = []
 parameters_in Mute = []
 parameters_in (Defined n ps b) = ps
 
-abbrev body_in : Term → Clause → Term
+abbrev body_in : Term → BareItem → Term
 body_in t (Group r bs) = t
 body_in t (Check w e) = t
 body_in t Mute = t
@@ -283,10 +283,10 @@ module _ (m : Matching) (one : IsOne m.pairing) (names more : List Naming) (mode
       let at_right : slice_get other j ≡ Some b.item = subst (λ (n : ℕ). slice_get other n ≡ Some b.item) (sym (plain j b.behind b.index)) b.text in
       let both = alike i j a.item b.item paired at_left at_right in
       let same_item : IsNamedAlikeAt m names more model other a.behind b.behind (Defined a.name a.parameters a.body) =
-      subst (λ (c : Clause). IsNamedAlikeAt m names more model other a.behind b.behind c) a.clause
-      (subst (λ (n : ℕ). IsNamedAlikeAt m names more model other a.behind n (clause_of a.item))
+      subst (λ (c : BareItem). IsNamedAlikeAt m names more model other a.behind b.behind c) a.clause
+      (subst (λ (n : ℕ). IsNamedAlikeAt m names more model other a.behind n (bare_item a.item))
       (plain j b.behind b.index)
-      (subst (λ (n : ℕ). IsNamedAlikeAt m names more model other n j (clause_of a.item))
+      (subst (λ (n : ℕ). IsNamedAlikeAt m names more model other n j (bare_item a.item))
       (plain i a.behind a.index) both.1)) in
       let alike = names_same m (functions_before 0 model a.behind) (functions_before 0 other b.behind) (before a.behind) (before_other b.behind) same a.parameters a.body same_item in
       let text : Defined a.name a.parameters a.body ≡ Defined b.name b.parameters b.body = sym a.clause ∙ (both.0 ∙ b.clause) in
@@ -338,7 +338,7 @@ pub alike_by : (first second : List Item) (m : Matching) (names more : List Nami
     → IsResolvedAlike m names more first second k l x → DoTheSame m.pairing r q
 alike_by first second m names more resolved others k l x y r q h g e same =
     let sees = seen_same m same.pairing.one names more first second same.functions k k l (omega arith) in
-    let told = item_same m (functions_before 0 first k) (functions_before 0 second l) (scope_at (first_scope names) 0 first k) (scope_at (first_scope more) 0 second l) sees (own_at (first_scope names) 0 first k) (own_at (first_scope more) 0 second l) (clause_of x) same.item in
+    let told = item_same m (functions_before 0 first k) (functions_before 0 second l) (scope_at (first_scope names) 0 first k) (scope_at (first_scope more) 0 second l) sees (own_at (first_scope names) 0 first k) (own_at (first_scope more) 0 second l) (bare_item x) same.item in
     alike_at first second m.pairing names more resolved others k l x y r q h g e
     (record { pairing = same.pairing; same = told })
 

@@ -7,7 +7,7 @@ use Rattle.text_values.specs.declared.model.Item.{Item}
 use Rattle.text_values.specs.declared.model.Item.TheVariants as items
 use Rattle.text_values.specs.ModelValue.{Term}
 use Rattle.text_values.specs.ModelValues.{term_of}
-use Rattle.binding_kinds.specs.Value.{Clause, Group, Check, Mute, Defined, clause_of}
+use Rattle.binding_kinds.specs.Value.{BareItem, Group, Check, Mute, Defined, bare_item}
 use Rattle.binding_kinds.specs.Senses.{Sense}
 use Rattle.binding_kinds.specs.Faults.{senses_after}
 use Rattle.binding_kinds.specs.Functions.{sense_of_function}
@@ -35,7 +35,7 @@ one_longer (z ∷ zs) x =
     omega (arith, rest, long, short)
 
 sense_after : (s : Scope) (x : Item) (n : ℕ) (a : Sense) → slice_get s.senses n ≡ Some a
-    → slice_get (senses_after s.senses s.names (clause_of x)) n ≡ Some a
+    → slice_get (senses_after s.senses s.names (bare_item x)) n ≡ Some a
 sense_after s (items.Let r g) n a h = h
 sense_after s (items.Function f ps b) n a h =
     get_kept s.senses (sense_of_function s.senses s.names ps.items (term_of b) ∷ []) n a h
@@ -45,7 +45,7 @@ sense_after s (items.Show f t) n a h = h
 sense_after s (items.Include f) n a h = h
 
 usage_after : (s : Scope) (at : ℕ) (x : Item) (n : ℕ) (u : Usage) → slice_get s.usages n ≡ Some u
-    → slice_get (usages_after s.usages s.names at (clause_of x)) n ≡ Some u
+    → slice_get (usages_after s.usages s.names at (bare_item x)) n ≡ Some u
 usage_after s at (items.Let r g) n u h = h
 usage_after s at (items.Function f ps b) n u h =
     get_kept s.usages (usage_of_function s.usages s.names at ps.items (term_of b) ∷ []) n u h
@@ -55,7 +55,7 @@ usage_after s at (items.Show f t) n u h = h
 usage_after s at (items.Include f) n u h = h
 
 -- senses and usages of functions have the same numbers of parameters
-pub next_counts : (s : Scope) (at : ℕ) (c : Clause)
+pub next_counts : (s : Scope) (at : ℕ) (c : BareItem)
     → map (λ (u : Usage). u.arity) s.usages ≡ map (λ (b : Sense). b.arity) s.senses
     → map (λ (u : Usage). u.arity) (usages_after s.usages s.names at c)
     ≡ map (λ (b : Sense). b.arity) (senses_after s.senses s.names c)
@@ -96,7 +96,7 @@ pub record IsFunctionAt (s : Scope) (at : ℕ) (xs : List Item) (k n m i : ℕ) 
   pub name : List ℕ
   pub parameters : List (List ℕ)
   pub body : Term
-  pub clause : clause_of item ≡ Defined name parameters body
+  pub clause : bare_item item ≡ Defined name parameters body
   pub sense : slice_get (scope_at s at xs k).senses n
       ≡ Some (sense_of_function (scope_at s at xs behind).senses (scope_at s at xs behind).names
       parameters body)

@@ -10,11 +10,11 @@ use Rattle.binding_kinds.specs.declared.scope.Binder.{Binder}
 use Rattle.binding_kinds.specs.declared.scope.Binder.TheVariants as binders
 use Rattle.binding_kinds.specs.declared.scope.Found.{Found}
 use Rattle.binding_kinds.specs.declared.scope.Input.{Input}
-use Rattle.binding_kinds.specs.Value.{Naming, Clause, Defined, clause_of}
+use Rattle.binding_kinds.specs.Value.{Naming, BareItem, Defined, bare_item}
 use Rattle.binding_kinds.specs.Kinds.{found}
 use Rattle.binding_kinds.specs.Fits.{IsValue}
 use Rattle.binding_laws.specs.ItemLaws.{Pairing, IsSameBinder, IsSameFound, first_scope, functions_before}
-use Rattle.binding_laws.specs.Reread.{ReadModel, HasNumber, outermost, IsSound, AreInOneOrder, SeenName, seen_input, seen_function}
+use Rattle.binding_laws.specs.Reread.{ReadModel, HasNumber, outer_namings, IsReadModel, AreInOneOrder, SeenName, seen_input, seen_function}
 use Rattle.binding_laws.proofs.Lists.{pairs_of, HasPartner}
 use Rattle.binding_laws.proofs.Told.{told, told_found, found_last, naming_found}
 use Rattle.binding_laws.proofs.Placed.{sees, start, slot_of, under_at, IsInput, IsNameOfGroup, input_told, told_input, input_kind, IsInputAt, input_order, IsFunction, function_told, IsFunctionSeen, told_function, function_order, told_outer}
@@ -25,31 +25,31 @@ use Rattle.binding_laws.proofs.Seen.{beside, outer_names, input_seen, input_apar
 abbrev pub HasSameInput : List Predefined → ReadModel → ReadModel → ℕ → List Input → List Input
     → Input → Type 0
 HasSameInput ps m w l rs qs i =
-    HasPartner (seen_input m) (seen_input w) rs qs (IsNameOfGroup (outermost ps) w.items l) i
+    HasPartner (seen_input m) (seen_input w) rs qs (IsNameOfGroup (outer_namings ps) w.items l) i
 
 abbrev pub HasSameFunction : ReadModel → ReadModel → List ℕ → List ℕ → ℕ → Type 0
 HasSameFunction m w fs gs f = HasPartner (seen_function m) (seen_function w) fs gs (λ g. Unit {0}) f
 
 -- ---- from one model to the other
 
-module _ (ps : List Predefined) (m w : ReadModel) (well : IsSound (outermost ps) m)
-    (other : IsSound (outermost ps) w) where
+module _ (ps : List Predefined) (m w : ReadModel) (well : IsReadModel (outer_namings ps) m)
+    (other : IsReadModel (outer_namings ps) w) where
   abbrev in_m : ℕ → List Naming
-  in_m k = (sees (outermost ps) m.items k).names
+  in_m k = (sees (outer_namings ps) m.items k).names
 
   abbrev in_w : ℕ → List Naming
-  in_w l = (sees (outermost ps) w.items l).names
+  in_w l = (sees (outer_namings ps) w.items l).names
 
   -- the inputs are of items of one number, and are spelt alike
   pub record IsSameInput (i j : Input) (x : List ℕ) (kind : Kind) : Type 0 where
     pub number : ℕ
     pub left : HasNumber m i.item number
     pub right : HasNumber w j.item number
-    pub input : IsInput (outermost ps) w.items j x kind
+    pub input : IsInput (outer_namings ps) w.items j x kind
 
   pub same_seen : (i j : Input) (x : List ℕ) (kind : Kind) → seen_input m i ≡ seen_input w j
-      → IsInput (outermost ps) m.items i x kind → (y : List ℕ) (more : Kind)
-      → IsInput (outermost ps) w.items j y more → IsSameInput i j x kind
+      → IsInput (outer_namings ps) m.items i x kind → (y : List ℕ) (more : Kind)
+      → IsInput (outer_namings ps) w.items j y more → IsSameInput i j x kind
   same_seen i j x kind e h y more g =
       let a = input_seen ps m well i x kind h in
       let b = input_seen ps w other j y more g in
@@ -62,8 +62,8 @@ module _ (ps : List Predefined) (m w : ReadModel) (well : IsSound (outermost ps)
         left = a.has_number;
         right = sym numbers ∙ a.has_number;
         input =
-            subst (λ (n : List ℕ). IsInput (outermost ps) w.items j n kind) name
-            (subst (λ (k : Kind). IsInput (outermost ps) w.items j y k) same_kind g);
+            subst (λ (n : List ℕ). IsInput (outer_namings ps) w.items j n kind) name
+            (subst (λ (k : Kind). IsInput (outer_namings ps) w.items j y k) same_kind g);
       }
 
   -- the functions are items of one number, and have one name
@@ -71,20 +71,20 @@ module _ (ps : List Predefined) (m w : ReadModel) (well : IsSound (outermost ps)
     pub number : ℕ
     pub left : HasNumber m i number
     pub right : HasNumber w j number
-    pub function : IsFunction (outermost ps) w.items j x
+    pub function : IsFunction (outer_namings ps) w.items j x
 
-  clause_there : (o : Option Item) (c : Clause) → Some c ≡ option_map clause_of o
-      → (y : Item) × (o ≡ Some y) × (clause_of y ≡ c)
+  clause_there : (o : Option Item) (c : BareItem) → Some c ≡ option_map bare_item o
+      → (y : Item) × (o ≡ Some y) × (bare_item y ≡ c)
   clause_there None c e = absurd (none-some c (sym e))
-  clause_there (Some y) c e = (y, refl, sym (same_Some c (clause_of y) e))
+  clause_there (Some y) c e = (y, refl, sym (same_Some c (bare_item y) e))
 
   pub function_seen : (i j : ℕ) (x : List ℕ) → seen_function m i ≡ seen_function w j
-      → IsFunction (outermost ps) m.items i x → IsSameFunctionItem i j x
+      → IsFunction (outer_namings ps) m.items i x → IsSameFunctionItem i j x
   function_seen i j x e h =
       let number = beside m.items m.numbers i h.item well.numbered h.there in
-      let numbers : slice_get m.numbers i ≡ slice_get w.numbers j = ap (λ (p : Option ℕ × Option Clause). p.0) e in
-      let texts : option_map clause_of (slice_get m.items i) ≡ option_map clause_of (slice_get w.items j) = ap (λ (p : Option ℕ × Option Clause). p.1) e in
-      let here : Some (Defined x h.parameters h.body) ≡ option_map clause_of (slice_get m.items i) = (λ d. Some (sym h.clause d)) ∙ ap (option_map clause_of) (sym h.there) in
+      let numbers : slice_get m.numbers i ≡ slice_get w.numbers j = ap (λ (p : Option ℕ × Option BareItem). p.0) e in
+      let texts : option_map bare_item (slice_get m.items i) ≡ option_map bare_item (slice_get w.items j) = ap (λ (p : Option ℕ × Option BareItem). p.1) e in
+      let here : Some (Defined x h.parameters h.body) ≡ option_map bare_item (slice_get m.items i) = (λ d. Some (sym h.clause d)) ∙ ap (option_map bare_item) (sym h.there) in
       let there = clause_there (slice_get w.items j) (Defined x h.parameters h.body) (here ∙ texts) in
       record {
         number = number.0;
@@ -104,20 +104,20 @@ module _ (ps : List Predefined) (m w : ReadModel) (well : IsSound (outermost ps)
       (at_right : HasNumber w l number) where
     -- what is found in the other model stands no earlier
     pub reach_input : (i j : Input) (x : List ℕ) (kind : Kind) (g : Found) → IsSameInput i j x kind
-        → i.item < k → found (in_w l) x ≡ Some g → slot_of (outermost ps) w.items j ≤ g.slot
+        → i.item < k → found (in_w l) x ≡ Some g → slot_of (outer_namings ps) w.items j ≤ g.slot
     reach_input i j x kind g h lt e =
         let before = order i.item k j.item l h.number number h.left at_left h.right at_right lt in
-        let last = found_last (in_w l) x (slot_of (outermost ps) w.items j) _ (input_told (outermost ps) w.items j x kind h.input l before) refl in
+        let last = found_last (in_w l) x (slot_of (outer_namings ps) w.items j) _ (input_told (outer_namings ps) w.items j x kind h.input l before) refl in
         let same : last.0 ≡ g = same_Some last.0 g (sym last.1 ∙ e) in
         let slot : last.0.slot ≡ g.slot = ap (λ (f : Found). f.slot) same in
         let low = last.2 in
         omega (arith, low, slot)
 
     pub reach_function : (i j : ℕ) (x : List ℕ) (g : Found) → IsSameFunctionItem i j x → i < k
-        → found (in_w l) x ≡ Some g → start (outermost ps) w.items j ≤ g.slot
+        → found (in_w l) x ≡ Some g → start (outer_namings ps) w.items j ≤ g.slot
     reach_function i j x g h lt e =
         let before = order i k j l h.number number h.left at_left h.right at_right lt in
-        let last = found_last (in_w l) x (start (outermost ps) w.items j) _ (function_told (outermost ps) w.items j x h.function l before) refl in
+        let last = found_last (in_w l) x (start (outer_namings ps) w.items j) _ (function_told (outer_namings ps) w.items j x h.function l before) refl in
         let same : last.0 ≡ g = same_Some last.0 g (sym last.1 ∙ e) in
         let slot : last.0.slot ≡ g.slot = ap (λ (f : Found). f.slot) same in
         let low = last.2 in
@@ -149,11 +149,11 @@ same_predefined c d e = ap (predefined_in c) e
 
 -- a name that is predefined in both
 outer_same : (ps : List Predefined) (m w : ReadModel) (k l : ℕ) (x : List ℕ) (f g : Found)
-    → found (sees (outermost ps) m.items k).names x ≡ Some f
-    → found (sees (outermost ps) w.items l).names x ≡ Some g → f.slot < length (outermost ps)
-    → g.slot < length (outermost ps) → f ≡ g
+    → found (sees (outer_namings ps) m.items k).names x ≡ Some f
+    → found (sees (outer_namings ps) w.items l).names x ≡ Some g → f.slot < length (outer_namings ps)
+    → g.slot < length (outer_namings ps) → f ≡ g
 outer_same ps m w k l x f g h e low under =
-    let names = outermost ps in
+    let names = outer_namings ps in
     let left : told names f.slot ≡ Some (naming_found x f) = sym ((under_at (first_scope names) 0 m.items k).same f.slot low) ∙ told_found (sees names m.items k).names x f h in
     let right : told names g.slot ≡ Some (naming_found x g) = sym ((under_at (first_scope names) 0 w.items l).same g.slot under) ∙ told_found (sees names w.items l).names x g e in
     let there = found_last (sees names w.items l).names x f.slot (naming_found x f) ((under_at (first_scope names) 0 w.items l).same f.slot low ∙ left) refl in
@@ -170,17 +170,17 @@ outer_same ps m w k l x f g h e low under =
       binder = (ap (λ (n : Naming). n.binder) naming) d;
     }
 
-module _ (ps : List Predefined) (m w : ReadModel) (well : IsSound (outermost ps) m)
-    (other : IsSound (outermost ps) w) (order : AreInOneOrder m w) (back : AreInOneOrder w m)
+module _ (ps : List Predefined) (m w : ReadModel) (well : IsReadModel (outer_namings ps) m)
+    (other : IsReadModel (outer_namings ps) w) (order : AreInOneOrder m w) (back : AreInOneOrder w m)
     (k l number : ℕ) (at_left : HasNumber m k number) (at_right : HasNumber w l number) where
   abbrev names : List Naming
-  names = outermost ps
+  names = outer_namings ps
 
   abbrev left_names : List Naming
-  left_names = (sees (outermost ps) m.items k).names
+  left_names = (sees (outer_namings ps) m.items k).names
 
   abbrev right_names : List Naming
-  right_names = (sees (outermost ps) w.items l).names
+  right_names = (sees (outer_namings ps) w.items l).names
 
   -- ---- values
 
@@ -208,8 +208,8 @@ module _ (ps : List Predefined) (m w : ReadModel) (well : IsSound (outermost ps)
     -- what the name is in both
     pub record IsBothInput (f g : Found) (i j : Input) : Type 0 where
       pub both : Contains (pairs_of rs qs) (i, j)
-      pub left_slot : f.slot ≡ slot_of (outermost ps) m.items i
-      pub right_slot : g.slot ≡ slot_of (outermost ps) w.items j
+      pub left_slot : f.slot ≡ slot_of (outer_namings ps) m.items i
+      pub right_slot : g.slot ≡ slot_of (outer_namings ps) w.items j
       pub kinds : f.kind ≡ g.kind
 
     input_both : (x : List ℕ) (f g : Found) (i j : Input) → found left_names x ≡ Some f
@@ -299,17 +299,17 @@ module _ (ps : List Predefined) (m w : ReadModel) (well : IsSound (outermost ps)
 
 -- ---- values stand for the same
 
-module _ (ps : List Predefined) (m w : ReadModel) (well : IsSound (outermost ps) m)
-    (other : IsSound (outermost ps) w) (order : AreInOneOrder m w) (back : AreInOneOrder w m)
+module _ (ps : List Predefined) (m w : ReadModel) (well : IsReadModel (outer_namings ps) m)
+    (other : IsReadModel (outer_namings ps) w) (order : AreInOneOrder m w) (back : AreInOneOrder w m)
     (k l number : ℕ) (at_left : HasNumber m k number) (at_right : HasNumber w l number) (K L : ℕ)
     (rs qs : List Input) (p : Pairing)
-    (outer_in : (a : ℕ) → a < length (outermost ps) → Contains p.slots (a, a))
+    (outer_in : (a : ℕ) → a < length (outer_namings ps) → Contains p.slots (a, a))
     (both_in : (i j : Input) → Contains (pairs_of rs qs) (i, j)
-    → Contains p.slots (slot_of (outermost ps) m.items i, slot_of (outermost ps) w.items j)
+    → Contains p.slots (slot_of (outer_namings ps) m.items i, slot_of (outer_namings ps) w.items j)
     × Contains p.inputs (i, j)) where
   pub value_same : (x : List ℕ) (f g : Found)
-      → found (sees (outermost ps) m.items k).names x ≡ Some f
-      → found (sees (outermost ps) w.items l).names x ≡ Some g → IsValue f.binder → IsValue g.binder
+      → found (sees (outer_namings ps) m.items k).names x ≡ Some f
+      → found (sees (outer_namings ps) w.items l).names x ≡ Some g → IsValue f.binder → IsValue g.binder
       → ((i : Input) → f.binder ≡ binders.Bound i → HasSameInput ps m w L rs qs i)
       → ((j : Input) → g.binder ≡ binders.Bound j → HasSameInput ps w m K qs rs j)
       → IsSameFound p f g
@@ -318,8 +318,8 @@ module _ (ps : List Predefined) (m w : ReadModel) (well : IsSound (outermost ps)
       by_both : (a b : Binder) → f.binder ≡ a → g.binder ≡ b → IsValue a → IsValue b
           → IsSameFound p f g
       by_both (binders.Predefined c) (binders.Predefined d) fa gb va vb =
-          let low = told_outer (outermost ps) m.items k f.slot (naming_found x f) c (told_found (sees (outermost ps) m.items k).names x f h) fa in
-          let under = told_outer (outermost ps) w.items l g.slot (naming_found x g) d (told_found (sees (outermost ps) w.items l).names x g e) gb in
+          let low = told_outer (outer_namings ps) m.items k f.slot (naming_found x f) c (told_found (sees (outer_namings ps) m.items k).names x f h) fa in
+          let under = told_outer (outer_namings ps) w.items l g.slot (naming_found x g) d (told_found (sees (outer_namings ps) w.items l).names x g e) gb in
           let same = outer_same ps m w k l x f g h e low under in
           let binder : c ≡ d = same_predefined c d (sym fa ∙ (ap (λ (n : Found). n.binder) same ∙ gb)) in (
             subst (λ (s : ℕ). Contains p.slots (f.slot, s)) (ap (λ (n : Found). n.slot) same)
@@ -338,7 +338,7 @@ module _ (ps : List Predefined) (m w : ReadModel) (well : IsSound (outermost ps)
           let both = input_both ps m w well other order back k l number at_left at_right K L rs qs x f g i j h e fa gb (kept i fa) (more j gb) in
           let inside = both_in i j both.both in (
             subst (λ (s : ℕ). Contains p.slots (f.slot, s)) (sym both.right_slot)
-                (subst (λ (s : ℕ). Contains p.slots (s, slot_of (outermost ps) w.items j))
+                (subst (λ (s : ℕ). Contains p.slots (s, slot_of (outer_namings ps) w.items j))
                 (sym both.left_slot) inside.0),
             both.kinds,
             subst (λ (y : Binder). IsSameBinder p y g.binder) (sym fa)

@@ -11,10 +11,10 @@ use Rattle.binding_kinds.specs.declared.fault.ModelFault.{ModelFault}
 use Rattle.binding_kinds.specs.declared.fault.ModelFault.TheVariants as faults
 use Rattle.binding_kinds.specs.declared.kinds.Kind.{Kind}
 use Rattle.binding_kinds.specs.declared.kinds.Kind.TheVariants.{OfSet, OfRelation, OfAny}
-use Rattle.binding_kinds.specs.Value.{Naming, Bound, Clause, Group, clause_of}
+use Rattle.binding_kinds.specs.Value.{Naming, Bound, BareItem, Group, bare_item}
 use Rattle.binding_kinds.specs.Senses.{Sense, kind_in}
-use Rattle.binding_kinds.specs.Faults.{width, IsAmong, IsFaultIn, IsFaultOfItem, HasNoFault, extended, with_own}
-use Rattle.binding_kinds.specs.Fits.{IsKnown, AreSound, AreKnown, AreFit}
+use Rattle.binding_kinds.specs.Faults.{width, IsAmong, IsFaultIn, IsFaultOfItem, HasNoFault, names_after, with_own}
+use Rattle.binding_kinds.specs.Fits.{IsKnown, AreSoundSenses, AreKnown, AreFit}
 use Rattle.binding_kinds.specs.First.{first_of_item}
 use Rattle.binding_kinds.specs.Outermost.{naming_of, kind_of_predefined}
 use Rattle.binding_kinds.proofs.First.{Judges}
@@ -66,7 +66,7 @@ no_first : (F : ℕ → ModelFault → Type 0) (o : Option ModelFault) → Judge
 no_first F None j none = refl
 no_first F (Some k) j none = absurd (none j.index k j.there)
 
-pub no_first_of : (ss : List Sense) (names : List Naming) (item : ℕ) (c : Clause)
+pub no_first_of : (ss : List Sense) (names : List Naming) (item : ℕ) (c : BareItem)
     → ((i : ℕ) (k : ModelFault) → IsFaultOfItem ss names item c i k → ⊥)
     → first_of_item ss names item c ≡ None
 no_first_of ss names item c none =
@@ -75,16 +75,16 @@ no_first_of ss names item c none =
 
 -- the functions are sound, and the names have known kinds
 pub record IsKnownScope (s : Scope) : Type 0 where
-  pub sound : AreSound s.senses
+  pub sound : AreSoundSenses s.senses
   pub known : AreKnown s.names
 
 pub known_at : (s : Scope) (at : ℕ) (xs : List Item) (k : ℕ) → IsKnownScope s
-    → HasNoFault s.senses s.names at (map clause_of xs) → IsKnownScope (scope_at s at xs k)
+    → HasNoFault s.senses s.names at (map bare_item xs) → IsKnownScope (scope_at s at xs k)
 known_at s at [] k h none = h
 known_at s at (x ∷ xs) zero h none = h
 known_at s at (x ∷ xs) (suc k) h none =
-    let first = no_first_of s.senses s.names at (clause_of x) (λ i l f. none 0 i l (inl (refl, f))) in
-    let next : IsKnownScope (scope_after s at x) = record { sound = sound_item s.senses s.names at (clause_of x) h.sound h.known first; known = known_item s.senses s.names at (clause_of x) h.sound h.known first } in
+    let first = no_first_of s.senses s.names at (bare_item x) (λ i l f. none 0 i l (inl (refl, f))) in
+    let next : IsKnownScope (scope_after s at x) = record { sound = sound_item s.senses s.names at (bare_item x) h.sound h.known first; known = known_item s.senses s.names at (bare_item x) h.sound h.known first } in
     known_at (scope_after s at x) (at + 1) xs k next
     (λ j i l f. none (1 + j) i l (inr (j, refl, f)))
 
@@ -94,7 +94,7 @@ known_relation OfRelation h none = refl
 known_relation OfAny h none = absurd h
 
 relations_in : (ss : List Sense) (names : List Naming) (from : ℕ) (earlier : List (List ℕ))
-    (bs : List Bound) (p : ℕ) (b : Bound) → AreSound ss → AreFit ss names bs
+    (bs : List Bound) (p : ℕ) (b : Bound) → AreSoundSenses ss → AreFit ss names bs
     → ((i : ℕ) (k : ModelFault) → IsFaultIn ss names from true earlier bs i k → ⊥)
     → slice_get bs p ≡ Some b → kind_in ss names b.body ≡ OfRelation
 relations_in ss names from earlier [] p b sound fit none h = absurd (none-some b h)
@@ -110,7 +110,7 @@ relations_in ss names from earlier (a ∷ bs) (suc p) b sound fit none h =
 pub recursive_kind : (s : Scope) (at : ℕ) (bs : List Bound) (p : ℕ) (b : Bound) → IsKnownScope s
     → ((i : ℕ) (k : ModelFault) → IsFaultOfItem s.senses s.names at (Group true bs) i k → ⊥)
     → slice_get bs p ≡ Some b
-    → kind_in s.senses (extended s.senses s.names at (Group true bs)) b.body ≡ OfRelation
+    → kind_in s.senses (names_after s.senses s.names at (Group true bs)) b.body ≡ OfRelation
 recursive_kind s at bs p b h none there =
     let first = no_first_of s.senses s.names at (Group true bs) none in
     let own = with_own s.names at 0 bs in

@@ -9,7 +9,7 @@ use Rattle.text_values.specs.declared.predefined.Predefined.{Predefined}
 use Rattle.binding_kinds.specs.declared.scope.Input.{Input}
 use Rattle.binding_kinds.specs.Value.{Naming}
 use Rattle.binding_laws.specs.ItemLaws.{IsPairing, Matching, first_scope}
-use Rattle.binding_laws.specs.Reread.{ReadModel, outermost, IsSound, seen_input}
+use Rattle.binding_laws.specs.Reread.{ReadModel, outer_namings, IsReadModel, seen_input}
 use Rattle.binding_laws.proofs.Lists.{contains_here, contains_later, contains_one_of, contains_none, contains_left, contains_right, contains_either, contains_map, contains_mapped, IsSamePair, pairs_of, ArePartners, partners_are}
 use Rattle.binding_laws.proofs.Told.{told_below}
 use Rattle.binding_laws.proofs.Placed.{sees, start, slot_of, under_at, IsNameOfGroup, input_told, one_input}
@@ -121,7 +121,7 @@ own_is from other (suc n) a b h =
 module _ (ps : List Predefined) (m w : ReadModel) (k l : ℕ) (rs qs : List Input) (fs gs : List ℕ)
     (count : ℕ) where
   abbrev names : List Naming
-  names = outermost ps
+  names = outer_namings ps
 
   abbrev slots_both : Input × Input → ℕ × ℕ
   slots_both p = (slot_of names m.items p.0, slot_of names w.items p.1)
@@ -173,17 +173,17 @@ module _ (ps : List Predefined) (m w : ReadModel) (k l : ℕ) (rs qs : List Inpu
             (own_inputs_has k l count d lt),
       )
 
-  module _ (well : IsSound (outermost ps) m) (other : IsSound (outermost ps) w)
+  module _ (well : IsReadModel (outer_namings ps) m) (other : IsReadModel (outer_namings ps) w)
       (same : map (seen_input m) rs ≡ map (seen_input w) qs)
-      (left : Each (IsNameOfGroup (outermost ps) m.items k) rs)
-      (right : Each (IsNameOfGroup (outermost ps) w.items l) qs) where
+      (left : Each (IsNameOfGroup (outer_namings ps) m.items k) rs)
+      (right : Each (IsNameOfGroup (outer_namings ps) w.items l) qs) where
     pub record IsUsedPair (a b : ℕ) : Type 0 where
       pub i : Input
       pub j : Input
-      pub is_left : a ≡ slot_of (outermost ps) m.items i
-      pub is_right : b ≡ slot_of (outermost ps) w.items j
+      pub is_left : a ≡ slot_of (outer_namings ps) m.items i
+      pub is_right : b ≡ slot_of (outer_namings ps) w.items j
       pub partners : ArePartners (seen_input m) (seen_input w)
-          (IsNameOfGroup (outermost ps) m.items k) (IsNameOfGroup (outermost ps) w.items l) i j
+          (IsNameOfGroup (outer_namings ps) m.items k) (IsNameOfGroup (outer_namings ps) w.items l) i j
 
     used_is : (a b : ℕ) → Contains used_part (a, b) → IsUsedPair a b
     used_is a b h =
@@ -194,8 +194,8 @@ module _ (ps : List Predefined) (m w : ReadModel) (k l : ℕ) (rs qs : List Inpu
           is_left = sym (ap (λ (z : ℕ × ℕ). z.0) is.2);
           is_right = sym (ap (λ (z : ℕ × ℕ). z.1) is.2);
           partners =
-              partners_are (seen_input m) (seen_input w) (IsNameOfGroup (outermost ps) m.items k)
-              (IsNameOfGroup (outermost ps) w.items l) rs qs same left right is.0.0 is.0.1 is.1;
+              partners_are (seen_input m) (seen_input w) (IsNameOfGroup (outer_namings ps) m.items k)
+              (IsNameOfGroup (outer_namings ps) w.items l) rs qs same left right is.0.0 is.0.1 is.1;
         }
 
     abbrev IsMatchedPair : ℕ → ℕ → Type 0
@@ -214,7 +214,7 @@ module _ (ps : List Predefined) (m w : ReadModel) (k l : ℕ) (rs qs : List Inpu
         ]
 
     -- a slot of a name of an item before that one
-    between : (v : ReadModel) (index : ℕ) (i : Input) → IsNameOfGroup (outermost ps) v.items index i
+    between : (v : ReadModel) (index : ℕ) (i : Input) → IsNameOfGroup (outer_namings ps) v.items index i
         → (length names ≤ slot_of names v.items i)
         × (slot_of names v.items i < start names v.items index)
     between v index i h =
@@ -229,15 +229,15 @@ module _ (ps : List Predefined) (m w : ReadModel) (k l : ℕ) (rs qs : List Inpu
     long_right = (under_at (first_scope names) 0 w.items l).shorter
 
     -- an input is told by what is seen of it
-    told_left : (i j : Input) → IsNameOfGroup (outermost ps) m.items k i
-        → IsNameOfGroup (outermost ps) m.items k j → seen_input m i ≡ seen_input m j → i ≡ j
+    told_left : (i j : Input) → IsNameOfGroup (outer_namings ps) m.items k i
+        → IsNameOfGroup (outer_namings ps) m.items k j → seen_input m i ≡ seen_input m j → i ≡ j
     told_left i j h g e =
         let is = same_seen ps m m well well i j h.name h.kind e h.input g.name g.kind g.input in
         input_apart ps m well i j h.name h.kind h.kind h.input is.input
         (well.apart i.item j.item is.number is.left is.right)
 
-    told_right : (i j : Input) → IsNameOfGroup (outermost ps) w.items l i
-        → IsNameOfGroup (outermost ps) w.items l j → seen_input w i ≡ seen_input w j → i ≡ j
+    told_right : (i j : Input) → IsNameOfGroup (outer_namings ps) w.items l i
+        → IsNameOfGroup (outer_namings ps) w.items l j → seen_input w i ≡ seen_input w j → i ≡ j
     told_right i j h g e =
         let is = same_seen ps w w other other i j h.name h.kind e h.input g.name g.kind g.input in
         input_apart ps w other i j h.name h.kind h.kind h.input is.input

@@ -11,8 +11,8 @@ use Rattle.binding_kinds.specs.declared.scope.Binder.TheVariants as binders
 use Rattle.binding_kinds.specs.declared.scope.Input.{Input}
 use Rattle.binding_kinds.specs.declared.kinds.Kind.{Kind}
 use Rattle.binding_kinds.specs.declared.kinds.Kind.TheVariants.{OfAny}
-use Rattle.binding_kinds.specs.Value.{Naming, Bound, Clause, Group, Check, Mute, Defined, clause_of}
-use Rattle.binding_kinds.specs.Faults.{naming_at, extended, senses_after}
+use Rattle.binding_kinds.specs.Value.{Naming, Bound, BareItem, Group, Check, Mute, Defined, bare_item}
+use Rattle.binding_kinds.specs.Faults.{naming_at, names_after, senses_after}
 use Rattle.binding_kinds.specs.Functions.{sense_of_function}
 use Rattle.binding_laws.specs.ItemLaws.{Scope, scope_after, scope_at, own_at, first_scope, with_function, functions_before}
 use Rattle.binding_laws.proofs.Before.{one_longer}
@@ -28,7 +28,7 @@ under_at s at (x ∷ xs) zero = under_self s.names
 under_at s at (x ∷ xs) (suc k) =
     under_both s.names (scope_after s at x).names
     (scope_at (scope_after s at x) (at + 1) xs k).names
-    (extended_under s.senses s.names at (clause_of x))
+    (extended_under s.senses s.names at (bare_item x))
     (under_at (scope_after s at x) (at + 1) xs k)
 
 pub under_later : (s : Scope) (at : ℕ) (xs : List Item) (k l : ℕ) → k ≤ l
@@ -41,23 +41,23 @@ under_later s at (x ∷ xs) (suc k) (suc l) le =
 
 pub next_names : (s : Scope) (at : ℕ) (xs : List Item) (k : ℕ) (x : Item) → slice_get xs k ≡ Some x
     → (scope_at s at xs (suc k)).names
-    ≡ extended (scope_at s at xs k).senses (scope_at s at xs k).names (at + k) (clause_of x)
+    ≡ names_after (scope_at s at xs k).senses (scope_at s at xs k).names (at + k) (bare_item x)
 next_names s at [] k x h = absurd (none-some x h)
 next_names s at (y ∷ xs) zero x h =
     let none : at ≡ at + 0 = omega arith in
     let same : y ≡ x = same_Some y x h in
-    first_names xs ∙ (λ i. extended s.senses s.names (none i) (clause_of (same i)))
+    first_names xs ∙ (λ i. names_after s.senses s.names (none i) (bare_item (same i)))
   where
     first_names : (zs : List Item)
         → (scope_at (scope_after s at y) (at + 1) zs zero).names
-        ≡ extended s.senses s.names at (clause_of y)
+        ≡ names_after s.senses s.names at (bare_item y)
     first_names [] = refl
     first_names (z ∷ zs) = refl
 next_names s at (y ∷ xs) (suc k) x h =
     let moved : (at + 1) + k ≡ at + suc k = omega arith in
     let there = scope_at (scope_after s at y) (at + 1) xs k in
     next_names (scope_after s at y) (at + 1) xs k x h
-    ∙ ap (λ (n : ℕ). extended there.senses there.names n (clause_of x)) moved
+    ∙ ap (λ (n : ℕ). names_after there.senses there.names n (bare_item x)) moved
 
 -- the bodies of a recursive group see what the next item sees
 pub own_names : (s : Scope) (at : ℕ) (xs : List Item) (k : ℕ) (x : Item) → slice_get xs k ≡ Some x
@@ -66,7 +66,7 @@ own_names s at [] k x h = absurd (none-some x h)
 own_names s at (y ∷ xs) zero x h = first_names xs
   where
     first_names : (zs : List Item)
-        → extended s.senses s.names at (clause_of y)
+        → names_after s.senses s.names at (bare_item y)
         ≡ (scope_at (scope_after s at y) (at + 1) zs zero).names
     first_names [] = refl
     first_names (z ∷ zs) = refl
@@ -81,7 +81,7 @@ pub record IsBoundAt (s : Scope) (at : ℕ) (xs : List Item) (k slot : ℕ) (n :
   pub there : slice_get xs index ≡ Some item
   pub low : length (scope_at s at xs index).names ≤ slot
   pub is_added : IsAdded (scope_at s at xs index).senses (scope_at s at xs index).names (at + index)
-      (clause_of item) slot n
+      (bare_item item) slot n
 
 bound_later : (s : Scope) (at : ℕ) (x : Item) (xs : List Item) (k slot : ℕ) (n : Naming)
     → IsBoundAt (scope_after s at x) (at + 1) xs k slot n → IsBoundAt s at (x ∷ xs) (suc k) slot n
@@ -95,7 +95,7 @@ bound_later s at x xs k slot n h =
       there = h.there;
       low = h.low;
       is_added =
-          subst (λ (m : ℕ). IsAdded there.senses there.names m (clause_of h.item) slot n) moved
+          subst (λ (m : ℕ). IsAdded there.senses there.names m (bare_item h.item) slot n) moved
           h.is_added;
     }
 
@@ -116,7 +116,7 @@ bound_at s at (x ∷ xs) (suc k) slot n h le =
     at_first : slot < length (scope_after s at x).names → IsBoundAt s at (x ∷ xs) (suc k) slot n
     at_first lt =
         let under = under_at (scope_after s at x) (at + 1) xs k in
-        let now : told (extended s.senses s.names at (clause_of x)) slot ≡ Some n = sym (under.same slot lt) ∙ h in
+        let now : told (names_after s.senses s.names at (bare_item x)) slot ≡ Some n = sym (under.same slot lt) ∙ h in
         let none : at ≡ at + 0 = omega arith in
         record {
           index = 0;
@@ -125,8 +125,8 @@ bound_at s at (x ∷ xs) (suc k) slot n h le =
           there = refl;
           low = le;
           is_added =
-              subst (λ (m : ℕ). IsAdded s.senses s.names m (clause_of x) slot n) none
-              (new_name_is_added s.senses s.names at (clause_of x) slot n now le);
+              subst (λ (m : ℕ). IsAdded s.senses s.names m (bare_item x) slot n) none
+              (new_name_is_added s.senses s.names at (bare_item x) slot n now le);
         }
 
 -- ---- binders
@@ -159,7 +159,7 @@ no_predefined_function p g e = cc
 
 -- ---- the numbers of functions
 
-senses_grow : (s : Scope) (at : ℕ) (c : Clause)
+senses_grow : (s : Scope) (at : ℕ) (c : BareItem)
     → length s.senses ≤ length (senses_after s.senses s.names c)
 senses_grow s at (Group r bs) = omega arith
 senses_grow s at (Check w e) = omega arith
@@ -172,10 +172,10 @@ senses_more : (s : Scope) (at : ℕ) (xs : List Item) (k : ℕ)
 senses_more s at [] k = omega arith
 senses_more s at (x ∷ xs) zero = omega arith
 senses_more s at (x ∷ xs) (suc k) =
-    let one = senses_grow s at (clause_of x) in
+    let one = senses_grow s at (bare_item x) in
     let more = senses_more (scope_after s at x) (at + 1) xs k in omega (arith, one, more)
 
-number_behind : (s : Scope) (at : ℕ) (c : Clause) (later : List ℕ) (d many i : ℕ)
+number_behind : (s : Scope) (at : ℕ) (c : BareItem) (later : List ℕ) (d many i : ℕ)
     → many ≡ length s.senses + d → length (senses_after s.senses s.names c) ≤ many
     → ((l : ℕ) → many ≡ length (senses_after s.senses s.names c) + l → slice_get later l ≡ Some i)
     → slice_get (with_function at c later) d ≡ Some i
@@ -191,7 +191,7 @@ number_behind s at (Defined n ps b) later (suc d) many i long low rest =
 
 -- the function that an item is has that number to later items
 function_number : (s : Scope) (at : ℕ) (xs : List Item) (index k d : ℕ) (x : Item) (n : List ℕ)
-    (ps : List (List ℕ)) (b : Term) → slice_get xs index ≡ Some x → clause_of x ≡ Defined n ps b
+    (ps : List (List ℕ)) (b : Term) → slice_get xs index ≡ Some x → bare_item x ≡ Defined n ps b
     → index < k
     → length (scope_at s at xs index).senses ≡ length s.senses + d
     → slice_get (functions_before at xs k) d ≡ Some (at + index)
@@ -200,14 +200,14 @@ function_number s at (y ∷ ys) index zero d x n ps b h e lt long = absurd (omeg
 function_number s at (y ∷ ys) zero (suc k) d x n ps b h e lt long =
     let same : y ≡ x = same_Some y x h in
     let none : d ≡ 0 = omega (arith, long) in
-    let clause : clause_of y ≡ Defined n ps b = ap clause_of same ∙ e in
+    let clause : bare_item y ≡ Defined n ps b = ap bare_item same ∙ e in
     let left : at ≡ at + 0 = omega arith in
-    ap (slice_get (with_function at (clause_of y) (functions_before (at + 1) ys k))) none
-    ∙ (ap (λ (c : Clause). slice_get (with_function at c (functions_before (at + 1) ys k)) 0) clause
+    ap (slice_get (with_function at (bare_item y) (functions_before (at + 1) ys k))) none
+    ∙ (ap (λ (c : BareItem). slice_get (with_function at c (functions_before (at + 1) ys k)) 0) clause
     ∙ ap (λ (m : ℕ). Some m) left)
 function_number s at (y ∷ ys) (suc index) (suc k) d x n ps b h e lt long =
     let moved : (at + 1) + index ≡ at + suc index = omega arith in
-    number_behind s at (clause_of y) (functions_before (at + 1) ys k) d
+    number_behind s at (bare_item y) (functions_before (at + 1) ys k) d
     (length (scope_at (scope_after s at y) (at + 1) ys index).senses) (at + suc index) long
     (senses_more (scope_after s at y) (at + 1) ys index)
     (λ l g. function_number (scope_after s at y) (at + 1) ys index k l x n ps b h e
@@ -236,7 +236,7 @@ module _ (names : List Naming) (items : List Item) where
     pub there : slice_get items i.item ≡ Some item
     pub recursive : Bool
     pub bounds : List Bound
-    pub clause : clause_of item ≡ Group recursive bounds
+    pub clause : bare_item item ≡ Group recursive bounds
     pub bound : Bound
     pub has_bound : slice_get bounds i.position ≡ Some bound
     pub name : bound.name ≡ x
@@ -256,9 +256,9 @@ module _ (names : List Naming) (items : List Item) where
   input_told i x kind h k lt =
       let s = sees i.item in
       let zero_left : 0 + i.item ≡ i.item = omega arith in
-      let grown : (sees (suc i.item)).names ≡ extended s.senses s.names i.item (Group h.recursive h.bounds) =
+      let grown : (sees (suc i.item)).names ≡ names_after s.senses s.names i.item (Group h.recursive h.bounds) =
       next_names (first_scope names) 0 items i.item h.item h.there
-      ∙ (λ d. extended s.senses s.names (zero_left d) (h.clause d)) in
+      ∙ (λ d. names_after s.senses s.names (zero_left d) (h.clause d)) in
       let here = told_added s.senses s.names i.item h.recursive h.bounds i.position h.bound h.has_bound in
       let spelt : naming_at i.item i.position h.bound (kind_seen s.senses s.names h.recursive h.bound) ≡ record { name = x; kind = kind; binder = binders.Bound i } =
       λ d. record { name = h.name d; kind = h.is_kind d; binder = binders.Bound i } in
@@ -277,7 +277,7 @@ module _ (names : List Naming) (items : List Item) where
 
   pub told_input : (k slot : ℕ) (n : Naming) (i : Input) → told (sees k).names slot ≡ Some n
       → length names ≤ slot → n.binder ≡ binders.Bound i → IsInputAt k slot n i
-  told_input k slot n i h le is = by_clause (clause_of h0.item) refl h0.is_added
+  told_input k slot n i h le is = by_clause (bare_item h0.item) refl h0.is_added
     where
       h0 : IsBoundAt (first_scope names) 0 items k slot n
       h0 = bound_at (first_scope names) 0 items k slot n h le
@@ -285,7 +285,7 @@ module _ (names : List Naming) (items : List Item) where
       s : Scope
       s = sees h0.index
 
-      by_clause : (c : Clause) → clause_of h0.item ≡ c
+      by_clause : (c : BareItem) → bare_item h0.item ≡ c
           → IsAdded s.senses s.names (0 + h0.index) c slot n → IsInputAt k slot n i
       by_clause (Group recursive bs) e a =
           let j : Input = record { item = h0.index; position = a.position } in
@@ -340,7 +340,7 @@ module _ (names : List Naming) (items : List Item) where
     pub there : slice_get items i ≡ Some item
     pub parameters : List (List ℕ)
     pub body : Term
-    pub clause : clause_of item ≡ Defined x parameters body
+    pub clause : bare_item item ≡ Defined x parameters body
 
   abbrev pub naming_of_function : ℕ → List ℕ → Naming
   naming_of_function i x =
@@ -352,7 +352,7 @@ module _ (names : List Naming) (items : List Item) where
       let s = sees i in
       let grown : (sees (suc i)).names ≡ naming_of_function i x ∷ s.names =
       next_names (first_scope names) 0 items i h.item h.there
-      ∙ ap (extended s.senses s.names (0 + i)) h.clause in
+      ∙ ap (names_after s.senses s.names (0 + i)) h.clause in
       under_told (sees (suc i)).names (sees k).names (later (suc i) k (omega (arith, lt))) (start i)
       (naming_of_function i x)
       (ap (λ (ns : List Naming). told ns (start i)) grown
@@ -367,7 +367,7 @@ module _ (names : List Naming) (items : List Item) where
 
   pub told_function : (k slot : ℕ) (n : Naming) (g : ℕ) → told (sees k).names slot ≡ Some n
       → length names ≤ slot → n.binder ≡ binders.Applicable g → IsFunctionSeen k slot n g
-  told_function k slot n g h le is = by_clause (clause_of h0.item) refl h0.is_added
+  told_function k slot n g h le is = by_clause (bare_item h0.item) refl h0.is_added
     where
       h0 : IsBoundAt (first_scope names) 0 items k slot n
       h0 = bound_at (first_scope names) 0 items k slot n h le
@@ -375,7 +375,7 @@ module _ (names : List Naming) (items : List Item) where
       s : Scope
       s = sees h0.index
 
-      by_clause : (c : Clause) → clause_of h0.item ≡ c
+      by_clause : (c : BareItem) → bare_item h0.item ≡ c
           → IsAdded s.senses s.names (0 + h0.index) c slot n → IsFunctionSeen k slot n g
       by_clause (Group recursive bs) e a =
           absurd (no_function g _ (sym is ∙ ap (λ (m : Naming). m.binder) a.naming))
@@ -436,9 +436,9 @@ module _ (names : List Naming) (items : List Item) where
   ]
     where
       at_item : IsBoundAt (first_scope names) 0 items k slot n → slot < length names
-      at_item b = by_clause (clause_of b.item) b.is_added
+      at_item b = by_clause (bare_item b.item) b.is_added
         where
-          by_clause : (c : Clause)
+          by_clause : (c : BareItem)
               → IsAdded (sees b.index).senses (sees b.index).names (0 + b.index) c slot n
               → slot < length names
           by_clause (Group recursive bs) a =

@@ -9,10 +9,10 @@ use Rattle.binding_kinds.specs.declared.fault.ModelFault.{ModelFault}
 use Rattle.binding_kinds.specs.declared.kinds.Kind.{Kind}
 use Rattle.binding_kinds.specs.declared.scope.Input.{Input}
 use Rattle.binding_kinds.specs.declared.scope.Used.{Used}
-use Rattle.binding_kinds.specs.Value.{Naming, Bound, Clause, Group, Check, Mute, Defined, clause_of}
+use Rattle.binding_kinds.specs.Value.{Naming, Bound, BareItem, Group, Check, Mute, Defined, bare_item}
 use Rattle.binding_kinds.specs.Outermost.{naming_of}
 use Rattle.binding_kinds.specs.Senses.{Sense, kind_in}
-use Rattle.binding_kinds.specs.Faults.{IsFaultOfItem, extended}
+use Rattle.binding_kinds.specs.Faults.{IsFaultOfItem, names_after}
 use Rattle.binding_graph.specs.declared.resolved.Body.{Body}
 use Rattle.binding_graph.specs.declared.resolved.ResolvedItem.{ResolvedItem}
 use Rattle.binding_graph.specs.declared.resolved.Role.{Role}
@@ -20,7 +20,7 @@ use Rattle.binding_graph.specs.declared.resolved.Role.TheVariants as roles
 use Rattle.binding_graph.specs.Resolved.{AreBodies, IsGroupRole, IsResolvedIn}
 use Rattle.binding_graph.specs.Usages.{Usage, with_values}
 use Rattle.binding_laws.specs.ItemLaws.{Scope, with_names, first_scope}
-use Rattle.binding_laws.specs.Reread.{ReadModel, HasNumber, outermost, IsSound, SeenName, seen_body, bodies_of, seen_at}
+use Rattle.binding_laws.specs.Reread.{ReadModel, HasNumber, outer_namings, IsReadModel, SeenName, seen_body, bodies_of, seen_at}
 use Rattle.binding_laws.proofs.AlikeModels.{item_at}
 use Rattle.binding_laws.proofs.Lists.{each_reverse}
 use Rattle.binding_laws.proofs.Told.{told}
@@ -56,10 +56,10 @@ each_outer : (ps : List Predefined) → Each IsOuter (map naming_of ps)
 each_outer [] = tt
 each_outer (p ∷ ps) = (record { predefined = p; is = refl }, each_outer ps)
 
-pub outer_names : (ps : List Predefined) (slot : ℕ) (n : Naming) → told (outermost ps) slot ≡ Some n
+pub outer_names : (ps : List Predefined) (slot : ℕ) (n : Naming) → told (outer_namings ps) slot ≡ Some n
     → IsOuter n
 outer_names ps slot n h =
-    told_each IsOuter (outermost ps) slot n
+    told_each IsOuter (outer_namings ps) slot n
     (each_reverse IsOuter (map naming_of ps) (each_outer ps)) h
 
 -- ---- the bodies of a group
@@ -89,7 +89,7 @@ module _ (ss : List Sense) (us : List Usage) (names : List Naming) (from : ℕ) 
   role_seen recursive bs (roles.Check c) p b h e = absurd h
   role_seen recursive bs roles.Silent p b h e = absurd h
 
-abbrev bounds_of : Clause → List Bound
+abbrev bounds_of : BareItem → List Bound
 bounds_of (Group r bs) = bs
 bounds_of (Check w e) = []
 bounds_of Mute = []
@@ -99,18 +99,18 @@ bounds_of (Defined n ps b) = []
 
 -- each name of an item stands for something of its sort: the bodies of a recursive group see its
 -- own names too
-abbrev pub HasNamesIn : Scope → List Naming → Clause → Type 0
+abbrev pub HasNamesIn : Scope → List Naming → BareItem → Type 0
 HasNamesIn s own (Group true bs) = Each (λ b. HasNames (with_names s own) [] b.body) bs
 HasNamesIn s own (Group false bs) = Each (λ b. HasNames s [] b.body) bs
 HasNamesIn s own (Check w e) = HasNames s [] e
 HasNamesIn s own Mute = Unit {0}
 HasNamesIn s own (Defined n ps b) = HasNames s ps b
 
-sound_item : (s : Scope) (at : ℕ) (c : Clause) → HasCounts s
+sound_item : (s : Scope) (at : ℕ) (c : BareItem) → HasCounts s
     → ((i : ℕ) (k : ModelFault) → IsFaultOfItem s.senses s.names at c i k → ⊥)
-    → HasNamesIn s (extended s.senses s.names at c) c
+    → HasNamesIn s (names_after s.senses s.names at c) c
 sound_item s at (Group true bs) counts none =
-    sound_group (with_names s (extended s.senses s.names at (Group true bs))) counts
+    sound_group (with_names s (names_after s.senses s.names at (Group true bs))) counts
     (length s.names) true [] bs none
 sound_item s at (Group false bs) counts none =
     sound_group s counts (length s.names) false [] bs none
@@ -122,44 +122,44 @@ sound_item s at (Defined n ps b) counts none =
 
 -- ---- models
 
-module _ (ps : List Predefined) (m : ReadModel) (well : IsSound (outermost ps) m) where
+module _ (ps : List Predefined) (m : ReadModel) (well : IsReadModel (outer_namings ps) m) where
   abbrev pub seen_by : ℕ → Scope
-  seen_by k = sees (outermost ps) m.items k
+  seen_by k = sees (outer_namings ps) m.items k
 
   pub faultless : (k : ℕ) (x : Item) → slice_get m.items k ≡ Some x → (i : ℕ) (l : ModelFault)
-      → IsFaultOfItem (seen_by k).senses (seen_by k).names k (clause_of x) i l → ⊥
+      → IsFaultOfItem (seen_by k).senses (seen_by k).names k (bare_item x) i l → ⊥
   faultless k x h i l f =
       let left : k ≡ 0 + k = omega arith in
-      no_fault_at (first_scope (outermost ps)) 0 m.items k x well.no_fault h i l
-      (subst (λ (n : ℕ). IsFaultOfItem (seen_by k).senses (seen_by k).names n (clause_of x) i l)
+      no_fault_at (first_scope (outer_namings ps)) 0 m.items k x well.no_fault h i l
+      (subst (λ (n : ℕ). IsFaultOfItem (seen_by k).senses (seen_by k).names n (bare_item x) i l)
       left f)
 
   pub own_is : (k : ℕ) (x : Item) → slice_get m.items k ≡ Some x
-      → extended (seen_by k).senses (seen_by k).names k (clause_of x) ≡ (seen_by (suc k)).names
+      → names_after (seen_by k).senses (seen_by k).names k (bare_item x) ≡ (seen_by (suc k)).names
   own_is k x h =
       let left : k ≡ 0 + k = omega arith in
-      ap (λ (n : ℕ). extended (seen_by k).senses (seen_by k).names n (clause_of x)) left
-      ∙ sym (next_names (first_scope (outermost ps)) 0 m.items k x h)
+      ap (λ (n : ℕ). names_after (seen_by k).senses (seen_by k).names n (bare_item x)) left
+      ∙ sym (next_names (first_scope (outer_namings ps)) 0 m.items k x h)
 
   -- the names of an item stand for something
   pub names_expected : (k : ℕ) (x : Item) → slice_get m.items k ≡ Some x
-      → HasNamesIn (seen_by k) (seen_by (suc k)).names (clause_of x)
+      → HasNamesIn (seen_by k) (seen_by (suc k)).names (bare_item x)
   names_expected k x h =
-      subst (λ (own : List Naming). HasNamesIn (seen_by k) own (clause_of x)) (own_is k x h)
-      (sound_item (seen_by k) k (clause_of x)
-      (counts_at (first_scope (outermost ps)) 0 m.items k refl) (faultless k x h))
+      subst (λ (own : List Naming). HasNamesIn (seen_by k) own (bare_item x)) (own_is k x h)
+      (sound_item (seen_by k) k (bare_item x)
+      (counts_at (first_scope (outer_namings ps)) 0 m.items k refl) (faultless k x h))
 
   pub resolved_at : (k : ℕ) (x : Item) (r : ResolvedItem) → slice_get m.items k ≡ Some x
       → slice_get m.resolved k ≡ Some r
       → IsResolvedIn (seen_by k).senses (seen_by k).usages (seen_by k).names (seen_by (suc k)).names
-      (length (seen_by k).names) (clause_of x) r
+      (length (seen_by k).names) (bare_item x) r
   resolved_at k x r h g =
       let s = seen_by k in
       subst
       (λ (own : List Naming).
-      IsResolvedIn s.senses s.usages s.names own (length s.names) (clause_of x) r)
-      (own_names (first_scope (outermost ps)) 0 m.items k x h)
-      (item_at (first_scope (outermost ps)) 0 m.items m.resolved k x r well.as_resolved
+      IsResolvedIn s.senses s.usages s.names own (length s.names) (bare_item x) r)
+      (own_names (first_scope (outer_namings ps)) 0 m.items k x h)
+      (item_at (first_scope (outer_namings ps)) 0 m.items m.resolved k x r well.as_resolved
       well.labelled h g).0
 
   -- ---- inputs
@@ -173,7 +173,7 @@ module _ (ps : List Predefined) (m : ReadModel) (well : IsSound (outermost ps) m
 
   group_seen : (k : ℕ) (recursive : Bool) (bs : List Bound) (r : ResolvedItem) (p : ℕ) (b : Bound)
       → (own : List Naming)
-      → own ≡ extended (seen_by k).senses (seen_by k).names k (Group recursive bs)
+      → own ≡ names_after (seen_by k).senses (seen_by k).names k (Group recursive bs)
       → ((i : ℕ) (l : ModelFault)
       → IsFaultOfItem (seen_by k).senses (seen_by k).names k (Group recursive bs) i l → ⊥)
       → IsResolvedIn (seen_by k).senses (seen_by k).usages (seen_by k).names own
@@ -185,7 +185,7 @@ module _ (ps : List Predefined) (m : ReadModel) (well : IsSound (outermost ps) m
       })
   group_seen k true bs r p b own is none h e =
       let s = seen_by k in
-      let known = known_at (first_scope (outermost ps)) 0 m.items k (record { sound = tt; known = known_outermost ps }) well.no_fault in
+      let known = known_at (first_scope (outer_namings ps)) 0 m.items k (record { sound = tt; known = known_outermost ps }) well.no_fault in
       let kind = ap (λ (ns : List Naming). kind_in s.senses ns b.body) is ∙ recursive_kind s k bs p b known none e in
       role_seen s.senses s.usages own (length s.names) true bs r.role p b h.0 e
       ∙ (λ d. Some (record { name = b.name; kind = kind d }))
@@ -193,20 +193,20 @@ module _ (ps : List Predefined) (m : ReadModel) (well : IsSound (outermost ps) m
       let s = seen_by k in
       role_seen s.senses s.usages s.names (length s.names) false bs r.role p b h.0 e
 
-  pub input_seen : (i : Input) (x : List ℕ) (kind : Kind) → IsInput (outermost ps) m.items i x kind
+  pub input_seen : (i : Input) (x : List ℕ) (kind : Kind) → IsInput (outer_namings ps) m.items i x kind
       → IsSeenAs i x kind
   input_seen i x kind h =
       let s = seen_by i.item in
       let number = beside m.items m.numbers i.item h.item well.numbered h.there in
       let resolved = beside m.items m.resolved i.item h.item well.whole h.there in
       let is = resolved_at i.item h.item resolved.0 h.there resolved.1 in
-      let own : (seen_by (suc i.item)).names ≡ extended s.senses s.names i.item (Group h.recursive h.bounds) = sym (own_is i.item h.item h.there) ∙ ap (extended s.senses s.names i.item) h.clause in
+      let own : (seen_by (suc i.item)).names ≡ names_after s.senses s.names i.item (Group h.recursive h.bounds) = sym (own_is i.item h.item h.there) ∙ ap (names_after s.senses s.names i.item) h.clause in
       let none : (j : ℕ) (l : ModelFault) → IsFaultOfItem s.senses s.names i.item (Group h.recursive h.bounds) j l → ⊥ =
       λ j l f. faultless i.item h.item h.there j l
-      (subst (λ (c : Clause). IsFaultOfItem s.senses s.names i.item c j l) (sym h.clause) f) in
+      (subst (λ (c : BareItem). IsFaultOfItem s.senses s.names i.item c j l) (sym h.clause) f) in
       let group : IsResolvedIn s.senses s.usages s.names (seen_by (suc i.item)).names (length s.names) (Group h.recursive h.bounds) resolved.0 =
       subst
-      (λ (c : Clause). IsResolvedIn s.senses s.usages s.names (seen_by (suc i.item)).names
+      (λ (c : BareItem). IsResolvedIn s.senses s.usages s.names (seen_by (suc i.item)).names
       (length s.names) c resolved.0) h.clause is in
       let seen = group_seen i.item h.recursive h.bounds resolved.0 i.position h.bound (seen_by (suc i.item)).names own none group h.has_bound in
       record {
@@ -219,16 +219,16 @@ module _ (ps : List Predefined) (m : ReadModel) (well : IsSound (outermost ps) m
 
   -- two names of an item that are spelt alike are one
   pub input_apart : (i j : Input) (x : List ℕ) (kind other : Kind)
-      → IsInput (outermost ps) m.items i x kind → IsInput (outermost ps) m.items j x other
+      → IsInput (outer_namings ps) m.items i x kind → IsInput (outer_namings ps) m.items j x other
       → i.item ≡ j.item → i ≡ j
   input_apart i j x kind other h g e =
       let s = seen_by i.item in
       let item : h.item ≡ g.item = same_Some h.item g.item (sym h.there ∙ (ap (slice_get m.items) e ∙ g.there)) in
-      let clause : Group g.recursive g.bounds ≡ Group h.recursive h.bounds = sym g.clause ∙ (ap clause_of (sym item) ∙ h.clause) in
+      let clause : Group g.recursive g.bounds ≡ Group h.recursive h.bounds = sym g.clause ∙ (ap bare_item (sym item) ∙ h.clause) in
       let bounds : g.bounds ≡ h.bounds = ap bounds_of clause in
       let none : (k : ℕ) (l : ModelFault) → IsFaultOfItem s.senses s.names i.item (Group h.recursive h.bounds) k l → ⊥ =
       λ k l f. faultless i.item h.item h.there k l
-      (subst (λ (c : Clause). IsFaultOfItem s.senses s.names i.item c k l) (sym h.clause) f) in
+      (subst (λ (c : BareItem). IsFaultOfItem s.senses s.names i.item c k l) (sym h.clause) f) in
       let position : i.position ≡ j.position = positions h.recursive none h.has_bound (ap (λ (bs : List Bound). slice_get bs j.position) (sym bounds) ∙ g.has_bound) (h.name ∙ sym g.name) in
       λ d. record { item = e d; position = position d }
     where
@@ -241,7 +241,7 @@ module _ (ps : List Predefined) (m : ReadModel) (well : IsSound (outermost ps) m
           → i.position ≡ j.position
       positions true none a b same =
           group_apart (seen_by i.item).senses
-          (extended (seen_by i.item).senses (seen_by i.item).names i.item (Group true h.bounds))
+          (names_after (seen_by i.item).senses (seen_by i.item).names i.item (Group true h.bounds))
           (length (seen_by i.item).names) true [] h.bounds i.position j.position h.bound g.bound
           none a b same
       positions false none a b same =

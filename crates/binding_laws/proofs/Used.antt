@@ -16,8 +16,8 @@ use Rattle.binding_kinds.specs.Kinds.{found}
 use Rattle.binding_kinds.specs.Meanings.{parameter_of}
 use Rattle.binding_kinds.specs.Applicable.{applied_of}
 use Rattle.binding_kinds.specs.Senses.{count_of}
-use Rattle.binding_graph.specs.Inputs.{index_of, noted, with_binder, with_found, with_name}
-use Rattle.binding_graph.specs.Usages.{Usage, all_noted, is_among, with_item, with_items, usage_at, usage_seen, values_of, functions_of, with_meaning, with_values, with_values_among, with_functions, with_functions_among}
+use Rattle.binding_graph.specs.Inputs.{index_of, with_used, with_binder, with_found, with_name}
+use Rattle.binding_graph.specs.Usages.{Usage, with_all_used, is_among, with_item, with_items, usage_at, usage_seen, values_of, functions_of, with_meaning, with_values, with_values_among, with_functions, with_functions_among}
 use Rattle.binding_laws.specs.ItemLaws.{Scope}
 use Rattle.binding_laws.proofs.Placed.{same_input, no_function, no_predefined_input}
 
@@ -119,7 +119,7 @@ module _ (P : Input → Type 0) (Q : ℕ → Type 0) (us : List Usage) (names : 
 
 -- ---- names
 
-noted_by : (P : List Used → Type 0) (vs : List Used) (u : Used) → P vs → P (u ∷ vs) → P (noted vs u)
+noted_by : (P : List Used → Type 0) (vs : List Used) (u : Used) → P vs → P (u ∷ vs) → P (with_used vs u)
 noted_by P vs u old new = at_test (is_some (index_of vs u.slot))
   where
     at_test : (b : Bool) → P (if b then vs else u ∷ vs)
@@ -129,7 +129,7 @@ noted_by P vs u old new = at_test (is_some (index_of vs u.slot))
 -- names whose slots tell their inputs
 module _ (R : Used → Type 0) (sole : (u v : Used) → R u → R v → u.slot ≡ v.slot → u.input ≡ v.input)
     (P : Input → Type 0) where
-  noted_right : (vs : List Used) (u : Used) → Each R vs → R u → Each R (noted vs u)
+  noted_right : (vs : List Used) (u : Used) → Each R vs → R u → Each R (with_used vs u)
   noted_right vs u h r = noted_by (Each R) vs u h (r, h)
 
   there_already : (vs : List Used) (u : Used) → Each R vs → R u
@@ -140,7 +140,7 @@ module _ (R : Used → Type 0) (sole : (u v : Used) → R u → R v → u.slot �
     | inr f ↦ there_already vs u h.1 r (rw f at e) g.1
   ]
 
-  noted_both : (vs : List Used) (u : Used) → Each R vs → R u → Hold P (noted vs u)
+  noted_both : (vs : List Used) (u : Used) → Each R vs → R u → Hold P (with_used vs u)
       → Hold P vs × P u.input
   noted_both vs u h r g = at_test (is_some (index_of vs u.slot)) refl g
     where
@@ -149,15 +149,15 @@ module _ (R : Used → Type 0) (sole : (u v : Used) → R u → R v → u.slot �
       at_test true e k = (k, there_already vs u h r e k)
       at_test false e k = (k.1, k.0)
 
-  pub all_right : (us vs : List Used) → Each R vs → Each R us → Each R (all_noted vs us)
+  pub all_right : (us vs : List Used) → Each R vs → Each R us → Each R (with_all_used vs us)
   all_right [] vs h g = h
-  all_right (u ∷ us) vs h g = all_right us (noted vs u) (noted_right vs u h g.0) g.1
+  all_right (u ∷ us) vs h g = all_right us (with_used vs u) (noted_right vs u h g.0) g.1
 
-  all_both : (us vs : List Used) → Each R vs → Each R us → Hold P (all_noted vs us)
+  all_both : (us vs : List Used) → Each R vs → Each R us → Hold P (with_all_used vs us)
       → Hold P vs × Hold P us
   all_both [] vs h g k = (k, tt)
   all_both (u ∷ us) vs h g k =
-      let rest = all_both us (noted vs u) (noted_right vs u h g.0) g.1 k in
+      let rest = all_both us (with_used vs u) (noted_right vs u h g.0) g.1 k in
       let one = noted_both vs u h g.0 rest.0 in
       (one.0, (one.1, rest.1))
 
@@ -219,7 +219,7 @@ module _ (R : Used → Type 0) (sole : (u v : Used) → R u → R v → u.slot �
     meaning_right None x vs h = name_right x (found names x) vs refl h
 
     applied_right : (n : ℕ) (x : List ℕ) (vs : List Used) → Each R vs
-        → Each R (all_noted vs (values_of (seen_as n x)))
+        → Each R (with_all_used vs (values_of (seen_as n x)))
     applied_right n x vs h =
         all_right (values_of (seen_as n x)) vs h (values_right (seen_as n x) (usage_there n x))
 
@@ -234,7 +234,7 @@ module _ (R : Used → Type 0) (sole : (u v : Used) → R u → R v → u.slot �
       term_right (Not a) vs h = term_right a vs h
       term_right (On a) vs h = term_right a vs h
       term_right (Apply x ts) vs h =
-          terms_right ts (all_noted vs (values_of (seen_as (count_of ts) x)))
+          terms_right ts (with_all_used vs (values_of (seen_as (count_of ts) x)))
           (applied_right (count_of ts) x vs h)
 
       pub terms_right : (ts : Terms) (vs : List Used) → Each R vs
@@ -297,7 +297,7 @@ module _ (R : Used → Type 0) (sole : (u v : Used) → R u → R v → u.slot �
         term_kept (On a) vs fs h g q = term_kept a vs fs h g q
         term_kept (Apply x ts) vs fs h g q =
             let o : Option Usage = seen_as (count_of ts) x in
-            let rest = terms_kept ts (all_noted vs (values_of o)) (with_items fs (functions_of o)) (applied_right (count_of ts) x vs h) g q in
+            let rest = terms_kept ts (with_all_used vs (values_of o)) (with_items fs (functions_of o)) (applied_right (count_of ts) x vs h) g q in
             let one = all_both (values_of o) vs h (values_right o (usage_there (count_of ts) x)) rest.0 in
             let functions = items_both Q (functions_of o) fs (all_functions_old Q s.usages names ps ts (with_items fs (functions_of o)) q) in
             (one.0, (usage_both Q o one.1 functions.1, rest.1))

@@ -7,7 +7,7 @@ use Rattle.binding_kinds.specs.declared.scope.Binder.TheVariants as binders
 use Rattle.binding_kinds.specs.declared.scope.Found.{Found}
 use Rattle.binding_kinds.specs.declared.scope.Input.{Input}
 use Rattle.binding_kinds.specs.declared.scope.Used.{Used}
-use Rattle.binding_kinds.specs.Value.{Naming, Bound, Clause, Group, Check, Mute, Defined}
+use Rattle.binding_kinds.specs.Value.{Naming, Bound, BareItem, Group, Check, Mute, Defined}
 use Rattle.binding_kinds.specs.Kinds.{found}
 use Rattle.binding_graph.specs.declared.resolved.ResolvedItem.{ResolvedItem}
 use Rattle.binding_graph.specs.Inputs.{inputs_of}
@@ -22,7 +22,7 @@ use Rattle.binding_laws.proofs.Whole.{IsOuter, IsRight, sole_right, seen_low, se
 
 -- what is kept of an item, where bodies of a recursive group see these names, and those from that
 -- slot on are its own
-abbrev pub IsKeptItem : (Input → Type 0) → (ℕ → Type 0) → Scope → List Naming → ℕ → Clause → Type 0
+abbrev pub IsKeptItem : (Input → Type 0) → (ℕ → Type 0) → Scope → List Naming → ℕ → BareItem → Type 0
 IsKeptItem P Q s own from (Group true bs) = Each (λ b. AreKept P Q s.usages own [] from b.body) bs
 IsKeptItem P Q s own from (Group false bs) =
     Each (λ b. AreKept P Q s.usages s.names [] from b.body) bs
@@ -124,7 +124,7 @@ module _ (names : List Naming) (items : List Item)
       each_to Right (λ v. IsName v.input)
       (λ v g. record { name = g.name; kind = g.kind; input = g.input; before = g.before }) vs h
 
-  pub item_inputs : (c : Clause) (r : ResolvedItem)
+  pub item_inputs : (c : BareItem) (r : ResolvedItem)
       → IsResolvedIn s.senses s.usages s.names own from c r → Each IsName r.inputs.items
   item_inputs (Group true bs) r h =
       inputs_hold IsName r _ h.1.inputs (groups _ (bodies_right Right sole IsName s own from
@@ -141,7 +141,7 @@ module _ (names : List Naming) (items : List Item)
       (seen_low names items outer k from) (usages_right names items outer k) b [] tt))
 
   module _ (P : Input → Type 0) (Q : ℕ → Type 0) where
-    pub item_kept : (c : Clause) (r : ResolvedItem)
+    pub item_kept : (c : BareItem) (r : ResolvedItem)
         → IsResolvedIn s.senses s.usages s.names own from c r → Each P r.inputs.items
         → Each Q r.functions.items → IsKeptItem P Q s own from c
     item_kept (Group true bs) r h all apps =
@@ -163,7 +163,7 @@ module _ (names : List Naming) (items : List Item)
         (applied_all Q r _ h.1.functions apps)).1
 
     -- so does it hold of each name that a function sees which it applies
-    pub item_functions : (c : Clause) (r : ResolvedItem)
+    pub item_functions : (c : BareItem) (r : ResolvedItem)
         → IsResolvedIn s.senses s.usages s.names own from c r → IsKeptItem P Q s own from c
         → Each (IsKeptFunction names items outer P Q) r.functions.items
     item_functions (Group true bs) r h kept =

@@ -16,10 +16,10 @@ use Rattle.binding_kinds.specs.Formula.{Formula, Value, Parameter, Everything, N
 use Rattle.binding_kinds.specs.Senses.{count_of}
 use Rattle.binding_graph.specs.declared.resolved.Source.{Source}
 use Rattle.binding_graph.specs.declared.resolved.Source.TheVariants as sources
-use Rattle.binding_graph.specs.Inputs.{index_of, noted, with_binder, with_name}
-use Rattle.binding_graph.specs.Meaning.{source_of_binder, source_of, joined_sets, joined_relations, set_of, relation_of}
-use Rattle.binding_graph.specs.Trees.{SetName, SetNot, RelName, OnSet, Close, RelNot}
-use Rattle.binding_graph.specs.Usages.{all_noted, values_of, usage_seen, with_meaning, with_values, with_values_among}
+use Rattle.binding_graph.specs.Inputs.{index_of, with_used, with_binder, with_name}
+use Rattle.binding_graph.specs.Meaning.{source_of_binder, source_of, joined_sets, joined_relations, set_tree, rel_tree}
+use Rattle.binding_graph.specs.Trees.{SetName, ComplementSet, RelName, IdentityOn, Close, ComplementRelation}
+use Rattle.binding_graph.specs.Usages.{with_all_used, values_of, usage_seen, with_meaning, with_values, with_values_among}
 use Rattle.binding_laws.specs.ItemLaws.{Scope, Pairing, IsPairing, IsSameBinder, IsSameFound, IsSameName, IsSameUnless, IsSameFormula, IsSameUsed, AreSameUsed, HasSameNames, HaveSameNames}
 
 bool_same : (x y : Bool) → (x ≡ true → y ≡ true) → (y ≡ true → x ≡ true) → x ≡ y
@@ -75,18 +75,18 @@ module _ (p : Pairing) (one : IsOne p) where
       at_first (Some n) = h
 
   noted_same : (vs ws : List Used) (u w : Used) → AreSameUsed p vs ws → IsSameUsed p u w
-      → AreSameUsed p (noted vs u) (noted ws w)
+      → AreSameUsed p (with_used vs u) (with_used ws w)
   noted_same vs ws u w h k =
       noted_by (index_of vs u.slot) (index_of ws w.slot) (place_same vs ws h u.slot w.slot k.0) vs
       ws u w h k
 
   all_noted_same : (vs ws us qs : List Used) → AreSameUsed p vs ws → AreSameUsed p us qs
-      → AreSameUsed p (all_noted vs us) (all_noted ws qs)
+      → AreSameUsed p (with_all_used vs us) (with_all_used ws qs)
   all_noted_same vs ws [] [] h k = h
   all_noted_same vs ws [] (q ∷ qs) h k = absurd k
   all_noted_same vs ws (u ∷ us) [] h k = absurd k
   all_noted_same vs ws (u ∷ us) (q ∷ qs) h k =
-      all_noted_same (noted vs u) (noted ws q) us qs (noted_same vs ws u q h k.0) k.1
+      all_noted_same (with_used vs u) (with_used ws q) us qs (noted_same vs ws u q h k.0) k.1
 
   binder_same : (vs ws : List Used) (a b : ℕ) (x y : Binder) → AreSameUsed p vs ws
       → Contains p.slots (a, b) → IsSameBinder p x y
@@ -154,8 +154,8 @@ module _ (p : Pairing) (one : IsOne p) where
         values_by (On a) vs ws k h = values_by a vs ws k h
         values_by (Apply x ts) vs ws k h =
             all_values_by ts
-            (all_noted vs (values_of (usage_seen s.usages s.names ps (count_of ts) x)))
-            (all_noted ws (values_of (usage_seen o.usages o.names ps (count_of ts) x))) k.2
+            (with_all_used vs (values_of (usage_seen s.usages s.names ps (count_of ts) x)))
+            (with_all_used ws (values_of (usage_seen o.usages o.names ps (count_of ts) x))) k.2
             (all_noted_same vs ws (values_of (usage_seen s.usages s.names ps (count_of ts) x))
             (values_of (usage_seen o.usages o.names ps (count_of ts) x)) h k.1)
 
@@ -262,7 +262,7 @@ module _ (p : Pairing) (from start : ℕ) (pairing : IsPairing p from start) whe
         (pairing.own f.slot g.slot k.0) (pairing.position f.slot g.slot k.0)
         (bound_source f.slot g.slot f.binder g.binder k.0 k.2)
 
-    pub set_same : (f g : Formula) → IsSameFormula p f g → set_of vs from f ≡ set_of ws start g
+    pub set_same : (f g : Formula) → IsSameFormula p f g → set_tree vs from f ≡ set_tree ws start g
     set_same (Value f) (Value g) k = λ i. SetName (source_same f g k i)
     set_same (Parameter i) (Parameter j) k = refl
     set_same Everything Everything k = refl
@@ -271,12 +271,12 @@ module _ (p : Pairing) (from start : ℕ) (pairing : IsPairing p from start) whe
     set_same (Joined op a b) (Joined oq c d) k =
         λ i. joined_sets (k.0 i) (set_same a c k.1 i) (set_same b d k.2 i)
     set_same (Marked op a) (Marked oq c) k = refl
-    set_same (Complement a) (Complement c) k = λ i. SetNot (set_same a c k i)
+    set_same (Complement a) (Complement c) k = λ i. ComplementSet (set_same a c k i)
     set_same (Identity a) (Identity c) k = refl
     set_same f g k = absurd k
 
     pub relation_same : (f g : Formula) → IsSameFormula p f g
-        → relation_of vs from f ≡ relation_of ws start g
+        → rel_tree vs from f ≡ rel_tree ws start g
     relation_same (Value f) (Value g) k = λ i. RelName (source_same f g k i)
     relation_same (Parameter i) (Parameter j) k = refl
     relation_same Everything Everything k = refl
@@ -286,6 +286,6 @@ module _ (p : Pairing) (from start : ℕ) (pairing : IsPairing p from start) whe
         λ i. joined_relations (k.0 i) (relation_same a c k.1 i) (relation_same b d k.2 i)
         (set_same a c k.1 i) (set_same b d k.2 i)
     relation_same (Marked op a) (Marked oq c) k = λ i. Close (k.0 i) (relation_same a c k.1 i)
-    relation_same (Complement a) (Complement c) k = λ i. RelNot (relation_same a c k i)
-    relation_same (Identity a) (Identity c) k = λ i. OnSet (set_same a c k i)
+    relation_same (Complement a) (Complement c) k = λ i. ComplementRelation (relation_same a c k i)
+    relation_same (Identity a) (Identity c) k = λ i. IdentityOn (set_same a c k i)
     relation_same f g k = absurd k

@@ -14,7 +14,7 @@ use Rattle.binding_kinds.specs.declared.scope.Binder.TheVariants as binders
 use Rattle.binding_kinds.specs.declared.scope.Found.{Found}
 use Rattle.binding_kinds.specs.declared.scope.Input.{Input}
 use Rattle.binding_kinds.specs.declared.scope.Used.{Used}
-use Rattle.binding_kinds.specs.Value.{Naming, Clause, Group, Check, Mute, Defined, clause_of}
+use Rattle.binding_kinds.specs.Value.{Naming, BareItem, Group, Check, Mute, Defined, bare_item}
 use Rattle.binding_kinds.specs.Kinds.{found}
 use Rattle.binding_kinds.specs.Outermost.{naming_of}
 use Rattle.binding_kinds.specs.Senses.{Sense}
@@ -37,9 +37,9 @@ pub counts_at : (s : Scope) (at : ℕ) (xs : List Item) (k : ℕ) → HasCounts 
 counts_at s at [] k h = h
 counts_at s at (x ∷ xs) zero h = h
 counts_at s at (x ∷ xs) (suc k) h =
-    counts_at (scope_after s at x) (at + 1) xs k (next_counts s at (clause_of x) h)
+    counts_at (scope_after s at x) (at + 1) xs k (next_counts s at (bare_item x) h)
 
-items_after : (s : Scope) (at : ℕ) (c : Clause) (later : List ℕ)
+items_after : (s : Scope) (at : ℕ) (c : BareItem) (later : List ℕ)
     → map (λ (u : Usage). u.item) (usages_after s.usages s.names at c) ++ later
     ≡ map (λ (u : Usage). u.item) s.usages ++ with_function at c later
 items_after s at (Group r bs) later = refl
@@ -58,14 +58,14 @@ usages_numbered s at [] k = sym (append-nil (map (λ (u : Usage). u.item) s.usag
 usages_numbered s at (x ∷ xs) zero = sym (append-nil (map (λ (u : Usage). u.item) s.usages))
 usages_numbered s at (x ∷ xs) (suc k) =
     usages_numbered (scope_after s at x) (at + 1) xs k
-    ∙ items_after s at (clause_of x) (functions_before (at + 1) xs k)
+    ∙ items_after s at (bare_item x) (functions_before (at + 1) xs k)
 
 -- ---- faults
 
 pub no_fault_at : (s : Scope) (at : ℕ) (xs : List Item) (k : ℕ) (x : Item)
-    → HasNoFault s.senses s.names at (map clause_of xs) → slice_get xs k ≡ Some x
+    → HasNoFault s.senses s.names at (map bare_item xs) → slice_get xs k ≡ Some x
     → (i : ℕ) (l : ModelFault)
-    → IsFaultOfItem (scope_at s at xs k).senses (scope_at s at xs k).names (at + k) (clause_of x) i
+    → IsFaultOfItem (scope_at s at xs k).senses (scope_at s at xs k).names (at + k) (bare_item x) i
     l → ⊥
 no_fault_at s at [] k x none h i l f = none-some x h
 no_fault_at s at (y ∷ ys) zero x none h i l f =
@@ -73,8 +73,8 @@ no_fault_at s at (y ∷ ys) zero x none h i l f =
     let left : at + 0 ≡ at = omega arith in
     none 0 i l (inl (
       refl,
-      subst (λ (n : ℕ). IsFaultOfItem s.senses s.names n (clause_of y) i l) left
-          (subst (λ (z : Item). IsFaultOfItem s.senses s.names (at + 0) (clause_of z) i l)
+      subst (λ (n : ℕ). IsFaultOfItem s.senses s.names n (bare_item y) i l) left
+          (subst (λ (z : Item). IsFaultOfItem s.senses s.names (at + 0) (bare_item z) i l)
           same f),
     ))
 no_fault_at s at (y ∷ ys) (suc k) x none h i l f =
@@ -82,7 +82,7 @@ no_fault_at s at (y ∷ ys) (suc k) x none h i l f =
     let there = scope_at (scope_after s at y) (at + 1) ys k in
     no_fault_at (scope_after s at y) (at + 1) ys k x
     (λ j i l g. none (1 + j) i l (inr (j, refl, g))) h i l
-    (subst (λ (n : ℕ). IsFaultOfItem there.senses there.names n (clause_of x) i l) moved f)
+    (subst (λ (n : ℕ). IsFaultOfItem there.senses there.names n (bare_item x) i l) moved f)
 
 -- ---- models
 
@@ -186,7 +186,7 @@ module _ (names : List Naming) (items : List Item)
     pub name : List ℕ
     pub parameters : List (List ℕ)
     pub body : Term
-    pub clause : clause_of item ≡ Defined name parameters body
+    pub clause : bare_item item ≡ Defined name parameters body
     pub usage : u
         ≡ usage_of_function (seen_by index).usages (seen_by index).names index parameters body
     pub number : slice_get (functions_before 0 items k) at ≡ Some index
@@ -259,7 +259,7 @@ module _ (names : List Naming) (items : List Item)
       pub name : List ℕ
       pub parameters : List (List ℕ)
       pub body : Term
-      pub clause : clause_of item ≡ Defined name parameters body
+      pub clause : bare_item item ≡ Defined name parameters body
       pub kept : AreKept P Q (seen_by i).usages (seen_by i).names parameters (start names items i)
           body
 

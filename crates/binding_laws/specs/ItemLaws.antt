@@ -13,12 +13,12 @@ use Rattle.binding_kinds.specs.declared.scope.Binder.TheVariants as binders
 use Rattle.binding_kinds.specs.declared.scope.Found.{Found}
 use Rattle.binding_kinds.specs.declared.scope.Input.{Input}
 use Rattle.binding_kinds.specs.declared.scope.Used.{Used}
-use Rattle.binding_kinds.specs.Value.{Naming, Clause, Group, Check, Mute, Defined, clause_of}
+use Rattle.binding_kinds.specs.Value.{Naming, BareItem, Group, Check, Mute, Defined, bare_item}
 use Rattle.binding_kinds.specs.Kinds.{found}
 use Rattle.binding_kinds.specs.Meanings.{parameter_of}
 use Rattle.binding_kinds.specs.Formula.{Formula, Value, Parameter, Everything, NoPairs, NoEvents, Joined, Marked, Complement, Identity}
 use Rattle.binding_kinds.specs.Senses.{Sense, count_of}
-use Rattle.binding_kinds.specs.Faults.{extended, senses_after}
+use Rattle.binding_kinds.specs.Faults.{names_after, senses_after}
 use Rattle.binding_kinds.specs.Functions.{sense_seen, sense_of_function}
 use Rattle.binding_graph.specs.declared.resolved.ResolvedItem.{ResolvedItem}
 use Rattle.binding_graph.specs.Usages.{Usage, values_of, usage_seen, usage_of_function, usages_after}
@@ -138,7 +138,7 @@ abbrev pub with_names : Scope → List Naming → Scope
 with_names s names = record s { names = names }
 
 -- each name of an item stands for the same: the bodies of a recursive group see its own names too
-abbrev pub HasSameNamesIn : Pairing → Scope → Scope → List Naming → List Naming → Clause → Type 0
+abbrev pub HasSameNamesIn : Pairing → Scope → Scope → List Naming → List Naming → BareItem → Type 0
 HasSameNamesIn p s o own other (Group true bs) =
     AllByRecursion (λ b. HasSameNames p (with_names s own) (with_names o other) [] b.body) bs
 HasSameNamesIn p s o own other (Group false bs) =
@@ -158,7 +158,7 @@ DoTheSame p r q =
 -- from that slot on are its own
 abbrev pub IsItem : Scope → List Naming → ℕ → Item → ResolvedItem → Type 0
 IsItem s own from x r =
-    IsResolvedIn s.senses s.usages s.names own from (clause_of x) r × IsLabelledAs x r
+    IsResolvedIn s.senses s.usages s.names own from (bare_item x) r × IsLabelledAs x r
 
 -- an item whose names stand for the same in two scopes does the same there, with inputs that stand
 -- for each other
@@ -166,7 +166,7 @@ abbrev pub IsAlike : Item → Type 0
 IsAlike x =
     (p : Pairing) (s o : Scope) (own other : List Naming) (from start : ℕ) (r q : ResolvedItem)
     → IsPairing p from start
-    → HasSameNamesIn p s o own other (clause_of x) → IsItem s own from x r
+    → HasSameNamesIn p s o own other (bare_item x) → IsItem s own from x r
     → IsItem o other start x q → DoTheSame p r q
 
 -- ---- items of models
@@ -182,14 +182,14 @@ label_of (items.Include n) = None
 
 -- two items have one text
 abbrev pub SayTheSame : Item → Item → Type 0
-SayTheSame x y = (clause_of x ≡ clause_of y) × (label_of x ≡ label_of y)
+SayTheSame x y = (bare_item x ≡ bare_item y) × (label_of x ≡ label_of y)
 
 -- what the items after one see
 abbrev pub scope_after : Scope → ℕ → Item → Scope
 scope_after s at x = record {
-  senses = senses_after s.senses s.names (clause_of x);
-  usages = usages_after s.usages s.names at (clause_of x);
-  names = extended s.senses s.names at (clause_of x);
+  senses = senses_after s.senses s.names (bare_item x);
+  usages = usages_after s.usages s.names at (bare_item x);
+  names = names_after s.senses s.names at (bare_item x);
 }
 
 -- what the item of that index sees, and what the bodies of a recursive group there see, where the
@@ -201,7 +201,7 @@ scope_at s at (x ∷ xs) (suc index) = scope_at (scope_after s at x) (at + 1) xs
 
 abbrev pub own_at : Scope → ℕ → List Item → ℕ → List Naming
 own_at s at [] index = s.names
-own_at s at (x ∷ xs) zero = extended s.senses s.names at (clause_of x)
+own_at s at (x ∷ xs) zero = names_after s.senses s.names at (bare_item x)
 own_at s at (x ∷ xs) (suc index) = own_at (scope_after s at x) (at + 1) xs index
 
 abbrev pub first_scope : List Naming → Scope
@@ -210,7 +210,7 @@ first_scope names = record { senses = []; usages = []; names = names }
 -- the item of that index of a model, whose first item sees these names, and what it is resolved to
 pub record IsItemAt (names : List Naming) (model : List Item) (resolved : List ResolvedItem)
     (index : ℕ) (x : Item) (r : ResolvedItem) : Type 0 where
-  pub all : AreResolved [] [] names 0 (map clause_of model) resolved
+  pub all : AreResolved [] [] names 0 (map bare_item model) resolved
   pub labels : AreLabelled model resolved
   pub text : slice_get model index ≡ Some x
   pub item : slice_get resolved index ≡ Some r
@@ -222,7 +222,7 @@ pub record HasSameNamesAt (p : Pairing) (names more : List Naming) (model other 
       (length (scope_at (first_scope more) 0 other l).names)
   pub same : HasSameNamesIn p (scope_at (first_scope names) 0 model k)
       (scope_at (first_scope more) 0 other l) (own_at (first_scope names) 0 model k)
-      (own_at (first_scope more) 0 other l) (clause_of x)
+      (own_at (first_scope more) 0 other l) (bare_item x)
 
 -- items of one text, at any indices of two models, whose names stand for the same do the same
 abbrev pub HaveAlikeItems : ModelText → ModelText → Type 0
@@ -237,7 +237,7 @@ HaveAlikeItems model other =
 
 -- the indices of the items that are functions, before the item of that index, where the first item
 -- has the number `at`: what the name of the n-th function stands for is the n-th of them
-abbrev pub with_function : ℕ → Clause → List ℕ → List ℕ
+abbrev pub with_function : ℕ → BareItem → List ℕ → List ℕ
 with_function at (Group r bs) later = later
 with_function at (Check w e) later = later
 with_function at Mute later = later
@@ -247,7 +247,7 @@ abbrev pub functions_before : ℕ → List Item → ℕ → List ℕ
 functions_before at [] index = []
 functions_before at (x ∷ xs) zero = []
 functions_before at (x ∷ xs) (suc index) =
-    with_function at (clause_of x) (functions_before (at + 1) xs index)
+    with_function at (bare_item x) (functions_before (at + 1) xs index)
 
 -- what an expression sees of the text before it: functions, by the indices of their items, and
 -- names
@@ -297,7 +297,7 @@ abbrev pub seeing : Sight → List Naming → Sight
 seeing s names = record s { names = names }
 
 -- each name of an item is resolved alike: the bodies of a recursive group see its own names too
-abbrev pub IsNamedAlikeIn : Matching → Sight → Sight → List Naming → List Naming → Clause → Type 0
+abbrev pub IsNamedAlikeIn : Matching → Sight → Sight → List Naming → List Naming → BareItem → Type 0
 IsNamedAlikeIn m s o own other (Group true bs) =
     AllByRecursion (λ b. IsNamedAlike m (seeing s own) (seeing o other) [] b.body) bs
 IsNamedAlikeIn m s o own other (Group false bs) =
@@ -315,7 +315,7 @@ sight_at names model index =
     }
 
 abbrev pub IsNamedAlikeAt : Matching → List Naming → List Naming → List Item → List Item → ℕ → ℕ
-    → Clause → Type 0
+    → BareItem → Type 0
 IsNamedAlikeAt m names more model other k l c =
     IsNamedAlikeIn m (sight_at names model k) (sight_at more other l)
     (own_at (first_scope names) 0 model k) (own_at (first_scope more) 0 other l) c
@@ -325,7 +325,7 @@ abbrev pub HasAlikeFunctions : Matching → List Naming → List Naming → List
 HasAlikeFunctions m names more model other =
     (i j : ℕ) (x y : Item) → Contains m.functions (i, j) → slice_get model i ≡ Some x
     → slice_get other j ≡ Some y
-    → (clause_of x ≡ clause_of y) × IsNamedAlikeAt m names more model other i j (clause_of x)
+    → (bare_item x ≡ bare_item y) × IsNamedAlikeAt m names more model other i j (bare_item x)
 
 -- The names of an item are resolved alike at these indices of two models, and so are those of the
 -- functions that it applies, through others too. The slots of names that only functions see stand
@@ -335,7 +335,7 @@ pub record IsResolvedAlike (m : Matching) (names more : List Naming) (model othe
   pub pairing : IsPairing m.pairing (length (sight_at names model k).names)
       (length (sight_at more other l).names)
   pub functions : HasAlikeFunctions m names more model other
-  pub item : IsNamedAlikeAt m names more model other k l (clause_of x)
+  pub item : IsNamedAlikeAt m names more model other k l (bare_item x)
 
 -- items of one text, at any indices of two models, do the same where their names are resolved alike
 abbrev pub HaveItemsAlikeByText : ModelText → ModelText → Type 0

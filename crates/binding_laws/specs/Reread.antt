@@ -7,7 +7,7 @@ use Rattle.text_values.specs.declared.model.Item.{Item}
 use Rattle.text_values.specs.declared.predefined.Predefined.{Predefined}
 use Rattle.binding_kinds.specs.declared.kinds.Kind.{Kind}
 use Rattle.binding_kinds.specs.declared.scope.Input.{Input}
-use Rattle.binding_kinds.specs.Value.{Naming, Clause, clause_of}
+use Rattle.binding_kinds.specs.Value.{Naming, BareItem, bare_item}
 use Rattle.binding_kinds.specs.Outermost.{naming_of}
 use Rattle.binding_kinds.specs.Faults.{HasNoFault}
 use Rattle.binding_graph.specs.declared.resolved.Body.{Body}
@@ -32,17 +32,17 @@ abbrev pub HasNumber : ReadModel → ℕ → ℕ → Type 0
 HasNumber m index number = slice_get m.numbers index ≡ Some number
 
 -- the names that the first item sees
-abbrev pub outermost : List Predefined → List Naming
-outermost ps = reverse (map naming_of ps)
+abbrev pub outer_namings : List Predefined → List Naming
+outer_namings ps = reverse (map naming_of ps)
 
 -- each item has a number of its own, none has a fault, and they are resolved to these, where the
 -- first sees those names
-pub record IsSound (names : List Naming) (m : ReadModel) : Type 0 where
+pub record IsReadModel (names : List Naming) (m : ReadModel) : Type 0 where
   pub numbered : length m.numbers ≡ length m.items
   pub apart : (a b number : ℕ) → HasNumber m a number → HasNumber m b number → a ≡ b
   pub whole : length m.resolved ≡ length m.items
-  pub no_fault : HasNoFault [] names 0 (map clause_of m.items)
-  pub as_resolved : AreResolved [] [] names 0 (map clause_of m.items) m.resolved
+  pub no_fault : HasNoFault [] names 0 (map bare_item m.items)
+  pub as_resolved : AreResolved [] [] names 0 (map bare_item m.items) m.resolved
   pub labelled : AreLabelled m.items m.resolved
 
 -- The items that both models have stand in one order. Without this the law would fail: of two items
@@ -83,8 +83,8 @@ abbrev pub seen_input : ReadModel → Input → Option ℕ × Option SeenName
 seen_input m i = (slice_get m.numbers i.item, seen_at (slice_get m.resolved i.item) i.position)
 
 -- a function, by the number of its item, with its text
-abbrev pub seen_function : ReadModel → ℕ → Option ℕ × Option Clause
-seen_function m f = (slice_get m.numbers f, option_map clause_of (slice_get m.items f))
+abbrev pub seen_function : ReadModel → ℕ → Option ℕ × Option BareItem
+seen_function m f = (slice_get m.numbers f, option_map bare_item (slice_get m.items f))
 
 -- two items use the same names and apply the same functions, in the same order
 pub record UseTheSame (m w : ReadModel) (r q : ResolvedItem) : Type 0 where
@@ -102,14 +102,14 @@ pub record IsSeenInput (m : ReadModel) (i : Input) : Type 0 where
 -- the function has a number and a text
 pub record IsSeenFunction (m : ReadModel) (f : ℕ) : Type 0 where
   pub number : ℕ
-  pub text : Clause
+  pub text : BareItem
   pub seen : seen_function m f ≡ (Some number, Some text)
 
 -- all that an item uses is seen so
 abbrev pub UsesAreSeen : Type 0
 UsesAreSeen =
     (ps : List Predefined) (m : ReadModel) (number k : ℕ) (x : Item) (r : ResolvedItem)
-    → IsSound (outermost ps) m → IsItemOf m number k x r
+    → IsReadModel (outer_namings ps) m → IsItemOf m number k x r
     → Each (IsSeenInput m) r.inputs.items × Each (IsSeenFunction m) r.functions.items
 
 -- an item of one number and one text that uses the same in two models of one order does the same in
@@ -117,6 +117,6 @@ UsesAreSeen =
 abbrev pub ItemsAreReadAgain : Type 0
 ItemsAreReadAgain =
     (ps : List Predefined) (m w : ReadModel) (number k l : ℕ) (x y : Item) (r q : ResolvedItem)
-    → IsSound (outermost ps) m → IsSound (outermost ps) w → AreInOneOrder m w
+    → IsReadModel (outer_namings ps) m → IsReadModel (outer_namings ps) w → AreInOneOrder m w
     → IsItemOf m number k x r → IsItemOf w number l y q → SayTheSame x y → UseTheSame m w r q
     → role_content r.role ≡ role_content q.role

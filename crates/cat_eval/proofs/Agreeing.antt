@@ -9,11 +9,11 @@ use Rattle.binding_graph.specs.declared.resolved.Source.{Source}
 use Rattle.binding_graph.specs.declared.resolved.Source.TheVariants as sources
 use Rattle.binding_graph.specs.declared.resolved.Step.{Step}
 use Rattle.binding_graph.specs.declared.resolved.Step.TheVariants as steps
-use Rattle.binding_graph.specs.Trees.{SetTree, SetName, AllEvents, NoEvent, SetBlend, SetNot, RelTree, RelName, NoPair, RelBlend, Then, Cross, OnSet, Close, RelNot, set_code, rel_code}
+use Rattle.binding_graph.specs.Trees.{SetTree, SetName, AllEvents, NoEvent, BlendSets, ComplementSet, RelTree, RelName, NoPair, BlendRelations, Compose, Multiply, IdentityOn, Close, ComplementRelation, set_code, rel_code}
 use Rattle.cat_eval.specs.Least.{IsLeast, body}
 use Rattle.cat_eval.specs.Meaning.{MeansSet, Means}
-use Rattle.cat_eval.specs.Named.{WithOwn, Of}
-use Rattle.cat_eval.specs.Needed.{source_names, step_names, names_in, bodies_names}
+use Rattle.cat_eval.specs.Named.{WithOwn, OwnPairs}
+use Rattle.cat_eval.specs.Needed.{source_names, step_names, predefined_names_in, bodies_names}
 use Rattle.cat_eval.specs.Rising.{AreCodes}
 use Rattle.cat_eval.proofs.Same.{Same, SameSet, same_sets, same_others, same_blend, same_then, same_cross, same_on, same_close, same_turn}
 
@@ -24,18 +24,18 @@ module _ (P : Source → Type 0) where
   OfSet (SetName source) = P source
   OfSet AllEvents = Unit {0}
   OfSet NoEvent = Unit {0}
-  OfSet (SetBlend how s t) = OfSet s × OfSet t
-  OfSet (SetNot s) = OfSet s
+  OfSet (BlendSets how s t) = OfSet s × OfSet t
+  OfSet (ComplementSet s) = OfSet s
 
   abbrev pub OfRelation : RelTree → Type 0
   OfRelation (RelName source) = P source
   OfRelation NoPair = Unit {0}
-  OfRelation (RelBlend how e f) = OfRelation e × OfRelation f
-  OfRelation (Then e f) = OfRelation e × OfRelation f
-  OfRelation (Cross s t) = OfSet s × OfSet t
-  OfRelation (OnSet s) = OfSet s
+  OfRelation (BlendRelations how e f) = OfRelation e × OfRelation f
+  OfRelation (Compose e f) = OfRelation e × OfRelation f
+  OfRelation (Multiply s t) = OfSet s × OfSet t
+  OfRelation (IdentityOn s) = OfSet s
   OfRelation (Close how e) = OfRelation e
-  OfRelation (RelNot e) = OfRelation e
+  OfRelation (ComplementRelation e) = OfRelation e
 
   abbrev pub OfStep : Step → Type 0
   OfStep (steps.PushSet source) = P source
@@ -61,11 +61,11 @@ module _ (P : Source → Type 0) where
   set_parts (SetName source) rest h = h
   set_parts AllEvents rest h = h
   set_parts NoEvent rest h = h
-  set_parts (SetBlend how s t) rest h =
+  set_parts (BlendSets how s t) rest h =
       let one = set_parts s (set_code t (steps.BlendSets how ∷ rest)) h in
       let two = set_parts t (steps.BlendSets how ∷ rest) one.1 in
       ((one.0, two.0), two.1.1)
-  set_parts (SetNot s) rest h =
+  set_parts (ComplementSet s) rest h =
       let one = set_parts s (steps.ComplementSet ∷ rest) h in
       (one.0, one.1.1)
 
@@ -73,25 +73,25 @@ module _ (P : Source → Type 0) where
       → OfRelation e × OfSteps rest
   relation_parts (RelName source) rest h = h
   relation_parts NoPair rest h = h
-  relation_parts (RelBlend how e f) rest h =
+  relation_parts (BlendRelations how e f) rest h =
       let one = relation_parts e (rel_code f (steps.BlendRelations how ∷ rest)) h in
       let two = relation_parts f (steps.BlendRelations how ∷ rest) one.1 in
       ((one.0, two.0), two.1.1)
-  relation_parts (Then e f) rest h =
+  relation_parts (Compose e f) rest h =
       let one = relation_parts e (rel_code f (steps.Compose ∷ rest)) h in
       let two = relation_parts f (steps.Compose ∷ rest) one.1 in
       ((one.0, two.0), two.1.1)
-  relation_parts (Cross s t) rest h =
+  relation_parts (Multiply s t) rest h =
       let one = set_parts s (set_code t (steps.Multiply ∷ rest)) h in
       let two = set_parts t (steps.Multiply ∷ rest) one.1 in
       ((one.0, two.0), two.1.1)
-  relation_parts (OnSet s) rest h =
+  relation_parts (IdentityOn s) rest h =
       let one = set_parts s (steps.IdentityOn ∷ rest) h in
       (one.0, one.1.1)
   relation_parts (Close how e) rest h =
       let one = relation_parts e (steps.Close how ∷ rest) h in
       (one.0, one.1.1)
-  relation_parts (RelNot e) rest h =
+  relation_parts (ComplementRelation e) rest h =
       let one = relation_parts e (steps.ComplementRelation ∷ rest) h in
       (one.0, one.1.1)
 
@@ -122,32 +122,32 @@ module _ (P : Source → Type 0) where
     of_step steps.ComplementRelation named = tt
 
     pub of_steps : (xs : List Step)
-        → ((name : Predefined) → Contains (names_in xs) name → P (sources.Predefined name))
+        → ((name : Predefined) → Contains (predefined_names_in xs) name → P (sources.Predefined name))
         → OfSteps xs
     of_steps [] named = tt
     of_steps (x ∷ xs) named = (
       of_step x (λ name inside.
-          named name (Contains-append_left (step_names x) (names_in xs) name inside)),
+          named name (Contains-append_left (step_names x) (predefined_names_in xs) name inside)),
       of_steps xs (λ name inside.
-          named name (Contains-append_right (step_names x) (names_in xs) name inside)),
+          named name (Contains-append_right (step_names x) (predefined_names_in xs) name inside)),
     )
 
 -- the names of one body are among those of the group
 pub body_named : (bodies : List Body) (j : ℕ) → j < length bodies → (b : Body) (name : Predefined)
-    → Contains (names_in (get_or bodies j b).code.steps.items) name
+    → Contains (predefined_names_in (get_or bodies j b).code.steps.items) name
     → Contains (bodies_names bodies) name
 body_named [] j lt b name inside = absurd (omega (arith, lt))
 body_named (c ∷ cs) zero lt b name inside =
-    Contains-append_left (names_in c.code.steps.items) (bodies_names cs) name inside
+    Contains-append_left (predefined_names_in c.code.steps.items) (bodies_names cs) name inside
 body_named (c ∷ cs) (suc j) lt b name inside =
-    Contains-append_right (names_in c.code.steps.items) (bodies_names cs) name
+    Contains-append_right (predefined_names_in c.code.steps.items) (bodies_names cs) name
     (body_named cs j (omega (arith, lt)) b name inside)
 
 -- a tree of the group is that of a body, whose names are among those of the group
 pub code_at : (trees : List RelTree) (bodies : List Body) → AreCodes trees bodies → (x : ℕ)
     → x < length trees
     → (b : Body) × (b.code.steps.items ≡ rel_code (body trees x) [])
-    × ((name : Predefined) → Contains (names_in b.code.steps.items) name
+    × ((name : Predefined) → Contains (predefined_names_in b.code.steps.items) name
     → Contains (bodies_names bodies) name)
 code_at [] bodies codes x lt = absurd (omega (arith, lt))
 code_at (t ∷ ts) [] codes x lt = absurd codes
@@ -155,13 +155,13 @@ code_at (t ∷ ts) (c ∷ cs) codes zero lt = (
   c,
   codes.0,
   (λ name inside.
-      Contains-append_left (names_in c.code.steps.items) (bodies_names cs) name inside),
+      Contains-append_left (predefined_names_in c.code.steps.items) (bodies_names cs) name inside),
 )
 code_at (t ∷ ts) (c ∷ cs) codes (suc x) lt =
     let (b, is, within) = code_at ts cs codes.1 x (omega (arith, lt)) in (
       b,
       is,
-      (λ name inside. Contains-append_right (names_in c.code.steps.items) (bodies_names cs)
+      (λ name inside. Contains-append_right (predefined_names_in c.code.steps.items) (bodies_names cs)
           name (within name inside)),
     )
 
@@ -175,20 +175,20 @@ module _ (n : ℕ) (sets others : Source → ℕ → Type 0) (rels further : Sou
   set_agrees (SetName source) h = h.0
   set_agrees AllEvents h = λ a. ((λ x. x), (λ x. x))
   set_agrees NoEvent h = λ a. ((λ x. x), (λ x. x))
-  set_agrees (SetBlend how s t) h = same_sets how _ _ _ _ (set_agrees s h.0) (set_agrees t h.1)
-  set_agrees (SetNot s) h = same_others n _ _ (set_agrees s h)
+  set_agrees (BlendSets how s t) h = same_sets how _ _ _ _ (set_agrees s h.0) (set_agrees t h.1)
+  set_agrees (ComplementSet s) h = same_others n _ _ (set_agrees s h)
 
   pub relation_agrees : (e : RelTree) → OfRelation Agree e
       → Same (Means n sets rels e) (Means n others further e)
   relation_agrees (RelName source) h = h.1
   relation_agrees NoPair h = λ a b. ((λ x. x), (λ x. x))
-  relation_agrees (RelBlend how e f) h =
+  relation_agrees (BlendRelations how e f) h =
       same_blend how _ _ _ _ (relation_agrees e h.0) (relation_agrees f h.1)
-  relation_agrees (Then e f) h = same_then _ _ _ _ (relation_agrees e h.0) (relation_agrees f h.1)
-  relation_agrees (Cross s t) h = same_cross _ _ _ _ (set_agrees s h.0) (set_agrees t h.1)
-  relation_agrees (OnSet s) h = same_on _ _ (set_agrees s h)
+  relation_agrees (Compose e f) h = same_then _ _ _ _ (relation_agrees e h.0) (relation_agrees f h.1)
+  relation_agrees (Multiply s t) h = same_cross _ _ _ _ (set_agrees s h.0) (set_agrees t h.1)
+  relation_agrees (IdentityOn s) h = same_on _ _ (set_agrees s h)
   relation_agrees (Close how e) h = same_close how n _ _ (relation_agrees e h)
-  relation_agrees (RelNot e) h = same_turn n _ _ (relation_agrees e h)
+  relation_agrees (ComplementRelation e) h = same_turn n _ _ (relation_agrees e h)
 
 -- the least solution is the same
 pub least_agrees : (n : ℕ) (sets others : Source → ℕ → Type 0)
@@ -201,7 +201,7 @@ least_agrees n sets others outer further trees values same h = record {
   as_many = h.as_many;
   on = h.on;
   solves = λ x lt a b.
-      let meant = same x lt (Of n values) a b in
+      let meant = same x lt (OwnPairs n values) a b in
       let solved = h.solves x lt a b in
       ((λ p. meant.0 (solved.0 p)), (λ q. solved.1 (meant.1 q)));
   inside =

@@ -8,8 +8,8 @@ use Rattle.binding_graph.specs.declared.resolved.CheckCode.{CheckCode}
 use Rattle.cat_eval.specs.declared.column.Column.{Column}
 use Rattle.cat_eval.specs.Kept.{AreWhere, AreAskedOver, IsLastAnswer, is_asked_at}
 use Rattle.cat_eval.specs.OverNames.{IsAnswerOver}
-use Rattle.cat_eval.specs.Seen.{Known}
-use Rattle.cat_eval.specs.Steady.{AreSame, IsSteady, EndsWith}
+use Rattle.cat_eval.specs.Seen.{NamedValues}
+use Rattle.cat_eval.specs.Steady.{HaveSameInputs, IsSteady, EndsWith}
 use Rattle.cat_eval.proofs.Columns.{get_last}
 use Rattle.cat_eval.proofs.Deciding.{some_answer}
 use Rattle.cat_eval.proofs.Repeating.{answer_again, ends_long}
@@ -60,7 +60,7 @@ asked_none check inputs kept = (
 )
 
 -- what is known is the answer, and else it can be told
-told : (check : CheckCode) (inputs : List (Bor Column)) (base : Known) (n : ℕ) (known : Option Bool)
+told : (check : CheckCode) (inputs : List (Bor Column)) (base : NamedValues) (n : ℕ) (known : Option Bool)
     → ((answer : Bool) → known ≡ Some answer
     → IsAnswerOver check inputs base n check.code.kind answer)
     → (x : Bool) × IsAnswerOver check inputs base n check.code.kind x
@@ -78,7 +78,7 @@ held true None x some is = absurd (some refl refl)
 held true (Some a) x some is = sym (is a refl)
 
 pub asked_more : (check : CheckCode) (inputs : List (Bor Column)) (kept : Option (Bor (List Bool)))
-    (bases : List Known) (base : Known) (answers new : List Bool) (known : Option Bool) (n : ℕ)
+    (bases : List NamedValues) (base : NamedValues) (answers new : List Bool) (known : Option Bool) (n : ℕ)
     (asked answer : Bool) → n ≡ length answers → AreAskedOver check inputs kept bases answers
     → ((a : Bool) → known ≡ Some a → IsAnswerOver check inputs base n check.code.kind a)
     → (IsTrue asked → known ≡ None → ⊥) → asked ≡ is_asked_at kept n
@@ -97,17 +97,17 @@ asked_more check inputs kept bases base answers new known n asked answer here (a
     )
 
 -- the answer of the last candidate, where the next one is the same
-pub answer_before : (check : CheckCode) (inputs : List (Bor Column)) (bases : List Known)
-    (base : Known) (known : Option Bool) (answer : Bool) (n steady : ℕ) → n ≡ length bases
+pub answer_before : (check : CheckCode) (inputs : List (Bor Column)) (bases : List NamedValues)
+    (base : NamedValues) (known : Option Bool) (answer : Bool) (n steady : ℕ) → n ≡ length bases
     → EndsWith bases base → IsLastAnswer check inputs bases known → IsSteady inputs n steady
     → n < steady → known ≡ Some answer → IsAnswerOver check inputs base n check.code.kind answer
 answer_before check inputs bases base known answer n steady here ends last still lt e =
-    let same : AreSame inputs (n - 1) n = still n (omega arith) lt in
+    let same : HaveSameInputs inputs (n - 1) n = still n (omega arith) lt in
     let before : IsAnswerOver check inputs base (n - 1) check.code.kind answer = subst (λ (m : ℕ). IsAnswerOver check inputs base (m - 1) check.code.kind answer) (sym here) (last answer base e ends) in
     answer_again base inputs (n - 1) n same check check.code.kind answer before
 
 -- what is known of the next one is known of the last one then
-pub last_now : (check : CheckCode) (inputs : List (Bor Column)) (bases : List Known) (base : Known)
+pub last_now : (check : CheckCode) (inputs : List (Bor Column)) (bases : List NamedValues) (base : NamedValues)
     (known : Option Bool) (n : ℕ) → n ≡ length bases
     → ((a : Bool) → known ≡ Some a → IsAnswerOver check inputs base n check.code.kind a)
     → IsLastAnswer check inputs (bases ++ base ∷ []) known
@@ -118,12 +118,12 @@ last_now check inputs bases base known n here right = λ answer one e ends.
     let same : base ≡ one = same_Some base one (sym (get_last bases base) ∙ ap (λ (k : ℕ). slice_get (bases ++ base ∷ []) k) front ∙ at) in
     let place : n ≡ length (bases ++ base ∷ []) - 1 = omega (arith, here, many) in
     subst (λ (m : ℕ). IsAnswerOver check inputs one m check.code.kind answer) place
-    (subst (λ (b : Known). IsAnswerOver check inputs b n check.code.kind answer) same
+    (subst (λ (b : NamedValues). IsAnswerOver check inputs b n check.code.kind answer) same
     (right answer e))
 
 -- the same check and inputs, by another name
 module _ (c d : Bor CheckCode) (xs ys : Bor (List (Bor Column))) (e : c ≡ d) (f : xs ≡ ys)
-    (bases : List Known) where
+    (bases : List NamedValues) where
   pub asked_moved : (k l : Option (Bor (List Bool))) → k ≡ l → (answers : List Bool)
       → AreAskedOver c.now xs.now k bases answers → AreAskedOver d.now ys.now l bases answers
   asked_moved k l g answers h =

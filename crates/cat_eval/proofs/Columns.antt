@@ -15,15 +15,15 @@ use Rattle.binding_graph.specs.declared.resolved.Role.TheVariants as roles
 use Rattle.binding_graph.specs.declared.resolved.Step.{Step}
 use Rattle.binding_graph.specs.Trees.{SetTree, RelTree, set_code, rel_code}
 use Rattle.candidates.specs.declared.candidate.Space.{Space}
-use Rattle.cat_eval.specs.Seen.{Known}
+use Rattle.cat_eval.specs.Seen.{NamedValues}
 use Rattle.cat_eval.specs.declared.column.Column.{Column}
 use Rattle.cat_eval.specs.declared.column.Column.TheVariants as columns
 use Rattle.cat_eval.specs.Candidates.{name_count}
-use Rattle.cat_eval.specs.Columns.{HasValue, ColumnsOf, HasOwn}
+use Rattle.cat_eval.specs.Columns.{HasColumnValue, ColumnsOf, HasOwn}
 use Rattle.cat_eval.specs.OverNames.{HaveValuesOver, AreColumnsOver, IsMeaningOver}
 use Rattle.cat_eval.specs.Least.{IsLeast, AreMonotone}
 use Rattle.cat_eval.specs.Meaning.{MeansSet, Means}
-use Rattle.cat_eval.specs.Named.{EventsIn, PairsOutside, WithOwn, Of}
+use Rattle.cat_eval.specs.Named.{EventsIn, PairsOutside, WithOwn, OwnPairs}
 use Rattle.cat_eval.specs.Values.{Adds, IsFor, column_len}
 use Rattle.cat_eval.specs.Rising.{AreCodes}
 use Rattle.cat_eval.proofs.Visits.{get_more, get_within}
@@ -58,7 +58,7 @@ one_column_more bodies cs i body column long lt here kind empty before j less b 
         ∙ ap (λ (n : ℕ). get_or (column ∷ []) n c) none
 
 -- what was evaluated is what the code means
-pub meant_is : (inputs : List (Bor Column)) (base : Known) (k : ℕ) (steps : List Step) (s : Events)
+pub meant_is : (inputs : List (Bor Column)) (base : NamedValues) (k : ℕ) (steps : List Step) (s : Events)
     (r : Relation) (us : List Events) (vs : List Relation)
     → ((t : SetTree) → steps ≡ set_code t []
     → (v : Events) × (us ≡ v ∷ [])
@@ -66,7 +66,7 @@ pub meant_is : (inputs : List (Bor Column)) (base : Known) (k : ℕ) (steps : Li
     → ((t : RelTree) → steps ≡ rel_code t []
     → (v : Relation) × (vs ≡ v ∷ [])
     × IsRelation v base.count (Means base.count (EventsIn base inputs k)
-    (WithOwn (PairsOutside base inputs k) (Of base.count [])) t))
+    (WithOwn (PairsOutside base inputs k) (OwnPairs base.count [])) t))
     → ((v : Events) (rest : List Events) → us ≡ v ∷ rest → s ≡ v)
     → ((v : Relation) (rest : List Relation) → vs ≡ v ∷ rest → r ≡ v)
     → (kind : Kind) → IsMeaningOver kind steps inputs base k s r
@@ -78,13 +78,13 @@ meant_is inputs base k steps s r us vs sets rels set_is rel_is kinds.OfRelation 
     let made = rels t code in
     subst
     (λ (v : Relation). IsRelation v base.count (Means base.count (EventsIn base inputs k)
-    (WithOwn (PairsOutside base inputs k) (Of base.count [])) t))
+    (WithOwn (PairsOutside base inputs k) (OwnPairs base.count [])) t))
     (sym (rel_is made.0 [] made.1)) made.2
 meant_is inputs base k steps s r us vs sets rels set_is rel_is kinds.OfAny = λ t code.
     let made = rels t code in
     subst
     (λ (v : Relation). IsRelation v base.count (Means base.count (EventsIn base inputs k)
-    (WithOwn (PairsOutside base inputs k) (Of base.count [])) t))
+    (WithOwn (PairsOutside base inputs k) (OwnPairs base.count [])) t))
     (sym (rel_is made.0 [] made.1)) made.2
 
 pub get_kept : {X : Type 0} (xs ys : List X) (k : ℕ) (x : X) → slice_get xs k ≡ Some x
@@ -124,7 +124,7 @@ adds_long (columns.Relations xs) (columns.Relations ys) s r adds =
 
 -- the values of the candidates before stay
 pub adds_old : (a b : Column) (s : Events) (r : Relation) → Adds a b s r
-    → (k : ℕ) (t : Events) (q : Relation) → HasValue a k t q → HasValue b k t q
+    → (k : ℕ) (t : Events) (q : Relation) → HasColumnValue a k t q → HasColumnValue b k t q
 adds_old (columns.Sets xs) (columns.Sets ys) s r adds k t q has =
     rw adds (get_kept xs (s ∷ []) k t has)
 adds_old (columns.Sets xs) (columns.Relations ys) s r adds k t q has = absurd adds
@@ -134,7 +134,7 @@ adds_old (columns.Relations xs) (columns.Relations ys) s r adds k t q has =
 
 -- the new value is that of the next candidate
 pub adds_new : (a b : Column) (s : Events) (r : Relation) → Adds a b s r → (k : ℕ)
-    → k ≡ column_len a → HasValue b k s r
+    → k ≡ column_len a → HasColumnValue b k s r
 adds_new (columns.Sets xs) (columns.Sets ys) s r adds k at = rw (adds, at) (get_last xs s)
 adds_new (columns.Sets xs) (columns.Relations ys) s r adds k at = absurd adds
 adds_new (columns.Relations xs) (columns.Sets ys) s r adds k at = absurd adds
@@ -143,7 +143,7 @@ adds_new (columns.Relations xs) (columns.Relations ys) s r adds k at = rw (adds,
 module _ (bodies : List Body) (inputs : List (Bor Column)) (olds news : List Column)
     (added : (j : ℕ) → j < length bodies → (c : Column)
     → (s : Events) × (r : Relation) × Adds (get_or olds j c) (get_or news j c) s r) where
-  pub values_stay : (recursive : Bool) (base : Known) (k : ℕ)
+  pub values_stay : (recursive : Bool) (base : NamedValues) (k : ℕ)
       → HaveValuesOver recursive bodies inputs base k olds
       → HaveValuesOver recursive bodies inputs base k news
   values_stay false base k have = λ j lt c b.
@@ -164,7 +164,7 @@ module _ (bodies : List Body) (inputs : List (Bor Column)) (olds news : List Col
       )
 
   -- one candidate more
-  pub columns_more : (recursive : Bool) (bases : List Known) (base : Known)
+  pub columns_more : (recursive : Bool) (bases : List NamedValues) (base : NamedValues)
       → length news ≡ length olds → AreColumnsOver recursive bodies inputs bases olds
       → HaveValuesOver recursive bodies inputs base (length bases) news
       → AreColumnsOver recursive bodies inputs (bases ++ base ∷ []) news
@@ -198,10 +198,10 @@ columns_none recursive bodies inputs cs many fits = record {
   values = λ k base at. absurd (none k base at);
 }
   where
-    none : (k : ℕ) (base : Known) → slice_get [] k ≡ Some base → ⊥
+    none : (k : ℕ) (base : NamedValues) → slice_get [] k ≡ Some base → ⊥
     none k base e = absurd (omega (arith, get_within [] base k e))
 
-module _ (bodies : List Body) (inputs : List (Bor Column)) (bases : List Known) (base : Known)
+module _ (bodies : List Body) (inputs : List (Bor Column)) (bases : List NamedValues) (base : NamedValues)
     (olds news : List Column) (k : ℕ) (many : length news ≡ length olds) (at : k ≡ length bases)
   where
     -- each body was evaluated once
@@ -287,7 +287,7 @@ module _ (bodies : List Body) (inputs : List (Bor Column)) (bases : List Known) 
 
 -- the same group and inputs, by another name
 pub columns_moved : (p q : Bool) (b d : Bor (List Body)) (x y : Bor (List (Bor Column))) → p ≡ q
-    → b ≡ d → x ≡ y → (bases : List Known) (cs : List Column)
+    → b ≡ d → x ≡ y → (bases : List NamedValues) (cs : List Column)
     → AreColumnsOver p b.now x.now bases cs → AreColumnsOver q d.now y.now bases cs
 columns_moved p q b d x y e f g bases cs h =
     subst (λ (r : Bool). AreColumnsOver r d.now y.now bases cs) e

@@ -25,15 +25,15 @@ use Rattle.binding_graph.specs.declared.resolved.CheckCode.{CheckCode}
 use Rattle.binding_graph.specs.declared.resolved.Source.{Source}
 use Rattle.binding_graph.specs.declared.resolved.Source.TheVariants as sources
 use Rattle.binding_graph.specs.declared.resolved.Step.{Step}
-use Rattle.binding_graph.specs.Trees.{SetTree, SetName, AllEvents, NoEvent, SetBlend, SetNot, RelTree, RelName, NoPair, RelBlend, Then, Cross, OnSet, Close, RelNot, set_code, rel_code}
+use Rattle.binding_graph.specs.Trees.{SetTree, SetName, AllEvents, NoEvent, BlendSets, ComplementSet, RelTree, RelName, NoPair, BlendRelations, Compose, Multiply, IdentityOn, Close, ComplementRelation, set_code, rel_code}
 use Rattle.cat_eval.specs.declared.column.Column.{Column}
 use Rattle.cat_eval.specs.declared.column.Column.TheVariants as columns
 use Rattle.cat_eval.specs.Checks.{Holds, IsEmptySet}
 use Rattle.cat_eval.specs.Meaning.{MeansSet, Means, BlendedSets, Blended, Closed, Others}
-use Rattle.cat_eval.specs.Named.{ColumnEvents, ColumnPairs, InputEvents, InputPairs, EventsIn, PairsOutside, WithOwn, Of}
+use Rattle.cat_eval.specs.Named.{ColumnEvents, ColumnPairs, InputEvents, InputPairs, EventsIn, PairsOutside, WithOwn, OwnPairs}
 use Rattle.cat_eval.specs.OverNames.{IsAnswerOver}
-use Rattle.cat_eval.specs.Running.{Leads, sets_after, rels_after}
-use Rattle.cat_eval.specs.Seen.{Known, Value, PairsFound, EventsAmong, PairsAmong}
+use Rattle.cat_eval.specs.Running.{BuildsTrees, sets_after, rels_after}
+use Rattle.cat_eval.specs.Seen.{NamedValues, Value, PairsFound, EventsAmong, PairsAmong}
 use Rattle.cat_eval.specs.Values.{Unless}
 use Rattle.cat_eval.proofs.Codes.{code_leads, set_code_leads}
 use mathlib.Core.List.{nil≢cons, head-eq_of_cons-eq}
@@ -231,18 +231,18 @@ module _ (n : ℕ) (sets : Source → ℕ → Type 0) (rels : Source → ℕ →
   told_set (SetName source) = told_sets source
   told_set AllEvents = first_events n
   told_set NoEvent = no_events
-  told_set (SetBlend how s t) = blended_sets how _ _ (told_set s) (told_set t)
-  told_set (SetNot s) = other_events n _ (told_set s)
+  told_set (BlendSets how s t) = blended_sets how _ _ (told_set s) (told_set t)
+  told_set (ComplementSet s) = other_events n _ (told_set s)
 
   told_relation : (e : RelTree) → IsTold (Means n sets rels e)
   told_relation (RelName source) = told_rels source
   told_relation NoPair = no_pairs
-  told_relation (RelBlend how e f) = blended how _ _ (told_relation e) (told_relation f)
-  told_relation (Then e f) = composed _ _ (told_relation e) (told_relation f)
-  told_relation (Cross s t) = products _ _ (told_set s) (told_set t)
-  told_relation (OnSet s) = on_set _ (told_set s)
+  told_relation (BlendRelations how e f) = blended how _ _ (told_relation e) (told_relation f)
+  told_relation (Compose e f) = composed _ _ (told_relation e) (told_relation f)
+  told_relation (Multiply s t) = products _ _ (told_set s) (told_set t)
+  told_relation (IdentityOn s) = on_set _ (told_set s)
   told_relation (Close how e) = closed how n _ (told_relation e)
-  told_relation (RelNot e) = others n _ (told_relation e)
+  told_relation (ComplementRelation e) = others n _ (told_relation e)
 
 -- ---- what is held in words
 
@@ -360,14 +360,14 @@ input_pairs : (o : Option (Bor Column)) (k n : ℕ) → IsTold (InputPairs o k n
 input_pairs None k n = no_pairs
 input_pairs (Some column) k n = column_pairs column.now k n
 
-module _ (base : Known) (inputs : List (Bor Column)) (k : ℕ) where
+module _ (base : NamedValues) (inputs : List (Bor Column)) (k : ℕ) where
   events_in : (source : Source) → IsToldSet (EventsIn base inputs k source)
   events_in (sources.Predefined name) = events_among base.values name base.count
   events_in (sources.Input index) = input_events (slice_get inputs index) k base.count
   events_in (sources.Own position) = no_events
 
   pairs_in : (source : Source)
-      → IsTold (WithOwn (PairsOutside base inputs k) (Of base.count []) source)
+      → IsTold (WithOwn (PairsOutside base inputs k) (OwnPairs base.count []) source)
   pairs_in (sources.Predefined name) = pairs_among base.values name base.count
   pairs_in (sources.Input index) = input_pairs (slice_get inputs index) k base.count
   pairs_in (sources.Own position) = pairs_found (slice_get [] position) base.count
@@ -413,7 +413,7 @@ ends_of [] ss rs = (ss, rs)
 ends_of (x ∷ xs) ss rs = ends_of xs (sets_after x ss) (rels_after x ss rs)
 
 ends_at : (xs : List Step) (ss : List SetTree) (rs : List RelTree) (s_end : List SetTree)
-    (r_end : List RelTree) → Leads xs ss rs s_end r_end
+    (r_end : List RelTree) → BuildsTrees xs ss rs s_end r_end
     → (ends_of xs ss rs).0 ≡ s_end × (ends_of xs ss rs).1 ≡ r_end
 unfolding ends_of
 ends_at [] ss rs s_end r_end h = h
@@ -444,13 +444,13 @@ rel_answer P negated xs (r ∷ rs) told is =
           subst (λ (u : RelTree). IsTrue answer ↔ Unless negated (P u)) e same,
     )
 
-module _ (check : CheckCode) (inputs : List (Bor Column)) (base : Known) (k : ℕ) where
+module _ (check : CheckCode) (inputs : List (Bor Column)) (base : NamedValues) (k : ℕ) where
   a_set : (answer : Bool) × IsAnswerOver check inputs base k kinds.OfSet answer
   a_set =
       set_answer (λ t. IsEmptySet (MeansSet base.count (EventsIn base inputs k) t)) check.negated
       check.code.steps.items (ends_of check.code.steps.items [] []).0
       (λ t. empty_told _ (told_set base.count (EventsIn base inputs k)
-      (WithOwn (PairsOutside base inputs k) (Of base.count []))
+      (WithOwn (PairsOutside base inputs k) (OwnPairs base.count []))
       (events_in base inputs k) (pairs_in base inputs k) t))
       (λ t code. (ends_at check.code.steps.items [] [] (t ∷ []) [] (rw code (set_code_leads t))).0)
 
@@ -458,11 +458,11 @@ module _ (check : CheckCode) (inputs : List (Bor Column)) (base : Known) (k : �
   a_relation =
       rel_answer
       (λ t. Holds check.word (Means base.count (EventsIn base inputs k)
-      (WithOwn (PairsOutside base inputs k) (Of base.count [])) t)) check.negated
+      (WithOwn (PairsOutside base inputs k) (OwnPairs base.count [])) t)) check.negated
       check.code.steps.items
       (ends_of check.code.steps.items [] []).1
       (λ t. holds_told check.word _ (told_relation base.count (EventsIn base inputs k)
-      (WithOwn (PairsOutside base inputs k) (Of base.count []))
+      (WithOwn (PairsOutside base inputs k) (OwnPairs base.count []))
       (events_in base inputs k) (pairs_in base inputs k) t))
       (λ t code. (ends_at check.code.steps.items [] [] [] (t ∷ []) (rw code (code_leads t))).1)
 

@@ -16,12 +16,12 @@ use Rattle.candidates.specs.Space.{candidates_in, Candidate}
 use Rattle.cat_eval.specs.Candidates.{reading_so, reading_in, of_combinations}
 use Rattle.text_values.specs.declared.predefined.Predefined.{Predefined}
 use Rattle.text_values.specs.PredefinedNames.{is_set}
-use Rattle.cat_eval.specs.Worlds.{AreHeld, AreWorlds}
+use Rattle.cat_eval.specs.Worlds.{AreNamesHeld, AreWorlds}
 
 -- what holds all sets among the names, and what the relations among them need, holds the names
 pub held_of : (base : Known) (names : List Predefined) → set_names base.sets ≡ filter is_set names
     → ((name : Predefined) → Contains names name → is_set name ≡ false → Gives base name)
-    → AreHeld names base
+    → AreNamesHeld names base
 held_of base names sets relations = record {
   sets = λ name inside set. rw sets (filter_keeps is_set names name inside set);
   relations = relations;

@@ -12,20 +12,20 @@ use Rattle.binding_graph.specs.declared.resolved.Step.{Step}
 use Rattle.binding_graph.specs.Trees.{SetTree, RelTree, set_code, rel_code}
 use Rattle.text_values.specs.declared.predefined.Predefined.{Predefined}
 use Rattle.cat_eval.specs.declared.seen.NamedColumn.{NamedColumn}
-use Rattle.cat_eval.specs.Seen.{Known, seen, seen_in}
+use Rattle.cat_eval.specs.Seen.{NamedValues, seen, seen_in}
 use Rattle.cat_eval.specs.Tables.{AreColumnsFor, column_names}
 use Rattle.cat_eval.proofs.Seeing.{in_long, first_at}
 use Rattle.cat_eval.proofs.Looking.{IsSeen, seen_right}
 use Rattle.cat_eval.specs.declared.column.Column.{Column}
 use Rattle.candidates.specs.Space.{Candidate}
-use Rattle.cat_eval.specs.Columns.{HaveValues, AreColumns}
+use Rattle.cat_eval.specs.Columns.{HaveValues, AreGroupColumns}
 use Rattle.cat_eval.specs.Executions.{events_of, EventsAt, PairsAt}
 use Rattle.cat_eval.specs.OverNames.{IsAnswerOver, AreAnswersOver, IsMeaningOver, HaveValuesOver, AreColumnsOver}
 use Rattle.cat_eval.specs.Least.{body}
 use Rattle.cat_eval.specs.Meaning.{MeansSet, Means}
-use Rattle.cat_eval.specs.Named.{EventsIn, PairsOutside, WithOwn, Of}
-use Rattle.cat_eval.specs.Needed.{AreListed, names_in, bodies_names}
-use Rattle.cat_eval.specs.Values.{IsAnswer, AreAnswers, IsMeant, Unless}
+use Rattle.cat_eval.specs.Named.{EventsIn, PairsOutside, WithOwn, OwnPairs}
+use Rattle.cat_eval.specs.Needed.{AreListed, predefined_names_in, bodies_names}
+use Rattle.cat_eval.specs.Values.{IsCheckAnswer, AreAnswers, IsMeaning, Unless}
 use Rattle.cat_eval.proofs.Agreeing.{Agree, OfSteps, of_steps, set_parts, relation_parts, set_agrees, relation_agrees, least_agrees, body_named, code_at}
 use Rattle.cat_eval.proofs.Same.{Same, SameSet, changed, changed_set}
 use Rattle.cat_eval.proofs.Visits.{holds_same, empty_same}
@@ -35,7 +35,7 @@ pub unless_same : (negated : Bool) (A P Q : Type 0) → P ↔ Q → A ↔ Unless
 unless_same false A P Q s h = ((λ a. s.0 (h.0 a)), (λ q. h.1 (s.1 q)))
 unless_same true A P Q s h = ((λ a q. h.0 a (s.1 q)), (λ f. h.1 (λ p. f (s.0 p))))
 
-module _ (names : List Predefined) (base : Known) (one : Candidate) (world : IsSeen names base one)
+module _ (names : List Predefined) (base : NamedValues) (one : Candidate) (world : IsSeen names base one)
     (inputs : List (Bor Column)) (k : ℕ) where
   abbrev Agreed : (ℕ → ℕ → ℕ → Type 0) → Source → Type 0
   Agreed own =
@@ -47,7 +47,7 @@ module _ (names : List Predefined) (base : Known) (one : Candidate) (world : IsS
   named own name inside = (world.events name inside, world.pairs name inside)
 
   of_code : (own : ℕ → ℕ → ℕ → Type 0) (xs : List Step)
-      → ((name : Predefined) → Contains (names_in xs) name → Contains names name)
+      → ((name : Predefined) → Contains (predefined_names_in xs) name → Contains names name)
       → OfSteps (Agreed own) xs
   of_code own xs within =
       of_steps (Agreed own) (λ index. ((λ a. ((λ x. x), (λ x. x))), (λ a b. ((λ x. x), (λ x. x)))))
@@ -55,12 +55,12 @@ module _ (names : List Predefined) (base : Known) (one : Candidate) (world : IsS
       (λ name inside. named own name (within name inside))
 
   set_same : (t : SetTree) (xs : List Step)
-      → ((name : Predefined) → Contains (names_in xs) name → Contains names name)
+      → ((name : Predefined) → Contains (predefined_names_in xs) name → Contains names name)
       → xs ≡ set_code t []
       → SameSet (MeansSet base.count (EventsIn base inputs k) t)
       (MeansSet base.count (EventsAt base.count one inputs k) t)
   set_same t xs within code =
-      let own : ℕ → ℕ → ℕ → Type 0 = Of base.count [] in
+      let own : ℕ → ℕ → ℕ → Type 0 = OwnPairs base.count [] in
       set_agrees base.count (EventsIn base inputs k) (EventsAt base.count one inputs k)
       (WithOwn (PairsOutside base inputs k) own) (WithOwn (PairsAt base.count one inputs k) own)
       t
@@ -68,7 +68,7 @@ module _ (names : List Predefined) (base : Known) (one : Candidate) (world : IsS
       (of_code own xs within))).0
 
   relation_same : (own : ℕ → ℕ → ℕ → Type 0) (t : RelTree) (xs : List Step)
-      → ((name : Predefined) → Contains (names_in xs) name → Contains names name)
+      → ((name : Predefined) → Contains (predefined_names_in xs) name → Contains names name)
       → xs ≡ rel_code t []
       → Same
       (Means base.count (EventsIn base inputs k) (WithOwn (PairsOutside base inputs k) own) t)
@@ -82,51 +82,51 @@ module _ (names : List Predefined) (base : Known) (one : Candidate) (world : IsS
       (of_code own xs within))).0
 
   answer_counted : (check : CheckCode)
-      → ((name : Predefined) → Contains (names_in check.code.steps.items) name
+      → ((name : Predefined) → Contains (predefined_names_in check.code.steps.items) name
       → Contains names name) → (kind : Kind) (answer : Bool)
       → IsAnswerOver check inputs base k kind answer
-      → IsAnswer check base.count (EventsAt base.count one inputs k)
+      → IsCheckAnswer check base.count (EventsAt base.count one inputs k)
       (PairsAt base.count one inputs k) kind answer
   answer_counted check within kinds.OfSet answer h =
       λ t code. unless_same check.negated _ _ _
       (empty_same _ _ (set_same t check.code.steps.items within code)) (h t code)
   answer_counted check within kinds.OfRelation answer h =
       λ t code. unless_same check.negated _ _ _
-      (holds_same check.word _ _ (relation_same (Of base.count []) t check.code.steps.items within
+      (holds_same check.word _ _ (relation_same (OwnPairs base.count []) t check.code.steps.items within
       code))
       (h t code)
   answer_counted check within kinds.OfAny answer h =
       λ t code. unless_same check.negated _ _ _
-      (holds_same check.word _ _ (relation_same (Of base.count []) t check.code.steps.items within
+      (holds_same check.word _ _ (relation_same (OwnPairs base.count []) t check.code.steps.items within
       code))
       (h t code)
 
   pub answer_exact : (check : CheckCode)
-      → ((name : Predefined) → Contains (names_in check.code.steps.items) name
+      → ((name : Predefined) → Contains (predefined_names_in check.code.steps.items) name
       → Contains names name) → (kind : Kind) (answer : Bool)
       → IsAnswerOver check inputs base k kind answer
-      → IsAnswer check (events_of one) (EventsAt (events_of one) one inputs k)
+      → IsCheckAnswer check (events_of one) (EventsAt (events_of one) one inputs k)
       (PairsAt (events_of one) one inputs k) kind answer
   answer_exact check within kind answer h =
       subst
       (λ (n : ℕ).
-      IsAnswer check n (EventsAt n one inputs k) (PairsAt n one inputs k) kind answer)
+      IsCheckAnswer check n (EventsAt n one inputs k) (PairsAt n one inputs k) kind answer)
       world.count
       (answer_counted check within kind answer h)
 
   meaning_counted : (xs : List Step)
-      → ((name : Predefined) → Contains (names_in xs) name → Contains names name)
+      → ((name : Predefined) → Contains (predefined_names_in xs) name → Contains names name)
       → (kind : Kind) (s : Events) (r : Relation) → IsMeaningOver kind xs inputs base k s r
-      → IsMeant kind xs base.count (EventsAt base.count one inputs k)
+      → IsMeaning kind xs base.count (EventsAt base.count one inputs k)
       (PairsAt base.count one inputs k) s r
   meaning_counted xs within kinds.OfSet s r h =
       λ t code. changed_set s base.count _ _ (set_same t xs within code) (h t code)
   meaning_counted xs within kinds.OfRelation s r h =
       λ t code.
-      changed r base.count _ _ (relation_same (Of base.count []) t xs within code) (h t code)
+      changed r base.count _ _ (relation_same (OwnPairs base.count []) t xs within code) (h t code)
   meaning_counted xs within kinds.OfAny s r h =
       λ t code.
-      changed r base.count _ _ (relation_same (Of base.count []) t xs within code) (h t code)
+      changed r base.count _ _ (relation_same (OwnPairs base.count []) t xs within code) (h t code)
 
   values_counted : (recursive : Bool) (bodies : List Body) (cs : List Column)
       → ((name : Predefined) → Contains (bodies_names bodies) name → Contains names name)
@@ -170,7 +170,7 @@ module _ (names : List Predefined) (base : Known) (one : Candidate) (world : IsS
 -- the answers of a check
 pub answers_exact : (check : CheckCode) (inputs : List (Bor Column)) (xs : List NamedColumn)
     (cs : List Candidate) (answers : List Bool)
-    → AreColumnsFor xs cs → AreListed (column_names xs) (names_in check.code.steps.items)
+    → AreColumnsFor xs cs → AreListed (column_names xs) (predefined_names_in check.code.steps.items)
     → AreAnswersOver check inputs (seen_in xs 0 cs) answers → AreAnswers check inputs cs answers
 answers_exact check inputs xs cs answers right listed h = (
   h.0 ∙ in_long xs 0 cs,
@@ -186,7 +186,7 @@ pub columns_exact : (recursive : Bool) (bodies : List Body) (inputs : List (Bor 
     (xs : List NamedColumn) (cs : List Candidate) (columns : List Column)
     → AreColumnsFor xs cs → AreListed (column_names xs) (bodies_names bodies)
     → AreColumnsOver recursive bodies inputs (seen_in xs 0 cs) columns
-    → AreColumns recursive bodies inputs cs columns
+    → AreGroupColumns recursive bodies inputs cs columns
 columns_exact recursive bodies inputs xs cs columns right listed h = record {
   as_many = h.as_many;
   suited = h.suited;

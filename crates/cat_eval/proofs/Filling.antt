@@ -15,13 +15,13 @@ use Rattle.candidates.specs.Space.{Candidate}
 use Rattle.cat_eval.specs.declared.column.Column.{Column}
 use Rattle.cat_eval.specs.declared.column.Column.TheVariants as columns
 use Rattle.cat_eval.specs.declared.table.Entry.{Entry}
-use Rattle.cat_eval.specs.Columns.{HasValue}
+use Rattle.cat_eval.specs.Columns.{HasColumnValue}
 use Rattle.cat_eval.specs.Executions.{events_of}
 use Rattle.cat_eval.specs.Needs.{AreSuited}
 use Rattle.cat_eval.specs.Seen.{PairsFound}
 use Rattle.cat_eval.specs.Reordered.{HoldsSame}
 use Rattle.cat_eval.specs.Steady.{EndsWith, Repeats}
-use Rattle.cat_eval.specs.Tables.{StandsFor, IsColumnOf, IsBlock, IsHeld, IsFilled, AreFilled, entry_names, kind_for}
+use Rattle.cat_eval.specs.Tables.{StandsFor, IsColumnOf, IsBlock, IsHeld, IsEntryFilled, AreFilled, entry_names, kind_for}
 use Rattle.cat_eval.specs.Values.{Adds, IsFor, column_len}
 use Rattle.cat_eval.specs.Worlds.{IsWorld, AreWorlds}
 use Rattle.cat_eval.proofs.Columns.{get_last, adds_for, adds_long, adds_old, adds_new}
@@ -39,8 +39,8 @@ held_one false name base s r events pairs = pairs
 -- one value more
 pub filled_more : (old new : Entry) (bases : List Known) (base : Known) (s : Events) (r : Relation)
     → new.name ≡ old.name → Adds old.column new.column s r
-    → IsHeld (is_set old.name) old.name base s r → IsFilled old bases
-    → IsFilled new (bases ++ base ∷ [])
+    → IsHeld (is_set old.name) old.name base s r → IsEntryFilled old bases
+    → IsEntryFilled new (bases ++ base ∷ [])
 filled_more old new bases base s r name adds held before = record {
   kind =
       subst (λ (p : Predefined). IsFor (kind_for (is_set p)) new.column) (sym name)
@@ -50,7 +50,7 @@ filled_more old new bases base s r name adds held before = record {
       ∙ sym (length-append bases (base ∷ []));
   values =
       λ k one at. subst
-      (λ (p : Predefined). (t : Events) × (q : Relation) × HasValue new.column k t q
+      (λ (p : Predefined). (t : Events) × (q : Relation) × HasColumnValue new.column k t q
       × IsHeld (is_set p) p one t q)
       (sym name)
       (elim (get_more bases base one k at) [
@@ -69,19 +69,19 @@ filled_more old new bases base s r name adds held before = record {
 -- the last value once more, where it is that of the next base too
 pub filled_again : (old new : Entry) (bases : List Known) (end base : Known) → new.name ≡ old.name
     → EndsWith bases end → HoldsSame old.name end base → Repeats old.column new.column
-    → IsFilled old bases → IsFilled new (bases ++ base ∷ [])
+    → IsEntryFilled old bases → IsEntryFilled new (bases ++ base ∷ [])
 filled_again old new bases end base name ends same repeats before =
     let long : length bases ≡ length ends.0 + 1 = ap length ends.1 ∙ length-append ends.0 (end ∷ []) in
     let at : slice_get bases (length ends.0) ≡ Some end = rw ends.1 (get_last ends.0 end) in
     let (s, r, has, held) = before.values (length ends.0) end at in
     let last : column_len old.column - 1 ≡ length ends.0 = omega (arith, before.long, long) in
     filled_more old new bases base s r name
-    (repeats s r (subst (λ (n : ℕ). HasValue old.column n s r) (sym last) has)) (same s r held)
+    (repeats s r (subst (λ (n : ℕ). HasColumnValue old.column n s r) (sym last) has)) (same s r held)
     before
 
 -- before the first candidate
 pub filled_none : (entry : Entry) → IsFor (kind_for (is_set entry.name)) entry.column
-    → column_len entry.column ≡ 0 → IsFilled entry []
+    → column_len entry.column ≡ 0 → IsEntryFilled entry []
 filled_none entry kind empty = record {
   kind = kind;
   long = empty;
@@ -209,7 +209,7 @@ module _ (name : Predefined) (k : ℕ) (one : Candidate) (base : Known)
       ))
 
   stands_at : (b : Bool) (column : Column) → is_set name ≡ b → IsFor (kind_for b) column
-      → (s : Events) (r : Relation) → HasValue column k s r → IsHeld b name base s r
+      → (s : Events) (r : Relation) → HasColumnValue column k s r → IsHeld b name base s r
       → StandsFor column k name one
   stands_at true (columns.Sets values) is kind s r has held = record {
     events = set_stands values s has held;
@@ -250,8 +250,8 @@ names_same (x ∷ xs) (y ∷ ys) long same =
 
 -- one entry more
 pub filled_with : (entries : List Entry) (one : Entry) (bases : List Known)
-    → AreFilled entries bases → IsFilled one bases → (i : ℕ) → i < length (entries ++ one ∷ [])
-    → (d : Entry) → IsFilled (get_or (entries ++ one ∷ []) i d) bases
+    → AreFilled entries bases → IsEntryFilled one bases → (i : ℕ) → i < length (entries ++ one ∷ [])
+    → (d : Entry) → IsEntryFilled (get_or (entries ++ one ∷ []) i d) bases
 filled_with [] one bases filled now zero lt d = now
 filled_with [] one bases filled now (suc i) lt d = absurd (omega (arith, lt))
 filled_with (e ∷ es) one bases filled now zero lt d = filled 0 (omega arith) d
@@ -271,7 +271,7 @@ entry_there (e ∷ es) (suc i) lt d =
 -- columns that are filled over the bases of the candidates
 module _ (list : List Predefined) (reads orders : Bool) (suited : AreSuited list reads orders)
     (bases : List Known) (cs : List Candidate) (worlds : AreWorlds list reads orders bases cs) where
-  filled_stands : (entry : Entry) → Contains list entry.name → IsFilled entry bases
+  filled_stands : (entry : Entry) → Contains list entry.name → IsEntryFilled entry bases
       → IsColumnOf entry.column entry.name cs
   filled_stands entry inside filled k one at =
       let (base, at_b, world) = world_at list reads orders bases cs worlds k one at in

@@ -9,11 +9,11 @@ use Rattle.binding_graph.specs.declared.resolved.Blend.TheVariants as blends
 use Rattle.binding_graph.specs.declared.resolved.Body.{Body}
 use Rattle.binding_graph.specs.declared.resolved.Step.{Step}
 use Rattle.binding_graph.specs.declared.resolved.Step.TheVariants as steps
-use Rattle.binding_graph.specs.Trees.{SetTree, SetName, AllEvents, NoEvent, SetBlend, SetNot, RelTree, RelName, NoPair, RelBlend, Then, Cross, OnSet, Close, RelNot, set_code, rel_code}
+use Rattle.binding_graph.specs.Trees.{SetTree, SetName, AllEvents, NoEvent, BlendSets, ComplementSet, RelTree, RelName, NoPair, BlendRelations, Compose, Multiply, IdentityOn, Close, ComplementRelation, set_code, rel_code}
 use Rattle.cat_eval.specs.Meaning.{Means}
-use Rattle.cat_eval.specs.Named.{Of, WithOwn}
+use Rattle.cat_eval.specs.Named.{OwnPairs, WithOwn}
 use Rattle.cat_eval.specs.Least.{AreMonotone, SolvesAt, IsLeast, body}
-use Rattle.cat_eval.specs.Rising.{IsSound, IsRound, HoldsOne, AreEmpty, AreCodes, rooms}
+use Rattle.cat_eval.specs.Rising.{IsBelowSolution, IsFixpointRound, HoldsOne, AreEmpty, AreCodes, rooms}
 use Rattle.cat_eval.specs.Uses.{IsAmong, UsesOne, UsesAny, UsesAt, UsesNear}
 use Rattle.cat_eval.proofs.Among.{among_none}
 use Rattle.cat_eval.proofs.Monotone.{closed_wider, monotone}
@@ -24,12 +24,12 @@ Mentions y (RelName (sources.Predefined x)) = ⊥
 Mentions y (RelName (sources.Input x)) = ⊥
 Mentions y (RelName (sources.Own x)) = x ≡ y
 Mentions y NoPair = ⊥
-Mentions y (RelBlend how e f) = Mentions y e ⊎ Mentions y f
-Mentions y (Then e f) = Mentions y e ⊎ Mentions y f
-Mentions y (Cross s t) = ⊥
-Mentions y (OnSet s) = ⊥
+Mentions y (BlendRelations how e f) = Mentions y e ⊎ Mentions y f
+Mentions y (Compose e f) = Mentions y e ⊎ Mentions y f
+Mentions y (Multiply s t) = ⊥
+Mentions y (IdentityOn s) = ⊥
 Mentions y (Close how e) = Mentions y e
-Mentions y (RelNot e) = Mentions y e
+Mentions y (ComplementRelation e) = Mentions y e
 
 either : {P Q : Type 0} → P ⊎ (P → ⊥) → Q ⊎ (Q → ⊥) → (P ⊎ Q) ⊎ (P ⊎ Q → ⊥)
 either (inl p) d = inl (inl p)
@@ -41,26 +41,26 @@ mentions_cases y (RelName (sources.Predefined x)) = inr (λ h. h)
 mentions_cases y (RelName (sources.Input x)) = inr (λ h. h)
 mentions_cases y (RelName (sources.Own x)) = cases_eq x y
 mentions_cases y NoPair = inr (λ h. h)
-mentions_cases y (RelBlend how e f) = either (mentions_cases y e) (mentions_cases y f)
-mentions_cases y (Then e f) = either (mentions_cases y e) (mentions_cases y f)
-mentions_cases y (Cross s t) = inr (λ h. h)
-mentions_cases y (OnSet s) = inr (λ h. h)
+mentions_cases y (BlendRelations how e f) = either (mentions_cases y e) (mentions_cases y f)
+mentions_cases y (Compose e f) = either (mentions_cases y e) (mentions_cases y f)
+mentions_cases y (Multiply s t) = inr (λ h. h)
+mentions_cases y (IdentityOn s) = inr (λ h. h)
 mentions_cases y (Close how e) = mentions_cases y e
-mentions_cases y (RelNot e) = mentions_cases y e
+mentions_cases y (ComplementRelation e) = mentions_cases y e
 
 holds_mentioned : (names y : ℕ) (e : RelTree) → Mentions y e → IsAmong names y → HoldsOne names e
 holds_mentioned names y (RelName (sources.Predefined x)) u b = absurd u
 holds_mentioned names y (RelName (sources.Input x)) u b = absurd u
 holds_mentioned names y (RelName (sources.Own x)) u b = subst (λ (z : ℕ). IsAmong names z) (sym u) b
 holds_mentioned names y NoPair u b = absurd u
-holds_mentioned names y (RelBlend how e f) (inl u) b = inl (holds_mentioned names y e u b)
-holds_mentioned names y (RelBlend how e f) (inr u) b = inr (holds_mentioned names y f u b)
-holds_mentioned names y (Then e f) (inl u) b = inl (holds_mentioned names y e u b)
-holds_mentioned names y (Then e f) (inr u) b = inr (holds_mentioned names y f u b)
-holds_mentioned names y (Cross s t) u b = absurd u
-holds_mentioned names y (OnSet s) u b = absurd u
+holds_mentioned names y (BlendRelations how e f) (inl u) b = inl (holds_mentioned names y e u b)
+holds_mentioned names y (BlendRelations how e f) (inr u) b = inr (holds_mentioned names y f u b)
+holds_mentioned names y (Compose e f) (inl u) b = inl (holds_mentioned names y e u b)
+holds_mentioned names y (Compose e f) (inr u) b = inr (holds_mentioned names y f u b)
+holds_mentioned names y (Multiply s t) u b = absurd u
+holds_mentioned names y (IdentityOn s) u b = absurd u
 holds_mentioned names y (Close how e) u b = holds_mentioned names y e u b
-holds_mentioned names y (RelNot e) u b = holds_mentioned names y e u b
+holds_mentioned names y (ComplementRelation e) u b = holds_mentioned names y e u b
 
 holds_wider : (m n : ℕ) → ((k : ℕ) → IsAmong m k → IsAmong n k) → (e : RelTree) → HoldsOne m e
     → HoldsOne n e
@@ -68,26 +68,26 @@ holds_wider m n wider (RelName (sources.Predefined x)) u = absurd u
 holds_wider m n wider (RelName (sources.Input x)) u = absurd u
 holds_wider m n wider (RelName (sources.Own x)) u = wider x u
 holds_wider m n wider NoPair u = absurd u
-holds_wider m n wider (RelBlend how e f) u =
+holds_wider m n wider (BlendRelations how e f) u =
     elim u [ inl h ↦ inl (holds_wider m n wider e h) | inr h ↦ inr (holds_wider m n wider f h) ]
-holds_wider m n wider (Then e f) u =
+holds_wider m n wider (Compose e f) u =
     elim u [ inl h ↦ inl (holds_wider m n wider e h) | inr h ↦ inr (holds_wider m n wider f h) ]
-holds_wider m n wider (Cross s t) u = absurd u
-holds_wider m n wider (OnSet s) u = absurd u
+holds_wider m n wider (Multiply s t) u = absurd u
+holds_wider m n wider (IdentityOn s) u = absurd u
 holds_wider m n wider (Close how e) u = holds_wider m n wider e u
-holds_wider m n wider (RelNot e) u = holds_wider m n wider e u
+holds_wider m n wider (ComplementRelation e) u = holds_wider m n wider e u
 
 pub holds_none : (e : RelTree) → HoldsOne 0 e → ⊥
 holds_none (RelName (sources.Predefined x)) u = u
 holds_none (RelName (sources.Input x)) u = u
 holds_none (RelName (sources.Own x)) u = among_none x u
 holds_none NoPair u = u
-holds_none (RelBlend how e f) u = elim u [ inl h ↦ holds_none e h | inr h ↦ holds_none f h ]
-holds_none (Then e f) u = elim u [ inl h ↦ holds_none e h | inr h ↦ holds_none f h ]
-holds_none (Cross s t) u = u
-holds_none (OnSet s) u = u
+holds_none (BlendRelations how e f) u = elim u [ inl h ↦ holds_none e h | inr h ↦ holds_none f h ]
+holds_none (Compose e f) u = elim u [ inl h ↦ holds_none e h | inr h ↦ holds_none f h ]
+holds_none (Multiply s t) u = u
+holds_none (IdentityOn s) u = u
 holds_none (Close how e) u = holds_none e u
-holds_none (RelNot e) u = holds_none e u
+holds_none (ComplementRelation e) u = holds_none e u
 
 -- the first of the steps uses one of the names
 first : (names : ℕ) (x : Step) (xs : List Step) → UsesOne names x → UsesAny names (x ∷ xs)
@@ -102,46 +102,46 @@ set_past : (names : ℕ) (s : SetTree) (rest : List Step) → UsesAny names rest
 set_past names (SetName x) rest u = later names _ rest u
 set_past names AllEvents rest u = later names _ rest u
 set_past names NoEvent rest u = later names _ rest u
-set_past names (SetBlend how s t) rest u =
+set_past names (BlendSets how s t) rest u =
     set_past names s (set_code t (steps.BlendSets how ∷ rest)) (set_past names t
     (steps.BlendSets how ∷ rest) (later names _ rest u))
-set_past names (SetNot s) rest u =
+set_past names (ComplementSet s) rest u =
     set_past names s (steps.ComplementSet ∷ rest) (later names _ rest u)
 
 past : (names : ℕ) (e : RelTree) (rest : List Step) → UsesAny names rest
     → UsesAny names (rel_code e rest)
 past names (RelName x) rest u = later names _ rest u
 past names NoPair rest u = later names _ rest u
-past names (RelBlend how e f) rest u =
+past names (BlendRelations how e f) rest u =
     past names e (rel_code f (steps.BlendRelations how ∷ rest)) (past names f
     (steps.BlendRelations how ∷ rest) (later names _ rest u))
-past names (Then e f) rest u =
+past names (Compose e f) rest u =
     past names e (rel_code f (steps.Compose ∷ rest))
     (past names f (steps.Compose ∷ rest) (later names _ rest u))
-past names (Cross s t) rest u =
+past names (Multiply s t) rest u =
     set_past names s (set_code t (steps.Multiply ∷ rest)) (set_past names t (steps.Multiply ∷ rest)
     (later names _ rest u))
-past names (OnSet s) rest u = set_past names s (steps.IdentityOn ∷ rest) (later names _ rest u)
+past names (IdentityOn s) rest u = set_past names s (steps.IdentityOn ∷ rest) (later names _ rest u)
 past names (Close how e) rest u = past names e (steps.Close how ∷ rest) (later names _ rest u)
-past names (RelNot e) rest u = past names e (steps.ComplementRelation ∷ rest) (later names _ rest u)
+past names (ComplementRelation e) rest u = past names e (steps.ComplementRelation ∷ rest) (later names _ rest u)
 
 -- what an expression holds, its steps use
 pub holds_uses : (names : ℕ) (e : RelTree) (rest : List Step) → HoldsOne names e
     → UsesAny names (rel_code e rest)
 holds_uses names (RelName x) rest u = first names _ rest u
 holds_uses names NoPair rest u = absurd u
-holds_uses names (RelBlend how e f) rest (inl u) =
+holds_uses names (BlendRelations how e f) rest (inl u) =
     holds_uses names e (rel_code f (steps.BlendRelations how ∷ rest)) u
-holds_uses names (RelBlend how e f) rest (inr u) =
+holds_uses names (BlendRelations how e f) rest (inr u) =
     past names e (rel_code f (steps.BlendRelations how ∷ rest))
     (holds_uses names f (steps.BlendRelations how ∷ rest) u)
-holds_uses names (Then e f) rest (inl u) = holds_uses names e (rel_code f (steps.Compose ∷ rest)) u
-holds_uses names (Then e f) rest (inr u) =
+holds_uses names (Compose e f) rest (inl u) = holds_uses names e (rel_code f (steps.Compose ∷ rest)) u
+holds_uses names (Compose e f) rest (inr u) =
     past names e (rel_code f (steps.Compose ∷ rest)) (holds_uses names f (steps.Compose ∷ rest) u)
-holds_uses names (Cross s t) rest u = absurd u
-holds_uses names (OnSet s) rest u = absurd u
+holds_uses names (Multiply s t) rest u = absurd u
+holds_uses names (IdentityOn s) rest u = absurd u
 holds_uses names (Close how e) rest u = holds_uses names e (steps.Close how ∷ rest) u
-holds_uses names (RelNot e) rest u = holds_uses names e (steps.ComplementRelation ∷ rest) u
+holds_uses names (ComplementRelation e) rest u = holds_uses names e (steps.ComplementRelation ∷ rest) u
 
 module _ (n : ℕ) (sets : Source → ℕ → Type 0) (outer : Source → ℕ → ℕ → Type 0) where
   -- where the names that it holds have the same pairs, an expression means the same
@@ -152,42 +152,42 @@ module _ (n : ℕ) (sets : Source → ℕ → Type 0) (outer : Source → ℕ �
   agree R S (RelName (sources.Input x)) same a b = ((λ m. m), (λ m. m))
   agree R S (RelName (sources.Own x)) same a b = same x refl a b
   agree R S NoPair same a b = ((λ m. m), (λ m. m))
-  agree R S (RelBlend blends.Union e f) same a b =
+  agree R S (BlendRelations blends.Union e f) same a b =
       let g = agree R S e (λ y u. same y (inl u)) a b in
       let h = agree R S f (λ y u. same y (inr u)) a b in (
         (λ m. elim m [ inl k ↦ inl (g.0 k) | inr k ↦ inr (h.0 k) ]),
         (λ m. elim m [ inl k ↦ inl (g.1 k) | inr k ↦ inr (h.1 k) ]),
       )
-  agree R S (RelBlend blends.Intersection e f) same a b =
+  agree R S (BlendRelations blends.Intersection e f) same a b =
       let g = agree R S e (λ y u. same y (inl u)) a b in
       let h = agree R S f (λ y u. same y (inr u)) a b in
       ((λ m. (g.0 m.0, h.0 m.1)), (λ m. (g.1 m.0, h.1 m.1)))
-  agree R S (RelBlend blends.Difference e f) same a b =
+  agree R S (BlendRelations blends.Difference e f) same a b =
       let g = agree R S e (λ y u. same y (inl u)) a b in
       let h = agree R S f (λ y u. same y (inr u)) a b in
       ((λ m. (g.0 m.0, (λ k. m.1 (h.1 k)))), (λ m. (g.1 m.0, (λ k. m.1 (h.0 k)))))
-  agree R S (Then e f) same a b =
+  agree R S (Compose e f) same a b =
       let g = agree R S e (λ y u. same y (inl u)) in
       let h = agree R S f (λ y u. same y (inr u)) in
       ((λ (c, m, k). (c, (g a c).0 m, (h c b).0 k)), (λ (c, m, k). (c, (g a c).1 m, (h c b).1 k)))
-  agree R S (Cross s t) same a b = ((λ m. m), (λ m. m))
-  agree R S (OnSet s) same a b = ((λ m. m), (λ m. m))
+  agree R S (Multiply s t) same a b = ((λ m. m), (λ m. m))
+  agree R S (IdentityOn s) same a b = ((λ m. m), (λ m. m))
   agree R S (Close how e) same a b =
       let g = agree R S e same in
       (closed_wider how n _ _ (λ c d. (g c d).0) a b, closed_wider how n _ _ (λ c d. (g c d).1) a b)
-  agree R S (RelNot e) same a b =
+  agree R S (ComplementRelation e) same a b =
       let g = agree R S e same a b in
       ((λ m. (m.0, m.1, (λ k. m.2 (g.1 k)))), (λ m. (m.0, m.1, (λ k. m.2 (g.0 k)))))
 
 -- the pairs of a value are those of its index in the list
 found : (n : ℕ) (values : List Relation) (x a b : ℕ) → x < length values
-    → Of n values x a b
+    → OwnPairs n values x a b
     ↔ (((get_or values x no_slot).count ≡ n) × Has (get_or values x no_slot) a b)
 found n [] x a b lt = absurd (omega arith)
 found n (v ∷ vs) zero a b lt = ((λ h. h), (λ h. h))
 found n (v ∷ vs) (suc x) a b lt = found n vs x a b (omega arith)
 
-found_past : (n : ℕ) (values : List Relation) (x a b : ℕ) → Of n values x a b → x < length values
+found_past : (n : ℕ) (values : List Relation) (x a b : ℕ) → OwnPairs n values x a b → x < length values
 found_past n [] zero a b h = absurd h
 found_past n [] (suc x) a b h = absurd h
 found_past n (v ∷ vs) zero a b h = omega arith
@@ -203,8 +203,8 @@ rooms-set (v ∷ vs) (suc x) r lt less =
 
 module _ (n : ℕ) (sets : Source → ℕ → Type 0) (outer : Source → ℕ → ℕ → Type 0)
     (bodies : List RelTree) (values : List Relation) (x : ℕ) (r : Relation)
-    (fit : AreMonotone bodies) (sound : IsSound n sets outer bodies values) (lt : x < length bodies)
-    (next : IsRelation r n (Means n sets (WithOwn outer (Of n values)) (body bodies x))) where
+    (fit : AreMonotone bodies) (sound : IsBelowSolution n sets outer bodies values) (lt : x < length bodies)
+    (next : IsRelation r n (Means n sets (WithOwn outer (OwnPairs n values)) (body bodies x))) where
   in_values : x < length values
   in_values = rw sound.as_many lt
 
@@ -218,13 +218,13 @@ module _ (n : ℕ) (sets : Source → ℕ → Type 0) (outer : Source → ℕ �
   long = length-set values x r
 
   -- the new pairs of the name
-  of_here : (a b : ℕ) → Of n (set values x r) x a b ↔ Has r a b
+  of_here : (a b : ℕ) → OwnPairs n (set values x r) x a b ↔ Has r a b
   of_here a b =
       let f = found n (set values x r) x a b (rw long in_values) in
       ((λ h. rw here at ((f.0 h).1)), (λ h. f.1 (rw here (next.count, h))))
 
   -- the other names have the pairs they had
-  of_there : (y : ℕ) → (y ≡ x → ⊥) → (a b : ℕ) → Of n (set values x r) y a b ↔ Of n values y a b
+  of_there : (y : ℕ) → (y ≡ x → ⊥) → (a b : ℕ) → OwnPairs n (set values x r) y a b ↔ OwnPairs n values y a b
   of_there y other a b = (
     (λ h. let inside : y < length values = rw long at (found_past n (set values x r) y a b h) in
         (found n values y a b inside).1 (rw (there y other) at
@@ -240,7 +240,7 @@ module _ (n : ℕ) (sets : Source → ℕ → Type 0) (outer : Source → ℕ �
       (next.pairs a b).1 (sound.rising x lt a b ((found n values x a b in_values).1
       ((sound.on x in_values).0, h)))
 
-  wider : (y a b : ℕ) → Of n values y a b → Of n (set values x r) y a b
+  wider : (y a b : ℕ) → OwnPairs n values y a b → OwnPairs n (set values x r) y a b
   wider y a b h =
       elim (cases_eq y x) [
         | inl same ↦ rw same ((of_here a b).1 (value_within a b
@@ -249,16 +249,16 @@ module _ (n : ℕ) (sets : Source → ℕ → Type 0) (outer : Source → ℕ �
       ]
 
   -- what the new values have, they have of the new relation or of the old values
-  either_way : (y a b : ℕ) → Of n (set values x r) y a b
-      → ((y ≡ x) × Means n sets (WithOwn outer (Of n values)) (body bodies x) a b)
-      ⊎ Of n values y a b
+  either_way : (y a b : ℕ) → OwnPairs n (set values x r) y a b
+      → ((y ≡ x) × Means n sets (WithOwn outer (OwnPairs n values)) (body bodies x) a b)
+      ⊎ OwnPairs n values y a b
   either_way y a b h =
       elim (cases_eq y x) [
         | inl same ↦ inl (same, (next.pairs a b).0 ((of_here a b).0 (rw same at h)))
         | inr other ↦ inr ((of_there y other a b).0 h)
       ]
 
-  pub sound_step : IsSound n sets outer bodies (set values x r)
+  pub sound_step : IsBelowSolution n sets outer bodies (set values x r)
   sound_step = record {
     as_many = long ∙ sound.as_many;
     on = λ y in_set. elim (cases_eq y x) [
@@ -266,15 +266,15 @@ module _ (n : ℕ) (sets : Source → ℕ → Type 0) (outer : Source → ℕ �
       | inr other ↦ rw (there y other) (sound.on y (rw long at in_set))
     ];
     rising = λ y in_bodies a b h. elim (either_way y a b h) [
-      | inl t ↦ rw t.0 (monotone n sets outer (Of n values) (Of n (set values x r)) wider
+      | inl t ↦ rw t.0 (monotone n sets outer (OwnPairs n values) (OwnPairs n (set values x r)) wider
           (body bodies x) (fit x lt) a b t.1)
-      | inr old ↦ monotone n sets outer (Of n values) (Of n (set values x r)) wider (body bodies y)
+      | inr old ↦ monotone n sets outer (OwnPairs n values) (OwnPairs n (set values x r)) wider (body bodies y)
           (fit y in_bodies) a b (sound.rising y in_bodies a b old)
     ];
     inside = λ test closed y in_bodies a b h. elim (either_way y a b h) [
       | inl t ↦
           let passes : Means n sets (WithOwn outer (λ z c d. IsTrue (test z c d))) (body bodies x) a b =
-          monotone n sets outer (Of n values) (λ z c d. IsTrue (test z c d))
+          monotone n sets outer (OwnPairs n values) (λ z c d. IsTrue (test z c d))
           (λ z c d k. sound.inside test closed z
           (rw (← sound.as_many) (found_past n values z c d k)) c d k)
           (body bodies x) (fit x lt) a b t.1 in
@@ -288,7 +288,7 @@ module _ (n : ℕ) (sets : Source → ℕ → Type 0) (outer : Source → ℕ �
       → SolvesAt n sets outer bodies values y
       ⊎ (((x ≤ y) × IsAmong todo y) ⊎ HoldsOne grew (body bodies y))) where
     kept_names : (y : ℕ) → (Mentions x (body bodies y) → ⊥) → (z : ℕ) → Mentions z (body bodies y)
-        → (a b : ℕ) → Of n values z a b ↔ Of n (set values x r) z a b
+        → (a b : ℕ) → OwnPairs n values z a b ↔ OwnPairs n (set values x r) z a b
     kept_names y avoids z uses a b = elim (cases_eq z x) [
       | inl same ↦ absurd (avoids (subst (λ (k : ℕ). Mentions k (body bodies y)) same uses))
       | inr unlike ↦ let t = of_there z unlike a b in (t.1, t.0)
@@ -296,7 +296,7 @@ module _ (n : ℕ) (sets : Source → ℕ → Type 0) (outer : Source → ℕ �
 
     -- the new value is another one
     pub round_grows : (more : ℕ) → ((k : ℕ) → IsAmong grew k → IsAmong more k) → IsAmong more x
-        → IsRound n sets outer bodies (set values x r) todo (x + 1) more
+        → IsFixpointRound n sets outer bodies (set values x r) todo (x + 1) more
     round_grows more bits marked = record {
       sound = sound_step;
       pending = λ y y_lt. elim (cases_eq y x) [
@@ -306,7 +306,7 @@ module _ (n : ℕ) (sets : Source → ℕ → Type 0) (outer : Source → ℕ �
             | inl uses ↦ inr (inr (holds_mentioned more x (body bodies y) uses marked))
             | inr avoids ↦ inl (λ a b.
                 let t = of_there y unlike a b in
-                let k = agree n sets outer (Of n values) (Of n (set values x r)) (body bodies y) (kept_names y avoids) a b in
+                let k = agree n sets outer (OwnPairs n values) (OwnPairs n (set values x r)) (body bodies y) (kept_names y avoids) a b in
                 ((λ h. k.0 ((solved a b).0 (t.0 h))), (λ h. t.1 ((solved a b).1 (k.1 h)))))
           ]
           | inr rest ↦ elim rest [
@@ -324,13 +324,13 @@ module _ (n : ℕ) (sets : Source → ℕ → Type 0) (outer : Source → ℕ �
           | inl uses ↦ inr (inr (holds_mentioned more x (body bodies x) uses marked))
           | inr avoids ↦ inl (λ a b.
               let t = of_here a b in
-              let k = agree n sets outer (Of n values) (Of n (set values x r)) (body bodies x) (kept_names x avoids) a b in
+              let k = agree n sets outer (OwnPairs n values) (OwnPairs n (set values x r)) (body bodies x) (kept_names x avoids) a b in
               ((λ h. k.0 ((next.pairs a b).0 (t.0 h))), (λ h. t.1 ((next.pairs a b).1 (k.1 h)))))
         ])
 
     -- the new value is the old one
     pub round_stays : r ≡ get_or values x no_slot
-        → IsRound n sets outer bodies values todo (x + 1) grew
+        → IsFixpointRound n sets outer bodies values todo (x + 1) grew
     round_stays same = record {
       sound = sound;
       pending = λ y y_lt. elim (pending y y_lt) [
@@ -352,8 +352,8 @@ module _ (n : ℕ) (sets : Source → ℕ → Type 0) (outer : Source → ℕ �
 -- a name that is not to do
 pub round_skips : (n : ℕ) (sets : Source → ℕ → Type 0) (outer : Source → ℕ → ℕ → Type 0)
     (bodies : List RelTree) (values : List Relation) (todo x grew : ℕ)
-    → IsRound n sets outer bodies values todo x grew → (IsAmong todo x → ⊥)
-    → IsRound n sets outer bodies values todo (x + 1) grew
+    → IsFixpointRound n sets outer bodies values todo x grew → (IsAmong todo x → ⊥)
+    → IsFixpointRound n sets outer bodies values todo (x + 1) grew
 round_skips n sets outer bodies values todo x grew round not_todo = record {
   sound = round.sound;
   pending = λ y y_lt. elim (round.pending y y_lt) [
@@ -373,7 +373,7 @@ round_skips n sets outer bodies values todo x grew round not_todo = record {
 
 pub empty_sound : (n : ℕ) (sets : Source → ℕ → Type 0) (outer : Source → ℕ → ℕ → Type 0)
     (bodies : List RelTree) (values : List Relation) → AreEmpty n (length values) values
-    → length values ≡ length bodies → IsSound n sets outer bodies values
+    → length values ≡ length bodies → IsBelowSolution n sets outer bodies values
 empty_sound n sets outer bodies values empty many = record {
   as_many = many;
   on = λ x lt. ((empty x lt).count, (empty x lt).regular);
@@ -381,7 +381,7 @@ empty_sound n sets outer bodies values empty many = record {
   inside = λ test closed x lt a b h. absurd (none x a b h);
 }
   where
-    none : (x a b : ℕ) → Of n values x a b → ⊥
+    none : (x a b : ℕ) → OwnPairs n values x a b → ⊥
     none x a b h =
         let lt : x < length values = found_past n values x a b h in
         ((empty x lt).pairs a b).0 ((found n values x a b lt).0 h).1
@@ -420,7 +420,7 @@ holds_next (t ∷ ts) (c ∷ cs) x grew h lt u =
 pub round_first : (n : ℕ) (sets : Source → ℕ → Type 0) (outer : Source → ℕ → ℕ → Type 0)
     (bodies : List RelTree) (values : List Relation) (todo : ℕ)
     → AreEmpty n (length values) values → length values ≡ length bodies → ((k : ℕ) → IsAmong todo k)
-    → IsRound n sets outer bodies values todo 0 0
+    → IsFixpointRound n sets outer bodies values todo 0 0
 round_first n sets outer bodies values todo empty many all = record {
   sound = empty_sound n sets outer bodies values empty many;
   pending = λ y y_lt. inr (inl (omega arith, all y));
@@ -429,8 +429,8 @@ round_first n sets outer bodies values todo empty many all = record {
 -- from one round to the next
 pub round_next : (n : ℕ) (sets : Source → ℕ → Type 0) (outer : Source → ℕ → ℕ → Type 0)
     (trees : List RelTree) (bodies : List Body) (values : List Relation) (old grew new : ℕ)
-    → AreCodes trees bodies → IsRound n sets outer trees values old (length trees) grew
-    → ((k : ℕ) → IsAmong new k ↔ UsesNear grew bodies k) → IsRound n sets outer trees values new 0 0
+    → AreCodes trees bodies → IsFixpointRound n sets outer trees values old (length trees) grew
+    → ((k : ℕ) → IsAmong new k ↔ UsesNear grew bodies k) → IsFixpointRound n sets outer trees values new 0 0
 round_next n sets outer trees bodies values old grew new codes round next = record {
   sound = round.sound;
   pending = λ y y_lt. elim (round.pending y y_lt) [
@@ -448,7 +448,7 @@ round_next n sets outer trees bodies values old grew new codes round next = reco
 -- after a round in which nothing grew
 pub round_done : (n : ℕ) (sets : Source → ℕ → Type 0) (outer : Source → ℕ → ℕ → Type 0)
     (trees : List RelTree) (values : List Relation) (old grew : ℕ) → grew ≡ 0
-    → IsRound n sets outer trees values old (length trees) grew → IsLeast n sets outer trees values
+    → IsFixpointRound n sets outer trees values old (length trees) grew → IsLeast n sets outer trees values
 round_done n sets outer trees values old grew none round = record {
   as_many = round.sound.as_many;
   on = round.sound.on;

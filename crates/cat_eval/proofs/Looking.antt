@@ -7,18 +7,18 @@ use Rattle.base_names.proofs.Same.{same_or_not}
 use Rattle.candidates.specs.Space.{Candidate}
 use Rattle.cat_eval.specs.declared.seen.NamedColumn.{NamedColumn}
 use Rattle.cat_eval.specs.Executions.{events_of}
-use Rattle.cat_eval.specs.Seen.{Known, EventsAmong, PairsAmong, EventsOf, PairsOf, value_at, seen}
+use Rattle.cat_eval.specs.Seen.{NamedValues, EventsAmong, PairsAmong, EventsNamedBy, PairsNamedBy, value_at, seen}
 use Rattle.cat_eval.specs.Tables.{StandsFor, AreColumnsFor, column_names}
 use Rattle.cat_eval.proofs.Same.{Same, SameSet}
 use Rattle.cat_eval.proofs.Seeing.{events_found, pairs_found}
 
 -- what is seen under these names is what they stand for in the candidate
-pub record IsSeen (names : List Predefined) (base : Known) (one : Candidate) : Type 0 where
+pub record IsSeen (names : List Predefined) (base : NamedValues) (one : Candidate) : Type 0 where
   pub count : base.count ≡ events_of one
   pub events : (name : Predefined) → Contains names name
-      → SameSet (EventsOf base name) (SetIn one.0 base.count name)
+      → SameSet (EventsNamedBy base name) (SetIn one.0 base.count name)
   pub pairs : (name : Predefined) → Contains names name
-      → Same (PairsOf base name) (RelationIn name base.count one.0 one.1.0 one.1.1)
+      → Same (PairsNamedBy base name) (RelationIn name base.count one.0 one.1.0 one.1.1)
 
 later : (x : NamedColumn) (xs : List NamedColumn) (name : Predefined)
     → Contains (x.name ∷ column_names xs) name → (x.name ≡ name → ⊥)

@@ -4,11 +4,11 @@ use Rattle.text_values.specs.declared.model.Postfix.TheVariants as postfix
 use Rattle.binding_graph.specs.declared.resolved.Blend.TheVariants as blends
 use Rattle.binding_graph.specs.declared.resolved.Source.{Source}
 use Rattle.binding_graph.specs.declared.resolved.Source.TheVariants as sources
-use Rattle.binding_graph.specs.Trees.{RelTree, RelName, NoPair, RelBlend, Then, Cross, OnSet, Close, RelNot}
+use Rattle.binding_graph.specs.Trees.{RelTree, RelName, NoPair, BlendRelations, Compose, Multiply, IdentityOn, Close, ComplementRelation}
 use Rattle.text_values.specs.declared.model.Postfix.{Postfix}
 use Rattle.cat_eval.specs.Meaning.{Means, Closed}
 use Rattle.cat_eval.specs.Named.{WithOwn}
-use Rattle.cat_eval.specs.Least.{IsFixed, IsMonotone}
+use Rattle.cat_eval.specs.Least.{HasNoOwnName, IsMonotone}
 use Rattle.bit_relations.proofs.Closing.{Plus-map}
 
 -- more pairs, more pairs of the closure
@@ -23,23 +23,23 @@ closed_wider postfix.Closure n R S wider a b (inr m) = inr (Plus-map R S wider a
 
 module _ (n : ℕ) (sets : Source → ℕ → Type 0) (outer : Source → ℕ → ℕ → Type 0) where
   -- an expression without names of the group means the same, whatever these are
-  pub fixed : (R S : ℕ → ℕ → ℕ → Type 0) (e : RelTree) → IsFixed e → (a b : ℕ)
+  pub fixed : (R S : ℕ → ℕ → ℕ → Type 0) (e : RelTree) → HasNoOwnName e → (a b : ℕ)
       → Means n sets (WithOwn outer R) e a b → Means n sets (WithOwn outer S) e a b
   fixed R S (RelName (sources.Predefined x)) f a b m = m
   fixed R S (RelName (sources.Input x)) f a b m = m
   fixed R S (RelName (sources.Own x)) f a b m = absurd f
   fixed R S NoPair f a b m = m
-  fixed R S (RelBlend blends.Union e g) f a b (inl m) = inl (fixed R S e f.0 a b m)
-  fixed R S (RelBlend blends.Union e g) f a b (inr m) = inr (fixed R S g f.1 a b m)
-  fixed R S (RelBlend blends.Intersection e g) f a b m =
+  fixed R S (BlendRelations blends.Union e g) f a b (inl m) = inl (fixed R S e f.0 a b m)
+  fixed R S (BlendRelations blends.Union e g) f a b (inr m) = inr (fixed R S g f.1 a b m)
+  fixed R S (BlendRelations blends.Intersection e g) f a b m =
       (fixed R S e f.0 a b m.0, fixed R S g f.1 a b m.1)
-  fixed R S (RelBlend blends.Difference e g) f a b m =
+  fixed R S (BlendRelations blends.Difference e g) f a b m =
       (fixed R S e f.0 a b m.0, (λ k. m.1 (fixed S R g f.1 a b k)))
-  fixed R S (Then e g) f a b (c, m, k) = (c, fixed R S e f.0 a c m, fixed R S g f.1 c b k)
-  fixed R S (Cross s t) f a b m = m
-  fixed R S (OnSet s) f a b m = m
+  fixed R S (Compose e g) f a b (c, m, k) = (c, fixed R S e f.0 a c m, fixed R S g f.1 c b k)
+  fixed R S (Multiply s t) f a b m = m
+  fixed R S (IdentityOn s) f a b m = m
   fixed R S (Close how e) f a b m = closed_wider how n _ _ (fixed R S e f) a b m
-  fixed R S (RelNot e) f a b m = (m.0, m.1, (λ k. m.2 (fixed S R e f a b k)))
+  fixed R S (ComplementRelation e) f a b m = (m.0, m.1, (λ k. m.2 (fixed S R e f a b k)))
 
   -- where the names of the group have more pairs, so has a monotone expression
   pub monotone : (R S : ℕ → ℕ → ℕ → Type 0) → ((x a b : ℕ) → R x a b → S x a b) → (e : RelTree)
@@ -49,17 +49,17 @@ module _ (n : ℕ) (sets : Source → ℕ → Type 0) (outer : Source → ℕ �
   monotone R S wider (RelName (sources.Input x)) f a b m = m
   monotone R S wider (RelName (sources.Own x)) f a b m = wider x a b m
   monotone R S wider NoPair f a b m = m
-  monotone R S wider (RelBlend blends.Union e g) f a b (inl m) =
+  monotone R S wider (BlendRelations blends.Union e g) f a b (inl m) =
       inl (monotone R S wider e f.0 a b m)
-  monotone R S wider (RelBlend blends.Union e g) f a b (inr m) =
+  monotone R S wider (BlendRelations blends.Union e g) f a b (inr m) =
       inr (monotone R S wider g f.1 a b m)
-  monotone R S wider (RelBlend blends.Intersection e g) f a b m =
+  monotone R S wider (BlendRelations blends.Intersection e g) f a b m =
       (monotone R S wider e f.0 a b m.0, monotone R S wider g f.1 a b m.1)
-  monotone R S wider (RelBlend blends.Difference e g) f a b m =
+  monotone R S wider (BlendRelations blends.Difference e g) f a b m =
       (monotone R S wider e f.0 a b m.0, (λ k. m.1 (fixed S R g f.1 a b k)))
-  monotone R S wider (Then e g) f a b (c, m, k) =
+  monotone R S wider (Compose e g) f a b (c, m, k) =
       (c, monotone R S wider e f.0 a c m, monotone R S wider g f.1 c b k)
-  monotone R S wider (Cross s t) f a b m = m
-  monotone R S wider (OnSet s) f a b m = m
+  monotone R S wider (Multiply s t) f a b m = m
+  monotone R S wider (IdentityOn s) f a b m = m
   monotone R S wider (Close how e) f a b m = closed_wider how n _ _ (monotone R S wider e f) a b m
-  monotone R S wider (RelNot e) f a b m = (m.0, m.1, (λ k. m.2 (fixed S R e f a b k)))
+  monotone R S wider (ComplementRelation e) f a b m = (m.0, m.1, (λ k. m.2 (fixed S R e f a b k)))

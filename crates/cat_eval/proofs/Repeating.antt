@@ -4,7 +4,7 @@ use Rattle.std.proofs.Common.{ℕ, ◌≡◌, ◌<◌, ◌+◌, ◌-◌, ◌++�
 use Rattle.std.specs.Prelude.{Option, Some, None, slice_get}
 use denote.Ref.{Bor}
 use Rattle.bit_relations.specs.Relation.{Relation, Events, no_slot}
-use Rattle.cat_eval.specs.Seen.{Known}
+use Rattle.cat_eval.specs.Seen.{NamedValues}
 use Rattle.binding_kinds.specs.declared.kinds.Kind.{Kind}
 use Rattle.binding_kinds.specs.declared.kinds.Kind.TheVariants as kinds
 use Rattle.binding_graph.specs.declared.resolved.Body.{Body}
@@ -12,15 +12,15 @@ use Rattle.binding_graph.specs.declared.resolved.CheckCode.{CheckCode}
 use Rattle.binding_graph.specs.declared.resolved.Source.{Source}
 use Rattle.binding_graph.specs.declared.resolved.Source.TheVariants as sources
 use Rattle.binding_graph.specs.declared.resolved.Step.{Step}
-use Rattle.binding_graph.specs.Trees.{SetTree, SetName, AllEvents, NoEvent, SetBlend, SetNot, RelTree, RelName, NoPair, RelBlend, Then, Cross, OnSet, Close, RelNot}
+use Rattle.binding_graph.specs.Trees.{SetTree, SetName, AllEvents, NoEvent, BlendSets, ComplementSet, RelTree, RelName, NoPair, BlendRelations, Compose, Multiply, IdentityOn, Close, ComplementRelation}
 use Rattle.cat_eval.specs.declared.column.Column.{Column}
 use Rattle.cat_eval.specs.declared.column.Column.TheVariants as columns
-use Rattle.cat_eval.specs.Columns.{HasValue}
+use Rattle.cat_eval.specs.Columns.{HasColumnValue}
 use Rattle.cat_eval.specs.Least.{body}
 use Rattle.cat_eval.specs.Meaning.{MeansSet, Means}
-use Rattle.cat_eval.specs.Named.{ColumnEvents, ColumnPairs, InputEvents, InputPairs, EventsIn, PairsOutside, WithOwn, Of}
+use Rattle.cat_eval.specs.Named.{ColumnEvents, ColumnPairs, InputEvents, InputPairs, EventsIn, PairsOutside, WithOwn, OwnPairs}
 use Rattle.cat_eval.specs.OverNames.{IsAnswerOver, IsMeaningOver, HaveValuesOver, AreColumnsOver}
-use Rattle.cat_eval.specs.Steady.{HasSame, AreSame, IsSteady, Repeats, EndsWith}
+use Rattle.cat_eval.specs.Steady.{HasSame, HaveSameInputs, IsSteady, Repeats, EndsWith}
 use Rattle.cat_eval.specs.Values.{Adds, column_len}
 use Rattle.cat_eval.proofs.Agreeing.{Agree, OfSet, OfRelation, set_agrees, relation_agrees, least_agrees}
 use Rattle.cat_eval.proofs.Columns.{get_last, adds_new, columns_more}
@@ -55,20 +55,20 @@ module _ (P : Source → Type 0) (each : (source : Source) → P source) where
   every_set (SetName source) = each source
   every_set AllEvents = tt
   every_set NoEvent = tt
-  every_set (SetBlend how s t) = (every_set s, every_set t)
-  every_set (SetNot s) = every_set s
+  every_set (BlendSets how s t) = (every_set s, every_set t)
+  every_set (ComplementSet s) = every_set s
 
   every_relation : (e : RelTree) → OfRelation P e
   every_relation (RelName source) = each source
   every_relation NoPair = tt
-  every_relation (RelBlend how e f) = (every_relation e, every_relation f)
-  every_relation (Then e f) = (every_relation e, every_relation f)
-  every_relation (Cross s t) = (every_set s, every_set t)
-  every_relation (OnSet s) = every_set s
+  every_relation (BlendRelations how e f) = (every_relation e, every_relation f)
+  every_relation (Compose e f) = (every_relation e, every_relation f)
+  every_relation (Multiply s t) = (every_set s, every_set t)
+  every_relation (IdentityOn s) = every_set s
   every_relation (Close how e) = every_relation e
-  every_relation (RelNot e) = every_relation e
+  every_relation (ComplementRelation e) = every_relation e
 
-module _ (base : Known) (inputs : List (Bor Column)) (j k : ℕ) (same : AreSame inputs j k) where
+module _ (base : NamedValues) (inputs : List (Bor Column)) (j k : ℕ) (same : HaveSameInputs inputs j k) where
   agreed : (own : ℕ → ℕ → ℕ → Type 0) (source : Source)
       → Agree base.count (EventsIn base inputs j) (EventsIn base inputs k)
       (WithOwn (PairsOutside base inputs j) own) (WithOwn (PairsOutside base inputs k) own)
@@ -85,7 +85,7 @@ module _ (base : Known) (inputs : List (Bor Column)) (j k : ℕ) (same : AreSame
       → SameSet (MeansSet base.count (EventsIn base inputs j) t)
       (MeansSet base.count (EventsIn base inputs k) t)
   set_again t =
-      let own : ℕ → ℕ → ℕ → Type 0 = Of base.count [] in
+      let own : ℕ → ℕ → ℕ → Type 0 = OwnPairs base.count [] in
       set_agrees base.count (EventsIn base inputs j) (EventsIn base inputs k)
       (WithOwn (PairsOutside base inputs j) own) (WithOwn (PairsOutside base inputs k) own) t
       (every_set
@@ -114,24 +114,24 @@ module _ (base : Known) (inputs : List (Bor Column)) (j k : ℕ) (same : AreSame
       λ t code. unless_same check.negated _ _ _ (empty_same _ _ (set_again t)) (h t code)
   answer_again check kinds.OfRelation answer h =
       λ t code. unless_same check.negated _ _ _
-      (holds_same check.word _ _ (relation_again (Of base.count []) t)) (h t code)
+      (holds_same check.word _ _ (relation_again (OwnPairs base.count []) t)) (h t code)
   answer_again check kinds.OfAny answer h =
       λ t code. unless_same check.negated _ _ _
-      (holds_same check.word _ _ (relation_again (Of base.count []) t)) (h t code)
+      (holds_same check.word _ _ (relation_again (OwnPairs base.count []) t)) (h t code)
 
   meaning_again : (xs : List Step) (kind : Kind) (s : Events) (r : Relation)
       → IsMeaningOver kind xs inputs base j s r → IsMeaningOver kind xs inputs base k s r
   meaning_again xs kinds.OfSet s r h =
       λ t code. changed_set s base.count _ _ (set_again t) (h t code)
   meaning_again xs kinds.OfRelation s r h =
-      λ t code. changed r base.count _ _ (relation_again (Of base.count []) t) (h t code)
+      λ t code. changed r base.count _ _ (relation_again (OwnPairs base.count []) t) (h t code)
   meaning_again xs kinds.OfAny s r h =
-      λ t code. changed r base.count _ _ (relation_again (Of base.count []) t) (h t code)
+      λ t code. changed r base.count _ _ (relation_again (OwnPairs base.count []) t) (h t code)
 
   -- and so are the values, which stand in new columns once more
   values_again : (recursive : Bool) (bodies : List Body) (olds news : List Column)
       → ((x : ℕ) → x < length bodies → (c : Column) → (s : Events) (r : Relation)
-      → HasValue (get_or olds x c) j s r → HasValue (get_or news x c) k s r)
+      → HasColumnValue (get_or olds x c) j s r → HasColumnValue (get_or news x c) k s r)
       → HaveValuesOver recursive bodies inputs base j olds
       → HaveValuesOver recursive bodies inputs base k news
   values_again false bodies olds news more h = λ x lt c b.
@@ -160,20 +160,20 @@ has_one (x ∷ xs) zero lt = (x, refl)
 has_one (x ∷ xs) (suc k) lt = has_one xs k (omega (arith, lt))
 
 pub value_there : (c : Column) (k : ℕ) → k < column_len c
-    → (s : Events) × (r : Relation) × HasValue c k s r
+    → (s : Events) × (r : Relation) × HasColumnValue c k s r
 value_there (columns.Sets values) k lt = let (s, at) = has_one values k lt in (s, no_slot, at)
 value_there (columns.Relations values) k lt =
     let (r, at) = has_one values k lt in (record { count = 0; word = 0 }, r, at)
 
 -- how many bases there are where they end with one
-pub ends_long : (bases : List Known) (base : Known) (ends : EndsWith bases base)
+pub ends_long : (bases : List NamedValues) (base : NamedValues) (ends : EndsWith bases base)
     → (length bases ≡ length ends.0 + 1) × (slice_get bases (length ends.0) ≡ Some base)
 ends_long bases base ends =
     (ap length ends.1 ∙ length-append ends.0 (base ∷ []), rw ends.1 (get_last ends.0 base))
 
 -- one value more in each column, that of the last candidate
 pub columns_again : (recursive : Bool) (bodies : List Body) (inputs : List (Bor Column))
-    (bases : List Known) (base : Known) (olds news : List Column) (k steady : ℕ)
+    (bases : List NamedValues) (base : NamedValues) (olds news : List Column) (k steady : ℕ)
     → EndsWith bases base → AreColumnsOver recursive bodies inputs bases olds
     → k ≡ length bases → IsSteady inputs (length bases) steady → k < steady
     → length news ≡ length olds
@@ -190,11 +190,11 @@ columns_again recursive bodies inputs bases base olds news k steady ends before 
     last_is x less c = omega (arith, before.long x less c, long)
 
     adds : (x : ℕ) → x < length bodies → (c : Column) (s : Events) (r : Relation)
-        → HasValue (get_or olds x c) (length ends.0) s r
+        → HasColumnValue (get_or olds x c) (length ends.0) s r
         → Adds (get_or olds x c) (get_or news x c) s r
     adds x less c s r has =
         repeats x (rw before.as_many less) c s r (subst
-        (λ (n : ℕ). HasValue (get_or olds x c) n s r) (sym (last_is x less c)) has)
+        (λ (n : ℕ). HasColumnValue (get_or olds x c) n s r) (sym (last_is x less c)) has)
 
     added : (x : ℕ) → x < length bodies → (c : Column)
         → (s : Events) × (r : Relation) × Adds (get_or olds x c) (get_or news x c) s r
@@ -203,8 +203,8 @@ columns_again recursive bodies inputs bases base olds news k steady ends before 
         (s, r, adds x less c s r has)
 
     more : (x : ℕ) → x < length bodies → (c : Column) (s : Events) (r : Relation)
-        → HasValue (get_or olds x c) (length ends.0) s r
-        → HasValue (get_or news x c) (length bases) s r
+        → HasColumnValue (get_or olds x c) (length ends.0) s r
+        → HasColumnValue (get_or news x c) (length bases) s r
     more x less c s r has =
         adds_new (get_or olds x c) (get_or news x c) s r (adds x less c s r has) (length bases)
         (sym (before.long x less c))
@@ -212,9 +212,9 @@ columns_again recursive bodies inputs bases base olds news k steady ends before 
     before_it : HaveValuesOver recursive bodies inputs base (length ends.0) olds
     before_it = before.values (length ends.0) base (ends_long bases base ends).1
 
-    same : AreSame inputs (length ends.0) (length bases)
+    same : HaveSameInputs inputs (length ends.0) (length bases)
     same =
-        subst (λ (n : ℕ). AreSame inputs n (length bases)) (omega (arith, long))
+        subst (λ (n : ℕ). HaveSameInputs inputs n (length bases)) (omega (arith, long))
         (held (length bases) (omega arith) (omega (arith, at, lt)))
 
     now : HaveValuesOver recursive bodies inputs base (length bases) news
@@ -233,7 +233,7 @@ steady_more x y e n m k steady until is more step h =
     subst (λ (z : Bor (List (Bor Column))). IsSteady z.now m until) e there
 
 pub group_steady : (x y : Bor (List (Bor Column))) → x ≡ y
-    → (bases : List Known) (base : Known) (k steady until new : ℕ) → k ≡ length bases → new ≡ until
+    → (bases : List NamedValues) (base : NamedValues) (k steady until new : ℕ) → k ≡ length bases → new ≡ until
     → (IsSteady x.now k steady → IsSteady x.now (k + 1) until)
     → IsSteady y.now (length bases) steady → IsSteady y.now (length (bases ++ base ∷ [])) new
 group_steady x y e bases base k steady until new number is step held =

@@ -13,8 +13,8 @@ use Rattle.cat_eval.specs.declared.visit.Place.{Place}
 use Rattle.cat_eval.specs.Executions.{events_of}
 use Rattle.cat_eval.specs.Named.{ColumnEvents, ColumnPairs}
 use Rattle.cat_eval.specs.Places.{IsAt}
-use Rattle.cat_eval.specs.Seen.{PairsFound, Value, Known, set_of, relation_of, value_at, columns_of, seen, seen_run, seen_in}
-use Rattle.cat_eval.specs.Steady.{HasSame, AreSame, IsSteady, EndsWith}
+use Rattle.cat_eval.specs.Seen.{PairsFound, Value, NamedValues, set_of, relation_of, value_at, columns_of, seen, seen_run, seen_in}
+use Rattle.cat_eval.specs.Steady.{HasSame, HaveSameInputs, IsSteady, EndsWith}
 
 -- what a column has for a candidate is what is found there
 pub events_found : (c : Column) (k n a : ℕ) → ColumnEvents c k n a ↔ EventsFound (set_of c k) n a
@@ -36,7 +36,7 @@ relation_same : (c : Column) (j k : ℕ) → HasSame c j k → relation_of c j �
 relation_same (columns.Sets values) j k same = refl
 relation_same (columns.Relations values) j k same = same
 
-values_same : (xs : List NamedColumn) (j k : ℕ) → AreSame (columns_of xs) j k
+values_same : (xs : List NamedColumn) (j k : ℕ) → HaveSameInputs (columns_of xs) j k
     → map (value_at j) xs ≡ map (value_at k) xs
 values_same [] j k same = refl
 values_same (x ∷ xs) j k same =
@@ -45,7 +45,7 @@ values_same (x ∷ xs) j k same =
     let rest = values_same xs j k (λ index column at. same (suc index) column at) in
     rw (e, f, rest) refl
 
-pub seen_same : (xs : List NamedColumn) (j k n : ℕ) → AreSame (columns_of xs) j k
+pub seen_same : (xs : List NamedColumn) (j k n : ℕ) → HaveSameInputs (columns_of xs) j k
     → seen xs j n ≡ seen xs k n
 seen_same xs j k n same =
     ap (λ (vs : List Value). record { count = n; values = vs }) (values_same xs j k same)
@@ -54,24 +54,24 @@ seen_same xs j k n same =
 
 -- where the next candidate has as many events as the last one, and the names stand for the same,
 -- the same is seen
-pub seen_again : (xs : List NamedColumn) (place : Place) (bases : List Known) (n : ℕ)
+pub seen_again : (xs : List NamedColumn) (place : Place) (bases : List NamedValues) (n : ℕ)
     → IsAt xs place bases → place.before ≡ Some n → place.candidate < place.steady
     → EndsWith bases (seen xs (length bases) n)
 seen_again xs place bases n at before lt =
     let ends = at.last n before in
-    let same : AreSame (columns_of xs) (place.candidate - 1) place.candidate = at.steady place.candidate (omega arith) lt in
+    let same : HaveSameInputs (columns_of xs) (place.candidate - 1) place.candidate = at.steady place.candidate (omega arith) lt in
     subst (λ (k : ℕ). EndsWith bases (seen xs k n)) at.number (subst
-    (λ (known : Known). EndsWith bases known)
+    (λ (known : NamedValues). EndsWith bases known)
     (seen_same xs (place.candidate - 1) place.candidate n same) ends)
 
-pub at_more : (xs : List NamedColumn) (bases : List Known) (place new : Place) (n : ℕ)
+pub at_more : (xs : List NamedColumn) (bases : List NamedValues) (place new : Place) (n : ℕ)
     → IsAt xs place bases → new.candidate ≡ place.candidate + 1 → new.before ≡ Some n
     → IsSteady (columns_of xs) (place.candidate + 1) new.steady
     → IsAt xs new (bases ++ seen xs (length bases) n ∷ [])
 at_more xs bases place new n at next before steady = record {
   number = omega (arith, next, at.number, length-append bases (seen xs (length bases) n ∷ []));
   steady = subst (λ (k : ℕ). IsSteady (columns_of xs) k new.steady) (sym next) steady;
-  last = λ m is. (bases, ap (λ (known : Known). bases ++ known ∷ []) (is_last m is));
+  last = λ m is. (bases, ap (λ (known : NamedValues). bases ++ known ∷ []) (is_last m is));
 }
   where
     is_last : (m : ℕ) → new.before ≡ Some m
@@ -101,7 +101,7 @@ run_more xs k n a zero =
 run_more xs k n a (suc b) =
     let e : a + suc b ≡ suc (a + b) = omega arith in
     let f : k + (a + b) ≡ k + a + b = omega arith in
-    rw e (ap (λ (ks : List Known). ks ++ seen xs (k + (a + b)) n ∷ []) (run_more xs k n a b)
+    rw e (ap (λ (ks : List NamedValues). ks ++ seen xs (k + (a + b)) n ∷ []) (run_more xs k n a b)
     ∙ append_assoc (seen_run xs k n a) (seen_run xs (k + a) n b) (seen xs (k + (a + b)) n ∷ [])
     ∙ ap (λ (j : ℕ). seen_run xs k n a ++ (seen_run xs (k + a) n b ++ seen xs j n ∷ [])) f)
 
@@ -110,7 +110,7 @@ pub in_append : (xs : List NamedColumn) (k : ℕ) (cs ds : List Candidate)
 in_append xs k [] ds = let e : k + 0 ≡ k = omega arith in rw e refl
 in_append xs k (c ∷ cs) ds =
     let e : k + 1 + length cs ≡ k + length (c ∷ cs) = omega arith in
-    ap (λ (ks : List Known). seen xs k (events_of c) ∷ ks) (in_append xs (k + 1) cs ds
+    ap (λ (ks : List NamedValues). seen xs k (events_of c) ∷ ks) (in_append xs (k + 1) cs ds
     ∙ ap (λ (j : ℕ). seen_in xs (k + 1) cs ++ seen_in xs j ds) e)
 
 pub in_run : (xs : List NamedColumn) (k : ℕ) (c : Combination) (ts : List (List ℕ × List ℕ))
@@ -120,7 +120,7 @@ in_run xs k c (t ∷ ts) =
     let n = length c.events.items in
     let e : length (t ∷ ts) ≡ 1 + length ts = omega arith in
     let f : k + 0 ≡ k = omega arith in
-    ap (λ (ks : List Known). seen xs k n ∷ ks) (in_run xs (k + 1) c ts)
+    ap (λ (ks : List NamedValues). seen xs k n ∷ ks) (in_run xs (k + 1) c ts)
     ∙ ap (λ (j : ℕ). seen xs j n ∷ seen_run xs (k + 1) n (length ts)) (sym f)
     ∙ sym (ap (λ (m : ℕ). seen_run xs k n m) e ∙ run_more xs k n 1 (length ts))
 

@@ -6,8 +6,8 @@ use Rattle.binding_graph.specs.declared.resolved.Body.{Body}
 use Rattle.binding_graph.specs.Trees.{RelTree, rel_code}
 use Rattle.cat_eval.specs.Least.{AreMonotone, body}
 use Rattle.cat_eval.specs.Meaning.{Means}
-use Rattle.cat_eval.specs.Named.{Of, WithOwn}
-use Rattle.cat_eval.specs.Rising.{IsRound, AreCodes}
+use Rattle.cat_eval.specs.Named.{OwnPairs, WithOwn}
+use Rattle.cat_eval.specs.Rising.{IsFixpointRound, AreCodes}
 use Rattle.cat_eval.specs.Uses.{ShareBit, IsAmong}
 use Rattle.cat_eval.proofs.Growing.{value_within, round_grows, round_stays, code_at, codes_long}
 
@@ -19,11 +19,11 @@ module _ (n : ℕ) (sets : Source → ℕ → Type 0) (outer : Source → ℕ �
     (trees : List RelTree) (bodies : List Body) (values : List Relation) (todo x grew : ℕ)
     (b : Body) (stack : List Relation)
     (codes : AreCodes trees bodies) (fit : AreMonotone trees)
-    (round : IsRound n sets outer trees values todo x grew) (inside : x < length bodies)
+    (round : IsFixpointRound n sets outer trees values todo x grew) (inside : x < length bodies)
     (here : b ≡ get_or bodies x b)
     (evaluated : (t : RelTree) → b.code.steps.items ≡ rel_code t []
     → (v : Relation) × (stack ≡ v ∷ [])
-    × IsRelation v n (Means n sets (WithOwn outer (Of n values)) t)) where
+    × IsRelation v n (Means n sets (WithOwn outer (OwnPairs n values)) t)) where
   lt : x < length trees
   lt = rw (codes_long trees bodies codes) inside
 
@@ -31,7 +31,7 @@ module _ (n : ℕ) (sets : Source → ℕ → Type 0) (outer : Source → ℕ �
   in_values = rw round.sound.as_many lt
 
   value : (v : Relation) × (stack ≡ v ∷ [])
-      × IsRelation v n (Means n sets (WithOwn outer (Of n values)) (body trees x))
+      × IsRelation v n (Means n sets (WithOwn outer (OwnPairs n values)) (body trees x))
   value =
       evaluated (body trees x) (ap (λ (y : Body). y.code.steps.items) here
       ∙ code_at trees bodies x b codes lt)
@@ -48,7 +48,7 @@ module _ (n : ℕ) (sets : Source → ℕ → Type 0) (outer : Source → ℕ �
       → ((v : Relation) (rest : List Relation) → stack ≡ v ∷ rest
       → v.count ≡ (get_or values x no_slot).count → IsSubset (get_or values x no_slot) v
       → new ≡ set values x v) → Gains grew x more
-      → IsRound n sets outer trees new todo (x + 1) more
+      → IsFixpointRound n sets outer trees new todo (x + 1) more
   turn_grows new more keeps gains =
       rw (written new keeps)
       (round_grows n sets outer trees values x value.0 fit round.sound lt value.2 todo grew
@@ -57,7 +57,7 @@ module _ (n : ℕ) (sets : Source → ℕ → Type 0) (outer : Source → ℕ �
   pub turn_stays : (new : List Relation) → new ≡ values
       → ((v : Relation) (rest : List Relation) → stack ≡ v ∷ rest
       → v.count ≡ (get_or values x no_slot).count → IsSubset (get_or values x no_slot) v
-      → new ≡ set values x v) → IsRound n sets outer trees new todo (x + 1) grew
+      → new ≡ set values x v) → IsFixpointRound n sets outer trees new todo (x + 1) grew
   turn_stays new old keeps =
       let e : values ≡ set values x value.0 = sym old ∙ written new keeps in
       let same : value.0 ≡ get_or values x no_slot = sym (get_or-set_same values x value.0 no_slot in_values) ∙ ap (λ (vs : List Relation). get_or vs x no_slot) (sym e) in

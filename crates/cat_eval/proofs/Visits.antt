@@ -9,12 +9,12 @@ use Rattle.binding_kinds.specs.declared.kinds.Kind.{Kind}
 use Rattle.binding_kinds.specs.declared.kinds.Kind.TheVariants as kinds
 use Rattle.binding_graph.specs.Trees.{SetTree, RelTree, set_code, rel_code}
 use Rattle.cat_eval.specs.Meaning.{MeansSet, Means}
-use Rattle.cat_eval.specs.Named.{EventsIn, PairsOutside, WithOwn, Of}
+use Rattle.cat_eval.specs.Named.{EventsIn, PairsOutside, WithOwn, OwnPairs}
 use denote.Ref.{Bor}
 use Rattle.text_values.specs.declared.model.CheckWord.{CheckWord}
 use Rattle.text_values.specs.declared.model.CheckWord.TheVariants as words
 use Rattle.binding_graph.specs.declared.resolved.CheckCode.{CheckCode}
-use Rattle.cat_eval.specs.Seen.{Known}
+use Rattle.cat_eval.specs.Seen.{NamedValues}
 use Rattle.cat_eval.specs.declared.column.Column.{Column}
 use Rattle.cat_eval.specs.Checks.{Holds, IsEmptySet}
 use Rattle.cat_eval.specs.OverNames.{IsAnswerOver, AreAnswersOver}
@@ -36,8 +36,8 @@ get_within [] y k e = absurd (none-some y e)
 get_within (z ∷ zs) y zero e = omega arith
 get_within (z ∷ zs) y (suc k) e = let lt : k < length zs = get_within zs y k e in omega (arith, lt)
 
-pub answers_more : (check : CheckCode) (inputs : List (Bor Column)) (bases : List Known)
-    (answers : List Bool) (base : Known) (answer : Bool)
+pub answers_more : (check : CheckCode) (inputs : List (Bor Column)) (bases : List NamedValues)
+    (answers : List Bool) (base : NamedValues) (answer : Bool)
     → AreAnswersOver check inputs bases answers
     → IsAnswerOver check inputs base (length answers) check.code.kind answer
     → AreAnswersOver check inputs (bases ++ base ∷ []) (answers ++ answer ∷ [])
@@ -86,7 +86,7 @@ is_of_set kinds.OfSet = true
 is_of_set kinds.OfRelation = false
 is_of_set kinds.OfAny = false
 
-module _ (check : CheckCode) (inputs : List (Bor Column)) (base : Known) (k : ℕ) (met : Bool)
+module _ (check : CheckCode) (inputs : List (Bor Column)) (base : NamedValues) (k : ℕ) (met : Bool)
     (us : List Events) (vs : List Relation) where
   -- what the steps leave, asked as the check's word says
   pub answer_is : ((t : SetTree) → check.code.steps.items ≡ set_code t []
@@ -95,7 +95,7 @@ module _ (check : CheckCode) (inputs : List (Bor Column)) (base : Known) (k : �
       → ((t : RelTree) → check.code.steps.items ≡ rel_code t []
       → (v : Relation) × (vs ≡ v ∷ [])
       × IsRelation v base.count (Means base.count (EventsIn base inputs k)
-      (WithOwn (PairsOutside base inputs k) (Of base.count [])) t))
+      (WithOwn (PairsOutside base inputs k) (OwnPairs base.count [])) t))
       → ((s : Events) (rest : List Events) → check.code.kind ≡ kinds.OfSet → us ≡ s ∷ rest
       → IsTrue met ↔ IsEmptySet (IsMember s))
       → ((r : Relation) (rest : List Relation) → (check.code.kind ≡ kinds.OfSet → ⊥) → vs ≡ r ∷ rest
@@ -110,12 +110,12 @@ module _ (check : CheckCode) (inputs : List (Bor Column)) (base : Known) (k : �
   answer_is sets rels set_met rel_met kinds.OfRelation is = λ t code.
       let made = rels t code in
       let same = rel_met made.0 [] (λ e. false≢true (ap is_of_set (sym is ∙ e))) made.1 in
-      let other = holds_same check.word (Has made.0) (Means base.count (EventsIn base inputs k) (WithOwn (PairsOutside base inputs k) (Of base.count [])) t) made.2.pairs in
+      let other = holds_same check.word (Has made.0) (Means base.count (EventsIn base inputs k) (WithOwn (PairsOutside base inputs k) (OwnPairs base.count [])) t) made.2.pairs in
       turned_if met check.negated _ ((λ h. other.0 (same.0 h)), (λ h. same.1 (other.1 h)))
   answer_is sets rels set_met rel_met kinds.OfAny is = λ t code.
       let made = rels t code in
       let same = rel_met made.0 [] (λ e. false≢true (ap is_of_set (sym is ∙ e))) made.1 in
-      let other = holds_same check.word (Has made.0) (Means base.count (EventsIn base inputs k) (WithOwn (PairsOutside base inputs k) (Of base.count [])) t) made.2.pairs in
+      let other = holds_same check.word (Has made.0) (Means base.count (EventsIn base inputs k) (WithOwn (PairsOutside base inputs k) (OwnPairs base.count [])) t) made.2.pairs in
       turned_if met check.negated _ ((λ h. other.0 (same.0 h)), (λ h. same.1 (other.1 h)))
 
 -- before the first candidate
@@ -123,5 +123,5 @@ pub no_answers : (check : CheckCode) (inputs : List (Bor Column))
     → AreAnswersOver check inputs [] []
 no_answers check inputs = (refl, (λ k base answer at_b at_a. absurd (none k base at_b)))
   where
-    none : (k : ℕ) (base : Known) → slice_get [] k ≡ Some base → ⊥
+    none : (k : ℕ) (base : NamedValues) → slice_get [] k ≡ Some base → ⊥
     none k base e = absurd (omega (arith, get_within [] base k e))

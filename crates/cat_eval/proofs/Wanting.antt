@@ -13,17 +13,17 @@ use Rattle.candidates.specs.Space.{Candidate}
 use Rattle.cat_eval.specs.declared.seen.NamedColumn.{NamedColumn}
 use Rattle.cat_eval.specs.declared.column.Column.{Column}
 use Rattle.cat_eval.specs.declared.column.Column.TheVariants as columns
-use Rattle.cat_eval.specs.Columns.{HasValue, HasOwn, AreColumns, ColumnsOf}
+use Rattle.cat_eval.specs.Columns.{HasColumnValue, HasOwn, AreGroupColumns, ColumnsOf}
 use Rattle.cat_eval.specs.Least.{IsLeast, AreMonotone}
 use Rattle.cat_eval.specs.Named.{EventsIn, PairsOutside}
 use Rattle.cat_eval.specs.OverNames.{IsMeaningOver, AreColumnsOver}
 use Rattle.cat_eval.specs.Rising.{AreCodes}
 use Rattle.cat_eval.specs.Needed.{AreListed, bodies_names}
-use Rattle.cat_eval.specs.Seen.{Known, seen_in}
+use Rattle.cat_eval.specs.Seen.{NamedValues, seen_in}
 use Rattle.cat_eval.specs.Steady.{IsSteady, Repeats, EndsWith}
 use Rattle.cat_eval.specs.Tables.{AreColumnsFor, column_names}
 use Rattle.cat_eval.specs.Values.{Adds, IsFor, column_len}
-use Rattle.cat_eval.specs.Wanted.{is_wanted, AreShown, AreWantedOver, IsWantedColumn, WantedColumnsOf, AddsIf, RepeatsIf}
+use Rattle.cat_eval.specs.Wanted.{is_wanted, AreWantedColumns, AreWantedOver, IsWantedColumn, WantedColumnsOf, AddsIf, RepeatsIf}
 use Rattle.cat_eval.proofs.Bodies.{AreBodyColumns, bodies_more, bodies_all}
 use Rattle.cat_eval.proofs.Columns.{columns_none, columns_moved, evaluated_more, solved_more}
 use Rattle.cat_eval.proofs.Exact.{columns_exact}
@@ -72,7 +72,7 @@ one_next false before old new s r is same adds = absurd (false≢true is)
 
 -- where the old columns are shown and those that are wanted get a value more, so do all columns
 module _ (wanted : List Bool) (V : ℕ → Events → Relation → Type 0) (whole olds news : List Column)
-    (shown : AreShown wanted whole olds) (many : length news ≡ length olds)
+    (shown : AreWantedColumns wanted whole olds) (many : length news ≡ length olds)
     (more : (j : ℕ) → j < length olds → (c : Column)
     → (s : Events) × (r : Relation)
     × AddsIf (is_wanted wanted j) (get_or olds j c) (get_or news j c) s r × V j s r) where
@@ -95,7 +95,7 @@ module _ (wanted : List Bool) (V : ℕ → Events → Relation → Type 0) (whol
       × ((j : ℕ) → j < length whole → (d : Column) → IsNext j (get_or whole j d) (get_or ys j d))
   all_next = chosen IsNext whole next_at
 
-  pub whole_more : (next : List Column) × AreShown wanted next news × (length next ≡ length whole)
+  pub whole_more : (next : List Column) × AreWantedColumns wanted next news × (length next ≡ length whole)
       × ((j : ℕ) → j < length whole → (c : Column)
       → (s : Events) × (r : Relation) × Adds (get_or whole j c) (get_or next j c) s r
       × V j s r)
@@ -117,8 +117,8 @@ module _ (wanted : List Bool) (V : ℕ → Events → Relation → Type 0) (whol
 
 -- ---- one candidate more
 
-module _ (wanted : List Bool) (bodies : List Body) (inputs : List (Bor Column)) (bases : List Known)
-    (base : Known) (olds news : List Column) (k : ℕ) (many : length news ≡ length olds)
+module _ (wanted : List Bool) (bodies : List Body) (inputs : List (Bor Column)) (bases : List NamedValues)
+    (base : NamedValues) (olds news : List Column) (k : ℕ) (many : length news ≡ length olds)
     (at : k ≡ length bases) where
   -- each body was evaluated once
   pub evaluated_shown : (recursive : Bool) → recursive ≡ false
@@ -171,14 +171,14 @@ module _ (wanted : List Bool) (bodies : List Body) (inputs : List (Bor Column)) 
 -- ---- the last value once more
 
 repeats_adds : (b : Bool) (old new whole : Column) (s : Events) (r : Relation)
-    → (b ≡ true → old ≡ whole) → RepeatsIf b old new → HasValue whole (column_len whole - 1) s r
+    → (b ≡ true → old ≡ whole) → RepeatsIf b old new → HasColumnValue whole (column_len whole - 1) s r
     → AddsIf b old new s r
 repeats_adds true old new whole s r same repeats has =
-    repeats s r (subst (λ (c : Column). HasValue c (column_len c - 1) s r) (sym (same refl)) has)
+    repeats s r (subst (λ (c : Column). HasColumnValue c (column_len c - 1) s r) (sym (same refl)) has)
 repeats_adds false old new whole s r same repeats has = repeats
 
 adds_other : (a b : Column) (k : ℕ) (s t : Events) (r q : Relation) → Adds a b s r
-    → HasValue a k s r → HasValue a k t q → Adds a b t q
+    → HasColumnValue a k s r → HasColumnValue a k t q → Adds a b t q
 adds_other (columns.Sets xs) (columns.Sets ys) k s t r q adds has other =
     subst (λ (z : Events). ys ≡ xs ++ z ∷ []) (same_Some s t (sym has ∙ other)) adds
 adds_other (columns.Sets xs) (columns.Relations ys) k s t r q adds has other = absurd adds
@@ -189,11 +189,11 @@ adds_other (columns.Relations xs) (columns.Relations ys) k s t r q adds has othe
 -- the values that the last of the candidates has there
 abbrev HasLast : List Column → ℕ → Events → Relation → Type 0
 HasLast whole j s r =
-    (c : Column) → HasValue (get_or whole j c) (column_len (get_or whole j c) - 1) s r
+    (c : Column) → HasColumnValue (get_or whole j c) (column_len (get_or whole j c) - 1) s r
 
 module _ (wanted : List Bool) (recursive : Bool) (bodies : List Body) (inputs : List (Bor Column))
-    (bases : List Known) (base : Known) (olds news whole : List Column) (ends : EndsWith bases base)
-    (over : AreColumnsOver recursive bodies inputs bases whole) (shown : AreShown wanted whole olds)
+    (bases : List NamedValues) (base : NamedValues) (olds news whole : List Column) (ends : EndsWith bases base)
+    (over : AreColumnsOver recursive bodies inputs bases whole) (shown : AreWantedColumns wanted whole olds)
     (many : length news ≡ length olds)
     (repeats : (x : ℕ) → x < length olds → (c : Column)
     → RepeatsIf (is_wanted wanted x) (get_or olds x c) (get_or news x c)) where
@@ -209,7 +209,7 @@ module _ (wanted : List Bool) (recursive : Bool) (bodies : List Body) (inputs : 
         r,
         repeats_adds (is_wanted wanted j) (get_or olds j c) (get_or news j c) (get_or whole j c) s r
             (λ is. shown.same j less is c) (repeats j less c) has,
-        (λ d. subst (λ (x : Column). HasValue x (column_len x - 1) s r)
+        (λ d. subst (λ (x : Column). HasColumnValue x (column_len x - 1) s r)
             (get_or_default whole j c d inside) has),
       )
 
@@ -224,7 +224,7 @@ module _ (wanted : List Bool) (recursive : Bool) (bodies : List Body) (inputs : 
       adds (has c) other
 
 pub repeated_shown : (wanted : List Bool) (recursive : Bool) (bodies : List Body)
-    (inputs : List (Bor Column)) (bases : List Known) (base : Known) (olds news : List Column)
+    (inputs : List (Bor Column)) (bases : List NamedValues) (base : NamedValues) (olds news : List Column)
     (k steady : ℕ) → EndsWith bases base
     → AreWantedOver wanted recursive bodies inputs bases olds
     → k ≡ length bases → IsSteady inputs (length bases) steady → k < steady
@@ -262,28 +262,28 @@ shown_none wanted recursive bodies inputs cs many fits =
 
 pub shown_moved : (p q : Bool) (b d : Bor (List Body)) (x y : Bor (List (Bor Column)))
     (w v : Bor (List Bool)) → p ≡ q → b ≡ d → x ≡ y → w ≡ v
-    → (bases : List Known) (cs : List Column) → AreWantedOver w.now p b.now x.now bases cs
+    → (bases : List NamedValues) (cs : List Column) → AreWantedOver w.now p b.now x.now bases cs
     → AreWantedOver v.now q d.now y.now bases cs
 shown_moved p q b d x y w v e f g same bases cs h =
     let (whole, over, shown) = h in (
       whole,
       columns_moved p q b d x y e f g bases whole over,
-      subst (λ (z : Bor (List Bool)). AreShown z.now whole cs) same shown,
+      subst (λ (z : Bor (List Bool)). AreWantedColumns z.now whole cs) same shown,
     )
 
 -- ---- body after body
 
 -- each of the first bodies has its column, of which those that are wanted are shown
-abbrev pub AreBodiesShown : List Bool → List Body → List (Bor Column) → List Known → ℕ → List Column
+abbrev pub AreBodiesShown : List Bool → List Body → List (Bor Column) → List NamedValues → ℕ → List Column
     → Type 0
 AreBodiesShown wanted bodies inputs bases end cs =
     (whole : List Column) × (length whole ≡ end) × AreBodyColumns bodies inputs bases whole end
-    × AreShown wanted whole cs
+    × AreWantedColumns wanted whole cs
 
 shown_push : (wanted : List Bool) (whole cs : List Column) (column one : Column)
-    → AreShown wanted whole cs → (is_wanted wanted (length cs) ≡ true → one ≡ column)
+    → AreWantedColumns wanted whole cs → (is_wanted wanted (length cs) ≡ true → one ≡ column)
     → (is_wanted wanted (length cs) ≡ false → column_len one ≡ 0)
-    → AreShown wanted (whole ++ column ∷ []) (cs ++ one ∷ [])
+    → AreWantedColumns wanted (whole ++ column ∷ []) (cs ++ one ∷ [])
 shown_push wanted whole cs column one shown same empty = record {
   long = length_push cs one ∙ ap (λ n. n + 1) shown.long ∙ sym (length_push whole column);
   same = λ j lt is c. elim (cases_eq j (length cs)) [
@@ -306,7 +306,7 @@ shown_push wanted whole cs column one shown same empty = record {
 }
 
 pub bodies_shown_none : (wanted : List Bool) (bodies : List Body) (inputs : List (Bor Column))
-    (bases : List Known) → AreBodiesShown wanted bodies inputs bases 0 []
+    (bases : List NamedValues) → AreBodiesShown wanted bodies inputs bases 0 []
 bodies_shown_none wanted bodies inputs bases = (
   [],
   refl,
@@ -315,7 +315,7 @@ bodies_shown_none wanted bodies inputs bases = (
 )
 
 pub bodies_shown_more : (wanted : List Bool) (bodies : List Body) (inputs : List (Bor Column))
-    (bases : List Known) (cs : List Column) (i : ℕ) (body : Body) (one : Column)
+    (bases : List NamedValues) (cs : List Column) (i : ℕ) (body : Body) (one : Column)
     → i < length bodies → body ≡ get_or bodies i body
     → AreBodiesShown wanted bodies inputs bases i cs
     → IsWantedColumn (is_wanted wanted (length cs)) body inputs bases one
@@ -330,7 +330,7 @@ bodies_shown_more wanted bodies inputs bases cs i body one lt here h is =
     )
 
 pub bodies_shown_all : (wanted : List Bool) (bodies : List Body) (inputs : List (Bor Column))
-    (bases : List Known) (cs : List Column) (i : ℕ) → i ≡ length bodies
+    (bases : List NamedValues) (cs : List Column) (i : ℕ) → i ≡ length bodies
     → AreBodiesShown wanted bodies inputs bases i cs
     → AreWantedOver wanted false bodies inputs bases cs
 bodies_shown_all wanted bodies inputs bases cs i end h =
@@ -349,7 +349,7 @@ same_lists (x ∷ xs) (y ∷ ys) long same =
     ∙ ap (λ (zs : List Column). y ∷ zs) (same_lists xs ys (omega (arith, long))
     (λ j lt c. same (suc j) (omega (arith, lt)) c))
 
-pub all_shown : (whole shown : List Column) → AreShown [] whole shown → whole ≡ shown
+pub all_shown : (whole shown : List Column) → AreWantedColumns [] whole shown → whole ≡ shown
 all_shown whole shown h = sym (same_lists shown whole h.long (λ j lt c. h.same j lt refl c))
 
 pub all_wanted : (role : Role) (inputs : List (Bor Column)) (space : Space) (cs : List Column)
@@ -364,8 +364,8 @@ pub shown_exact : (wanted : List Bool) (recursive : Bool) (bodies : List Body)
     (columns : List Column)
     → AreColumnsFor xs cs → AreListed (column_names xs) (bodies_names bodies)
     → AreWantedOver wanted recursive bodies inputs (seen_in xs 0 cs) columns
-    → (whole : List Column) × AreColumns recursive bodies inputs cs whole
-    × AreShown wanted whole columns
+    → (whole : List Column) × AreGroupColumns recursive bodies inputs cs whole
+    × AreWantedColumns wanted whole columns
 shown_exact wanted recursive bodies inputs xs cs columns right listed h =
     let (whole, over, shown) = h in
     (whole, columns_exact recursive bodies inputs xs cs whole right listed over, shown)

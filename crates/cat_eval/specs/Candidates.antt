@@ -11,7 +11,7 @@ use Rattle.binding_graph.specs.declared.resolved.Role.TheVariants as roles
 abbrev pub reading_so : Combination → List ℕ → List (List ℕ) → List Candidate
 reading_so combination sources orders = map (λ order. (combination, (sources, order))) orders
 
--- those that read in one of these ways
+-- those with one of these reads-from, for each order of the stores
 abbrev pub reading_in : Combination → List (Vec ℕ Global) → List Candidate
 reading_in combination ways =
     flat_map (λ sources. reading_so combination sources.items combination.orders) ways

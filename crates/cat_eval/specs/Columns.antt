@@ -14,12 +14,12 @@ use Rattle.cat_eval.specs.declared.column.Column.TheVariants as columns
 use Rattle.cat_eval.specs.Executions.{events_of, EventsAt, PairsAt}
 use Rattle.cat_eval.specs.Least.{IsLeast, AreMonotone}
 use Rattle.cat_eval.specs.Rising.{AreCodes}
-use Rattle.cat_eval.specs.Values.{IsFor, IsMeant, column_len}
+use Rattle.cat_eval.specs.Values.{IsFor, IsMeaning, column_len}
 
 -- the column's value for the candidate of this number: of the two the one of its kind
-abbrev pub HasValue : Column → ℕ → Events → Relation → Type 0
-HasValue (columns.Sets values) k s r = slice_get values k ≡ Some s
-HasValue (columns.Relations values) k s r = slice_get values k ≡ Some r
+abbrev pub HasColumnValue : Column → ℕ → Events → Relation → Type 0
+HasColumnValue (columns.Sets values) k s r = slice_get values k ≡ Some s
+HasColumnValue (columns.Relations values) k s r = slice_get values k ≡ Some r
 
 -- in the candidate of this number, where the other names stand for these events and pairs among n
 -- events, each name has the value of its body; the names of a recursive group have the least values
@@ -28,17 +28,17 @@ abbrev pub HaveValues : Bool → List Body → ℕ → (Source → ℕ → Type 
     → List Column → Type 0
 HaveValues false bodies n sets outer k cs =
     (j : ℕ) → j < length bodies → (c : Column) (b : Body)
-    → (s : Events) × (r : Relation) × HasValue (slice_index_or cs j c) k s r
-    × IsMeant (slice_index_or bodies j b).code.kind
+    → (s : Events) × (r : Relation) × HasColumnValue (slice_index_or cs j c) k s r
+    × IsMeaning (slice_index_or bodies j b).code.kind
     (slice_index_or bodies j b).code.steps.items n sets outer s r
 HaveValues true bodies n sets outer k cs =
     (trees : List RelTree) → AreCodes trees bodies → AreMonotone trees
     → (values : List Relation) × IsLeast n sets outer trees values
     × ((j : ℕ) → j < length bodies → (c : Column)
-    → (s : Events) × HasValue (slice_index_or cs j c) k s (slice_index_or values j no_slot))
+    → (s : Events) × HasColumnValue (slice_index_or cs j c) k s (slice_index_or values j no_slot))
 
 -- one column for each body, of its kind, with one value for each of the candidates, in order
-pub record AreColumns (recursive : Bool) (bodies : List Body) (inputs : List (Bor Column))
+pub record AreGroupColumns (recursive : Bool) (bodies : List Body) (inputs : List (Bor Column))
     (candidates : List Candidate) (cs : List Column) : Type 0 where
   pub as_many : length cs ≡ length bodies
   pub suited : (j : ℕ) → j < length bodies → (b : Body) (c : Column)
@@ -52,7 +52,7 @@ pub record AreColumns (recursive : Bool) (bodies : List Body) (inputs : List (Bo
 -- the columns of an item that is a group, over the candidates of a space; another item has none
 abbrev pub ColumnsOf : Role → List (Bor Column) → Space → List Column → Type 0
 ColumnsOf (roles.Group recursive bodies) inputs space cs =
-    AreColumns recursive bodies.items inputs (candidates_in space.combinations.items) cs
+    AreGroupColumns recursive bodies.items inputs (candidates_in space.combinations.items) cs
 ColumnsOf (roles.Check check) inputs space cs = cs ≡ []
 ColumnsOf roles.Silent inputs space cs = cs ≡ []
 

@@ -6,7 +6,7 @@ use Rattle.binding_graph.specs.declared.resolved.Role.{Role}
 use Rattle.candidates.specs.declared.candidate.Space.{Space}
 use Rattle.cat_eval.specs.declared.column.Column.{Column}
 use Rattle.cat_eval.specs.OverNames.{IsAnswerOver, AreAnswersOver}
-use Rattle.cat_eval.specs.Seen.{Known}
+use Rattle.cat_eval.specs.Seen.{NamedValues}
 use Rattle.cat_eval.specs.Steady.{EndsWith}
 use Rattle.cat_eval.specs.Values.{AnswersOf}
 
@@ -32,14 +32,14 @@ abbrev pub is_asked_at : Option (Bor (List Bool)) → ℕ → Bool
 is_asked_at None k = true
 is_asked_at (Some kept) k = is_kept_at kept.now k
 
-abbrev pub AreAskedOver : CheckCode → List (Bor Column) → Option (Bor (List Bool)) → List Known
-    → List Bool → Type 0
+abbrev pub AreAskedOver : CheckCode → List (Bor Column) → Option (Bor (List Bool))
+    → List NamedValues → List Bool → Type 0
 AreAskedOver check inputs kept bases answers =
     (all : List Bool) × AreAnswersOver check inputs bases all
     × AreWhere (is_asked_at kept) all answers
 
 -- what is known of the last candidate is its answer
-abbrev pub IsLastAnswer : CheckCode → List (Bor Column) → List Known → Option Bool → Type 0
+abbrev pub IsLastAnswer : CheckCode → List (Bor Column) → List NamedValues → Option Bool → Type 0
 IsLastAnswer check inputs bases known =
-    (answer : Bool) (base : Known) → known ≡ Some answer → EndsWith bases base
+    (answer : Bool) (base : NamedValues) → known ≡ Some answer → EndsWith bases base
     → IsAnswerOver check inputs base (length bases - 1) check.code.kind answer

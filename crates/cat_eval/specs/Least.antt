@@ -4,39 +4,39 @@ use Rattle.bit_relations.specs.Relation.{Relation, IsRegular, no_slot}
 use Rattle.binding_graph.specs.declared.resolved.Blend.TheVariants as blends
 use Rattle.binding_graph.specs.declared.resolved.Source.{Source}
 use Rattle.binding_graph.specs.declared.resolved.Source.TheVariants as sources
-use Rattle.binding_graph.specs.Trees.{RelTree, RelName, NoPair, RelBlend, Then, Cross, OnSet, Close, RelNot}
+use Rattle.binding_graph.specs.Trees.{RelTree, RelName, NoPair, BlendRelations, Compose, Multiply, IdentityOn, Close, ComplementRelation}
 use Rattle.cat_eval.specs.Meaning.{Means}
-use Rattle.cat_eval.specs.Named.{Of, WithOwn}
+use Rattle.cat_eval.specs.Named.{OwnPairs, WithOwn}
 
 -- the name is not one of the group itself
-abbrev pub IsOutside : Source → Type 0
-IsOutside (sources.Predefined name) = Unit {0}
-IsOutside (sources.Input index) = Unit {0}
-IsOutside (sources.Own position) = ⊥
+abbrev pub IsNotOwn : Source → Type 0
+IsNotOwn (sources.Predefined name) = Unit {0}
+IsNotOwn (sources.Input index) = Unit {0}
+IsNotOwn (sources.Own position) = ⊥
 
 -- the expression holds no name of the group: a set never does
-abbrev pub IsFixed : RelTree → Type 0
-IsFixed (RelName source) = IsOutside source
-IsFixed NoPair = Unit {0}
-IsFixed (RelBlend how e f) = IsFixed e × IsFixed f
-IsFixed (Then e f) = IsFixed e × IsFixed f
-IsFixed (Cross s t) = Unit {0}
-IsFixed (OnSet s) = Unit {0}
-IsFixed (Close how e) = IsFixed e
-IsFixed (RelNot e) = IsFixed e
+abbrev pub HasNoOwnName : RelTree → Type 0
+HasNoOwnName (RelName source) = IsNotOwn source
+HasNoOwnName NoPair = Unit {0}
+HasNoOwnName (BlendRelations how e f) = HasNoOwnName e × HasNoOwnName f
+HasNoOwnName (Compose e f) = HasNoOwnName e × HasNoOwnName f
+HasNoOwnName (Multiply s t) = Unit {0}
+HasNoOwnName (IdentityOn s) = Unit {0}
+HasNoOwnName (Close how e) = HasNoOwnName e
+HasNoOwnName (ComplementRelation e) = HasNoOwnName e
 
 -- no name of the group stands right of a difference or in a complement
 abbrev pub IsMonotone : RelTree → Type 0
 IsMonotone (RelName source) = Unit {0}
 IsMonotone NoPair = Unit {0}
-IsMonotone (RelBlend blends.Union e f) = IsMonotone e × IsMonotone f
-IsMonotone (RelBlend blends.Intersection e f) = IsMonotone e × IsMonotone f
-IsMonotone (RelBlend blends.Difference e f) = IsMonotone e × IsFixed f
-IsMonotone (Then e f) = IsMonotone e × IsMonotone f
-IsMonotone (Cross s t) = Unit {0}
-IsMonotone (OnSet s) = Unit {0}
+IsMonotone (BlendRelations blends.Union e f) = IsMonotone e × IsMonotone f
+IsMonotone (BlendRelations blends.Intersection e f) = IsMonotone e × IsMonotone f
+IsMonotone (BlendRelations blends.Difference e f) = IsMonotone e × HasNoOwnName f
+IsMonotone (Compose e f) = IsMonotone e × IsMonotone f
+IsMonotone (Multiply s t) = Unit {0}
+IsMonotone (IdentityOn s) = Unit {0}
 IsMonotone (Close how e) = IsMonotone e
-IsMonotone (RelNot e) = IsFixed e
+IsMonotone (ComplementRelation e) = HasNoOwnName e
 
 abbrev pub body : List RelTree → ℕ → RelTree
 body bodies x = slice_index_or bodies x NoPair
@@ -48,19 +48,20 @@ AreMonotone bodies = (x : ℕ) → x < length bodies → IsMonotone (body bodies
 abbrev pub SolvesAt : ℕ → (Source → ℕ → Type 0) → (Source → ℕ → ℕ → Type 0) → List RelTree
     → List Relation → ℕ → Type 0
 SolvesAt n sets outer bodies values x =
-    (a b : ℕ) → Of n values x a b ↔ Means n sets (WithOwn outer (Of n values)) (body bodies x) a b
+    (a b : ℕ)
+    → OwnPairs n values x a b ↔ Means n sets (WithOwn outer (OwnPairs n values)) (body bodies x) a b
 
 -- the tests hold of all that the bodies give where the names have the pairs that pass them
-abbrev pub IsClosed : ℕ → (Source → ℕ → Type 0) → (Source → ℕ → ℕ → Type 0) → List RelTree
+abbrev pub IsClosedUnder : ℕ → (Source → ℕ → Type 0) → (Source → ℕ → ℕ → Type 0) → List RelTree
     → (ℕ → ℕ → ℕ → Bool) → Type 0
-IsClosed n sets outer bodies test =
+IsClosedUnder n sets outer bodies test =
     (x : ℕ) → x < length bodies → (a b : ℕ)
     → Means n sets (WithOwn outer (λ y c d. IsTrue (test y c d))) (body bodies x) a b
     → IsTrue (test x a b)
 
 -- each value is a relation on n events
-abbrev pub AreOn : ℕ → List Relation → Type 0
-AreOn n values =
+abbrev pub AreRelationsOn : ℕ → List Relation → Type 0
+AreRelationsOn n values =
     (x : ℕ) → x < length values
     → ((slice_index_or values x no_slot).count ≡ n) × IsRegular (slice_index_or values x no_slot)
 
@@ -68,7 +69,7 @@ AreOn n values =
 pub record IsLeast (n : ℕ) (sets : Source → ℕ → Type 0) (outer : Source → ℕ → ℕ → Type 0)
     (bodies : List RelTree) (values : List Relation) : Type 0 where
   pub as_many : length values ≡ length bodies
-  pub on : AreOn n values
+  pub on : AreRelationsOn n values
   pub solves : (x : ℕ) → x < length bodies → SolvesAt n sets outer bodies values x
-  pub inside : (test : ℕ → ℕ → ℕ → Bool) → IsClosed n sets outer bodies test → (x : ℕ)
-      → x < length bodies → (a b : ℕ) → Of n values x a b → IsTrue (test x a b)
+  pub inside : (test : ℕ → ℕ → ℕ → Bool) → IsClosedUnder n sets outer bodies test → (x : ℕ)
+      → x < length bodies → (a b : ℕ) → OwnPairs n values x a b → IsTrue (test x a b)

@@ -8,7 +8,7 @@ use Rattle.base_names.specs.Known.{EventsFound}
 use Rattle.cat_eval.specs.declared.column.Column.{Column}
 use Rattle.cat_eval.specs.declared.column.Column.TheVariants as columns
 use Rattle.cat_eval.specs.declared.names.Names.{Names}
-use Rattle.cat_eval.specs.Seen.{Known, EventsOf, PairsOf}
+use Rattle.cat_eval.specs.Seen.{NamedValues, EventsNamedBy, PairsNamedBy}
 pub use Rattle.cat_eval.specs.Seen.{PairsFound}
 
 -- the events of a column's set in a candidate of n events
@@ -30,18 +30,18 @@ InputPairs None k n = λ a b. ⊥
 InputPairs (Some column) k n = ColumnPairs column.now k n
 
 -- the pairs of the values of a recursive group, on n events
-abbrev pub Of : ℕ → List Relation → ℕ → ℕ → ℕ → Type 0
-Of n values position = PairsFound (slice_get values position) n
+abbrev pub OwnPairs : ℕ → List Relation → ℕ → ℕ → ℕ → Type 0
+OwnPairs n values position = PairsFound (slice_get values position) n
 
 -- the events of a name that is not one of the recursive group itself
-abbrev pub EventsIn : Known → List (Bor Column) → ℕ → Source → ℕ → Type 0
-EventsIn base inputs k (sources.Predefined name) = EventsOf base name
+abbrev pub EventsIn : NamedValues → List (Bor Column) → ℕ → Source → ℕ → Type 0
+EventsIn base inputs k (sources.Predefined name) = EventsNamedBy base name
 EventsIn base inputs k (sources.Input index) = InputEvents (slice_get inputs index) k base.count
 EventsIn base inputs k (sources.Own position) = λ a. ⊥
 
 -- the pairs of a name that is not one of the recursive group itself
-abbrev pub PairsOutside : Known → List (Bor Column) → ℕ → Source → ℕ → ℕ → Type 0
-PairsOutside base inputs k (sources.Predefined name) = PairsOf base name
+abbrev pub PairsOutside : NamedValues → List (Bor Column) → ℕ → Source → ℕ → ℕ → Type 0
+PairsOutside base inputs k (sources.Predefined name) = PairsNamedBy base name
 PairsOutside base inputs k (sources.Input index) = InputPairs (slice_get inputs index) k base.count
 PairsOutside base inputs k (sources.Own position) = λ a b. ⊥
 
@@ -57,4 +57,4 @@ EventsNamed names = EventsIn names.base.now names.inputs.now names.candidate
 abbrev pub PairsNamed : Names → Source → ℕ → ℕ → Type 0
 PairsNamed names =
     WithOwn (PairsOutside names.base.now names.inputs.now names.candidate)
-    (Of names.base.now.count names.own.now)
+    (OwnPairs names.base.now.count names.own.now)

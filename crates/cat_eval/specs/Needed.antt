@@ -98,15 +98,15 @@ step_names (steps.Close how) = []
 step_names steps.ComplementRelation = []
 
 -- the predefined names in the expressions of an item
-abbrev pub names_in : List Step → List Predefined
-names_in xs = flat_map step_names xs
+abbrev pub predefined_names_in : List Step → List Predefined
+predefined_names_in xs = flat_map step_names xs
 
 abbrev pub bodies_names : List Body → List Predefined
-bodies_names bodies = flat_map (λ body. names_in body.code.steps.items) bodies
+bodies_names bodies = flat_map (λ body. predefined_names_in body.code.steps.items) bodies
 
 abbrev pub role_names : Role → List Predefined
 role_names (roles.Group recursive bodies) = bodies_names bodies.items
-role_names (roles.Check check) = names_in check.code.steps.items
+role_names (roles.Check check) = predefined_names_in check.code.steps.items
 role_names roles.Silent = []
 
 -- all of these names are listed

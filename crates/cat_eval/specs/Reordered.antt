@@ -1,4 +1,4 @@
--- Candidates whose stores are ordered in another way than those of the one before.
+-- Candidates that differ from the one before in coherence alone.
 use Rattle.std.specs.Prelude.{◌≡◌, List}
 use Rattle.bit_relations.specs.Relation.{Relation, Events}
 use Rattle.text_values.specs.declared.predefined.Predefined.{Predefined}

@@ -3,10 +3,10 @@ use Rattle.std.specs.Prelude.{ℕ, ◌≡◌, ◌<◌, ◌≤◌, ◌⊎◌, ◌
 use Rattle.bit_relations.specs.Relation.{Relation, IsRelation, room_of, no_slot}
 use Rattle.binding_graph.specs.declared.resolved.Source.{Source}
 use Rattle.binding_graph.specs.declared.resolved.Body.{Body}
-use Rattle.binding_graph.specs.Trees.{RelTree, RelName, NoPair, RelBlend, Then, Cross, OnSet, Close, RelNot, rel_code}
+use Rattle.binding_graph.specs.Trees.{RelTree, RelName, NoPair, BlendRelations, Compose, Multiply, IdentityOn, Close, ComplementRelation, rel_code}
 use Rattle.cat_eval.specs.Meaning.{Means}
-use Rattle.cat_eval.specs.Named.{Of, WithOwn}
-use Rattle.cat_eval.specs.Least.{SolvesAt, IsClosed, AreOn, body}
+use Rattle.cat_eval.specs.Named.{OwnPairs, WithOwn}
+use Rattle.cat_eval.specs.Least.{SolvesAt, IsClosedUnder, AreRelationsOn, body}
 use Rattle.cat_eval.specs.Uses.{IsAmong, StandsForOne}
 
 -- how much room the values have left to grow
@@ -15,30 +15,30 @@ rooms [] = 0
 rooms (r ∷ rs) = room_of r + rooms rs
 
 -- each value lies inside its body's, and inside all that is closed
-pub record IsSound (n : ℕ) (sets : Source → ℕ → Type 0) (outer : Source → ℕ → ℕ → Type 0)
+pub record IsBelowSolution (n : ℕ) (sets : Source → ℕ → Type 0) (outer : Source → ℕ → ℕ → Type 0)
     (bodies : List RelTree) (values : List Relation) : Type 0 where
   pub as_many : length values ≡ length bodies
-  pub on : AreOn n values
-  pub rising : (x : ℕ) → x < length bodies → (a b : ℕ) → Of n values x a b
-      → Means n sets (WithOwn outer (Of n values)) (body bodies x) a b
-  pub inside : (test : ℕ → ℕ → ℕ → Bool) → IsClosed n sets outer bodies test → (x : ℕ)
-      → x < length bodies → (a b : ℕ) → Of n values x a b → IsTrue (test x a b)
+  pub on : AreRelationsOn n values
+  pub rising : (x : ℕ) → x < length bodies → (a b : ℕ) → OwnPairs n values x a b
+      → Means n sets (WithOwn outer (OwnPairs n values)) (body bodies x) a b
+  pub inside : (test : ℕ → ℕ → ℕ → Bool) → IsClosedUnder n sets outer bodies test → (x : ℕ)
+      → x < length bodies → (a b : ℕ) → OwnPairs n values x a b → IsTrue (test x a b)
 
 -- the expression holds one of the names of the group
 abbrev pub HoldsOne : ℕ → RelTree → Type 0
 HoldsOne names (RelName source) = StandsForOne names source
 HoldsOne names NoPair = ⊥
-HoldsOne names (RelBlend how e f) = HoldsOne names e ⊎ HoldsOne names f
-HoldsOne names (Then e f) = HoldsOne names e ⊎ HoldsOne names f
-HoldsOne names (Cross s t) = ⊥
-HoldsOne names (OnSet s) = ⊥
+HoldsOne names (BlendRelations how e f) = HoldsOne names e ⊎ HoldsOne names f
+HoldsOne names (Compose e f) = HoldsOne names e ⊎ HoldsOne names f
+HoldsOne names (Multiply s t) = ⊥
+HoldsOne names (IdentityOn s) = ⊥
 HoldsOne names (Close how e) = HoldsOne names e
-HoldsOne names (RelNot e) = HoldsOne names e
+HoldsOne names (ComplementRelation e) = HoldsOne names e
 
--- within a round over the names todo, where the bodies below x have been evaluated
-pub record IsRound (n : ℕ) (sets : Source → ℕ → Type 0) (outer : Source → ℕ → ℕ → Type 0)
+-- in a fixpoint round over the names todo, where the bodies below x have been evaluated
+pub record IsFixpointRound (n : ℕ) (sets : Source → ℕ → Type 0) (outer : Source → ℕ → ℕ → Type 0)
     (bodies : List RelTree) (values : List Relation) (todo x grew : ℕ) : Type 0 where
-  pub sound : IsSound n sets outer bodies values
+  pub sound : IsBelowSolution n sets outer bodies values
   pub pending : (y : ℕ) → y < length bodies
       → SolvesAt n sets outer bodies values y
       ⊎ (((x ≤ y) × IsAmong todo y) ⊎ HoldsOne grew (body bodies y))

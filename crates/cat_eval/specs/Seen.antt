@@ -38,7 +38,7 @@ value_at k named =
     }
 
 -- the number of events, and what stands under the names
-pub record Known : Type 0 where
+pub record NamedValues : Type 0 where
   pub count : ℕ
   pub values : List Value
 
@@ -54,25 +54,25 @@ PairsAmong [] name n a b = ⊥
 PairsAmong (x ∷ xs) name n a b =
     ((x.name ≡ name) × PairsFound x.pairs n a b) ⊎ ((x.name ≡ name → ⊥) × PairsAmong xs name n a b)
 
-abbrev pub EventsOf : Known → Predefined → ℕ → Type 0
-EventsOf known name = EventsAmong known.values name known.count
+abbrev pub EventsNamedBy : NamedValues → Predefined → ℕ → Type 0
+EventsNamedBy known name = EventsAmong known.values name known.count
 
-abbrev pub PairsOf : Known → Predefined → ℕ → ℕ → Type 0
-PairsOf known name = PairsAmong known.values name known.count
+abbrev pub PairsNamedBy : NamedValues → Predefined → ℕ → ℕ → Type 0
+PairsNamedBy known name = PairsAmong known.values name known.count
 
 abbrev pub columns_of : List NamedColumn → List (Bor Column)
 columns_of xs = map (λ x. x.column) xs
 
 -- what is seen of the names in the candidate of number k, of n events
-abbrev pub seen : List NamedColumn → ℕ → ℕ → Known
+abbrev pub seen : List NamedColumn → ℕ → ℕ → NamedValues
 seen xs k n = record { count = n; values = map (value_at k) xs }
 
 -- in so many candidates of n events, the first of number k
-abbrev pub seen_run : List NamedColumn → ℕ → ℕ → ℕ → List Known
+abbrev pub seen_run : List NamedColumn → ℕ → ℕ → ℕ → List NamedValues
 seen_run xs k n zero = []
 seen_run xs k n (suc m) = seen_run xs k n m ++ seen xs (k + m) n ∷ []
 
 -- in each of these candidates, the first of number k
-abbrev pub seen_in : List NamedColumn → ℕ → List Candidate → List Known
+abbrev pub seen_in : List NamedColumn → ℕ → List Candidate → List NamedValues
 seen_in xs k [] = []
 seen_in xs k (one ∷ rest) = seen xs k (length one.0.events.items) ∷ seen_in xs (k + 1) rest

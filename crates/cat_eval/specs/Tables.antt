@@ -14,7 +14,7 @@ use Rattle.cat_eval.specs.declared.column.Column.{Column}
 use Rattle.cat_eval.specs.declared.seen.NamedColumn.{NamedColumn}
 use Rattle.cat_eval.specs.declared.table.Entry.{Entry}
 use Rattle.cat_eval.specs.declared.evaluator.Evaluator.{Evaluator}
-use Rattle.cat_eval.specs.Columns.{HasValue}
+use Rattle.cat_eval.specs.Columns.{HasColumnValue}
 use Rattle.cat_eval.specs.Executions.{events_of}
 use Rattle.cat_eval.specs.Named.{ColumnEvents, ColumnPairs}
 use Rattle.cat_eval.specs.Values.{IsFor, column_len}
@@ -79,13 +79,13 @@ IsHeld true name base s r = IsEvents s base.count (KnownEvents base name)
 IsHeld false name base s r = IsRelation r base.count (KnownPairs base name)
 
 -- the column has a value for each of these, one by one
-pub record IsFilled (entry : Entry) (bases : List Known) : Type 0 where
+pub record IsEntryFilled (entry : Entry) (bases : List Known) : Type 0 where
   pub kind : IsFor (kind_for (is_set entry.name)) entry.column
   pub long : column_len entry.column ≡ length bases
   pub values : (k : ℕ) (base : Known) → slice_get bases k ≡ Some base
-      → (s : Events) × (r : Relation) × HasValue entry.column k s r
+      → (s : Events) × (r : Relation) × HasColumnValue entry.column k s r
       × IsHeld (is_set entry.name) entry.name base s r
 
 abbrev pub AreFilled : List Entry → List Known → Type 0
 AreFilled entries bases =
-    (i : ℕ) → i < length entries → (d : Entry) → IsFilled (slice_index_or entries i d) bases
+    (i : ℕ) → i < length entries → (d : Entry) → IsEntryFilled (slice_index_or entries i d) bases

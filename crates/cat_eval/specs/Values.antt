@@ -14,7 +14,7 @@ use Rattle.candidates.specs.Space.{candidates_in, Candidate}
 use Rattle.cat_eval.specs.Checks.{Holds, IsEmptySet}
 use Rattle.cat_eval.specs.Executions.{events_of, EventsAt, PairsAt}
 use Rattle.cat_eval.specs.Meaning.{MeansSet, Means}
-use Rattle.cat_eval.specs.Named.{WithOwn, Of}
+use Rattle.cat_eval.specs.Named.{WithOwn, OwnPairs}
 use Rattle.bit_relations.specs.Relation.{Relation, Events, IsRelation, IsEvents}
 use Rattle.binding_graph.specs.declared.resolved.Step.{Step}
 use Rattle.cat_eval.specs.declared.column.Column.TheVariants as columns
@@ -26,26 +26,26 @@ Unless true P = P → ⊥
 
 -- the answer is whether the expression meets the check, where the names stand for these events and
 -- pairs among n events: there are no names of a recursive group
-abbrev pub IsAnswer : CheckCode → ℕ → (Source → ℕ → Type 0) → (Source → ℕ → ℕ → Type 0) → Kind
+abbrev pub IsCheckAnswer : CheckCode → ℕ → (Source → ℕ → Type 0) → (Source → ℕ → ℕ → Type 0) → Kind
     → Bool → Type 0
-IsAnswer check n sets outer kinds.OfSet answer =
+IsCheckAnswer check n sets outer kinds.OfSet answer =
     (t : SetTree) → check.code.steps.items ≡ set_code t []
     → IsTrue answer ↔ Unless check.negated (IsEmptySet (MeansSet n sets t))
-IsAnswer check n sets outer kinds.OfRelation answer =
+IsCheckAnswer check n sets outer kinds.OfRelation answer =
     (t : RelTree) → check.code.steps.items ≡ rel_code t []
     → IsTrue answer
-    ↔ Unless check.negated (Holds check.word (Means n sets (WithOwn outer (Of n [])) t))
-IsAnswer check n sets outer kinds.OfAny answer =
+    ↔ Unless check.negated (Holds check.word (Means n sets (WithOwn outer (OwnPairs n [])) t))
+IsCheckAnswer check n sets outer kinds.OfAny answer =
     (t : RelTree) → check.code.steps.items ≡ rel_code t []
     → IsTrue answer
-    ↔ Unless check.negated (Holds check.word (Means n sets (WithOwn outer (Of n [])) t))
+    ↔ Unless check.negated (Holds check.word (Means n sets (WithOwn outer (OwnPairs n [])) t))
 
 -- one answer for each candidate, in order: whether the expression meets the check there
 abbrev pub AreAnswers : CheckCode → List (Bor Column) → List Candidate → List Bool → Type 0
 AreAnswers check inputs candidates answers =
     (length answers ≡ length candidates) × ((k : ℕ) (one : Candidate) (answer : Bool)
     → slice_get candidates k ≡ Some one → slice_get answers k ≡ Some answer
-    → IsAnswer check (events_of one) (EventsAt (events_of one) one inputs k)
+    → IsCheckAnswer check (events_of one) (EventsAt (events_of one) one inputs k)
     (PairsAt (events_of one) one inputs k) check.code.kind answer)
 
 -- the answers of an item that is a check, over the candidates of a space; another item has none
@@ -85,13 +85,13 @@ IsFor kinds.OfAny (columns.Relations values) = Unit {0}
 
 -- the set, or the relation, is what the code means, where the names stand for these events and
 -- pairs among n events: it uses no names of a recursive group
-abbrev pub IsMeant : Kind → List Step → ℕ → (Source → ℕ → Type 0) → (Source → ℕ → ℕ → Type 0)
+abbrev pub IsMeaning : Kind → List Step → ℕ → (Source → ℕ → Type 0) → (Source → ℕ → ℕ → Type 0)
     → Events → Relation → Type 0
-IsMeant kinds.OfSet steps n sets outer s r =
+IsMeaning kinds.OfSet steps n sets outer s r =
     (t : SetTree) → steps ≡ set_code t [] → IsEvents s n (MeansSet n sets t)
-IsMeant kinds.OfRelation steps n sets outer s r =
+IsMeaning kinds.OfRelation steps n sets outer s r =
     (t : RelTree) → steps ≡ rel_code t []
-    → IsRelation r n (Means n sets (WithOwn outer (Of n [])) t)
-IsMeant kinds.OfAny steps n sets outer s r =
+    → IsRelation r n (Means n sets (WithOwn outer (OwnPairs n [])) t)
+IsMeaning kinds.OfAny steps n sets outer s r =
     (t : RelTree) → steps ≡ rel_code t []
-    → IsRelation r n (Means n sets (WithOwn outer (Of n [])) t)
+    → IsRelation r n (Means n sets (WithOwn outer (OwnPairs n [])) t)

@@ -10,7 +10,7 @@ use Rattle.cat_eval.specs.declared.column.Column.{Column}
 use Rattle.cat_eval.specs.Columns.{ColumnsOf}
 use Rattle.cat_eval.specs.OverNames.{AreColumnsOver}
 use Rattle.cat_eval.specs.Runs.{IsBodyColumn}
-use Rattle.cat_eval.specs.Seen.{Known}
+use Rattle.cat_eval.specs.Seen.{NamedValues}
 use Rattle.cat_eval.specs.Steady.{Repeats}
 use Rattle.cat_eval.specs.Values.{Adds, column_len}
 
@@ -19,7 +19,7 @@ abbrev pub is_wanted : List Bool → ℕ → Bool
 is_wanted wanted position = slice_index_or wanted position true
 
 -- as many columns: where a name is wanted its column, and else one without a value
-pub record AreShown (wanted : List Bool) (whole shown : List Column) : Type 0 where
+pub record AreWantedColumns (wanted : List Bool) (whole shown : List Column) : Type 0 where
   pub long : length shown ≡ length whole
   pub same : (j : ℕ) → j < length shown → is_wanted wanted j ≡ true → (c : Column)
       → slice_index_or shown j c ≡ slice_index_or whole j c
@@ -29,21 +29,21 @@ pub record AreShown (wanted : List Bool) (whole shown : List Column) : Type 0 wh
 -- the columns of an item that is a group, of the names that are wanted
 abbrev pub WantedColumnsOf : List Bool → Role → List (Bor Column) → Space → List Column → Type 0
 WantedColumnsOf wanted role inputs space cs =
-    (whole : List Column) × ColumnsOf role inputs space whole × AreShown wanted whole cs
+    (whole : List Column) × ColumnsOf role inputs space whole × AreWantedColumns wanted whole cs
 
 -- the column has what the body means for each of these candidates, if it is wanted, and else no
 -- value
-abbrev pub IsWantedColumn : Bool → Body → List (Bor Column) → List Known → Column → Type 0
+abbrev pub IsWantedColumn : Bool → Body → List (Bor Column) → List NamedValues → Column → Type 0
 IsWantedColumn wanted body inputs bases shown =
     (whole : Column) × IsBodyColumn body inputs bases whole × (wanted ≡ true → shown ≡ whole)
     × (wanted ≡ false → column_len shown ≡ 0)
 
 -- as `WantedColumnsOf`, over the predefined names that are held for each candidate
-abbrev pub AreWantedOver : List Bool → Bool → List Body → List (Bor Column) → List Known
+abbrev pub AreWantedOver : List Bool → Bool → List Body → List (Bor Column) → List NamedValues
     → List Column → Type 0
 AreWantedOver wanted recursive bodies inputs bases cs =
     (whole : List Column) × AreColumnsOver recursive bodies inputs bases whole
-    × AreShown wanted whole cs
+    × AreWantedColumns wanted whole cs
 
 -- the new column has one value more, or it is the old one
 abbrev pub AddsIf : Bool → Column → Column → Events → Relation → Type 0

@@ -8,22 +8,22 @@ use Rattle.base_names.specs.Candidate.{IsEntered, HasReadsFrom, HasCoherence, Gi
 use Rattle.candidates.specs.Space.{Candidate}
 
 -- what these names need is held: the sets among them, and what the relations among them are made of
-pub record AreHeld (names : List Predefined) (base : Known) : Type 0 where
+pub record AreNamesHeld (names : List Predefined) (base : Known) : Type 0 where
   pub sets : (name : Predefined) → Contains names name → IsTrue (is_set name)
       → Contains (set_names base.sets) name
   pub relations : (name : Predefined) → Contains names name → is_set name ≡ false → Gives base name
 
 -- these names are held, and what is held is that of the combination where this fixes it
-pub record IsReady (names : List Predefined) (base : Known) (c : Combination) : Type 0 where
+pub record IsBaseReady (names : List Predefined) (base : Known) (c : Combination) : Type 0 where
   pub known : IsConsistent base
-  pub held : AreHeld names base
+  pub held : AreNamesHeld names base
   pub entered : IsEntered base c
 
 -- what is held is that of the candidate: these names, what its combination fixes, and where they
 -- are needed what its loads read and how its stores are ordered
 pub record IsWorld (names : List Predefined) (reads orders : Bool) (base : Known) (one : Candidate)
     : Type 0 where
-  pub ready : IsReady names base one.0
+  pub ready : IsBaseReady names base one.0
   pub reading : IsTrue reads → HasReadsFrom base one.0 one.1.0
   pub ordered : IsTrue orders → HasCoherence base one.0 one.1.1
 

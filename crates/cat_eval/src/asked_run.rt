@@ -2,7 +2,7 @@
 
 ghost use Rattle.std.specs.Prelude.{◌≡◌, ◌<◌, ◌≤◌, ◌+◌, ◌^◌, ◌++◌, ◌∷◌, [], List, length, Some, IsTrue, OnOk};
 ghost use Rattle.cat_eval.specs.Runs.{IsAskedAt};
-ghost use Rattle.cat_eval.specs.Seen.{Known, seen};
+ghost use Rattle.cat_eval.specs.Seen.{NamedValues, seen};
 
 use crate::check::{is_asked_at, is_held};
 use crate::column::Column;
@@ -35,7 +35,7 @@ impl AskedRun<'_> {
         requires more { candidate + 1 < 2 ^ 64 }
         ensures fixed { (self.new.check ≡ self.old.check) × (self.new.inputs ≡ self.old.inputs)
             × (self.new.kept ≡ self.old.kept) × (self.new.answers ≡ self.old.answers) }
-        ensures at { (bases : List Known) → candidate ≡ length bases
+        ensures at { (bases : List NamedValues) → candidate ≡ length bases
             → IsAskedAt named.now self.old.check.now self.old.inputs.now self.old.kept bases
             self.old
             → IsAskedAt named.now self.old.check.now self.old.inputs.now self.old.kept bases
@@ -62,7 +62,7 @@ impl AskedRun<'_> {
         requires more { candidate + 1 < 2 ^ 64 }
         ensures fixed { (self.new.check ≡ self.old.check) × (self.new.inputs ≡ self.old.inputs)
             × (self.new.kept ≡ self.old.kept) × (self.new.answers ≡ self.old.answers) }
-        ensures at { (bases : List Known) → candidate ≡ length bases
+        ensures at { (bases : List NamedValues) → candidate ≡ length bases
             → IsAskedAt named.now self.old.check.now self.old.inputs.now self.old.kept bases
             self.old
             → IsAskedAt named.now self.old.check.now self.old.inputs.now self.old.kept bases
@@ -81,7 +81,7 @@ impl AskedRun<'_> {
         requires few { count ≤ 128 }
         ensures fixed { (self.new.check ≡ self.old.check) × (self.new.inputs ≡ self.old.inputs)
             × (self.new.kept ≡ self.old.kept) }
-        ensures at { (bases : List Known)
+        ensures at { (bases : List NamedValues)
             → IsAskedAt named.now self.old.check.now self.old.inputs.now self.old.kept bases
             self.old
             → OnOk result (IsAskedAt named.now self.old.check.now self.old.inputs.now self.old.kept

@@ -2,7 +2,7 @@
 
 ghost use Rattle.std.specs.Prelude.{◌≡◌, ◌<◌, ◌≤◌, ◌+◌, ◌-◌, ◌^◌, ◌++◌, List, length, Some, OnOk};
 ghost use Rattle.cat_eval.specs.Runs.{IsBodyAt};
-ghost use Rattle.cat_eval.specs.Seen.{Known, seen_run};
+ghost use Rattle.cat_eval.specs.Seen.{NamedValues, seen_run};
 ghost use Rattle.cat_eval.specs.Values.{column_len};
 
 use crate::column::Column;
@@ -31,7 +31,7 @@ impl BodyRun<'_> {
         requires more { candidate + 1 < 2 ^ 64 }
         ensures fixed { (self.new.body ≡ self.old.body) × (self.new.inputs ≡ self.old.inputs)
             × (self.new.column ≡ self.old.column) }
-        ensures at { (bases : List Known) → candidate ≡ length bases
+        ensures at { (bases : List NamedValues) → candidate ≡ length bases
             → IsBodyAt named.now self.old.body.now self.old.inputs.now bases self.old
             → IsBodyAt named.now self.old.body.now self.old.inputs.now bases self.new
             × (self.new.keeper.count ≡ Some count) × (candidate < self.new.until) }
@@ -59,7 +59,7 @@ impl BodyRun<'_> {
         ensures fixed { (self.new.body ≡ self.old.body) × (self.new.inputs ≡ self.old.inputs) }
         ensures longer { OnOk result ((column_len self.old.column < column_len self.new.column)
             × (column_len self.new.column ≤ stop)) }
-        ensures at { (bases : List Known)
+        ensures at { (bases : List NamedValues)
             → IsBodyAt named.now self.old.body.now self.old.inputs.now bases self.old
             → OnOk result (IsBodyAt named.now self.old.body.now self.old.inputs.now
             (bases

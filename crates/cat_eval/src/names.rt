@@ -2,7 +2,7 @@
 
 ghost use Rattle.std.specs.Prelude.{◌≡◌, ◌≤◌};
 ghost use Rattle.bit_relations.specs.Relation.{IsRelation, IsEvents};
-ghost use Rattle.cat_eval.specs.Named.{EventsNamed, PairsNamed, Of};
+ghost use Rattle.cat_eval.specs.Named.{EventsNamed, PairsNamed, OwnPairs};
 
 use crate::column::Column;
 use crate::seen::Seen;
@@ -63,7 +63,7 @@ impl Names<'_> {
     /// Writes the present value of a name of the recursive group itself.
     fn write_own(&self, position: usize, target: &mut Rel)
         ensures { IsRelation target.new self.now.base.now.count
-            (Of self.now.base.now.count self.now.own.now position) }
+            (OwnPairs self.now.base.now.count self.now.own.now position) }
     {
         match self.own.get(position) {
             Some(value) if value.count() == self.count() => target.copy_from(value),

@@ -3,7 +3,7 @@
 ghost use Rattle.std.specs.Prelude.{◌≡◌, ◌++◌, ◌∷◌, ◌||◌, [], false, OnOk, IsTrue, Contains};
 ghost use Rattle.text_values.specs.declared.predefined.Predefined.{Predefined};
 ghost use Rattle.cat_eval.specs.Needs.{AreSuited, is_changing_name};
-ghost use Rattle.cat_eval.specs.Needed.{changes_with_reads, changes_with_orders, step_passes, steps_read, steps_order, bodies_read, bodies_order, role_reads, role_orders, step_names, names_in, bodies_names, role_names, AreListed};
+ghost use Rattle.cat_eval.specs.Needed.{changes_with_reads, changes_with_orders, step_passes, steps_read, steps_order, bodies_read, bodies_order, role_reads, role_orders, step_names, predefined_names_in, bodies_names, role_names, AreListed};
 
 use binding_graph::{Body, ResolvedItem, Role, Source, Step};
 use std::alloc::{AllocError, Global};
@@ -133,7 +133,7 @@ impl Needs {
         ensures changes { OnOk result ((self.new.reads ≡ (self.old.reads || steps_read steps.now))
             × (self.new.orders ≡ (self.old.orders || steps_order steps.now))) }
         ensures names { OnOk result (AreListed self.new.names.items
-            (self.old.names.items ++ names_in steps.now)) }
+            (self.old.names.items ++ predefined_names_in steps.now)) }
     {
         for step in steps {
             self.add_step(*step)?;

@@ -2,7 +2,7 @@
 
 ghost use Rattle.std.specs.Prelude.{◌≤◌, ◌++◌, List, [], length, OnOk};
 ghost use Rattle.candidates.specs.Space.{candidates_in};
-ghost use Rattle.cat_eval.specs.Seen.{Known, seen_run, seen_in};
+ghost use Rattle.cat_eval.specs.Seen.{NamedValues, seen_run, seen_in};
 
 use crate::seen::NamedColumn;
 use candidates::Space;
@@ -23,7 +23,7 @@ pub(crate) trait RunVisit {
 
     /// From the first state on it has taken candidates of these predefined names, one after
     /// another.
-    ghost has_taken: { List NamedColumn → Self → List Known → Self → Type 0 };
+    ghost has_taken: { List NamedColumn → Self → List NamedValues → Self → Type 0 };
 
     /// Takes the next candidates, so many of so many events, with the columns of the predefined
     /// names.
@@ -34,7 +34,7 @@ pub(crate) trait RunVisit {
         many: usize,
     ) -> Result<(), AllocError>
         requires { count ≤ 128 }
-        ensures { (first : _) (bases : List Known) → has_taken named.now first bases self.old
+        ensures { (first : _) (bases : List NamedValues) → has_taken named.now first bases self.old
             → OnOk result (has_taken named.now first
             (bases ++ seen_run named.now (length bases) count many) self.new) };
 }

@@ -3,7 +3,7 @@
 ghost use Rattle.std.specs.Prelude.{◌≡◌, ℕ, ◌≤◌, ◌↔◌, [], map};
 ghost use Rattle.bit_relations.specs.Relation.{IsRelation, IsEvents};
 ghost use Rattle.cat_eval.specs.Named.{InputEvents, InputPairs};
-ghost use Rattle.cat_eval.specs.Seen.{EventsOf, PairsOf, EventsAmong, PairsAmong, seen, value_at};
+ghost use Rattle.cat_eval.specs.Seen.{EventsNamedBy, PairsNamedBy, EventsAmong, PairsAmong, seen, value_at};
 
 use crate::column::Column;
 use crate::few::Few;
@@ -47,9 +47,9 @@ pub(crate) struct Seen<'a> {
 
 impl<'a> Model for Seen<'a> {
     ghost use Rattle.std.specs.Prelude.{◌≤◌};
-    ghost use Rattle.cat_eval.specs.Seen.{Known, seen};
+    ghost use Rattle.cat_eval.specs.Seen.{NamedValues, seen};
 
-    ghost Value = { Known };
+    ghost Value = { NamedValues };
 
     ghost view = { λ s. seen s.named.now s.candidate s.count };
 
@@ -94,7 +94,7 @@ impl<'a> Seen<'a> {
 
     /// The set of a name: empty where it stands for none.
     pub(crate) fn set(&self, name: Predefined) -> EventSet
-        ensures { IsEvents result self.now.count (EventsOf self.now name) }
+        ensures { IsEvents result self.now.count (EventsNamedBy self.now name) }
     {
         match column_of(self.named, name) {
             Some(column) => column.set(self.candidate, self.count),
@@ -104,7 +104,7 @@ impl<'a> Seen<'a> {
 
     /// Makes `target` the relation of a name: empty where it stands for none.
     pub(crate) fn write_relation(&self, name: Predefined, target: &mut Rel)
-        ensures { IsRelation target.new self.now.count (PairsOf self.now name) }
+        ensures { IsRelation target.new self.now.count (PairsNamedBy self.now name) }
     {
         match column_of(self.named, name) {
             Some(column) => column.write_relation(self.candidate, self.count, target),

@@ -9,7 +9,7 @@ ghost use Rattle.cat_eval.specs.Needs.{AreSuited, is_changing_name};
 ghost use Rattle.cat_eval.specs.Needed.{changes_with_orders};
 ghost use Rattle.cat_eval.specs.Reordered.{EndsReordered, HoldsSame};
 ghost use Rattle.cat_eval.specs.Steady.{EndsWith};
-ghost use Rattle.cat_eval.specs.Tables.{IsColumnOf, IsBlock, AreBlocks, HasName, AreColumnsFor, AreFilled, IsFilled, entry_names, column_names, kind_for};
+ghost use Rattle.cat_eval.specs.Tables.{IsColumnOf, IsBlock, AreBlocks, HasName, AreColumnsFor, AreFilled, IsEntryFilled, entry_names, column_names, kind_for};
 ghost use Rattle.cat_eval.specs.Values.{IsFor, column_len};
 
 use crate::column::Column;
@@ -49,8 +49,8 @@ struct NameRun {
 /// Adds the value of a name in the present candidate.
 fn push_value(entry: &mut Entry, base: &Base, made: &mut Rel) -> Result<(), AllocError>
     ensures name { entry.new.name ≡ entry.old.name }
-    ensures filled { OnOk result ((bases : List Known) → IsFilled entry.old bases
-        → IsFilled entry.new (bases ++ base.now ∷ [])) }
+    ensures filled { OnOk result ((bases : List Known) → IsEntryFilled entry.old bases
+        → IsEntryFilled entry.new (bases ++ base.now ∷ [])) }
 {
     let set = base.set(entry.name);
     base.write_relation(entry.name, made);
@@ -62,8 +62,8 @@ fn push_value(entry: &mut Entry, base: &Base, made: &mut Rel) -> Result<(), Allo
 fn push_again(entry: &mut Entry) -> Result<(), AllocError>
     ensures name { entry.new.name ≡ entry.old.name }
     ensures filled { OnOk result ((bases : List Known) (last base : Known) → EndsWith bases last
-        → HoldsSame entry.old.name last base → IsFilled entry.old bases
-        → IsFilled entry.new (bases ++ base ∷ [])) }
+        → HoldsSame entry.old.name last base → IsEntryFilled entry.old bases
+        → IsEntryFilled entry.new (bases ++ base ∷ [])) }
 {
     entry.column.push_last()?;
     Ok(())
@@ -91,8 +91,8 @@ fn fill(
 ) -> Result<(), AllocError>
     ensures name { entry.new.name ≡ entry.old.name }
     ensures filled { OnOk result ((bases : List Known) → (IsTrue again → EndsWith bases base.now)
-        → (IsTrue reordered → EndsReordered bases base.now) → IsFilled entry.old bases
-        → IsFilled entry.new (bases ++ base.now ∷ [])) }
+        → (IsTrue reordered → EndsReordered bases base.now) → IsEntryFilled entry.old bases
+        → IsEntryFilled entry.new (bases ++ base.now ∷ [])) }
 {
     if is_kept(entry.name, again, reordered) {
         push_again(entry)
@@ -119,8 +119,8 @@ fn fill_at(
         ≡ (slice_index_or entries.old.items index d).name }
     ensures filled { OnOk result ((bases : List Known) → (IsTrue again → EndsWith bases base.now)
         → (IsTrue reordered → EndsReordered bases base.now) → (d : Entry)
-        → IsFilled (slice_index_or entries.old.items index d) bases
-        → IsFilled (slice_index_or entries.new.items index d) (bases ++ base.now ∷ [])) }
+        → IsEntryFilled (slice_index_or entries.old.items index d) bases
+        → IsEntryFilled (slice_index_or entries.new.items index d) (bases ++ base.now ∷ [])) }
 {
     fill(&mut entries[index], base, again, reordered, made)
 }

@@ -4,7 +4,7 @@
 ghost use Rattle.std.specs.Prelude.{◌≡◌, ◌≤◌, ◌*◌, ◌++◌, List, [], ◌∷◌, length, Some, IsTrue, OnOk};
 ghost use Rattle.candidates.specs.Space.{candidates_in};
 ghost use Rattle.cat_eval.specs.Places.{IsAt};
-ghost use Rattle.cat_eval.specs.Seen.{Known, seen, seen_run, seen_in};
+ghost use Rattle.cat_eval.specs.Seen.{NamedValues, seen, seen_run, seen_in};
 ghost use Rattle.cat_eval.specs.Steady.{EndsWith};
 
 use crate::machine::Machine;
@@ -17,7 +17,7 @@ use std::alloc::AllocError;
 pub(crate) trait Visit {
     /// From the first state on it has taken candidates of these predefined names, one after
     /// another.
-    ghost has_taken: { Self → List Known → Self → Type 0 };
+    ghost has_taken: { Self → List NamedValues → Self → Type 0 };
 
     /// Takes the next candidate, of which the predefined names are given, its number, and whether
     /// the names are those of the one before.
@@ -28,7 +28,7 @@ pub(crate) trait Visit {
         candidate: usize,
         again: bool,
     ) -> Result<(), AllocError>
-        ensures { (first : _) (bases : List Known) → candidate ≡ length bases
+        ensures { (first : _) (bases : List NamedValues) → candidate ≡ length bases
             → (IsTrue again → EndsWith bases base.now) → has_taken first bases self.old
             → OnOk result (has_taken first (bases ++ base.now ∷ []) self.new) };
 }
@@ -63,7 +63,7 @@ fn visit_next<V: Visit>(
     visitor: &mut V,
 ) -> Result<(), AllocError>
     requires { count ≤ 128 }
-    ensures { (first : _) (bases : List Known) → IsAt named.now place.old bases
+    ensures { (first : _) (bases : List NamedValues) → IsAt named.now place.old bases
         → V.has_taken first bases visitor.old
         → OnOk result (let next = seen named.now (length bases) count in
         IsAt named.now place.new (bases ++ next ∷ [])
@@ -96,7 +96,7 @@ fn visit_run<V: Visit>(
     visitor: &mut V,
 ) -> Result<(), AllocError>
     requires { count ≤ 128 }
-    ensures { (first : _) (bases : List Known) → IsAt named.now place.old bases
+    ensures { (first : _) (bases : List NamedValues) → IsAt named.now place.old bases
         → V.has_taken first bases visitor.old
         → OnOk result (let run = seen_run named.now (length bases) count many in
         IsAt named.now place.new (bases ++ run)
@@ -116,7 +116,7 @@ fn visit_combination<V: Visit>(
     place: &mut Place,
     visitor: &mut V,
 ) -> Result<(), AllocError>
-    ensures { (first : _) (bases : List Known) → IsAt named.now place.old bases
+    ensures { (first : _) (bases : List NamedValues) → IsAt named.now place.old bases
         → V.has_taken first bases visitor.old
         → OnOk result (
         let run = seen_run named.now (length bases) (length combination.now.events.items)

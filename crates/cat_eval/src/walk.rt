@@ -7,7 +7,7 @@ ghost use Rattle.base_names.specs.Candidate.{IsEntered, HasReadsFrom, HasCoheren
 ghost use Rattle.cat_eval.specs.Candidates.{reading_so, reading_in};
 ghost use Rattle.cat_eval.specs.Steady.{EndsWith};
 ghost use Rattle.cat_eval.specs.Reordered.{IsReordered, EndsReordered};
-ghost use Rattle.cat_eval.specs.Worlds.{AreHeld, IsReady, AreWorlds};
+ghost use Rattle.cat_eval.specs.Worlds.{AreNamesHeld, IsBaseReady, AreWorlds};
 
 use crate::needs::Needs;
 use crate::shape::is_same_shape;
@@ -59,8 +59,8 @@ fn go_to_order(
 ) -> bool
     ensures kept { IsTrue result → IsTrue again × (base.new ≡ base.old) }
     ensures reordered { IsReordered base.old base.new }
-    ensures ready { IsReady needs.now.names.items base.old combination.now
-        → IsReady needs.now.names.items base.new combination.now }
+    ensures ready { IsBaseReady needs.now.names.items base.old combination.now
+        → IsBaseReady needs.now.names.items base.new combination.now }
     ensures reading { (sources : List ℕ) → HasReadsFrom base.old combination.now sources
         → HasReadsFrom base.new combination.now sources }
     ensures ordered { IsTrue needs.now.orders
@@ -83,8 +83,8 @@ fn go_to_sources(
     again: bool,
 ) -> bool
     ensures kept { IsTrue result → IsTrue again × (base.new ≡ base.old) }
-    ensures ready { IsReady needs.now.names.items base.old combination.now
-        → IsReady needs.now.names.items base.new combination.now }
+    ensures ready { IsBaseReady needs.now.names.items base.old combination.now
+        → IsBaseReady needs.now.names.items base.new combination.now }
     ensures reading { IsTrue needs.now.reads → HasReadsFrom base.new combination.now sources.now }
 {
     if needs.reads {
@@ -103,7 +103,7 @@ fn go_to_combination(
 ) -> bool
     ensures kept { IsTrue result → IsTrue again × (base.new ≡ base.old) }
     ensures known { IsConsistent base.old → IsConsistent base.new }
-    ensures held { (names : _) → AreHeld names base.old → AreHeld names base.new }
+    ensures held { (names : _) → AreNamesHeld names base.old → AreNamesHeld names base.new }
     ensures entered { IfSome entered.entry (λ earlier. IsEntered base.old earlier.now)
         → IsEntered base.new combination.now }
 {
@@ -125,8 +125,8 @@ fn enter_orders<V: Enter>(
     again: bool,
     visitor: &mut V,
 ) -> Result<bool, AllocError>
-    requires { IsReady needs.now.names.items base.old combination.now }
-    ensures ready { IsReady needs.now.names.items base.new combination.now }
+    requires { IsBaseReady needs.now.names.items base.old combination.now }
+    ensures ready { IsBaseReady needs.now.names.items base.new combination.now }
     ensures worlds { (sources : List ℕ)
         → (IsTrue needs.now.reads → HasReadsFrom base.old combination.now sources)
         → (first : _) (bases : List Known) → (IsTrue again → EndsWith bases base.old)
@@ -157,8 +157,8 @@ fn enter_combination<V: Enter>(
     again: bool,
     visitor: &mut V,
 ) -> Result<bool, AllocError>
-    requires { IsReady needs.now.names.items base.old combination.now }
-    ensures ready { IsReady needs.now.names.items base.new combination.now }
+    requires { IsBaseReady needs.now.names.items base.old combination.now }
+    ensures ready { IsBaseReady needs.now.names.items base.new combination.now }
     ensures worlds { (first : _) (bases : List Known) → (IsTrue again → EndsWith bases base.old)
         → V.has_taken first bases visitor.old
         → IfOk result (λ ends. (more : List Known)
@@ -183,7 +183,7 @@ pub(crate) fn enter_space<V: Enter>(
     visitor: &mut V,
 ) -> Result<(), AllocError>
     requires known { IsConsistent base.old }
-    requires held { AreHeld needs.now.names.items base.old }
+    requires held { AreNamesHeld needs.now.names.items base.old }
     ensures { V.has_taken visitor.old [] visitor.old
         → OnOk result ((bases : List Known)
         × AreWorlds needs.now.names.items needs.now.reads needs.now.orders bases

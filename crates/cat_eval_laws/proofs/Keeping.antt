@@ -15,13 +15,13 @@ use Rattle.binding_graph.specs.Trees.{RelTree}
 use Rattle.candidates.specs.declared.candidate.Space.{Space}
 use Rattle.candidates.specs.Space.{candidates_in, shown_in, shown_of, Candidate, Shown}
 use Rattle.cat_eval.specs.declared.column.Column.{Column}
-use Rattle.cat_eval.specs.Columns.{HaveValues, AreColumns}
+use Rattle.cat_eval.specs.Columns.{HaveValues, AreGroupColumns}
 use Rattle.cat_eval.specs.Executions.{events_of, EventsAt, PairsAt}
 use Rattle.cat_eval.specs.Rising.{AreCodes}
-use Rattle.cat_eval.specs.Values.{IsAnswer, AreAnswers, IsFor, IsMeant, Unless}
+use Rattle.cat_eval.specs.Values.{IsCheckAnswer, AreAnswers, IsFor, IsMeaning, Unless}
 use Rattle.cat_eval.specs.Checks.{Holds, IsEmptySet}
 use Rattle.cat_eval.specs.Meaning.{MeansSet, Means}
-use Rattle.cat_eval.specs.Named.{WithOwn, Of}
+use Rattle.cat_eval.specs.Named.{WithOwn, OwnPairs}
 use Rattle.cat_eval_laws.specs.Items.{CodeContent, BodyContent, RoleContent, Group, Check, Silent, code_content, body_content, role_content}
 use Rattle.cat_eval_laws.specs.Laws.{AreSame, KeepsColumns, KeepsAnswers}
 use Rattle.cat_eval_laws.proofs.Naming.{HaveSameNames, count_kept, events_kept, pairs_kept}
@@ -83,7 +83,7 @@ values_kept false bs ds e n sets outer k cs h = λ j lt c b.
       x.0,
       x.1,
       x.2,
-      subst (λ (p : BodyContent). IsMeant p.code.kind p.code.steps n sets outer x.0 x.1)
+      subst (λ (p : BodyContent). IsMeaning p.code.kind p.code.steps n sets outer x.0 x.1)
           (body_at bs ds e j b) x.3,
     )
 values_kept true bs ds e n sets outer k cs h = λ trees codes rises.
@@ -134,8 +134,8 @@ group_kept : (r q : Bool) (bs ds : List Body) (space another : Space)
     (inputs others : List (Bor Column)) (cs : List Column) → r ≡ q
     → map body_content bs ≡ map body_content ds → shown_in space ≡ shown_in another
     → map (λ c. c.now) inputs ≡ map (λ c. c.now) others
-    → AreColumns r bs inputs (candidates_in space.combinations.items) cs
-    → AreColumns q ds others (candidates_in another.combinations.items) cs
+    → AreGroupColumns r bs inputs (candidates_in space.combinations.items) cs
+    → AreGroupColumns q ds others (candidates_in another.combinations.items) cs
 group_kept r q bs ds space another inputs others cs kind e shown f h =
     let xs = candidates_in space.combinations.items in
     let ys = candidates_in another.combinations.items in
@@ -201,16 +201,16 @@ asked_kept c d negated word R a h =
 answer_kept : (c d : CheckCode) → c.negated ≡ d.negated → c.word ≡ d.word
     → c.code.steps.items ≡ d.code.steps.items
     → (n : ℕ) (sets : Source → ℕ → Type 0) (outer : Source → ℕ → ℕ → Type 0) (kind : Kind)
-    (a : Bool) → IsAnswer c n sets outer kind a → IsAnswer d n sets outer kind a
+    (a : Bool) → IsCheckAnswer c n sets outer kind a → IsCheckAnswer d n sets outer kind a
 answer_kept c d negated word steps n sets outer kinds.OfSet a h =
     λ t is. subst (λ (b : Bool). IsTrue a ↔ Unless b (IsEmptySet (MeansSet n sets t))) negated
     (h t (steps ∙ is))
 answer_kept c d negated word steps n sets outer kinds.OfRelation a h =
     λ t is.
-    asked_kept c d negated word (Means n sets (WithOwn outer (Of n [])) t) a (h t (steps ∙ is))
+    asked_kept c d negated word (Means n sets (WithOwn outer (OwnPairs n [])) t) a (h t (steps ∙ is))
 answer_kept c d negated word steps n sets outer kinds.OfAny a h =
     λ t is.
-    asked_kept c d negated word (Means n sets (WithOwn outer (Of n [])) t) a (h t (steps ∙ is))
+    asked_kept c d negated word (Means n sets (WithOwn outer (OwnPairs n [])) t) a (h t (steps ∙ is))
 
 -- the answers of a check
 check_kept : (c d : CheckCode) (space another : Space) (inputs others : List (Bor Column))
@@ -227,10 +227,10 @@ check_kept c d space another inputs others answers e h =
       λ k two a is answer.
           let x = at_index left right xs ys e.candidates k two is in
           let here = answer_kept c d (ap is_negated e.roles) (ap (word_in c.word) e.roles) (ap (λ (p : CodeContent). p.steps) code) (events_of x.0) (EventsAt (events_of x.0) x.0 inputs k) (PairsAt (events_of x.0) x.0 inputs k) c.code.kind a (h.1 k x.0 a x.1 answer) in
-          in_candidate (λ n sets outer. IsAnswer d n sets outer d.code.kind a) x.0 two
+          in_candidate (λ n sets outer. IsCheckAnswer d n sets outer d.code.kind a) x.0 two
           (same_names space another x.0 two x.2) inputs others e.values k
           (subst
-          (λ (p : CodeContent). IsAnswer d (events_of x.0)
+          (λ (p : CodeContent). IsCheckAnswer d (events_of x.0)
           (EventsAt (events_of x.0) x.0 inputs k) (PairsAt (events_of x.0) x.0 inputs k)
           p.kind a) code here),
     )

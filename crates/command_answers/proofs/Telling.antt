@@ -10,16 +10,16 @@ use Rattle.text_values.specs.declared.model.ModelText.{ModelText}
 use Rattle.text_values.specs.declared.model.Item.{Item}
 use Rattle.command_answers.specs.Told.{IsFaultTold, IsRead}
 use Rattle.command_answers.specs.declared.file.TextFile.{TextFile}
-use Rattle.fault_models.specs.Told.{IsTold}
+use Rattle.fault_models.specs.Told.{IsModelFaultText}
 
 -- the lines of the model that the file's text means
 pub fault_told_of : (r : Result (Vec ℕ Global) AllocError) (file : TextFile) (m : ModelText)
     (text name : List ℕ) (items : List Item)
     → Reads Model text (clauses_of m.items.items) → text ≡ file.text.items → name ≡ file.path.now
     → items ≡ m.items.items
-    → IfOk r (λ v. IsTold name [] items v.items) → IfOk r (λ v. IsFaultTold file v.items)
+    → IfOk r (λ v. IsModelFaultText name [] items v.items) → IfOk r (λ v. IsFaultTold file v.items)
 fault_told_of (Ok v) file m text name items reads same_text same_name same_items told =
     IsRead m (subst (λ (l : List ℕ). Reads Model l (clauses_of m.items.items)) same_text reads)
-    (subst (λ (n : List ℕ). IsTold n [] m.items.items v.items) same_name
-    (subst (λ (l : List Item). IsTold name [] l v.items) same_items told))
+    (subst (λ (n : List ℕ). IsModelFaultText n [] m.items.items v.items) same_name
+    (subst (λ (l : List Item). IsModelFaultText name [] l v.items) same_items told))
 fault_told_of (Err e) file m text name items reads same_text same_name same_items told = tt

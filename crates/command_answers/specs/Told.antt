@@ -7,11 +7,11 @@ use Rattle.text_values.specs.ModelValues.{clauses_of}
 use Rattle.text_values.specs.declared.model.ModelText.{ModelText}
 use Rattle.command_answers.specs.Answer.{IsModelRefused}
 use Rattle.command_answers.specs.declared.file.TextFile.{TextFile}
-use Rattle.fault_models.specs.Told.{IsTold}
+use Rattle.fault_models.specs.Told.{IsModelFaultText}
 
 -- the lines of its first fault, where it has one; a text that is refused is told elsewhere
 pub data IsFaultTold (file : TextFile) (lines : List ℕ) : Type 0 where
   IsRead : (m : ModelText) → Reads Model file.text.items (clauses_of m.items.items)
-      → IsTold file.path.now [] m.items.items lines → IsFaultTold file lines
+      → IsModelFaultText file.path.now [] m.items.items lines → IsFaultTold file lines
   IsUnread : (rule : CatRule) → (offset : ℕ) → IsModelRefused file.text.items rule offset
       → lines ≡ [] → IsFaultTold file lines

@@ -13,24 +13,24 @@ use Rattle.binding_graph.specs.declared.resolved.Role.{Role}
 use Rattle.binding_graph.specs.declared.resolved.Role.TheVariants as roles
 use Rattle.binding_graph.specs.declared.resolved.Source.{Source}
 use Rattle.binding_graph.specs.declared.resolved.Step.{Step}
-use Rattle.binding_graph.specs.Meaning.{IsCode, set_of, relation_of, steps_of}
+use Rattle.binding_graph.specs.Meaning.{IsCode, set_tree, rel_tree, steps_of}
 use Rattle.binding_graph.specs.Resolved.{AreResolved, IsCheckRole}
 use Rattle.binding_graph.specs.Trees.{SetTree, RelTree, rel_code}
 use Rattle.binding_graph.specs.Usages.{Usage, usages_after, with_values}
 use Rattle.binding_kinds.specs.declared.kinds.Kind.{Kind}
 use Rattle.binding_kinds.specs.declared.kinds.Kind.TheVariants.{OfSet, OfRelation, OfAny}
 use Rattle.binding_kinds.specs.declared.scope.Used.{Used}
-use Rattle.binding_kinds.specs.Faults.{extended, senses_after}
+use Rattle.binding_kinds.specs.Faults.{names_after, senses_after}
 use Rattle.binding_kinds.specs.Functions.{formula_in}
 use Rattle.binding_kinds.specs.Senses.{Sense, kind_in}
-use Rattle.binding_kinds.specs.Value.{Naming, Check, clause_of}
+use Rattle.binding_kinds.specs.Value.{Naming, Check, bare_item}
 use Rattle.bit_relations.specs.Relation.{Events, Relation}
 use Rattle.candidates.specs.declared.candidate.Space.{Space}
 use Rattle.cat_eval.specs.declared.column.Column.{Column}
 use Rattle.cat_eval.specs.declared.column.Column.TheVariants as columns
-use Rattle.cat_eval.specs.Columns.{HasValue}
+use Rattle.cat_eval.specs.Columns.{HasColumnValue}
 use Rattle.cat_eval.specs.Executions.{events_of, EventsAt, PairsAt}
-use Rattle.cat_eval.specs.Values.{IsFor, IsMeant}
+use Rattle.cat_eval.specs.Values.{IsFor, IsMeaning}
 use Rattle.text_values.specs.declared.model.CheckWord.{CheckWord}
 use Rattle.text_values.specs.declared.model.Item.{Item}
 use Rattle.text_values.specs.declared.model.Item.TheVariants as items
@@ -40,7 +40,7 @@ use Rattle.text_values.specs.ModelValue.{Clause, Term, Checking, Checked}
 use Rattle.text_values.specs.ModelValues as means
 use Rattle.text_values.specs.declared.predefined.TheConstants.{PREDEFINED}
 use Rattle.from_scratch.specs.declared.cell.ItemAnswers.{ItemAnswers}
-use Rattle.from_scratch.specs.Answers.{AreSound}
+use Rattle.from_scratch.specs.Answers.{AreSoundItems}
 use Rattle.from_scratch.specs.FromScratch.{AreItemsOf, IsFaultless, outermost}
 use Rattle.from_scratch.specs.Known.{HasAllColumns}
 use Rattle.from_scratch.proofs.Ordered.{resolved_ordered}
@@ -49,7 +49,7 @@ use Rattle.from_scratch.proofs.Knowing.{item_at}
 use Rattle.draw_relations.specs.declared.names.ShownName.{ShownName}
 use Rattle.draw_relations.specs.declared.values.ShownValues.{ShownValues}
 use Rattle.draw_relations.specs.Shown.{IsTextFor, check_on, is_binding}
-use Rattle.draw_relations.specs.Values.{AreShown, HasNoLastCheck, HasNoValue, IsCheckValue, IsLast, IsLastValue, IsNoCheck, IsShownValue, IsSized, IsSizedAt, OneLeft, OneShown}
+use Rattle.draw_relations.specs.Values.{AreValuesBefore, HasNoLastCheck, HasNoValue, IsCheckValue, IsLast, IsLastValue, IsNoCheck, IsShownValue, IsSized, IsSizedAt, OneLeft, OneShown}
 
 -- the code of a relation is that of a tree
 abbrev pub IsTreeOf : Kind → List Step → Type 0
@@ -73,7 +73,7 @@ code_tree : (ss : List Sense) (names : List Naming) (us : List Used) (from : ℕ
 code_tree ss names us from t c h =
     let f = formula_in ss names [] t in
     subst (λ (k : Kind). IsTreeOf k c.steps.items) (sym h.0) (tree_of (kind_in ss names t)
-    c.steps.items (set_of us from f) (relation_of us from f) h.1)
+    c.steps.items (set_tree us from f) (rel_tree us from f) h.1)
 
 role_tree : (ss : List Sense) (us : List Usage) (names : List Naming) (from : ℕ) (w : CheckWord)
     (e : Term) (role : Role) → IsCheckRole ss us names from w e role → IsCheckWithTree role
@@ -84,26 +84,26 @@ role_tree ss us names from w e roles.Silent h = absurd h
 
 -- an item that is a check is resolved to one
 check_at : (ss : List Sense) (us : List Usage) (names : List Naming) (at : ℕ) (xs : List Item)
-    (rs : List ResolvedItem) → AreResolved ss us names at (map clause_of xs) rs
+    (rs : List ResolvedItem) → AreResolved ss us names at (map bare_item xs) rs
     → (i : ℕ) (x : Item) (w : CheckWord) (e : Term) (r : ResolvedItem) → slice_get xs i ≡ Some x
-    → clause_of x ≡ Check w e → slice_get rs i ≡ Some r → IsCheckWithTree r.role
+    → bare_item x ≡ Check w e → slice_get rs i ≡ Some r → IsCheckWithTree r.role
 check_at ss us names at [] rs h i x w e r here is there = absurd cc
 check_at ss us names at (y ∷ xs) [] h i x w e r here is there = absurd h
 check_at ss us names at (y ∷ xs) (q ∷ rs) h zero x w e r here is there =
     let same : y ≡ x = cc in
     let alike : q ≡ r = cc in
-    let clause : clause_of y ≡ Check w e = ap clause_of same ∙ is in
+    let clause : bare_item y ≡ Check w e = ap bare_item same ∙ is in
     let own = rw clause at h.0 in
     subst (λ (z : ResolvedItem). IsCheckWithTree z.role) alike
     (role_tree ss us names (length names) w e q.role own.0)
 check_at ss us names at (y ∷ xs) (q ∷ rs) h (suc i) x w e r here is there =
-    let c = clause_of y in
-    check_at (senses_after ss names c) (usages_after us names at c) (extended ss names at c)
+    let c = bare_item y in
+    check_at (senses_after ss names c) (usages_after us names at c) (names_after ss names at c)
     (at + 1) xs rs h.1 i x w e r here is there
 
 -- a check of the model's text
 check_clause : (x : Item) (checked : Checked) (label : Option (List ℕ))
-    → means.clause_of x ≡ Checking checked label → clause_of x ≡ Check checked.word checked.body
+    → means.clause_of x ≡ Checking checked label → bare_item x ≡ Check checked.word checked.body
 check_clause (items.Let recursive group) checked label e = absurd cc
 check_clause (items.Function name parameters body) checked label e = absurd cc
 check_clause (items.Check check name) checked label e = cc
@@ -166,8 +166,8 @@ last_check clauses x text resolved stands resolves none =
 
 sized_at : (kind : Kind) (steps : List Step) (n : ℕ) (sets : Source → ℕ → Type 0)
     (outer : Source → ℕ → ℕ → Type 0) (s : Events) (r : Relation) (column : Column) (k : ℕ)
-    → IsTreeOf kind steps → IsFor kind column → HasValue column k s r
-    → IsMeant kind steps n sets outer s r → IsSizedAt column k n
+    → IsTreeOf kind steps → IsFor kind column → HasColumnValue column k s r
+    → IsMeaning kind steps n sets outer s r → IsSizedAt column k n
 sized_at OfSet steps n sets outer s r (columns.Sets values) k tree suited has meant = tt
 sized_at OfSet steps n sets outer s r (columns.Relations values) k tree suited has meant =
     absurd suited
@@ -195,10 +195,10 @@ shown_sized clauses space x v shown = λ k one is.
 -- ---- the values of the last item
 
 pub items_sound : (text : ModelText) (resolved : List ResolvedItem) → IsFaultless text
-    → AreItemsOf text resolved → AreSound resolved
+    → AreItemsOf text resolved → AreSoundItems resolved
 items_sound text resolved faultless items = (
-  resolved_ordered PREDEFINED (map clause_of text.items.items) resolved items.0,
-  resolved_rising outermost 0 (map clause_of text.items.items) resolved faultless items.0,
+  resolved_ordered PREDEFINED (map bare_item text.items.items) resolved items.0,
+  resolved_rising outermost 0 (map bare_item text.items.items) resolved faultless items.0,
 )
 
 pub last_found : (space : Space) (text : ModelText) (resolved : List ResolvedItem)
@@ -232,14 +232,14 @@ pub shown_step : (space : Space) (clauses : List Clause) (xs : List ShownName) (
     (x : ShownName) (vs new : List ShownValues) (found : Option ShownValues) → n < length xs
     → x ≡ get_or xs n x
     → MatchOption found (HasNoValue clauses x) (IsShownValue clauses space x)
-    → new ≡ vs ++ option_to_list found → AreShown space clauses xs n vs
-    → AreShown space clauses xs (n + 1) new
+    → new ≡ vs ++ option_to_list found → AreValuesBefore space clauses xs n vs
+    → AreValuesBefore space clauses xs (n + 1) new
 shown_step space clauses xs n x vs new None lt is none more before =
-    subst (λ (us : List ShownValues). AreShown space clauses xs (n + 1) us)
+    subst (λ (us : List ShownValues). AreValuesBefore space clauses xs (n + 1) us)
     (sym (more ∙ append-nil vs)) (OneLeft n vs x before
     (slice_get_read xs (length xs) n x refl lt is) none)
 shown_step space clauses xs n x vs new (Some v) lt is shown more before =
-    subst (λ (us : List ShownValues). AreShown space clauses xs (n + 1) us) (sym more)
+    subst (λ (us : List ShownValues). AreValuesBefore space clauses xs (n + 1) us) (sym more)
     (OneShown n vs x v before (slice_get_read xs (length xs) n x refl lt is) shown)
 
 pub sized_step : (space : Space) (clauses : List Clause) (x : ShownName) (vs new : List ShownValues)

@@ -69,21 +69,21 @@ abbrev pub HasNoValue : List Clause → ShownName → Type 0
 HasNoValue clauses x = HasFault clauses x ⊎ (body_of clauses x ≡ None)
 
 -- of the names before a number those that stand for a relation, with their values
-pub data AreShown (space : Space) (clauses : List Clause) (xs : List ShownName)
+pub data AreValuesBefore (space : Space) (clauses : List Clause) (xs : List ShownName)
     : ℕ → List ShownValues → Type 0 where
-  NoName : AreShown space clauses xs 0 []
+  NoName : AreValuesBefore space clauses xs 0 []
   OneShown : (n : ℕ) (vs : List ShownValues) (x : ShownName) (v : ShownValues)
-      → AreShown space clauses xs n vs → slice_get xs n ≡ Some x
-      → IsShownValue clauses space x v → AreShown space clauses xs (n + 1) (vs ++ v ∷ [])
-  OneLeft : (n : ℕ) (vs : List ShownValues) (x : ShownName) → AreShown space clauses xs n vs
+      → AreValuesBefore space clauses xs n vs → slice_get xs n ≡ Some x
+      → IsShownValue clauses space x v → AreValuesBefore space clauses xs (n + 1) (vs ++ v ∷ [])
+  OneLeft : (n : ℕ) (vs : List ShownValues) (x : ShownName) → AreValuesBefore space clauses xs n vs
       → slice_get xs n ≡ Some x
-      → HasNoValue clauses x → AreShown space clauses xs (n + 1) vs
+      → HasNoValue clauses x → AreValuesBefore space clauses xs (n + 1) vs
 
 -- all names that the model shows
 abbrev pub AreAllShown : Space → ModelText → List ShownValues → Type 0
 AreAllShown space model vs =
     let clauses = clauses_of model.items.items in
-    AreShown space clauses (names_shown clauses) (length (names_shown clauses)) vs
+    AreValuesBefore space clauses (names_shown clauses) (length (names_shown clauses)) vs
 
 -- ---- what the code asks of values
 

@@ -4,7 +4,7 @@ ghost use Rattle.std.specs.Prelude.{◌≡◌, ◌++◌, IfOk, MatchOption, None
 ghost use Rattle.std.specs.List.{All};
 ghost use Rattle.text_values.specs.ModelValues.{clauses_of};
 ghost use Rattle.from_scratch.specs.FromScratch.{AreItemsOf, IsFaultless};
-ghost use Rattle.draw_relations.specs.Values.{AreAllShown, AreShown, HasNoLastCheck, HasNoValue, IsCheckValue, IsLastValue, IsNoCheck, IsShownValue, IsSized};
+ghost use Rattle.draw_relations.specs.Values.{AreAllShown, AreValuesBefore, HasNoLastCheck, HasNoValue, IsCheckValue, IsLastValue, IsNoCheck, IsShownValue, IsSized};
 ghost use Rattle.draw_relations.specs.Shown.{IsTextFor};
 
 use crate::names::{ShownName, shown_names};
@@ -141,7 +141,7 @@ fn found_values(
     names: &[ShownName],
 ) -> Result<Vec<ShownValues>, AllocError>
     ensures all { IfOk result (λ v.
-        AreShown space.now (clauses_of items.now) names.now (length names.now) v.items) }
+        AreValuesBefore space.now (clauses_of items.now) names.now (length names.now) v.items) }
     ensures sized { IfOk result (λ v. All (λ s. IsSized space.now s.values) v.items) }
 {
     let mut values = Vec::new(alloc);

@@ -5,7 +5,7 @@ use Rattle.std.specs.List.{AllByRecursion as Each}
 use Rattle.std.proofs.lemmas.List.{append-nil, reverse-append, map-append}
 use Rattle.text_values.specs.declared.test.Test.{Test}
 use Rattle.text_values.specs.TestValue.{content_of}
-use Rattle.binding_kinds.specs.Value.{clause_of}
+use Rattle.binding_kinds.specs.Value.{bare_item}
 use Rattle.binding_graph.specs.declared.resolved.ResolvedItem.{ResolvedItem}
 use Rattle.cat_eval_laws.specs.Items.{ItemContent, item_content}
 use Rattle.verdict.specs.declared.answer.Evaluation.{Evaluation}
@@ -14,7 +14,7 @@ use Rattle.bench_texts.specs.declared.reading.Reading.{Reading}
 use Rattle.bench_texts.specs.declared.reading.Reading.TheVariants as readings
 use Rattle.bench_texts.specs.Readings.{predefined_names, AreSound, IsReading}
 use Rattle.bench_slices.specs.Slices.{slice_by}
-use Rattle.from_scratch.specs.Answers.{IsRising}
+use Rattle.from_scratch.specs.Answers.{IsRisingRole}
 use Rattle.from_scratch.specs.FromScratch.{AreItemsOf, IsFaultless, IsEvaluationOf}
 use Rattle.from_scratch.proofs.Ordered.{all_reverse}
 use Rattle.from_scratch.proofs.Rising.{resolved_rising}
@@ -35,10 +35,10 @@ map_reverse f (x ∷ xs) =
     ∙ sym (reverse-append (f x ∷ []) (map f xs))))
 
 rising_back : (m : NamedModel) (rs : List ResolvedItem) → AreSound m.text.items.items rs
-    → Each (λ r. IsRising r.role) (reverse rs)
+    → Each (λ r. IsRisingRole r.role) (reverse rs)
 rising_back m rs a =
-    all_reverse (λ r. IsRising r.role) rs (resolved_rising predefined_names 0
-    (map clause_of m.text.items.items) rs a.no_fault a.as_resolved)
+    all_reverse (λ r. IsRisingRole r.role) rs (resolved_rising predefined_names 0
+    (map bare_item m.text.items.items) rs a.no_fault a.as_resolved)
 
 same_evaluation : (test : Test) (m n : NamedModel) (e : Evaluation) (r q : Reading)
     → IsReading m.text.items.items r → IsReading n.text.items.items q → IsFaultless m.text

@@ -18,8 +18,8 @@ use Rattle.binding_kinds.specs.Fits.{IsValue}
 use Rattle.binding_kinds.specs.Meanings.{parameter_of}
 use Rattle.binding_kinds.specs.Applicable.{applied_of}
 use Rattle.binding_kinds.specs.Senses.{count_of}
-use Rattle.binding_graph.specs.Inputs.{index_of, noted, with_binder, with_found, with_name}
-use Rattle.binding_graph.specs.Usages.{Usage, all_noted, is_among, with_item, with_items, usage_at, usage_seen, values_of, functions_of, with_meaning, with_values, with_values_among, with_functions, with_functions_among}
+use Rattle.binding_graph.specs.Inputs.{index_of, with_used, with_binder, with_found, with_name}
+use Rattle.binding_graph.specs.Usages.{Usage, with_all_used, is_among, with_item, with_items, usage_at, usage_seen, values_of, functions_of, with_meaning, with_values, with_values_among, with_functions, with_functions_among}
 use Rattle.binding_laws.specs.ItemLaws.{Scope}
 use Rattle.bench_slot_laws.proofs.Naming.{binder_at}
 use Rattle.bench_slot_laws.proofs.Using.{IsBoundBy, items_in}
@@ -73,19 +73,19 @@ abbrev mutual
 abbrev pub Grows : List ℕ → List ℕ → Type 0
 Grows ks ls = (k : ℕ) → Has ks k → Has ls k
 
-noted_by : (P : List Used → Type 0) (vs : List Used) (u : Used) → P vs → P (u ∷ vs) → P (noted vs u)
+noted_by : (P : List Used → Type 0) (vs : List Used) (u : Used) → P vs → P (u ∷ vs) → P (with_used vs u)
 noted_by P vs u old new = at_test (is_some (index_of vs u.slot))
   where
     at_test : (b : Bool) → P (if b then vs else u ∷ vs)
     at_test true = old
     at_test false = new
 
-noted_grows : (vs : List Used) (u : Used) → Grows (items_in vs) (items_in (noted vs u))
+noted_grows : (vs : List Used) (u : Used) → Grows (items_in vs) (items_in (with_used vs u))
 noted_grows vs u k h = noted_by (λ ws. Has (items_in ws) k) vs u h (inr h)
 
-all_grow : (ws vs : List Used) → Grows (items_in vs) (items_in (all_noted vs ws))
+all_grow : (ws vs : List Used) → Grows (items_in vs) (items_in (with_all_used vs ws))
 all_grow [] vs k h = h
-all_grow (w ∷ ws) vs k h = all_grow ws (noted vs w) k (noted_grows vs w k h)
+all_grow (w ∷ ws) vs k h = all_grow ws (with_used vs w) k (noted_grows vs w k h)
 
 binder_grows : (vs : List Used) (slot : ℕ) (b : Binder)
     → Grows (items_in vs) (items_in (with_binder vs slot b))
@@ -148,7 +148,7 @@ module _ (us : List Usage) (names : List Naming) (ps : List (List ℕ)) where
       values_grow (Not a) vs k h = values_grow a vs k h
       values_grow (On a) vs k h = values_grow a vs k h
       values_grow (Apply x ts) vs k h =
-          all_values_grow ts (all_noted vs (values_of (usage_seen us names ps (count_of ts) x))) k
+          all_values_grow ts (with_all_used vs (values_of (usage_seen us names ps (count_of ts) x))) k
           (all_grow (values_of (usage_seen us names ps (count_of ts) x)) vs k h)
 
       all_values_grow : (ts : Terms) (vs : List Used)
@@ -201,7 +201,7 @@ module _ (names : List Naming) where
   ]
 
   noted_has : (vs : List Used) (u : Used) → Each (IsBoundBy names) vs → IsBoundBy names u
-      → Has (items_in (noted vs u)) u.input.item
+      → Has (items_in (with_used vs u)) u.input.item
   noted_has vs u h b = at_test (is_some (index_of vs u.slot)) refl
     where
       at_test : (t : Bool) → is_some (index_of vs u.slot) ≡ t
@@ -210,13 +210,13 @@ module _ (names : List Naming) where
       at_test false e = inl refl
 
   noted_bound : (vs : List Used) (u : Used) → Each (IsBoundBy names) vs → IsBoundBy names u
-      → Each (IsBoundBy names) (noted vs u)
+      → Each (IsBoundBy names) (with_used vs u)
   noted_bound vs u h b = noted_by (Each (IsBoundBy names)) vs u h (b, h)
 
   all_bound : (ws vs : List Used) → Each (IsBoundBy names) vs → Each (IsBoundBy names) ws
-      → Each (IsBoundBy names) (all_noted vs ws)
+      → Each (IsBoundBy names) (with_all_used vs ws)
   all_bound [] vs h g = h
-  all_bound (w ∷ ws) vs h g = all_bound ws (noted vs w) (noted_bound vs w h g.0) g.1
+  all_bound (w ∷ ws) vs h g = all_bound ws (with_used vs w) (noted_bound vs w h g.0) g.1
 
   -- the names that an expression sees, of which those of the item itself have the slot `from` and
   -- those behind it
@@ -294,7 +294,7 @@ module _ (names : List Naming) where
       term_bound (Not a) vs h = term_bound a vs h
       term_bound (On a) vs h = term_bound a vs h
       term_bound (Apply x ts) vs h =
-          terms_bound ts (all_noted vs (values_of (usage_seen s.usages s.names ps (count_of ts) x)))
+          terms_bound ts (with_all_used vs (values_of (usage_seen s.usages s.names ps (count_of ts) x)))
           (all_bound (values_of (usage_seen s.usages s.names ps (count_of ts) x)) vs h
           (values_bound (usage_seen s.usages s.names ps (count_of ts) x)
           (seen_there (count_of ts) x)))
@@ -363,7 +363,7 @@ module _ (names : List Naming) where
             n.0,
             function_kept (count_of ts) x fs n.0 n.1 (λ k g. apps k (all_functions_grow s.usages
                 s.names ps ts (with_items fs (functions_of o)) k g)),
-            terms_kept ts (all_noted vs (values_of o)) (with_items fs (functions_of o)) n.2
+            terms_kept ts (with_all_used vs (values_of o)) (with_items fs (functions_of o)) n.2
                 (all_bound (values_of o) vs h (values_bound o (seen_there (count_of ts) x))) all
                 apps,
           )

@@ -10,10 +10,10 @@ use Rattle.binding_kinds.specs.declared.scope.Binder.TheVariants as binders
 use Rattle.binding_kinds.specs.declared.scope.Found.{Found}
 use Rattle.binding_kinds.specs.declared.scope.Input.{Input}
 use Rattle.binding_kinds.specs.declared.scope.Used.{Used}
-use Rattle.binding_kinds.specs.Value.{Naming, Bound, Clause, Group, Check, Mute, Defined}
+use Rattle.binding_kinds.specs.Value.{Naming, Bound, BareItem, Group, Check, Mute, Defined}
 use Rattle.binding_kinds.specs.Kinds.{found}
 use Rattle.binding_kinds.specs.Senses.{Sense}
-use Rattle.binding_kinds.specs.Faults.{naming_at, with_own, extended, IsFaultOfItem}
+use Rattle.binding_kinds.specs.Faults.{naming_at, with_own, names_after, IsFaultOfItem}
 use Rattle.binding_graph.specs.declared.resolved.ResolvedItem.{ResolvedItem}
 use Rattle.binding_graph.specs.Inputs.{inputs_of}
 use Rattle.binding_graph.specs.Resolved.{IsResolvedIn}
@@ -29,7 +29,7 @@ use Rattle.evaluation_laws.proofs.Kept.{Reach, IsKept, HasKeptNames, Grows, valu
 use Rattle.binding_laws.proofs.Sound.{sound_term, sound_group, sound_body}
 
 -- each name of an item is kept: the bodies of a recursive group see its own names too
-abbrev pub HasKeptNamesIn : Reach → Scope → List Naming → Clause → Type 0
+abbrev pub HasKeptNamesIn : Reach → Scope → List Naming → BareItem → Type 0
 HasKeptNamesIn u s own (Group true bs) = Each (λ b. HasKeptNames u (with_names s own) [] b.body) bs
 HasKeptNamesIn u s own (Group false bs) = Each (λ b. HasKeptNames u s [] b.body) bs
 HasKeptNamesIn u s own (Check w e) = HasKeptNames u s [] e
@@ -161,11 +161,11 @@ module _ (u : Reach) (s : Scope) (at : ℕ)
       at_first (inl h) = no_own x f h t
       at_first (inr h) = subst (IsKept u) (sym h.1) here
 
-  pub item_kept : (c : Clause) (r : ResolvedItem)
+  pub item_kept : (c : BareItem) (r : ResolvedItem)
       → ((i : ℕ) (k : ModelFault) → IsFaultOfItem s.senses s.names at c i k → ⊥)
-      → IsResolvedIn s.senses s.usages s.names (extended s.senses s.names at c) (length s.names) c r
+      → IsResolvedIn s.senses s.usages s.names (names_after s.senses s.names at c) (length s.names) c r
       → Grows (map (λ i. i.item) r.inputs.items) u.items → Grows r.functions.items u.items
-      → HasKeptNamesIn u s (extended s.senses s.names at c) c
+      → HasKeptNamesIn u s (names_after s.senses s.names at c) c
   item_kept (Group true bs) r none h all apps =
       let t = with_names s (with_own s.names at 0 bs) in
       bodies_kept s.names u t (length s.names) (seen_own bs) (own_kept bs) values functions bs [] []

@@ -11,9 +11,9 @@ use Rattle.binding_kinds.specs.declared.scope.Binder.{Binder}
 use Rattle.binding_kinds.specs.declared.scope.Binder.TheVariants as binders
 use Rattle.binding_kinds.specs.declared.scope.Input.{Input}
 use Rattle.binding_kinds.specs.Outermost.{naming_of}
-use Rattle.binding_kinds.specs.Value.{Naming, clause_of}
+use Rattle.binding_kinds.specs.Value.{Naming, bare_item}
 use Rattle.binding_graph.specs.declared.resolved.ResolvedItem.{ResolvedItem}
-use Rattle.binding_graph.specs.Reach.{UsesAt, AreReached}
+use Rattle.binding_graph.specs.Reach.{ItemUses, AreReached}
 use Rattle.binding_graph.proofs.Reaching.{leads_more}
 use Rattle.bench_texts.specs.Readings.{predefined_names, AreSound}
 use Rattle.bench_slices.specs.Slices.{clause_at}
@@ -129,14 +129,14 @@ rises at (u ∷ us) low h = (
 
 abbrev whole_of : List Item → List ResolvedItem → List ℕ → Whole
 whole_of xs rs us =
-    record { items = xs; resolved = rs; used = us; functions = functions_in 0 (map clause_of xs) }
+    record { items = xs; resolved = rs; used = us; functions = functions_in 0 (map bare_item xs) }
 
 module _ (xs : List Item) (rs : List ResolvedItem) (us : List ℕ) (sound : AreSound xs rs)
     (reached : AreReached rs us) where
   closed : AreClosed rs
-  closed = resolved_closed (map clause_of xs) rs sound.as_resolved
+  closed = resolved_closed (map bare_item xs) rs sound.as_resolved
 
-  used_next : (b k : ℕ) → Has us b → UsesAt rs b k → k < length rs → Has us k
+  used_next : (b k : ℕ) → Has us b → ItemUses rs b k → k < length rs → Has us k
   used_next b k h uses lt =
       let is = ((reached.exact b).0 (has_contains us b h)).1 in
       contains_has us k ((reached.exact k).1 (

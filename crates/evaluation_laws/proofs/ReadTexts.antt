@@ -6,7 +6,7 @@ use Rattle.text_values.specs.declared.model.Item.TheVariants as items
 use Rattle.text_values.specs.ModelValue.{Term}
 use Rattle.text_values.specs.ModelValue as value
 use Rattle.text_values.specs.ModelValues as values
-use Rattle.binding_kinds.specs.Value.{Bound, Clause, Group, Check, Mute, Defined, bound_of, clause_of}
+use Rattle.binding_kinds.specs.Value.{Bound, BareItem, Group, Check, Mute, Defined, bound_of, bare_item}
 use Rattle.binding_graph.specs.declared.resolved.ResolvedItem.{ResolvedItem}
 use Rattle.binding_graph.specs.Resolved.{IsLabelled, IsLabelledAs}
 use Rattle.binding_laws.specs.ItemLaws.{label_of, SayTheSame}
@@ -14,7 +14,7 @@ use Rattle.binding_laws.specs.ItemLaws.{label_of, SayTheSame}
 abbrev to_bound : List ℕ × Term → Bound
 to_bound b = record { name = b.0; body = b.1 }
 
-abbrev to_clause : value.Clause → Clause
+abbrev to_clause : value.Clause → BareItem
 to_clause (value.Binding r g) = Group r (map to_bound g)
 to_clause (value.Function n ps b) = Defined n ps b
 to_clause (value.Checking c l) = Check c.word c.body
@@ -34,7 +34,7 @@ bounds_read : (bs : List Binding) → map to_bound (map values.binding_of bs) �
 bounds_read [] = refl
 bounds_read (b ∷ bs) = λ i. bound_of b ∷ bounds_read bs i
 
-clause_read : (x : Item) → to_clause (values.clause_of x) ≡ clause_of x
+clause_read : (x : Item) → to_clause (values.clause_of x) ≡ bare_item x
 clause_read (items.Let r g) = ap (λ (bs : List Bound). Group r bs) (bounds_read g.items)
 clause_read (items.Function n ps b) = refl
 clause_read (items.Check c l) = refl

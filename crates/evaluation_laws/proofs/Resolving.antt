@@ -12,10 +12,10 @@ use Rattle.binding_kinds.specs.declared.fault.ModelFault.TheVariants as faults
 use Rattle.binding_kinds.specs.declared.kinds.Kind.{Kind}
 use Rattle.binding_kinds.specs.declared.kinds.Kind.TheVariants.{OfSet, OfRelation, OfAny}
 use Rattle.binding_kinds.specs.declared.scope.Used.{Used}
-use Rattle.binding_kinds.specs.Value.{Naming, Bound, Clause, Group, Check, Mute, Defined, clause_of, bound_of}
+use Rattle.binding_kinds.specs.Value.{Naming, Bound, BareItem, Group, Check, Mute, Defined, bare_item, bound_of}
 use Rattle.binding_kinds.specs.Senses.{Sense, kind_in}
 use Rattle.binding_kinds.specs.Functions.{formula_in}
-use Rattle.binding_kinds.specs.Faults.{width, with_own, extended, IsFaultIn, IsFaultOfItem, HasNoFault, senses_after}
+use Rattle.binding_kinds.specs.Faults.{width, with_own, names_after, IsFaultIn, IsFaultOfItem, HasNoFault, senses_after}
 use Rattle.binding_graph.specs.declared.resolved.Body.{Body}
 use Rattle.binding_graph.specs.declared.resolved.Code.{Code}
 use Rattle.binding_graph.specs.declared.resolved.ResolvedItem.{ResolvedItem}
@@ -23,13 +23,13 @@ use Rattle.binding_graph.specs.declared.resolved.Role.{Role}
 use Rattle.binding_graph.specs.declared.resolved.Role.TheVariants as roles
 use Rattle.binding_graph.specs.declared.resolved.Step.{Step}
 use Rattle.binding_graph.specs.Trees.{SetTree, RelTree}
-use Rattle.binding_graph.specs.Meaning.{IsCode, set_of, relation_of, steps_of}
+use Rattle.binding_graph.specs.Meaning.{IsCode, set_tree, rel_tree, steps_of}
 use Rattle.binding_graph.specs.Resolved.{AreBodies, IsGroupRole, IsCheckRole, HasUses, IsResolvedIn, AreResolved, IsLabelled, IsLabelledAs, AreLabelled}
 use Rattle.binding_graph.specs.Usages.{Usage, with_values, usages_after}
 use Rattle.cat_eval_laws.specs.Items as content
 use Rattle.cat_eval_laws.specs.Items.{code_content, body_content, role_content, item_content}
-use Rattle.from_scratch.specs.Answers.{AreRising, IsRising}
-use Rattle.from_scratch.specs.FromScratch.{outermost, clauses_of}
+use Rattle.from_scratch.specs.Answers.{AreRisingBodies, IsRisingRole}
+use Rattle.from_scratch.specs.FromScratch.{outermost, bare_items}
 use Rattle.from_scratch.proofs.Rising.{resolved_rising}
 use Rattle.evaluation_laws.specs.Laws.{HasTree, AreCoded, IsCoded, HasOneResolution, HasCodedItems}
 
@@ -96,8 +96,8 @@ uses_one r q vs fs role h g =
 
 item_one : (ss : List Sense) (us : List Usage) (names own : List Naming) (from : ℕ)
     (x : code_item.Item) (r q : ResolvedItem)
-    → IsResolvedIn ss us names own from (clause_of x) r
-    → IsResolvedIn ss us names own from (clause_of x) q → IsLabelledAs x r → IsLabelledAs x q
+    → IsResolvedIn ss us names own from (bare_item x) r
+    → IsResolvedIn ss us names own from (bare_item x) q → IsLabelledAs x r → IsLabelledAs x q
     → item_content r ≡ item_content q
 item_one ss us names own from (items.Let true g) r q h k l m =
     uses_one r q _ _ (group_one ss us own from true (map bound_of g.items) r.role q.role h.0 k.0)
@@ -122,8 +122,8 @@ item_one ss us names own from (items.Include n) r q h k l m =
 
 all_one : (ss : List Sense) (us : List Usage) (names : List Naming) (at : ℕ)
     (xs : List code_item.Item) (rs qs : List ResolvedItem)
-    → AreResolved ss us names at (map clause_of xs) rs
-    → AreResolved ss us names at (map clause_of xs) qs → AreLabelled xs rs → AreLabelled xs qs
+    → AreResolved ss us names at (map bare_item xs) rs
+    → AreResolved ss us names at (map bare_item xs) qs → AreLabelled xs rs → AreLabelled xs qs
     → map item_content rs ≡ map item_content qs
 all_one ss us names at [] [] [] h g l m = refl
 all_one ss us names at [] [] (q ∷ qs) h g l m = absurd g
@@ -131,9 +131,9 @@ all_one ss us names at [] (r ∷ rs) qs h g l m = absurd h
 all_one ss us names at (x ∷ xs) [] qs h g l m = absurd h
 all_one ss us names at (x ∷ xs) (r ∷ rs) [] h g l m = absurd g
 all_one ss us names at (x ∷ xs) (r ∷ rs) (q ∷ qs) h g l m =
-    let c = clause_of x in
-    let first = item_one ss us names (extended ss names at c) (length names) x r q h.0 g.0 l.0 m.0 in
-    let rest = all_one (senses_after ss names c) (usages_after us names at c) (extended ss names at c) (at + 1) xs rs qs h.1 g.1 l.1 m.1 in
+    let c = bare_item x in
+    let first = item_one ss us names (names_after ss names at c) (length names) x r q h.0 g.0 l.0 m.0 in
+    let rest = all_one (senses_after ss names c) (usages_after us names at c) (names_after ss names at c) (at + 1) xs rs qs h.1 g.1 l.1 m.1 in
     λ i. first i ∷ rest i
 
 pub one_resolution : (model : ModelText) → HasOneResolution model
@@ -152,7 +152,7 @@ code_coded : (ss : List Sense) (names : List Naming) (us : List Used) (from : �
 code_coded ss names us from t c h =
     let f = formula_in ss names [] t in
     subst (λ (k : Kind). HasTree k c.steps.items) (sym h.0) (tree_of_kind (kind_in ss names t)
-    c.steps.items (set_of us from f) (relation_of us from f) h.1)
+    c.steps.items (set_tree us from f) (rel_tree us from f) h.1)
 
 bodies_coded : (ss : List Sense) (us : List Usage) (names : List Naming) (from : ℕ) (vs : List Used)
     (bs : List Bound) (rs : List Body) → AreBodies ss us names from vs bs rs
@@ -183,10 +183,10 @@ no_sets ss us names from vs before (b ∷ bs) (r ∷ rs) h none =
 
 recursive_coded : (ss : List Sense) (us : List Usage) (names : List Naming) (from : ℕ)
     (bs : List Bound) (role : Role) → IsGroupRole ss us names from true bs role
-    → ((p : ℕ) (k : ModelFault) → IsFaultIn ss names from true [] bs p k → ⊥) → IsRising role
+    → ((p : ℕ) (k : ModelFault) → IsFaultIn ss names from true [] bs p k → ⊥) → IsRisingRole role
     → IsCoded role
 recursive_coded ss us names from bs (roles.Group a rs) h none rises =
-    let all : AreCoded true rs.items = (subst (λ (b : Bool). AreRising b rs.items) h.0 rises, no_sets ss us names from [] [] bs rs.items h.1 none) in
+    let all : AreCoded true rs.items = (subst (λ (b : Bool). AreRisingBodies b rs.items) h.0 rises, no_sets ss us names from [] [] bs rs.items h.1 none) in
     subst (λ (b : Bool). AreCoded b rs.items) (sym h.0) all
 recursive_coded ss us names from bs (roles.Check c) h none rises = absurd h
 recursive_coded ss us names from bs roles.Silent h none rises = absurd h
@@ -206,9 +206,9 @@ check_coded ss us names from w e (roles.Check c) h =
     code_coded ss names (with_values us names [] from e []) from e c.code h.1
 check_coded ss us names from w e roles.Silent h = absurd h
 
-item_coded : (ss : List Sense) (us : List Usage) (names : List Naming) (at : ℕ) (c : Clause)
+item_coded : (ss : List Sense) (us : List Usage) (names : List Naming) (at : ℕ) (c : BareItem)
     (r : ResolvedItem) → ((p : ℕ) (k : ModelFault) → IsFaultOfItem ss names at c p k → ⊥)
-    → IsRising r.role → IsResolvedIn ss us names (extended ss names at c) (length names) c r
+    → IsRisingRole r.role → IsResolvedIn ss us names (names_after ss names at c) (length names) c r
     → IsCoded r.role
 item_coded ss us names at (Group true bs) r none rises h =
     recursive_coded ss us (with_own names at 0 bs) (length names) bs r.role h.0 none rises
@@ -220,20 +220,20 @@ item_coded ss us names at Mute r none rises h = subst (λ (role : Role). IsCoded
 item_coded ss us names at (Defined n ps b) r none rises h =
     subst (λ (role : Role). IsCoded role) (sym h.0) tt
 
-all_coded : (ss : List Sense) (us : List Usage) (names : List Naming) (at : ℕ) (cs : List Clause)
+all_coded : (ss : List Sense) (us : List Usage) (names : List Naming) (at : ℕ) (cs : List BareItem)
     (rs : List ResolvedItem) → HasNoFault ss names at cs
-    → AllByRecursion (λ r. IsRising r.role) rs → AreResolved ss us names at cs rs
+    → AllByRecursion (λ r. IsRisingRole r.role) rs → AreResolved ss us names at cs rs
     → AllByRecursion (λ r. IsCoded r.role) rs
 all_coded ss us names at [] [] none rises h = tt
 all_coded ss us names at [] (r ∷ rs) none rises h = absurd h
 all_coded ss us names at (c ∷ cs) [] none rises h = absurd h
 all_coded ss us names at (c ∷ cs) (r ∷ rs) none rises h = (
   item_coded ss us names at c r (λ p k f. none 0 p k (inl (refl, f))) rises.0 h.0,
-  all_coded (senses_after ss names c) (usages_after us names at c) (extended ss names at c) (at + 1)
+  all_coded (senses_after ss names c) (usages_after us names at c) (names_after ss names at c) (at + 1)
       cs rs (λ i p k f. none (1 + i) p k (inr (i, refl, f))) rises.1 h.1,
 )
 
 pub coded_items : (model : ModelText) → HasCodedItems model
 coded_items model rs none h =
-    all_coded [] [] outermost 0 (clauses_of model) rs none
-    (resolved_rising outermost 0 (clauses_of model) rs none h.0) h.0
+    all_coded [] [] outermost 0 (bare_items model) rs none
+    (resolved_rising outermost 0 (bare_items model) rs none h.0) h.0

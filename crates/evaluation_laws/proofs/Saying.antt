@@ -24,7 +24,7 @@ use Rattle.verdict.specs.declared.answer.Refusal.TheVariants as refusals
 use Rattle.verdict.specs.Evaluated.{IsEvaluation}
 use Rattle.verdict.specs.Kept.{Flag}
 use Rattle.verdict.proofs.Uniqueness as verdicts
-use Rattle.from_scratch.specs.Answers.{AreNamed, HasColumns, HasAnswers, IsValued, IsSaidAs, IsSaidBy, AreSaid}
+use Rattle.from_scratch.specs.Answers.{AreNamed, HasColumns, HasAnswers, AreItemColumns, IsSaidAs, IsSaidBy, AreSaid}
 use Rattle.from_scratch.specs.FromScratch.{IsFaultless, IsEvaluationOf, IsResultOf}
 use Rattle.from_scratch.proofs.Sole.{one_fault, fault_or_none}
 use Rattle.cat_eval_laws.specs.Items.{ItemContent, RoleContent, Group, Check, Silent, role_content, item_content}
@@ -95,7 +95,7 @@ module _ (space another : Space) (shown : shown_in space ≡ shown_in another) w
         h.0 ys (inputs_one h.0 g.0 h.1 g.1) g.2)
 
   valued_below : (over : Space) (rs : List ResolvedItem) (i : ℕ) (cs : List Column)
-      → IsValued over rs i cs → i < length rs
+      → AreItemColumns over rs i cs → i < length rs
   valued_below over [] i cs h = absurd h
   valued_below over (r ∷ rs) i cs (inl h) = omega (arith, h.0)
   valued_below over (r ∷ rs) i cs (inr h) =
@@ -103,11 +103,11 @@ module _ (space another : Space) (shown : shown_in space ≡ shown_in another) w
 
   valued_one : (rs qs : List ResolvedItem) → map item_content rs ≡ map item_content qs
       → AllByRecursion (λ r. IsCoded r.role) rs → (i : ℕ) (cs ds : List Column)
-      → IsValued space rs i cs → IsValued another qs i ds → cs ≡ ds
+      → AreItemColumns space rs i cs → AreItemColumns another qs i ds → cs ≡ ds
   valued_one [] qs e coded i cs ds h g = absurd h
   valued_one (r ∷ rs) [] e coded i cs ds h g = absurd g
   valued_one (r ∷ rs) (q ∷ qs) e coded i cs ds (inl h) (inl g) =
-      columns_one (λ j xs. IsValued space rs j xs) (λ j ys. IsValued another qs j ys)
+      columns_one (λ j xs. AreItemColumns space rs j xs) (λ j ys. AreItemColumns another qs j ys)
       (λ j xs ys. valued_one rs qs (ap later e) coded.1 j xs ys) r q (same_first r q rs qs e)
       coded.0 cs ds h.1 g.1
   valued_one (r ∷ rs) (q ∷ qs) e coded i cs ds (inl h) (inr g) =
@@ -175,10 +175,10 @@ said_one space another shown (r ∷ rs) [] e coded cs ds fs gs h g =
     absurd (let n : item_content r ∷ map item_content rs ≡ [] = e in cc)
 said_one space another shown (r ∷ rs) (q ∷ qs) e coded cs ds fs gs h g =
     let first = same_first r q rs qs e in
-    said_by_one (HasAnswers space (λ j xs. IsValued space rs j xs) r)
-    (HasAnswers another (λ j ys. IsValued another qs j ys) q)
-    (answers_one space another shown (λ j xs. IsValued space rs j xs)
-    (λ j ys. IsValued another qs j ys)
+    said_by_one (HasAnswers space (λ j xs. AreItemColumns space rs j xs) r)
+    (HasAnswers another (λ j ys. AreItemColumns another qs j ys) q)
+    (answers_one space another shown (λ j xs. AreItemColumns space rs j xs)
+    (λ j ys. AreItemColumns another qs j ys)
     (valued_one space another shown rs qs (ap later e) coded.1) r q first coded.0)
     (λ xs ys. AreSaid space rs xs ys) (λ xs ys. AreSaid another qs xs ys)
     (said_one space another shown rs qs (ap later e) coded.1)

@@ -12,7 +12,7 @@ use Rattle.cat_eval.specs.declared.column.Column.{Column}
 use Rattle.cat_eval_laws.specs.Items.{ItemContent, RoleContent, Group, Check, Silent, role_content, item_content}
 use Rattle.cat_eval_laws.proofs.Keeping.{columns_kept, answers_kept, later}
 use Rattle.verdict.specs.Kept.{Flag}
-use Rattle.from_scratch.specs.Answers.{AreNamed, HasColumns, HasAnswers, IsValued, IsSaidAs, IsSaidBy, AreSaid, IsRising}
+use Rattle.from_scratch.specs.Answers.{AreNamed, HasColumns, HasAnswers, AreItemColumns, IsSaidAs, IsSaidBy, AreSaid, IsRisingRole}
 use Rattle.from_scratch.proofs.Knowing.{least_of}
 use Rattle.evaluation_laws.specs.Alignment.{Move, First, Second, Both, pairs_of, IsPaired, AreAligned}
 use Rattle.binding_laws.proofs.Lists.{IsSamePair, contains_one_of}
@@ -37,7 +37,7 @@ module _ (space : Space) (V W : ℕ → List Column → Type 0) (R : Input → I
 
   module _ (r q : ResolvedItem) (same : role_content r.role ≡ role_content q.role)
       (inputs : AllZip R r.inputs.items q.inputs.items) where
-    pub columns_moved : IsRising q.role → (cs : List Column) → HasColumns space V r cs
+    pub columns_moved : IsRisingRole q.role → (cs : List Column) → HasColumns space V r cs
         → HasColumns space W q cs
     columns_moved rising cs h =
         let columns = columns_kept r.role q.role space space h.0 h.0 cs (record { roles = same; candidates = refl; values = refl }) h.2 in (
@@ -127,20 +127,20 @@ pair_low (Both ∷ ms) (r ∷ rs) (q ∷ qs) i j a c =
     at_one rest (inr g) = let low = rest g in omega (arith, low)
 
 module _ (space : Space) where
-  valued_below : (rs : List ResolvedItem) (i : ℕ) (cs : List Column) → IsValued space rs i cs
+  valued_below : (rs : List ResolvedItem) (i : ℕ) (cs : List Column) → AreItemColumns space rs i cs
       → i < length rs
   valued_below [] i cs h = absurd h
   valued_below (r ∷ rs) i cs (inl h) = omega (arith, h.0)
   valued_below (r ∷ rs) i cs (inr h) = let lt = valued_below rs i cs h in omega (arith, lt)
 
   valued_lower : (r : ResolvedItem) (rs : List ResolvedItem) (i : ℕ) (cs : List Column)
-      → i < length rs → IsValued space (r ∷ rs) i cs → IsValued space rs i cs
+      → i < length rs → AreItemColumns space (r ∷ rs) i cs → AreItemColumns space rs i cs
   valued_lower r rs i cs lt (inl h) = absurd (omega (arith, h.0, lt))
   valued_lower r rs i cs lt (inr h) = h
 
   valued_aligned : (ms : List Move) (rs qs : List ResolvedItem) → AreAligned ms rs qs
-      → Each (λ q. IsRising q.role) qs → (i j : ℕ) (cs : List Column)
-      → Contains (pairs_of ms rs qs) (i, j) → IsValued space rs i cs → IsValued space qs j cs
+      → Each (λ q. IsRisingRole q.role) qs → (i j : ℕ) (cs : List Column)
+      → Contains (pairs_of ms rs qs) (i, j) → AreItemColumns space rs i cs → AreItemColumns space qs j cs
   valued_aligned [] [] [] a rising i j cs c h = absurd h
   valued_aligned [] [] (q ∷ qs) a rising i j cs c h = absurd a
   valued_aligned [] (r ∷ rs) qs a rising i j cs c h = absurd a
@@ -158,15 +158,15 @@ module _ (space : Space) where
       (contains_one_of (length rs, length qs) (pairs_of ms rs qs) (i, j) c) h
     where
       at_one : ((k l : ℕ) (ds : List Column) → Contains (pairs_of ms rs qs) (k, l)
-          → IsValued space rs k ds → IsValued space qs l ds)
+          → AreItemColumns space rs k ds → AreItemColumns space qs l ds)
           → IsSamePair (length rs, length qs) (i, j) ⊎ Contains (pairs_of ms rs qs) (i, j)
-          → IsValued space (r ∷ rs) i cs → IsValued space (q ∷ qs) j cs
+          → AreItemColumns space (r ∷ rs) i cs → AreItemColumns space (q ∷ qs) j cs
       at_one rest (inl e) (inl g) =
           let is : length qs ≡ j = ap (λ (x : ℕ × ℕ). x.1) e in
           inl (
             sym is,
-            columns_moved space (λ k ds. IsValued space rs k ds)
-                (λ k ds. IsValued space qs k ds) (IsPaired (pairs_of ms rs qs))
+            columns_moved space (λ k ds. AreItemColumns space rs k ds)
+                (λ k ds. AreItemColumns space qs k ds) (IsPaired (pairs_of ms rs qs))
                 (λ k l p. (p.1, λ ds. rest k.item l.item ds p.0)) r q a.0 a.1 rising.0 cs g.1,
           )
       at_one rest (inl e) (inr g) =
@@ -177,7 +177,7 @@ module _ (space : Space) where
           inr (rest i j cs d (valued_lower r rs i cs (pair_low ms rs qs i j a.2 d) g))
 
   pub said_aligned : (ms : List Move) (rs qs : List ResolvedItem) → AreAligned ms rs qs
-      → Each (λ q. IsRising q.role) qs → (cs : List (List Bool)) (fs : List Flag)
+      → Each (λ q. IsRisingRole q.role) qs → (cs : List (List Bool)) (fs : List Flag)
       → AreSaid space rs cs fs → AreSaid space qs cs fs
   said_aligned [] [] [] a rising cs fs h = h
   said_aligned [] [] (q ∷ qs) a rising cs fs h = absurd a
@@ -185,18 +185,18 @@ module _ (space : Space) where
   said_aligned (First ∷ ms) [] qs a rising cs fs h = absurd a
   said_aligned (First ∷ ms) (r ∷ rs) qs a rising cs fs h =
       said_aligned ms rs qs a.1 rising cs fs (unsaid r.role
-      (HasAnswers space (λ j ds. IsValued space rs j ds) r) (λ xs ys. AreSaid space rs xs ys) cs
+      (HasAnswers space (λ j ds. AreItemColumns space rs j ds) r) (λ xs ys. AreSaid space rs xs ys) cs
       fs a.0 h)
   said_aligned (Second ∷ ms) rs [] a rising cs fs h = absurd a
   said_aligned (Second ∷ ms) rs (q ∷ qs) a rising cs fs h =
-      says_nothing q.role (HasAnswers space (λ j ds. IsValued space qs j ds) q)
+      says_nothing q.role (HasAnswers space (λ j ds. AreItemColumns space qs j ds) q)
       (λ xs ys. AreSaid space qs xs ys) cs fs a.0 (said_aligned ms rs qs a.1 rising.1 cs fs h)
   said_aligned (Both ∷ ms) [] qs a rising cs fs h = absurd a
   said_aligned (Both ∷ ms) (r ∷ rs) [] a rising cs fs h = absurd a
   said_aligned (Both ∷ ms) (r ∷ rs) (q ∷ qs) a rising cs fs h =
-      said_by (HasAnswers space (λ j ds. IsValued space rs j ds) r)
-      (HasAnswers space (λ j ds. IsValued space qs j ds) q)
-      (answers_moved space (λ k ds. IsValued space rs k ds) (λ k ds. IsValued space qs k ds)
+      said_by (HasAnswers space (λ j ds. AreItemColumns space rs j ds) r)
+      (HasAnswers space (λ j ds. AreItemColumns space qs j ds) q)
+      (answers_moved space (λ k ds. AreItemColumns space rs k ds) (λ k ds. AreItemColumns space qs k ds)
       (IsPaired (pairs_of ms rs qs))
       (λ k l p. (p.1, λ ds. valued_aligned ms rs qs a.2 rising.1 k.item l.item ds p.0)) r q
       a.0 a.1)
@@ -236,8 +236,8 @@ module _ (space : Space) where
   )
 
   valued_same : (rs qs : List ResolvedItem) → map item_content rs ≡ map item_content qs
-      → Each (λ q. IsRising q.role) qs → (i : ℕ) (cs : List Column) → IsValued space rs i cs
-      → IsValued space qs i cs
+      → Each (λ q. IsRisingRole q.role) qs → (i : ℕ) (cs : List Column) → AreItemColumns space rs i cs
+      → AreItemColumns space qs i cs
   valued_same [] qs e rising i cs h = absurd h
   valued_same (r ∷ rs) [] e rising i cs h =
       absurd (let n : item_content r ∷ map item_content rs ≡ [] = e in cc)
@@ -245,9 +245,9 @@ module _ (space : Space) where
       let first = same_first r q rs qs e in
       inl (
         h.0 ∙ same_length rs qs (ap later e),
-        columns_moved space (λ k ds. IsValued space rs k ds) (λ k ds. IsValued space qs k ds)
+        columns_moved space (λ k ds. AreItemColumns space rs k ds) (λ k ds. AreItemColumns space qs k ds)
             (λ i j. i ≡ j)
-            (same_moved (λ k ds. IsValued space rs k ds) (λ k ds. IsValued space qs k ds)
+            (same_moved (λ k ds. AreItemColumns space rs k ds) (λ k ds. AreItemColumns space qs k ds)
             (λ k ds. valued_same rs qs (ap later e) rising.1 k ds)) r q
             (ap (λ (x : ItemContent). x.role) first)
             (inputs_zip r q first) rising.0 cs h.1,
@@ -256,7 +256,7 @@ module _ (space : Space) where
       inr (valued_same rs qs (ap later e) rising.1 i cs h)
 
   pub said_same : (rs qs : List ResolvedItem) → map item_content rs ≡ map item_content qs
-      → Each (λ q. IsRising q.role) qs → (cs : List (List Bool)) (fs : List Flag)
+      → Each (λ q. IsRisingRole q.role) qs → (cs : List (List Bool)) (fs : List Flag)
       → AreSaid space rs cs fs → AreSaid space qs cs fs
   said_same [] [] e rising cs fs h = h
   said_same [] (q ∷ qs) e rising cs fs h =
@@ -266,11 +266,11 @@ module _ (space : Space) where
   said_same (r ∷ rs) (q ∷ qs) e rising cs fs h =
       let first = same_first r q rs qs e in
       let role = ap (λ (x : ItemContent). x.role) first in
-      said_by (HasAnswers space (λ j ds. IsValued space rs j ds) r)
-      (HasAnswers space (λ j ds. IsValued space qs j ds) q)
-      (answers_moved space (λ k ds. IsValued space rs k ds) (λ k ds. IsValued space qs k ds)
+      said_by (HasAnswers space (λ j ds. AreItemColumns space rs j ds) r)
+      (HasAnswers space (λ j ds. AreItemColumns space qs j ds) q)
+      (answers_moved space (λ k ds. AreItemColumns space rs k ds) (λ k ds. AreItemColumns space qs k ds)
       (λ i j. i ≡ j)
-      (same_moved (λ k ds. IsValued space rs k ds) (λ k ds. IsValued space qs k ds)
+      (same_moved (λ k ds. AreItemColumns space rs k ds) (λ k ds. AreItemColumns space qs k ds)
       (λ k ds. valued_same rs qs (ap later e) rising.1 k ds)) r q role
       (inputs_zip r q first))
       (λ xs ys. AreSaid space rs xs ys) (λ xs ys. AreSaid space qs xs ys)

@@ -10,11 +10,11 @@ use Rattle.memo_core.specs.Step.{Has}
 use Rattle.binding_kinds.specs.declared.scope.Binder.TheVariants as binders
 use Rattle.binding_kinds.specs.declared.scope.Found.{Found}
 use Rattle.binding_kinds.specs.declared.scope.Used.{Used}
-use Rattle.binding_kinds.specs.Value.{Naming, Bound, Clause, Group, Check, Mute, Defined, clause_of}
+use Rattle.binding_kinds.specs.Value.{Naming, Bound, BareItem, Group, Check, Mute, Defined, bare_item}
 use Rattle.binding_kinds.specs.Kinds.{found}
 use Rattle.binding_kinds.specs.Senses.{Sense}
 use Rattle.binding_kinds.specs.Functions.{sense_of_function}
-use Rattle.binding_kinds.specs.Faults.{with_own, with_all, extended, senses_after, HasNoFault}
+use Rattle.binding_kinds.specs.Faults.{with_own, with_all, names_after, senses_after, HasNoFault}
 use Rattle.binding_graph.specs.declared.resolved.ResolvedItem.{ResolvedItem}
 use Rattle.binding_graph.specs.Reach.{is_check}
 use Rattle.binding_graph.specs.Resolved.{AreResolved, AreLabelled}
@@ -51,20 +51,20 @@ pub record IsWhole (w : Whole) : Type 0 where
   pub checks : (b : ℕ) (r : ResolvedItem) → slice_get w.resolved b ≡ Some r → is_check r.role ≡ true
       → Has w.used b
 
-abbrev pub functions_in : ℕ → List Clause → List ℕ
+abbrev pub functions_in : ℕ → List BareItem → List ℕ
 functions_in at [] = []
 functions_in at (c ∷ cs) = with_function at c (functions_in (at + 1) cs)
 
 -- before the items that are left, of which the first has the number `at`
 pub record IsSeen (w : Whole) (s : Scope) (at : ℕ) (xs : List Item) (rs : List ResolvedItem)
     : Type 0 where
-  pub as_resolved : AreResolved s.senses s.usages s.names at (map clause_of xs) rs
+  pub as_resolved : AreResolved s.senses s.usages s.names at (map bare_item xs) rs
   pub labelled : AreLabelled xs rs
-  pub no_fault : HasNoFault s.senses s.names at (map clause_of xs)
+  pub no_fault : HasNoFault s.senses s.names at (map bare_item xs)
   pub texts : (k : ℕ) → slice_get w.items (at + k) ≡ slice_get xs k
   pub items : (k : ℕ) → slice_get w.resolved (at + k) ≡ slice_get rs k
   pub counted : w.functions
-      ≡ map (λ (u : Usage). u.item) s.usages ++ functions_in at (map clause_of xs)
+      ≡ map (λ (u : Usage). u.item) s.usages ++ functions_in at (map bare_item xs)
   pub counts : map (λ (u : Usage). u.arity) s.usages ≡ map (λ (b : Sense). b.arity) s.senses
   pub values : (u : Usage) → Has s.usages u → Each (IsBoundBy s.names) u.values
 
@@ -92,28 +92,28 @@ all_keep P more ss outer (b ∷ bs) names item at h =
 
 extended_keep : (P : List Naming → Type 0)
     → ((n : Naming) (names : List Naming) → P names → P (n ∷ names))
-    → (ss : List Sense) (names : List Naming) (at : ℕ) (c : Clause) → P names
-    → P (extended ss names at c)
+    → (ss : List Sense) (names : List Naming) (at : ℕ) (c : BareItem) → P names
+    → P (names_after ss names at c)
 extended_keep P more ss names at (Group true bs) h = own_keep P more bs names at 0 h
 extended_keep P more ss names at (Group false bs) h = all_keep P more ss names bs names at 0 h
 extended_keep P more ss names at (Check w e) h = h
 extended_keep P more ss names at Mute h = h
 extended_keep P more ss names at (Defined n ps b) h = more _ names h
 
-pub names_longer : (ss : List Sense) (names : List Naming) (at : ℕ) (c : Clause)
-    → length names ≤ length (extended ss names at c)
+pub names_longer : (ss : List Sense) (names : List Naming) (at : ℕ) (c : BareItem)
+    → length names ≤ length (names_after ss names at c)
 names_longer ss names at c =
     extended_keep (λ ns. length names ≤ length ns) (λ n ns h. omega (arith, h)) ss names at c
     (omega arith)
 
-pub senses_front : (s : Scope) (c : Clause) → IsFront s.senses (senses_after s.senses s.names c)
+pub senses_front : (s : Scope) (c : BareItem) → IsFront s.senses (senses_after s.senses s.names c)
 senses_front s (Group r bs) n x e = e
 senses_front s (Check w t) n x e = e
 senses_front s Mute n x e = e
 senses_front s (Defined f ps b) n x e =
     front_append s.senses (sense_of_function s.senses s.names ps b ∷ []) n x e
 
-pub usages_front : (s : Scope) (at : ℕ) (c : Clause)
+pub usages_front : (s : Scope) (at : ℕ) (c : BareItem)
     → IsFront s.usages (usages_after s.usages s.names at c)
 usages_front s at (Group r bs) n x e = e
 usages_front s at (Check w t) n x e = e
@@ -153,7 +153,7 @@ next_function w s at rest many e =
     ∙ at_middle (map (λ (u : Usage). u.item) s.usages) rest at (length s.senses)
     (sym many ∙ sym (length-map s.usages (λ (u : Usage). u.item)))
 
-next_counted : (s : Scope) (at : ℕ) (c : Clause) (all rest : List ℕ)
+next_counted : (s : Scope) (at : ℕ) (c : BareItem) (all rest : List ℕ)
     → all ≡ map (λ (u : Usage). u.item) s.usages ++ with_function at c rest
     → all ≡ map (λ (u : Usage). u.item) (usages_after s.usages s.names at c) ++ rest
 next_counted s at (Group r bs) all rest e = e
@@ -172,8 +172,8 @@ no_outer names x f e t =
     let low : nat_le (length names) f.slot ≡ false = grind (arith, nat_tests, lt) in
     let n : true ≡ false = sym t ∙ low in cc
 
-bound_later : (s : Scope) (at : ℕ) (c : Clause) (us : List Used) → Each (IsBoundBy s.names) us
-    → Each (IsBoundBy (extended s.senses s.names at c)) us
+bound_later : (s : Scope) (at : ℕ) (c : BareItem) (us : List Used) → Each (IsBoundBy s.names) us
+    → Each (IsBoundBy (names_after s.senses s.names at c)) us
 bound_later s at c us h =
     extended_keep (λ ns. Each (IsBoundBy ns) us)
     (λ n ns k. each_to (IsBoundBy ns) (IsBoundBy (n ∷ ns)) (bound_more n ns) us k) s.senses s.names
@@ -188,11 +188,11 @@ one_end (z ∷ xs) y x (inr h) = elim (one_end xs y x h) [
   | inr e ↦ inr e
 ]
 
-next_values : (w : Whole) (s : Scope) (at : ℕ) (c : Clause) (rest : List ℕ)
+next_values : (w : Whole) (s : Scope) (at : ℕ) (c : BareItem) (rest : List ℕ)
     → w.functions ≡ map (λ (u : Usage). u.item) s.usages ++ rest
     → ((u : Usage) → Has s.usages u → Each (IsBoundBy s.names) u.values)
     → (u : Usage) → Has (usages_after s.usages s.names at c) u
-    → Each (IsBoundBy (extended s.senses s.names at c)) u.values
+    → Each (IsBoundBy (names_after s.senses s.names at c)) u.values
 next_values w s at (Group r bs) rest e h u there =
     bound_later s at (Group r bs) u.values (h u there)
 next_values w s at (Check o t) rest e h u there = h u there
@@ -222,7 +222,7 @@ moved {X} xs ys y at h k =
 
 pub seen_next : (w : Whole) (s : Scope) (at : ℕ) (x : Item) (xs : List Item) (r : ResolvedItem)
     (rs : List ResolvedItem) → IsSeen w s at (x ∷ xs) (r ∷ rs)
-    → IsSeen w (scope_behind s at (clause_of x)) (at + 1) xs rs
+    → IsSeen w (scope_behind s at (bare_item x)) (at + 1) xs rs
 seen_next w s at x xs r rs h = record {
   as_resolved = h.as_resolved.1;
   labelled = h.labelled.1;
@@ -230,11 +230,11 @@ seen_next w s at x xs r rs h = record {
   texts = moved w.items xs x at h.texts;
   items = moved w.resolved rs r at h.items;
   counted =
-      next_counted s at (clause_of x) w.functions (functions_in (at + 1) (map clause_of xs))
+      next_counted s at (bare_item x) w.functions (functions_in (at + 1) (map bare_item xs))
       h.counted;
-  counts = next_counts s at (clause_of x) h.counts;
+  counts = next_counts s at (bare_item x) h.counts;
   values =
-      next_values w s at (clause_of x) (functions_in at (map clause_of (x ∷ xs))) h.counted
+      next_values w s at (bare_item x) (functions_in at (map bare_item (x ∷ xs))) h.counted
       h.values;
 }
 

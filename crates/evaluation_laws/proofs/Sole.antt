@@ -20,11 +20,11 @@ use Rattle.candidates.specs.declared.candidate.Space.{Space}
 use Rattle.candidates.specs.Space.{candidates_in, Candidate}
 use Rattle.cat_eval.specs.declared.column.Column.{Column}
 use Rattle.cat_eval.specs.declared.column.Column.TheVariants as columns
-use Rattle.cat_eval.specs.Columns.{HaveValues, HasValue, AreColumns}
+use Rattle.cat_eval.specs.Columns.{HaveValues, HasColumnValue, AreGroupColumns}
 use Rattle.cat_eval.specs.Executions.{events_of, EventsAt, PairsAt}
 use Rattle.cat_eval.specs.Least.{IsLeast, AreMonotone}
 use Rattle.cat_eval.specs.Named.{PairsFound}
-use Rattle.cat_eval.specs.Values.{IsAnswer, IsFor, IsMeant, column_len}
+use Rattle.cat_eval.specs.Values.{IsCheckAnswer, IsFor, IsMeaning, column_len}
 use Rattle.from_scratch.proofs.Sole.{one_least}
 use Rattle.evaluation_laws.specs.Laws.{HasTree, AreCoded, HasOneColumns, HasOneAnswers}
 use Rattle.from_scratch.proofs.Knowing.{item_at}
@@ -52,7 +52,7 @@ AreOne kinds.OfAny s t r q = r ≡ q
 
 meant_one : (kind : Kind) (steps : List Step) (n : ℕ) (sets : Source → ℕ → Type 0)
     (outer : Source → ℕ → ℕ → Type 0) (s t : Events) (r q : Relation) → HasTree kind steps
-    → IsMeant kind steps n sets outer s r → IsMeant kind steps n sets outer t q
+    → IsMeaning kind steps n sets outer s r → IsMeaning kind steps n sets outer t q
     → AreOne kind s t r q
 meant_one kinds.OfSet steps n sets outer s t r q tree f g =
     events_one s t n _ (f tree.0 tree.1) (g tree.0 tree.1)
@@ -112,8 +112,8 @@ all_at P (x ∷ xs) (suc k) d lt h = all_at P xs k d (omega (arith, lt)) h.1
 -- two columns have one value in the candidate of this number
 abbrev AgreeAt : Kind → Column → Column → ℕ → Type 0
 AgreeAt kind c d k =
-    (s : Events) × (t : Events) × (r : Relation) × (q : Relation) × HasValue c k s r
-    × HasValue d k t q × AreOne kind s t r q
+    (s : Events) × (t : Events) × (r : Relation) × (q : Relation) × HasColumnValue c k s r
+    × HasColumnValue d k t q × AreOne kind s t r q
 
 column_one : (kind : Kind) (c d : Column) (n : ℕ) → IsFor kind c → IsFor kind d → column_len c ≡ n
     → column_len d ≡ n → ((k : ℕ) → k < n → AgreeAt kind c d k) → c ≡ d
@@ -177,8 +177,8 @@ first_of_them (b ∷ bs) j lt = b
 
 group_one : (recursive : Bool) (bodies : List Body) (inputs : List (Bor Column))
     (candidates : List Candidate) (cs ds : List Column) → AreCoded recursive bodies
-    → AreColumns recursive bodies inputs candidates cs
-    → AreColumns recursive bodies inputs candidates ds → cs ≡ ds
+    → AreGroupColumns recursive bodies inputs candidates cs
+    → AreGroupColumns recursive bodies inputs candidates ds → cs ≡ ds
 group_one recursive bodies inputs candidates cs ds coded h g =
     let none : Column = columns.Sets [] in
     ext_get_or none cs ds (h.as_many ∙ sym g.as_many) (λ j lt.
@@ -208,8 +208,8 @@ same_bool P false false f g = refl
 
 answer_one : (check : CheckCode) (n : ℕ) (sets : Source → ℕ → Type 0)
     (outer : Source → ℕ → ℕ → Type 0) (kind : Kind) (a b : Bool)
-    → HasTree kind check.code.steps.items → IsAnswer check n sets outer kind a
-    → IsAnswer check n sets outer kind b → a ≡ b
+    → HasTree kind check.code.steps.items → IsCheckAnswer check n sets outer kind a
+    → IsCheckAnswer check n sets outer kind b → a ≡ b
 answer_one check n sets outer kinds.OfSet a b t f g = same_bool _ a b (f t.0 t.1) (g t.0 t.1)
 answer_one check n sets outer kinds.OfRelation a b t f g = same_bool _ a b (f t.0 t.1) (g t.0 t.1)
 answer_one check n sets outer kinds.OfAny a b t f g = same_bool _ a b (f t.0 t.1) (g t.0 t.1)

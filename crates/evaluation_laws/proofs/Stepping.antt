@@ -10,10 +10,10 @@ use Rattle.binding_kinds.specs.declared.kinds.Kind.TheVariants.{OfRelation, OfAn
 use Rattle.binding_kinds.specs.declared.scope.Binder.TheVariants as binders
 use Rattle.binding_kinds.specs.declared.scope.Found.{Found}
 use Rattle.binding_kinds.specs.declared.scope.Input.{Input}
-use Rattle.binding_kinds.specs.Value.{Naming, Bound, Clause, Group, Check, Mute, Defined}
+use Rattle.binding_kinds.specs.Value.{Naming, Bound, BareItem, Group, Check, Mute, Defined}
 use Rattle.binding_kinds.specs.Senses.{Sense, kind_in}
 use Rattle.binding_kinds.specs.Functions.{sense_of_function}
-use Rattle.binding_kinds.specs.Faults.{naming_at, with_own, with_all, extended, senses_after}
+use Rattle.binding_kinds.specs.Faults.{naming_at, with_own, with_all, names_after, senses_after}
 use Rattle.binding_graph.specs.Usages.{usage_of_function, usages_after}
 use Rattle.binding_laws.specs.ItemLaws.{Scope, IsPairing, HasSameNames, HasSameNamesIn, with_names}
 use Rattle.binding_laws.proofs.Alike.{kind_same}
@@ -38,7 +38,7 @@ module _ (u : Reach) (side : Shared → Found) (cs : List Shared) (item : ℕ)
       (naming_at item at b (K b)) unused h)
 
   -- what a function's name stands for
-  abbrev pub HasFunction : ℕ → Clause → Type 0
+  abbrev pub HasFunction : ℕ → BareItem → Type 0
   HasFunction n (Group r bs) = Unit {0}
   HasFunction n (Check w e) = Unit {0}
   HasFunction n Mute = Unit {0}
@@ -47,8 +47,8 @@ module _ (u : Reach) (side : Shared → Found) (cs : List Shared) (item : ℕ)
   number : {a b : ℕ} → Some a ≡ Some b → a ≡ b
   number e = cc
 
-  pub item_past : (ss : List Sense) (names : List Naming) (c : Clause) → HasFunction (length ss) c
-      → Looks u names side cs → Looks u (extended ss names item c) side cs
+  pub item_past : (ss : List Sense) (names : List Naming) (c : BareItem) → HasFunction (length ss) c
+      → Looks u names side cs → Looks u (names_after ss names item c) side cs
   item_past ss names (Group true bs) f h =
       subst (λ (ns : List Naming). Looks u ns side cs) (own_kinds names item 0 bs)
       (kinds_past (λ b. OfRelation) bs names 0 h)
@@ -165,21 +165,21 @@ module _ (u v : Reach) (at bt : ℕ) where
 
 -- ---- an item
 
-abbrev pub scope_behind : Scope → ℕ → Clause → Scope
+abbrev pub scope_behind : Scope → ℕ → BareItem → Scope
 scope_behind s at c =
     record {
       senses = senses_after s.senses s.names c;
       usages = usages_after s.usages s.names at c;
-      names = extended s.senses s.names at c;
+      names = names_after s.senses s.names at c;
     }
 
 -- the names of the item stand for the same in both, and so does what is seen behind it
-pub record IsStep (u v : Reach) (s o : Scope) (at bt : ℕ) (c : Clause) (P : Input → Input → Type 0)
+pub record IsStep (u v : Reach) (s o : Scope) (at bt : ℕ) (c : BareItem) (P : Input → Input → Type 0)
     : Type 0 where
   pub during : List Shared
   pub pairing : IsPairing (pairing_of during) (length s.names) (length o.names)
-  pub names : HasSameNamesIn (pairing_of during) s o (extended s.senses s.names at c)
-      (extended o.senses o.names bt c) c
+  pub names : HasSameNamesIn (pairing_of during) s o (names_after s.senses s.names at c)
+      (names_after o.senses o.names bt c) c
   pub during_from : AreFrom (λ i j. P i j ⊎ IsOwnPair at bt i j) during
   pub behind : List Shared
   pub shared : AreShared u v (scope_behind s at c) (scope_behind o bt c) behind
@@ -272,9 +272,9 @@ module _ (u v : Reach) (s o : Scope) (at bt : ℕ) (cs : List Shared) (shared : 
         behind_from = from_more;
       }
 
-  pub item_step : (c : Clause) → length s.usages ≡ length s.senses
-      → length o.usages ≡ length o.senses → HasKeptNamesIn u s (extended s.senses s.names at c) c
-      → HasKeptNamesIn v o (extended o.senses o.names bt c) c → IsStep u v s o at bt c P
+  pub item_step : (c : BareItem) → length s.usages ≡ length s.senses
+      → length o.usages ≡ length o.senses → HasKeptNamesIn u s (names_after s.senses s.names at c) c
+      → HasKeptNamesIn v o (names_after o.senses o.names bt c) c → IsStep u v s o at bt c P
   item_step (Group true bs) many more l r =
       let K : Bound → Kind = λ b. OfRelation in
       let ds = grown K K at bt 0 bs s.names o.names cs in

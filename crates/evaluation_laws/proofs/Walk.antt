@@ -11,8 +11,8 @@ use Rattle.text_values.specs.ModelValue as value
 use Rattle.memo_core.specs.Step.{Has}
 use Rattle.binding_kinds.specs.declared.scope.Input.{Input}
 use Rattle.binding_kinds.specs.declared.scope.Found.{Found}
-use Rattle.binding_kinds.specs.Value.{Clause, Group, Check, Mute, Defined, clause_of}
-use Rattle.binding_kinds.specs.Faults.{extended}
+use Rattle.binding_kinds.specs.Value.{BareItem, Group, Check, Mute, Defined, bare_item}
+use Rattle.binding_kinds.specs.Faults.{names_after}
 use Rattle.binding_graph.specs.declared.resolved.ResolvedItem.{ResolvedItem}
 use Rattle.binding_graph.specs.Contents.{RoleContent, role_content}
 use Rattle.binding_graph.specs.Reach.{is_check}
@@ -43,29 +43,29 @@ no_check w whole at r is unused = elim (cases_Bool (is_check r.role)) [
 has_function : (w : Whole) (s : Scope) (at : ℕ) (x : Item) (xs : List Item) (r : ResolvedItem)
     (rs : List ResolvedItem) (side : Shared → Found) (cs : List Shared)
     (unused : Has w.used at → ⊥) → IsSeen w s at (x ∷ xs) (r ∷ rs)
-    → HasFunction (reach w) side cs at unused (length s.senses) (clause_of x)
-has_function w s at x xs r rs side cs unused h = by_clause (clause_of x) h.counted
+    → HasFunction (reach w) side cs at unused (length s.senses) (bare_item x)
+has_function w s at x xs r rs side cs unused h = by_clause (bare_item x) h.counted
   where
-    by_clause : (c : Clause)
-        → w.functions ≡ map (λ u. u.item) s.usages ++ functions_in at (c ∷ map clause_of xs)
+    by_clause : (c : BareItem)
+        → w.functions ≡ map (λ u. u.item) s.usages ++ functions_in at (c ∷ map bare_item xs)
         → HasFunction (reach w) side cs at unused (length s.senses) c
     by_clause (Group b bs) e = tt
     by_clause (Check o t) e = tt
     by_clause Mute e = tt
     by_clause (Defined n ps b) e =
-        next_function w s at (functions_in (at + 1) (map clause_of xs)) (many_functions s h.counts)
+        next_function w s at (functions_in (at + 1) (map bare_item xs)) (many_functions s h.counts)
         e
 
 -- the names of the item at hand are kept
 kept_here : (w : Whole) → IsWhole w
     → (s : Scope) (at : ℕ) (x : Item) (xs : List Item) (r : ResolvedItem) (rs : List ResolvedItem)
     → Has w.used at → IsSeen w s at (x ∷ xs) (r ∷ rs)
-    → HasKeptNamesIn (reach w) s (extended s.senses s.names at (clause_of x)) (clause_of x)
+    → HasKeptNamesIn (reach w) s (names_after s.senses s.names at (bare_item x)) (bare_item x)
 kept_here w whole s at x xs r rs used h =
     let is = here_at w.resolved rs r at h.items in
     item_kept (reach w) s at h.counts h.values
-    (functions_numbered w s (functions_in at (map clause_of (x ∷ xs))) h.counted) used
-    (clause_of x) r
+    (functions_numbered w s (functions_in at (map bare_item (x ∷ xs))) h.counted) used
+    (bare_item x) r
     (λ i k f. h.no_fault 0 i k (inl (refl, f))) h.as_resolved.0 (whole.names at r used is)
     (whole.functions at r used is)
 
@@ -90,10 +90,10 @@ module _ (w z : Whole) (left_whole : IsWhole w) (right_whole : IsWhole z) where
       (rs qs : List ResolvedItem) (us vs : List ℕ) (cs : List Shared) (ms : List Move)
       (bs ds : List ResolvedItem) → IsSkipped w at us
       → IsState s o at bt (x ∷ xs) ys (r ∷ rs) qs us vs cs ms bs ds
-      → IsState (scope_behind s at (clause_of x)) o (at + 1) bt xs ys rs qs us vs cs (First ∷ ms)
+      → IsState (scope_behind s at (bare_item x)) o (at + 1) bt xs ys rs qs us vs cs (First ∷ ms)
       (r ∷ bs) ds
   skip_left s o at bt x xs ys r rs qs us vs cs ms bs ds skip h =
-      let t = scope_behind s at (clause_of x) in
+      let t = scope_behind s at (bare_item x) in
       record {
         left = seen_next w s at x xs r rs h.left;
         right = h.right;
@@ -101,15 +101,15 @@ module _ (w z : Whole) (left_whole : IsWhole w) (right_whole : IsWhole z) where
         right_used = h.right_used;
         shared = record {
           left =
-              item_past (reach w) (λ c. c.left) cs at skip.unused s.senses s.names (clause_of x)
+              item_past (reach w) (λ c. c.left) cs at skip.unused s.senses s.names (bare_item x)
               (has_function w s at x xs r rs (λ c. c.left) cs skip.unused h.left) h.shared.left;
           right = h.shared.right;
           falling =
               falling_more cs (length s.names) (length o.names) (length t.names) (length o.names)
-              h.shared.falling (names_longer s.senses s.names at (clause_of x)) (omega arith);
+              h.shared.falling (names_longer s.senses s.names at (bare_item x)) (omega arith);
           common =
               all_within (pairing_of cs) (pairing_of cs) (within_self (pairing_of cs)) s o t o
-              (senses_front s (clause_of x)) (λ i y g. g) (usages_front s at (clause_of x))
+              (senses_front s (bare_item x)) (λ i y g. g) (usages_front s at (bare_item x))
               (λ i y g. g) cs h.shared.common;
         };
         origin = h.origin;
@@ -126,10 +126,10 @@ module _ (w z : Whole) (left_whole : IsWhole w) (right_whole : IsWhole z) where
       (rs qs : List ResolvedItem) (us vs : List ℕ) (cs : List Shared) (ms : List Move)
       (bs ds : List ResolvedItem) → IsSkipped z bt vs
       → IsState s o at bt xs (y ∷ ys) rs (q ∷ qs) us vs cs ms bs ds
-      → IsState s (scope_behind o bt (clause_of y)) at (bt + 1) xs ys rs qs us vs cs (Second ∷ ms)
+      → IsState s (scope_behind o bt (bare_item y)) at (bt + 1) xs ys rs qs us vs cs (Second ∷ ms)
       bs (q ∷ ds)
   skip_right s o at bt y xs ys q rs qs us vs cs ms bs ds skip h =
-      let t = scope_behind o bt (clause_of y) in
+      let t = scope_behind o bt (bare_item y) in
       record {
         left = h.left;
         right = seen_next z o bt y ys q qs h.right;
@@ -138,15 +138,15 @@ module _ (w z : Whole) (left_whole : IsWhole w) (right_whole : IsWhole z) where
         shared = record {
           left = h.shared.left;
           right =
-              item_past (reach z) (λ c. c.right) cs bt skip.unused o.senses o.names (clause_of y)
+              item_past (reach z) (λ c. c.right) cs bt skip.unused o.senses o.names (bare_item y)
               (has_function z o bt y ys q qs (λ c. c.right) cs skip.unused h.right) h.shared.right;
           falling =
               falling_more cs (length s.names) (length o.names) (length s.names) (length t.names)
-              h.shared.falling (omega arith) (names_longer o.senses o.names bt (clause_of y));
+              h.shared.falling (omega arith) (names_longer o.senses o.names bt (bare_item y));
           common =
               all_within (pairing_of cs) (pairing_of cs) (within_self (pairing_of cs)) s o s t
-              (λ i x g. g) (senses_front o (clause_of y)) (λ i x g. g)
-              (usages_front o bt (clause_of y)) cs h.shared.common;
+              (λ i x g. g) (senses_front o (bare_item y)) (λ i x g. g)
+              (usages_front o bt (bare_item y)) cs h.shared.common;
         };
         origin = h.origin;
         left_count = h.left_count;
@@ -180,8 +180,8 @@ module _ (w z : Whole) (left_whole : IsWhole w) (right_whole : IsWhole z) where
     pub role : role_content r.role ≡ role_content q.role
     pub inputs : AllZip (IsPaired (pairs_of ms bs ds)) r.inputs.items q.inputs.items
     pub behind : List Shared
-    pub shared : AreShared (reach w) (reach z) (scope_behind s at (clause_of x))
-        (scope_behind o bt (clause_of y)) behind
+    pub shared : AreShared (reach w) (reach z) (scope_behind s at (bare_item x))
+        (scope_behind o bt (bare_item y)) behind
     pub origin : AreFrom (IsPaired ((length bs, length ds) ∷ pairs_of ms bs ds)) behind
 
   meet : (s o : Scope) (at bt : ℕ) (x y : Item) (xs ys : List Item) (r q : ResolvedItem)
@@ -193,14 +193,14 @@ module _ (w z : Whole) (left_whole : IsWhole w) (right_whole : IsWhole z) where
   meet s o at bt x y xs ys r q rs qs us vs cs ms bs ds used others text h =
       let P : Input → Input → Type 0 = IsPaired (pairs_of ms bs ds) in
       let say = same_text x y text in
-      let c = clause_of x in
+      let c = bare_item x in
       let l = kept_here w left_whole s at x xs r rs used h.left in
-      let k : HasKeptNamesIn (reach z) o (extended o.senses o.names bt c) c = subst (λ (d : Clause). HasKeptNamesIn (reach z) o (extended o.senses o.names bt d) d) (sym say.0) (kept_here z right_whole o bt y ys q qs others h.right) in
+      let k : HasKeptNamesIn (reach z) o (names_after o.senses o.names bt c) c = subst (λ (d : BareItem). HasKeptNamesIn (reach z) o (names_after o.senses o.names bt d) d) (sym say.0) (kept_here z right_whole o bt y ys q qs others h.right) in
       let step = item_step (reach w) (reach z) s o at bt cs h.shared P h.origin c (many_functions s h.left.counts) (many_functions o h.right.counts) l k in
-      let resolved : IsResolvedIn o.senses o.usages o.names (extended o.senses o.names bt c) (length o.names) c q = subst (λ (d : Clause). IsResolvedIn o.senses o.usages o.names (extended o.senses o.names bt d) (length o.names) d q) (sym say.0) h.right.as_resolved.0 in
+      let resolved : IsResolvedIn o.senses o.usages o.names (names_after o.senses o.names bt c) (length o.names) c q = subst (λ (d : BareItem). IsResolvedIn o.senses o.usages o.names (names_after o.senses o.names bt d) (length o.names) d q) (sym say.0) h.right.as_resolved.0 in
       let same : DoTheSame (pairing_of step.during) r q =
-      alike_items x (pairing_of step.during) s o (extended s.senses s.names at c)
-      (extended o.senses o.names bt c) (length s.names) (length o.names) r q step.pairing
+      alike_items x (pairing_of step.during) s o (names_after s.senses s.names at c)
+      (names_after o.senses o.names bt c) (length s.names) (length o.names) r q step.pairing
       step.names (h.left.as_resolved.0, h.left.labelled.0)
       (resolved, label_moved x y q say.1 h.right.labelled.0) in
       record {
@@ -211,7 +211,7 @@ module _ (w z : Whole) (left_whole : IsWhole w) (right_whole : IsWhole z) where
         behind = step.behind;
         shared =
             subst
-            (λ (d : Clause). AreShared (reach w) (reach z) (scope_behind s at c)
+            (λ (d : BareItem). AreShared (reach w) (reach z) (scope_behind s at c)
             (scope_behind o bt d) step.behind) say.0 step.shared;
         origin = λ i j g. behind_pair i j (step.behind_from i j g);
       }
@@ -298,7 +298,7 @@ module _ (w z : Whole) (left_whole : IsWhole w) (right_whole : IsWhole z) where
       (rs qs : List ResolvedItem) (us vs : List ℕ) (cs : List Shared) (ms : List Move)
       (bs ds : List ResolvedItem) → IsLeft w (at + 1) us → IsLeft z (bt + 1) vs → Has w.used at
       → Has z.used bt
-      → Then xs rs us (scope_behind s at (clause_of x)) (at + 1)
+      → Then xs rs us (scope_behind s at (bare_item x)) (at + 1)
       → IsState s o at bt (x ∷ xs) (y ∷ ys) (r ∷ rs) (q ∷ qs) (at ∷ us) (bt ∷ vs) cs ms bs ds
       → IsWalked (r ∷ rs) (q ∷ qs) (at ∷ us) (bt ∷ vs) bs ds
   pair_up s o at bt x y xs ys r q rs qs us vs cs ms bs ds left right used others next h =
@@ -309,7 +309,7 @@ module _ (w z : Whole) (left_whole : IsWhole w) (right_whole : IsWhole z) where
       let same : clause_at w.items at ≡ clause_at z.items bt = first_clause _ _ _ _ h.texts in
       let text : values.clause_of x ≡ values.clause_of y = same_Some _ _ (sym text_left ∙ (same ∙ text_right)) in
       let met = meet s o at bt x y xs ys r q rs qs (at ∷ us) (bt ∷ vs) cs ms bs ds used others text h in
-      let state : IsState (scope_behind s at (clause_of x)) (scope_behind o bt (clause_of y)) (at + 1) (bt + 1) xs ys rs qs us vs met.behind (Both ∷ ms) (r ∷ bs) (q ∷ ds) = record {
+      let state : IsState (scope_behind s at (bare_item x)) (scope_behind o bt (bare_item y)) (at + 1) (bt + 1) xs ys rs qs us vs met.behind (Both ∷ ms) (r ∷ bs) (q ∷ ds) = record {
         left = seen_next w s at x xs r rs h.left;
         right = seen_next z o bt y ys q qs h.right;
         left_used = left;
@@ -321,7 +321,7 @@ module _ (w z : Whole) (left_whole : IsWhole w) (right_whole : IsWhole z) where
         aligned = (met.role, met.inputs, h.aligned);
         texts = rest_clauses _ _ _ _ h.texts;
       } in
-      let rest = next ys qs vs (scope_behind o bt (clause_of y)) (bt + 1) met.behind (Both ∷ ms) (r ∷ bs) (q ∷ ds) state in
+      let rest = next ys qs vs (scope_behind o bt (bare_item y)) (bt + 1) met.behind (Both ∷ ms) (r ∷ bs) (q ∷ ds) state in
       let role : role_at w.resolved at ≡ role_at z.resolved bt =
       ap (λ (i : Option ResolvedItem). option_map (λ p. role_content p.role) i) at_left
       ∙ (ap (λ (c : RoleContent). Some c) met.role
@@ -342,7 +342,7 @@ module _ (w z : Whole) (left_whole : IsWhole w) (right_whole : IsWhole z) where
       (x : Item) (xs : List Item) (r : ResolvedItem) (rs : List ResolvedItem) (us : List ℕ)
       (cs : List Shared) (ms : List Move) (bs ds : List ResolvedItem) → IsLeft w (at + 1) us
       → Has w.used at
-      → Then xs rs us (scope_behind s at (clause_of x)) (at + 1)
+      → Then xs rs us (scope_behind s at (bare_item x)) (at + 1)
       → IsState s o at bt (x ∷ xs) ys (r ∷ rs) qs (at ∷ us) vs cs ms bs ds
       → IsWalked (r ∷ rs) qs (at ∷ us) vs bs ds
   seek [] [] vs s o at bt x xs r rs us cs ms bs ds left used next h =
@@ -359,7 +359,7 @@ module _ (w z : Whole) (left_whole : IsWhole w) (right_whole : IsWhole z) where
   seek (y ∷ ys) (q ∷ qs) vs s o at bt x xs r rs us cs ms bs ds left used next h =
       elim (turn z bt vs h.right_used) [
         | inl k ↦ after_right q (r ∷ rs) qs (at ∷ us) vs bs ds (seek ys qs vs s
-            (scope_behind o bt (clause_of y)) at (bt + 1) x xs r rs us cs (Second ∷ ms) bs (q ∷ ds)
+            (scope_behind o bt (bare_item y)) at (bt + 1) x xs r rs us cs (Second ∷ ms) bs (q ∷ ds)
             left used next (skip_right s o at bt y (x ∷ xs) ys q (r ∷ rs) qs (at ∷ us) vs cs ms bs
             ds k h))
         | inr k ↦ subst (λ (l : List ℕ). IsWalked (r ∷ rs) (q ∷ qs) (at ∷ us) l bs ds) (sym k.is)
@@ -378,7 +378,7 @@ module _ (w z : Whole) (left_whole : IsWhole w) (right_whole : IsWhole z) where
   rest_right [] (q ∷ qs) s o at bt cs ms bs ds h = absurd h.right.as_resolved
   rest_right (y ∷ ys) [] s o at bt cs ms bs ds h = absurd h.right.as_resolved
   rest_right (y ∷ ys) (q ∷ qs) s o at bt cs ms bs ds h = elim (turn z bt [] h.right_used) [
-    | inl k ↦ after_right q [] qs [] [] bs ds (rest_right ys qs s (scope_behind o bt (clause_of y))
+    | inl k ↦ after_right q [] qs [] [] bs ds (rest_right ys qs s (scope_behind o bt (bare_item y))
         at (bt + 1) cs (Second ∷ ms) bs (q ∷ ds)
         (skip_right s o at bt y [] ys q [] qs [] [] cs ms bs ds k h))
     | inr k ↦ absurd (let n : [] ≡ bt ∷ k.behind = k.is in cc)
@@ -402,12 +402,12 @@ module _ (w z : Whole) (left_whole : IsWhole w) (right_whole : IsWhole z) where
   walk [] (r ∷ rs) us s at ys qs vs o bt cs ms bs ds h = absurd h.left.as_resolved
   walk (x ∷ xs) [] us s at ys qs vs o bt cs ms bs ds h = absurd h.left.as_resolved
   walk (x ∷ xs) (r ∷ rs) us s at ys qs vs o bt cs ms bs ds h = elim (turn w at us h.left_used) [
-    | inl k ↦ after_left r rs qs us vs bs ds (walk xs rs us (scope_behind s at (clause_of x))
+    | inl k ↦ after_left r rs qs us vs bs ds (walk xs rs us (scope_behind s at (bare_item x))
         (at + 1) ys qs vs o bt cs (First ∷ ms) (r ∷ bs) ds
         (skip_left s o at bt x xs ys r rs qs us vs cs ms bs ds k h))
     | inr k ↦ subst (λ (l : List ℕ). IsWalked (r ∷ rs) qs l vs bs ds) (sym k.is)
         (seek ys qs vs s o at bt x xs r rs k.behind cs ms bs ds k.left k.used
-        (walk xs rs k.behind (scope_behind s at (clause_of x)) (at + 1))
+        (walk xs rs k.behind (scope_behind s at (bare_item x)) (at + 1))
         (subst (λ (l : List ℕ). IsState s o at bt (x ∷ xs) ys (r ∷ rs) qs l vs cs ms bs ds)
         k.is h))
   ]

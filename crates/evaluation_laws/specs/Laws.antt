@@ -19,7 +19,7 @@ use Rattle.cat_eval.specs.Columns.{ColumnsOf}
 use Rattle.cat_eval.specs.Values.{AnswersOf}
 use Rattle.cat_eval_laws.specs.Items.{item_content}
 use Rattle.verdict.specs.declared.answer.Outcome.{Outcome}
-use Rattle.from_scratch.specs.Answers.{AreRising}
+use Rattle.from_scratch.specs.Answers.{AreRisingBodies}
 use Rattle.from_scratch.specs.FromScratch.{AreItemsOf, IsFaultless, IsFromScratch}
 
 -- ---- items whose steps are those of expressions
@@ -34,7 +34,7 @@ HasTree kinds.OfAny steps = (t : RelTree) × (steps ≡ rel_code t [])
 abbrev pub AreCoded : Bool → List Body → Type 0
 AreCoded false bodies = AllByRecursion (λ b. HasTree b.code.kind b.code.steps.items) bodies
 AreCoded true bodies =
-    AreRising true bodies × AllByRecursion (λ b. b.code.kind ≡ kinds.OfSet → ⊥) bodies
+    AreRisingBodies true bodies × AllByRecursion (λ b. b.code.kind ≡ kinds.OfSet → ⊥) bodies
 
 abbrev pub IsCoded : Role → Type 0
 IsCoded (roles.Group recursive bodies) = AreCoded recursive bodies.items

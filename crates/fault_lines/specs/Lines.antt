@@ -44,8 +44,8 @@ found_length rest = max (min (position_or_len ends_word rest) 100) 1
 abbrev pub quoted : List ℕ → List ℕ
 quoted word = codes "`" ++ map shown_byte word ++ codes "`"
 
-abbrev pub found : List ℕ → List ℕ
-found rest =
+abbrev pub found_text : List ℕ → List ℕ
+found_text rest =
     if length rest == 0 then codes "the end of the text"
     else (if slice_index rest 0 == 10 then codes "the end of the line"
     else quoted (take (found_length rest) rest))
@@ -58,7 +58,7 @@ rule_said letter number words = letter ∷ decimal number ++ codes " " ++ words
 
 unfoldable pub what_is_found : List ℕ → ℕ → List ℕ
 what_is_found rest offset =
-    codes ", found " ++ found rest ++ codes " at byte " ++ decimal offset ++ codes "\n"
+    codes ", found_text " ++ found_text rest ++ codes " at byte " ++ decimal offset ++ codes "\n"
 
 -- a path, the position, the rule with its words, what is found, and the line
 unfoldable pub fault_lines : List ℕ → List ℕ → ℕ → ℕ → List ℕ → ℕ → List ℕ

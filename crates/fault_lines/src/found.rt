@@ -2,7 +2,7 @@
 
 ghost use Rattle.std.specs.Prelude.{◌≡◌, ◌≤◌, ◌++◌, OnOk, length, map};
 ghost use Rattle.std.specs.List.{position_or_len};
-ghost use Rattle.fault_lines.specs.Lines.{shown_byte, blank_below, is_word_byte, ends_word, quoted, found};
+ghost use Rattle.fault_lines.specs.Lines.{shown_byte, blank_below, is_word_byte, ends_word, quoted, found_text};
 
 use std::alloc::AllocError;
 use text_values::{is_digit, is_letter, put_bytes};
@@ -76,7 +76,7 @@ fn put_quoted(text: &mut Vec<u8>, word: &[u8]) -> Result<(), AllocError>
 /// Appends what stands at the start of these bytes: the end, or a word or a byte. Errors: out of
 /// memory.
 pub fn put_found(text: &mut Vec<u8>, rest: &[u8]) -> Result<(), AllocError>
-    ensures { OnOk result (text.new.items ≡ text.old.items ++ found rest.now) }
+    ensures { OnOk result (text.new.items ≡ text.old.items ++ found_text rest.now) }
 {
     if rest.is_empty() {
         return put_bytes(text, b"the end of the text");

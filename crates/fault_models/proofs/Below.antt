@@ -3,28 +3,28 @@ use Rattle.std.proofs.Common.{ℕ, ◌<◌, ◌+◌, List, [], ◌∷◌, length
 use Rattle.std.proofs.lemmas.List.{length-map}
 use Rattle.text_values.specs.declared.model.Item.{Item}
 use Rattle.binding_kinds.specs.declared.fault.ModelFault.{ModelFault}
-use Rattle.binding_kinds.specs.Value.{Naming, Clause, clause_of}
+use Rattle.binding_kinds.specs.Value.{Naming, BareItem, bare_item}
 use Rattle.binding_kinds.specs.Senses.{Sense}
-use Rattle.binding_kinds.specs.Faults.{IsFault, extended, senses_after}
+use Rattle.binding_kinds.specs.Faults.{IsFault, names_after, senses_after}
 use Rattle.fault_places.specs.declared.place.ItemFault.{ItemFault}
-use Rattle.fault_places.specs.Found.{outermost, IsPlace}
+use Rattle.fault_places.specs.Found.{outermost, IsItemFault}
 
-item_below : (ss : List Sense) (names : List Naming) (from : ℕ) (cs : List Clause) (i p : ℕ)
+item_below : (ss : List Sense) (names : List Naming) (from : ℕ) (cs : List BareItem) (i p : ℕ)
     (k : ModelFault) → IsFault ss names from cs i p k → i < length cs
 item_below ss names from [] i p k h = absurd h
 item_below ss names from (c ∷ cs) i p k h = elim h [
   | inl (e, f) ↦ omega (arith, e)
   | inr (after, e, f) ↦
       let r =
-      item_below (senses_after ss names c) (extended ss names from c) (from + 1) cs after p k
+      item_below (senses_after ss names c) (names_after ss names from c) (from + 1) cs after p k
       f in
       omega (arith, e, r)
 ]
 
-pub place_below : (items : List Item) (place : ItemFault) → IsPlace (map clause_of items) place
+pub place_below : (items : List Item) (place : ItemFault) → IsItemFault (map bare_item items) place
     → place.item < length items
 place_below items place h =
-    let b = item_below [] outermost 0 (map clause_of items) h.first.item h.first.index place.fault h.first.there in
+    let b = item_below [] outermost 0 (map bare_item items) h.first.item h.first.index place.fault h.first.there in
     let e = h.item_is in
-    let l = length-map items clause_of in
+    let l = length-map items bare_item in
     omega (arith, b, e, l)

@@ -1,5 +1,5 @@
 -- What people are told of a model whose text reads and that has a fault. `model_fault_lines` cites
--- `IsTold`.
+-- `IsModelFaultText`.
 use Rattle.std.specs.Prelude.{◌≡◌, ℕ, suc, List, [], ◌++◌, map, slice_get, slice_index_or, Some, codes, decimal}
 use Rattle.text_values.specs.declared.model.Item.{Item}
 use Rattle.text_values.specs.ModelValue.{Clause}
@@ -10,11 +10,11 @@ use Rattle.binding_kinds.specs.Numbers.{number as fault_number}
 use Rattle.binding_kinds.specs.Value as kinds
 use Rattle.binding_kinds.specs.Faults.{HasNoFault}
 use Rattle.fault_places.specs.declared.place.ItemFault.{ItemFault}
-use Rattle.fault_places.specs.Found.{outermost, IsPlace}
+use Rattle.fault_places.specs.Found.{outermost, IsItemFault}
 use Rattle.fault_lines.specs.Words.{rule_words}
 use Rattle.fault_lines.specs.Lines.{rule_said}
 
--- the number of the item at an index: the one that is given, and else its place in the text, from 1
+-- the number of the item at an index: the given one, and else its position in the text, from 1
 abbrev pub item_number : List ℕ → ℕ → ℕ
 item_number numbers index = slice_index_or numbers index (suc index)
 
@@ -28,12 +28,12 @@ fault_told name number fault sign item =
     ++ codes ", found `" ++ sign ++ codes "`\n" ++ printed_item item ++ codes "\n"
 
 -- nothing of a model without fault, and of another what its first fault is and where it stands
-pub data IsTold (name : List ℕ) (numbers : List ℕ) (items : List Item) (text : List ℕ)
+pub data IsModelFaultText (name : List ℕ) (numbers : List ℕ) (items : List Item) (text : List ℕ)
     : Type 0 where
-  IsFaultless : HasNoFault [] outermost 0 (map kinds.clause_of items) → text ≡ []
-      → IsTold name numbers items text
-  IsFaulty : (place : ItemFault) → IsPlace (map kinds.clause_of items) place → (item : Item)
+  IsFaultless : HasNoFault [] outermost 0 (map kinds.bare_item items) → text ≡ []
+      → IsModelFaultText name numbers items text
+  IsFaulty : (place : ItemFault) → IsItemFault (map kinds.bare_item items) place → (item : Item)
       → slice_get items place.item ≡ Some item
       → text
       ≡ fault_told name (item_number numbers place.item) place.fault place.sign.now
-      (clause_of item) → IsTold name numbers items text
+      (clause_of item) → IsModelFaultText name numbers items text

@@ -1,10 +1,10 @@
 //! The lines of a model's fault.
 
 ghost use Rattle.std.specs.Prelude.{◌≡◌, ◌++◌, ◌<◌, ◌^◌, ◌-◌, map, IfOk, OnOk};
-ghost use Rattle.binding_kinds.specs.Value.{clause_of as kind_clause};
-ghost use Rattle.fault_places.specs.Found.{IsPlace};
+ghost use Rattle.binding_kinds.specs.Value.{bare_item as kind_clause};
+ghost use Rattle.fault_places.specs.Found.{IsItemFault};
 ghost use Rattle.text_values.specs.ModelValues.{clause_of};
-ghost use Rattle.fault_models.specs.Told.{item_number, fault_told, IsTold};
+ghost use Rattle.fault_models.specs.Told.{item_number, fault_told, IsModelFaultText};
 
 use cat_printing::print_item;
 use fault_lines::{put_rule, rule_words};
@@ -65,8 +65,8 @@ fn lines_of(
     items: &[Item],
     place: &ItemFault<'_>,
 ) -> Result<Vec<u8>, AllocError>
-    requires { IsPlace (map kind_clause items.now) place.now }
-    ensures { IfOk result (λ v. IsTold name.now numbers.now items.now v.items) }
+    requires { IsItemFault (map kind_clause items.now) place.now }
+    ensures { IfOk result (λ v. IsModelFaultText name.now numbers.now items.now v.items) }
 {
     let item = &items[place.item];
     let number = item_number(numbers, place.item);
@@ -84,7 +84,7 @@ pub fn model_fault_lines(
     numbers: &[u64],
     items: &[Item],
 ) -> Result<Vec<u8>, AllocError>
-    ensures { IfOk result (λ v. IsTold name.now numbers.now items.now v.items) }
+    ensures { IfOk result (λ v. IsModelFaultText name.now numbers.now items.now v.items) }
 {
     match first_fault(alloc, items)? {
         None => Ok(Vec::new(alloc)),

@@ -10,7 +10,7 @@ use Rattle.binding_kinds.specs.declared.function.Function.{Function}
 use Rattle.binding_kinds.specs.declared.kinds.Kind.TheVariants.{OfAny}
 use Rattle.text_values.specs.ModelValues.{term_of}
 use Rattle.binding_kinds.specs.Value.{Naming, entry_of, bound_of}
-use Rattle.binding_kinds.specs.Senses.{Sense, IsKept, AreKept, kind_in}
+use Rattle.binding_kinds.specs.Senses.{Sense, HasSense, HaveSenses, kind_in}
 use Rattle.binding_kinds.specs.Verdict.{or_else, of_parameter, of_parameters}
 use Rattle.binding_kinds.proofs.Applications.{kept_long, kept_more}
 use Rattle.fault_places.specs.Search.{signed_fault, or_later, first_fault_in_parameters}
@@ -29,7 +29,7 @@ all_more ss outer g i item d s e lt name k b =
     rw (drop-cons g i d lt, rev_push entry_of s e, name, k, b, add-one i) refl
 
 pub named_more : (es new : List Entry) (e : Entry) (fs : List Function) (ss : List Sense) (n : ℕ)
-    → AreKept fs ss → n ≡ length fs → new ≡ es ++ e ∷ [] → e.kind ≡ OfAny
+    → HaveSenses fs ss → n ≡ length fs → new ≡ es ++ e ∷ [] → e.kind ≡ OfAny
     → e.binder ≡ binders.Applicable n
     → (
     let m : Naming =
@@ -39,7 +39,7 @@ named_more es new e fs ss n kept count is kind binder =
     rw (is, rev_push entry_of es e, kind, binder, count, kept_long fs ss kept) refl
 
 pub functions_more : (fs new : List Function) (ss : List Sense) (f : Function) (s : Sense)
-    → AreKept fs ss → new ≡ fs ++ f ∷ [] → IsKept f s → AreKept new (ss ++ s ∷ [])
+    → HaveSenses fs ss → new ≡ fs ++ f ∷ [] → HasSense f s → HaveSenses new (ss ++ s ∷ [])
 functions_more fs new ss f s kept is one = rw is (kept_more fs ss f s kept one)
 
 -- no fault, where none is found

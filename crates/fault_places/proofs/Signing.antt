@@ -8,17 +8,17 @@ use Rattle.binding_kinds.specs.declared.kinds.Kind.TheVariants.{OfSet, OfRelatio
 use Rattle.binding_kinds.specs.declared.fault.ModelFault.{ModelFault}
 use Rattle.binding_kinds.specs.declared.fault.ModelFault.TheVariants as faults
 use Rattle.binding_kinds.specs.declared.scope.Found.{Found}
-use Rattle.binding_kinds.specs.Value.{Naming, Bound, Clause, Group, Check, Mute, Defined}
+use Rattle.binding_kinds.specs.Value.{Naming, Bound, BareItem, Group, Check, Mute, Defined}
 use Rattle.binding_kinds.specs.Kinds.{found, takes, is_relation, is_set, is_turned, takes_body}
 use Rattle.binding_kinds.specs.Meanings.{parameter_of}
 use Rattle.binding_kinds.specs.Senses.{Sense, size_with, sense_of, count_of, sizes_in, kind_in, kinds_in, under_of, fault_applied}
-use Rattle.binding_kinds.specs.Faults.{width, widths, IsAmong, IsFaultOfApplication, IsFaultAt, IsFaultAmong, IsFaultOfBinding, IsFaultIn, IsFaultOfParameter, IsFaultOfParameters, IsFaultInside, IsFaultApplied, IsFaultOfBody, IsFaultOfBodies, IsFaultOfItem, IsFirst, IsNoLater, FirstFault, HasNoFault, with_own, extended, senses_after}
+use Rattle.binding_kinds.specs.Faults.{width, widths, IsAmong, IsFaultOfApplication, IsFaultAt, IsFaultAmong, IsFaultOfBinding, IsFaultIn, IsFaultOfParameter, IsFaultOfParameters, IsFaultInside, IsFaultApplied, IsFaultOfBody, IsFaultOfBodies, IsFaultOfItem, IsFirst, IsFaultNoLater, FirstFault, HasNoFault, with_own, names_after, senses_after}
 use Rattle.binding_kinds.specs.Verdict.{or_else, unless, is_seen, is_of_set, of_parameter}
-use Rattle.binding_kinds.specs.First.{of_binding, of_inside, of_applied}
+use Rattle.binding_kinds.specs.First.{let_fault, fault_inside, apply_fault}
 use Rattle.binding_kinds.proofs.First.{Judges, tested, named, inside}
 use Rattle.binding_kinds.proofs.FirstGroup.{seen_is, is_seen_of}
 use Rattle.fault_places.specs.Signs.{infix_sign, postfix_sign, check_sign, signs, signs_of_all, signs_of_bounds, signs_of_item}
-use Rattle.fault_places.specs.Search.{SignedFault, signed_fault, or_later, first_fault_in, first_fault_among, first_fault_in_group, first_fault_in_parameters, first_fault_in_body, first_fault_in_bodies, first_fault_in_item, PlacedFault, placed_fault, first_fault_in_items}
+use Rattle.fault_places.specs.Search.{SignedFault, signed_fault, or_later, first_fault_in, first_fault_among, first_fault_in_group, first_fault_in_parameters, first_fault_in_body, first_fault_in_bodies, first_fault_in_item, IndexedFault, indexed_fault, first_fault_in_items}
 
 -- the first of these faults stands at that sign of the list, or there is none
 abbrev Shows : (ℕ → ModelFault → Type 0) → List (List ℕ) → Option SignedFault → Type 0
@@ -54,7 +54,7 @@ turn F G n zs (Some s) q low high f g = (
   f.1,
 )
 
-later_stays : (n a b : ℕ) (k l : ModelFault) → IsNoLater a k b l → IsNoLater (n + a) k (n + b) l
+later_stays : (n a b : ℕ) (k l : ModelFault) → IsFaultNoLater a k b l → IsFaultNoLater (n + a) k (n + b) l
 later_stays n a b k l h =
     elim h [ inl lt ↦ inl (omega arith) | inr (e, r) ↦ inr (ap (λ (x : ℕ). n + x) e, r) ]
 
@@ -266,7 +266,7 @@ set_of_true k e = rw e refl
 judged_binding : (ss : List Sense) (names : List Naming) (recursive : Bool)
     (earlier : List (List ℕ)) (b : Bound)
     → Judges (λ p k. (p ≡ 0) × IsFaultOfBinding ss names recursive earlier b k)
-    (of_binding ss names recursive earlier b)
+    (let_fault ss names recursive earlier b)
 judged_binding ss names recursive earlier b =
     at_tests recursive (is_seen earlier b.name) (is_of_set (kind_in ss names b.body))
     (seen_is earlier b.name) (is_seen_of earlier b.name) (of_set (kind_in ss names b.body))
@@ -400,12 +400,12 @@ shown_parameters earlier (x ∷ xs) =
 -- ---- bodies of functions
 
 judged_inside : (o : Option ℕ) (f : Option Found)
-    → Judges (λ p k. (p ≡ 0) × IsFaultInside o f k) (of_inside o f)
+    → Judges (λ p k. (p ≡ 0) × IsFaultInside o f k) (fault_inside o f)
 judged_inside None f = named 0 false f
 judged_inside (Some i) f = λ p k h. absurd h.1
 
 judged_applied : (o : Option ℕ) (f : Result Sense ModelFault)
-    → Judges (λ p k. (p ≡ 0) × IsFaultApplied o f k) (of_applied o f)
+    → Judges (λ p k. (p ≡ 0) × IsFaultApplied o f k) (apply_fault o f)
 judged_applied (Some i) f = only faults.Arity
 judged_applied None (Ok s) = λ p k h. absurd h.1
 judged_applied None (Err l) = only l
@@ -493,7 +493,7 @@ mutual
 
 -- ---- items
 
-shown_item : (ss : List Sense) (names : List Naming) (item : ℕ) (c : Clause)
+shown_item : (ss : List Sense) (names : List Naming) (item : ℕ) (c : BareItem)
     → Shows (IsFaultOfItem ss names item c) (signs_of_item c) (first_fault_in_item ss names item c)
 shown_item ss names item (Group true bs) =
     shown_group ss (with_own names item 0 bs) (length names) true [] bs
@@ -514,22 +514,22 @@ shown_item ss names item (Defined n ps b) =
     (λ i. get_behind ps (signs b) (length ps) i refl) (shown_body ss names ps b))
 
 -- the first fault of the items, the first of which has the number, and where it stands
-pub record IsPlaced (ss : List Sense) (names : List Naming) (from : ℕ) (cs : List Clause)
-    (x : PlacedFault) : Type 0 where
+pub record IsPlaced (ss : List Sense) (names : List Naming) (from : ℕ) (cs : List BareItem)
+    (x : IndexedFault) : Type 0 where
   pub first : FirstFault ss names from cs x.fault
   pub item_is : from + first.item ≡ x.item
   pub sign_is : slice_get (signs_of_item (slice_index_or cs first.item Mute)) first.index
       ≡ Some x.sign
 
-abbrev pub ArePlaced : List Sense → List Naming → ℕ → List Clause → Option PlacedFault → Type 0
+abbrev pub ArePlaced : List Sense → List Naming → ℕ → List BareItem → Option IndexedFault → Type 0
 ArePlaced ss names from cs None = HasNoFault ss names from cs
 ArePlaced ss names from cs (Some x) = IsPlaced ss names from cs x
 
-after_item : (ss : List Sense) (names : List Naming) (from : ℕ) (c : Clause) (cs : List Clause)
-    (o : Option SignedFault) (q : Option PlacedFault)
+after_item : (ss : List Sense) (names : List Naming) (from : ℕ) (c : BareItem) (cs : List BareItem)
+    (o : Option SignedFault) (q : Option IndexedFault)
     → Shows (IsFaultOfItem ss names from c) (signs_of_item c) o
-    → ArePlaced (senses_after ss names c) (extended ss names from c) (from + 1) cs q
-    → ArePlaced ss names from (c ∷ cs) (placed_fault from o q)
+    → ArePlaced (senses_after ss names c) (names_after ss names from c) (from + 1) cs q
+    → ArePlaced ss names from (c ∷ cs) (indexed_fault from o q)
 after_item ss names from c cs None None f g =
     λ i p k h. elim h [ inl (e, a) ↦ f p k a | inr (after, e, b) ↦ g after p k b ]
 after_item ss names from c cs None (Some x) f g = record {
@@ -565,11 +565,11 @@ after_item ss names from c cs (Some s) q f g = record {
   sign_is = f.1;
 }
 
-pub items_are_placed : (ss : List Sense) (names : List Naming) (from : ℕ) (cs : List Clause)
+pub items_are_placed : (ss : List Sense) (names : List Naming) (from : ℕ) (cs : List BareItem)
     → ArePlaced ss names from cs (first_fault_in_items ss names from cs)
 items_are_placed ss names from [] = λ i p k h. absurd h
 items_are_placed ss names from (c ∷ cs) =
     after_item ss names from c cs (first_fault_in_item ss names from c)
-    (first_fault_in_items (senses_after ss names c) (extended ss names from c) (from + 1) cs)
+    (first_fault_in_items (senses_after ss names c) (names_after ss names from c) (from + 1) cs)
     (shown_item ss names from c) (items_are_placed (senses_after ss names c)
-    (extended ss names from c) (from + 1) cs)
+    (names_after ss names from c) (from + 1) cs)

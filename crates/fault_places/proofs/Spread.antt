@@ -10,13 +10,13 @@ use Rattle.text_values.specs.ModelValue.{Terms, Apply, gathered}
 use Rattle.text_values.specs.ModelValues.{term_of}
 use Rattle.text_values.proofs.Arguments.{applied_term}
 use Rattle.binding_kinds.specs.declared.fault.ModelFault.{ModelFault}
-use Rattle.binding_kinds.specs.GroupNames.{names_of}
+use Rattle.binding_kinds.specs.GroupNames.{let_names}
 use Rattle.binding_kinds.specs.Kinds.{found}
 use Rattle.binding_kinds.specs.Meanings.{parameter_of}
 use Rattle.binding_kinds.specs.Value.{Naming, Bound, bound_of}
 use Rattle.binding_kinds.specs.Verdict.{of_parameter}
-use Rattle.binding_kinds.specs.First.{of_binding, of_applied}
-use Rattle.binding_kinds.specs.Senses.{Sense, IsAlike, sense_of, size_in, sizes_in, size_applied, kinds_in, under_of, fault_applied}
+use Rattle.binding_kinds.specs.First.{let_fault, apply_fault}
+use Rattle.binding_kinds.specs.Senses.{Sense, IsSameSize, sense_of, size_in, sizes_in, size_applied, kinds_in, under_of, fault_applied}
 use Rattle.binding_kinds.proofs.Applications.{next, count_arguments}
 use Rattle.binding_kinds.proofs.Scopes.{rev_more, rev_next}
 use Rattle.fault_places.specs.Search.{SignedFault, signed_fault, or_later, first_fault_in, first_fault_among, first_fault_in_group, first_fault_in_parameters, first_fault_in_body, first_fault_in_bodies}
@@ -45,8 +45,8 @@ module _ (ss : List Sense) (names : List Naming) (e : Expression) (n : List ℕ)
   opened = ap term_of is ∙ applied_term n args
 
   pub size_is : (size : ℕ) (xs : List Expression) → xs ≡ args.items
-      → IsAlike size (size_in ss names (term_of e))
-      → IsAlike size (size_applied (sense xs) (sizes_in ss names (all_terms xs)))
+      → IsSameSize size (size_in ss names (term_of e))
+      → IsSameSize size (size_applied (sense xs) (sizes_in ss names (all_terms xs)))
   size_is size xs same h =
       h ∙ ap (λ (k : ℕ). min k 4097) (
       ap (size_in ss names) opened
@@ -125,7 +125,7 @@ pub body_application : (ss : List Sense) (names : List Naming) (ps : List (List 
     (n : List ℕ) (args : Vec Expression Global) (xs : List Expression) (m : ℕ)
     (own : Option ModelFault) (all : Option SignedFault) → e ≡ expressions.Applied n args
     → xs ≡ args.items → m ≡ length args.items
-    → own ≡ of_applied (parameter_of (reverse ps) n) (sense_of ss m (found names n))
+    → own ≡ apply_fault (parameter_of (reverse ps) n) (sense_of ss m (found names n))
     → all ≡ signed_fault own n
     → or_later all (first_fault_in_bodies ss names ps (gathered (map term_of xs)))
     ≡ first_fault_in_body ss names ps (term_of e)
@@ -139,7 +139,7 @@ body_application ss names ps e n args xs m own all is same long own_is all_is =
     (all_is ∙ ap (λ (o : Option ModelFault). signed_fault o n) own_is)
     ∙ ap
     (λ (k : ℕ). or_later
-    (signed_fault (of_applied (parameter_of (reverse ps) n) (sense_of ss k (found names n)))
+    (signed_fault (apply_fault (parameter_of (reverse ps) n) (sense_of ss k (found names n)))
     n)
     (first_fault_in_bodies ss names ps ts))
     (long ∙ sym (count_arguments args.items))
@@ -177,17 +177,17 @@ all_bodies ss names ps xs i now total past e =
 pub next_binding : (ss : List Sense) (names : List Naming) (from : ℕ) (r : Bool) (g : List Binding)
     (i : ℕ) (b : Binding) (own : Option ModelFault)
     (before after body here total : Option SignedFault) → i < length g → b ≡ get_or g i b
-    → own ≡ of_binding ss names r (names_of (take i g)) (bound_of b)
+    → own ≡ let_fault ss names r (let_names (take i g)) (bound_of b)
     → body ≡ first_fault_in ss names from false (term_of b.body)
     → here ≡ or_later (signed_fault own b.name) body → after ≡ or_later before here
-    → or_later before (first_fault_in_group ss names from r (names_of (take i g))
+    → or_later before (first_fault_in_group ss names from r (let_names (take i g))
     (map bound_of (drop i g))) ≡ total
-    → or_later after (first_fault_in_group ss names from r (names_of (take (i + 1) g))
+    → or_later after (first_fault_in_group ss names from r (let_names (take (i + 1) g))
     (map bound_of (drop (i + 1) g))) ≡ total
 next_binding ss names from r g i b own before after body here total lt is own_is body_is here_is
     after_is inv =
-    let rest = first_fault_in_group ss names from r (b.name ∷ names_of (take i g)) (map bound_of (drop (i + 1) g)) in
-    let ns : names_of (take (i + 1) g) ≡ b.name ∷ names_of (take i g) = rev_more (λ (x : Binding). x.name) g i b lt ∙ ap (λ (x : Binding). x.name ∷ names_of (take i g)) (sym is) in
+    let rest = first_fault_in_group ss names from r (b.name ∷ let_names (take i g)) (map bound_of (drop (i + 1) g)) in
+    let ns : let_names (take (i + 1) g) ≡ b.name ∷ let_names (take i g) = rev_more (λ (x : Binding). x.name) g i b lt ∙ ap (λ (x : Binding). x.name ∷ let_names (take i g)) (sym is) in
     let bs : map bound_of (drop i g) ≡ bound_of b ∷ map bound_of (drop (i + 1) g) =
     ap (map bound_of) (drop-cons g i b lt)
     ∙ ap (λ (x : Binding). bound_of x ∷ map bound_of (drop (suc i) g)) (sym is)
@@ -201,13 +201,13 @@ next_binding ss names from r g i b own before after body here total lt is own_is
     ∙ ap (λ (o : Option ModelFault). or_later (signed_fault o b.name) body) own_is
     ∙ ap
     (λ (o : Option SignedFault). or_later
-    (signed_fault (of_binding ss names r (names_of (take i g)) (bound_of b))
+    (signed_fault (let_fault ss names r (let_names (take i g)) (bound_of b))
     b.name) o) body_is))
     ∙ later_assoc before _ rest
     ∙ ap (λ (o : Option SignedFault). or_later before o) (later_assoc _ _ rest)
     ∙ sym (ap
     (λ (l : List Bound).
-    or_later before (first_fault_in_group ss names from r (names_of (take i g)) l))
+    or_later before (first_fault_in_group ss names from r (let_names (take i g)) l))
     bs) ∙ inv
 
 pub all_bindings : (ss : List Sense) (names : List Naming) (from : ℕ) (r : Bool)

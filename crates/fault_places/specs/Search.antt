@@ -3,13 +3,13 @@ use Rattle.std.specs.Prelude.{ℕ, suc, ◌+◌, List, [], ◌∷◌, ◌||◌, 
 use Rattle.text_values.specs.ModelValue.{Term, Terms, Atom, AllEvents, EmptyRelation, EmptySet, Join, Mark, Not, On, Apply, NoTerm, OneMore}
 use Rattle.binding_kinds.specs.declared.fault.ModelFault.{ModelFault}
 use Rattle.binding_kinds.specs.declared.fault.ModelFault.TheVariants as faults
-use Rattle.binding_kinds.specs.Value.{Naming, Bound, Clause, Group, Check, Mute, Defined}
+use Rattle.binding_kinds.specs.Value.{Naming, Bound, BareItem, Group, Check, Mute, Defined}
 use Rattle.binding_kinds.specs.Kinds.{found, takes, is_relation, is_set, is_turned, takes_body}
 use Rattle.binding_kinds.specs.Meanings.{parameter_of}
 use Rattle.binding_kinds.specs.Verdict.{unless, of_name, of_parameter}
 use Rattle.binding_kinds.specs.Senses.{Sense, sense_of, count_of, sizes_in, kind_in, kinds_in, under_of, fault_applied}
-use Rattle.binding_kinds.specs.Faults.{with_own, extended, senses_after}
-use Rattle.binding_kinds.specs.First.{of_binding, of_inside, of_applied}
+use Rattle.binding_kinds.specs.Faults.{with_own, names_after, senses_after}
+use Rattle.binding_kinds.specs.First.{let_fault, fault_inside, apply_fault}
 use Rattle.fault_places.specs.declared.place.SignFault.{SignFault}
 use Rattle.fault_places.specs.declared.place.ItemFault.{ItemFault}
 use Rattle.fault_places.specs.Signs.{infix_sign, postfix_sign, check_sign}
@@ -71,7 +71,7 @@ abbrev pub first_fault_in_group : List Sense → List Naming → ℕ → Bool �
     → Option SignedFault
 first_fault_in_group ss names from recursive earlier [] = None
 first_fault_in_group ss names from recursive earlier (b ∷ bs) =
-    or_later (signed_fault (of_binding ss names recursive earlier b) b.name)
+    or_later (signed_fault (let_fault ss names recursive earlier b) b.name)
     (or_later (first_fault_in ss names from false b.body) (first_fault_in_group ss names from
     recursive (b.name ∷ earlier) bs))
 
@@ -85,7 +85,7 @@ abbrev mutual
   -- of the body of a function
   pub first_fault_in_body : List Sense → List Naming → List (List ℕ) → Term → Option SignedFault
   first_fault_in_body ss names ps (Atom x) =
-      signed_fault (of_inside (parameter_of (reverse ps) x) (found names x)) x
+      signed_fault (fault_inside (parameter_of (reverse ps) x) (found names x)) x
   first_fault_in_body ss names ps AllEvents = None
   first_fault_in_body ss names ps EmptyRelation = None
   first_fault_in_body ss names ps EmptySet = None
@@ -96,7 +96,7 @@ abbrev mutual
   first_fault_in_body ss names ps (On a) = first_fault_in_body ss names ps a
   first_fault_in_body ss names ps (Apply x arguments) =
       or_later (signed_fault
-      (of_applied (parameter_of (reverse ps) x)
+      (apply_fault (parameter_of (reverse ps) x)
       (sense_of ss (count_of arguments) (found names x))) x)
       (first_fault_in_bodies ss names ps arguments)
 
@@ -105,7 +105,7 @@ abbrev mutual
   first_fault_in_bodies ss names ps (OneMore a others) =
       or_later (first_fault_in_body ss names ps a) (first_fault_in_bodies ss names ps others)
 
-abbrev pub first_fault_in_item : List Sense → List Naming → ℕ → Clause → Option SignedFault
+abbrev pub first_fault_in_item : List Sense → List Naming → ℕ → BareItem → Option SignedFault
 first_fault_in_item ss names item (Group true bs) =
     first_fault_in_group ss (with_own names item 0 bs) (length names) true [] bs
 first_fault_in_item ss names item (Group false bs) =
@@ -118,21 +118,21 @@ first_fault_in_item ss names item (Defined n ps b) =
     or_later (first_fault_in_parameters [] ps) (first_fault_in_body ss names ps b)
 
 -- the same, with the number of the item, from 0
-pub record PlacedFault : Type 0 where
+pub record IndexedFault : Type 0 where
   pub item : ℕ
   pub fault : ModelFault
   pub sign : List ℕ
 
-abbrev pub placed_fault_of : ItemFault → PlacedFault
-placed_fault_of f = record { item = f.item; fault = f.fault; sign = f.sign.now }
+abbrev pub indexed_fault_of : ItemFault → IndexedFault
+indexed_fault_of f = record { item = f.item; fault = f.fault; sign = f.sign.now }
 
-abbrev pub placed_fault : ℕ → Option SignedFault → Option PlacedFault → Option PlacedFault
-placed_fault item None later = later
-placed_fault item (Some f) later = Some (record { item = item; fault = f.fault; sign = f.sign })
+abbrev pub indexed_fault : ℕ → Option SignedFault → Option IndexedFault → Option IndexedFault
+indexed_fault item None later = later
+indexed_fault item (Some f) later = Some (record { item = item; fault = f.fault; sign = f.sign })
 
 -- of the items, the first of which has that number
-abbrev pub first_fault_in_items : List Sense → List Naming → ℕ → List Clause → Option PlacedFault
+abbrev pub first_fault_in_items : List Sense → List Naming → ℕ → List BareItem → Option IndexedFault
 first_fault_in_items ss names from [] = None
 first_fault_in_items ss names from (c ∷ cs) =
-    placed_fault from (first_fault_in_item ss names from c) (first_fault_in_items
-    (senses_after ss names c) (extended ss names from c) (from + 1) cs)
+    indexed_fault from (first_fault_in_item ss names from c) (first_fault_in_items
+    (senses_after ss names c) (names_after ss names from c) (from + 1) cs)

@@ -9,7 +9,7 @@ use Rattle.text_values.specs.declared.model.Infix.TheVariants.{Union, Sequence, 
 use Rattle.text_values.specs.declared.model.Postfix.{Postfix}
 use Rattle.text_values.specs.declared.model.Postfix.TheVariants as postfix
 use Rattle.text_values.specs.ModelValue.{Term, Terms, Atom, AllEvents, EmptyRelation, EmptySet, Join, Mark, Not, On, Apply, NoTerm, OneMore}
-use Rattle.binding_kinds.specs.Value.{Bound, Clause, Group, Check, Mute, Defined}
+use Rattle.binding_kinds.specs.Value.{Bound, BareItem, Group, Check, Mute, Defined}
 
 abbrev pub infix_sign : Infix → List ℕ
 infix_sign Union = codes "|"
@@ -50,7 +50,7 @@ abbrev pub signs_of_bounds : List Bound → List (List ℕ)
 signs_of_bounds [] = []
 signs_of_bounds (b ∷ bs) = b.name ∷ (signs b.body ++ signs_of_bounds bs)
 
-abbrev pub signs_of_item : Clause → List (List ℕ)
+abbrev pub signs_of_item : BareItem → List (List ℕ)
 signs_of_item (Group recursive bounds) = signs_of_bounds bounds
 signs_of_item (Check word body) = check_sign word ∷ signs body
 signs_of_item Mute = []

@@ -5,8 +5,8 @@ ghost use Rattle.text_values.specs.ModelValue.{gathered};
 ghost use Rattle.text_values.specs.ModelValues.{term_of};
 ghost use Rattle.binding_kinds.specs.Value.{entry_of};
 ghost use Rattle.binding_kinds.specs.Kinds.{found};
-ghost use Rattle.binding_kinds.specs.Combinations.{digit, number_of};
-ghost use Rattle.binding_kinds.specs.Senses.{Sense, AreKept, IsAlike, sense_of, sizes_in, kinds_in, size_applied, under_of, fault_applied};
+ghost use Rattle.binding_kinds.specs.Combinations.{digit, kinds_number};
+ghost use Rattle.binding_kinds.specs.Senses.{Sense, HaveSenses, IsSameSize, sense_of, sizes_in, kinds_in, size_applied, under_of, fault_applied};
 
 use binding_kinds::{Entry, Function, Kind, MAX_SIZE, ModelFault, function_of, judge, unless};
 use text_values::{Expression, Name};
@@ -24,9 +24,9 @@ fn digit(kind: Kind) -> usize
 
 /// The kinds of the arguments as one number.
 fn combination_of(entries: &[Entry], functions: &[Function], arguments: &[Expression]) -> usize
-    ensures { (senses : List Sense) → AreKept functions.now senses → length arguments.now ≤ 8
+    ensures { (senses : List Sense) → HaveSenses functions.now senses → length arguments.now ≤ 8
         → result
-        ≡ number_of (kinds_in senses (reverse (map entry_of entries.now))
+        ≡ kinds_number (kinds_in senses (reverse (map entry_of entries.now))
         (gathered (map term_of arguments.now))) }
 {
     let mut combination = 0usize;
@@ -50,9 +50,9 @@ pub fn application_fault(
 ) -> Option<ModelFault>
     ensures { let names = reverse (map entry_of entries.now) in
         let ts = gathered (map term_of arguments.now) in
-        (senses : List Sense) → AreKept functions.now senses
+        (senses : List Sense) → HaveSenses functions.now senses
         → (let f = sense_of senses (length arguments.now) (found names name.now) in
-        IsAlike size (size_applied f (sizes_in senses names ts))
+        IsSameSize size (size_applied f (sizes_in senses names ts))
         → result
         ≡ fault_applied f (sizes_in senses names ts) (kinds_in senses names ts) None) }
 {
@@ -76,7 +76,7 @@ pub fn is_under(
     count: usize,
     index: usize,
 ) -> bool
-    ensures { (senses : List Sense) → AreKept functions.now senses → index < count
+    ensures { (senses : List Sense) → HaveSenses functions.now senses → index < count
         → result
         ≡ under_of (sense_of senses count (found (reverse (map entry_of entries.now)) name.now))
         index }

@@ -3,10 +3,10 @@
 ghost use Rattle.std.specs.Prelude.{◌≡◌, List, reverse, map, option_map};
 ghost use Rattle.text_values.specs.ModelValues.{term_of};
 ghost use Rattle.binding_kinds.specs.Value.{entry_of};
-ghost use Rattle.binding_kinds.specs.Senses.{Sense, AreKept, sense_of};
+ghost use Rattle.binding_kinds.specs.Senses.{Sense, HaveSenses, sense_of};
 ghost use Rattle.binding_kinds.specs.Kinds.{found};
 ghost use Rattle.binding_kinds.specs.Meanings.{parameter_of};
-ghost use Rattle.binding_kinds.specs.First.{of_inside, of_applied};
+ghost use Rattle.binding_kinds.specs.First.{fault_inside, apply_fault};
 ghost use Rattle.fault_places.specs.Search.{signed_fault_of, signed_fault, first_fault_in_body};
 
 use crate::place::{SignFault, or_later, signed_fault};
@@ -17,7 +17,7 @@ use text_values::{Expression, Name};
 #[tactic(auto, using(binding_kinds::proofs::Bodies::inside_fault))]
 fn name_fault(sight: &Sight, name: &Name) -> Option<ModelFault>
     ensures { result
-        ≡ of_inside (parameter_of (reverse sight.now.parameters.now) name.now)
+        ≡ fault_inside (parameter_of (reverse sight.now.parameters.now) name.now)
         (found (reverse (map entry_of sight.now.entries.now)) name.now) }
 {
     match sight.value(name) {
@@ -28,9 +28,9 @@ fn name_fault(sight: &Sight, name: &Name) -> Option<ModelFault>
 
 /// The fault of a name with so many arguments.
 fn applied_fault(sight: &Sight, name: &Name, count: usize) -> Option<ModelFault>
-    ensures { (senses : List Sense) → AreKept sight.now.functions.now senses
+    ensures { (senses : List Sense) → HaveSenses sight.now.functions.now senses
         → result
-        ≡ of_applied (parameter_of (reverse sight.now.parameters.now) name.now)
+        ≡ apply_fault (parameter_of (reverse sight.now.parameters.now) name.now)
         (sense_of senses count (found (reverse (map entry_of sight.now.entries.now))
         name.now)) }
 {
@@ -43,7 +43,7 @@ fn applied_fault(sight: &Sight, name: &Name, count: usize) -> Option<ModelFault>
 /// The first fault of the body of a function. Kinds, sizes and complements count where the function
 /// is applied.
 pub fn body_fault<'t>(sight: &Sight, term: &'t Expression) -> Option<SignFault<'t>>
-    ensures { (senses : List Sense) → AreKept sight.now.functions.now senses
+    ensures { (senses : List Sense) → HaveSenses sight.now.functions.now senses
         → option_map signed_fault_of result
         ≡ first_fault_in_body senses (reverse (map entry_of sight.now.entries.now))
         sight.now.parameters.now (term_of term.now) }

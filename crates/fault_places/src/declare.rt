@@ -2,10 +2,10 @@
 
 ghost use Rattle.std.specs.Prelude.{◌≡◌, [], None, IfOk, OnOk, List, reverse, map, length, option_map, false};
 ghost use Rattle.text_values.specs.ModelValues.{term_of};
-ghost use Rattle.binding_kinds.specs.Value.{Defined, entry_of, bound_of, clause_of};
+ghost use Rattle.binding_kinds.specs.Value.{Defined, entry_of, bound_of, bare_item};
 ghost use Rattle.binding_kinds.specs.Kinds.{takes_body};
-ghost use Rattle.binding_kinds.specs.Senses.{Sense, AreKept, kind_in};
-ghost use Rattle.binding_kinds.specs.Faults.{with_all, extended, senses_after};
+ghost use Rattle.binding_kinds.specs.Senses.{Sense, HaveSenses, kind_in};
+ghost use Rattle.binding_kinds.specs.Faults.{with_all, names_after, senses_after};
 ghost use Rattle.binding_kinds.specs.Verdict.{unless};
 ghost use Rattle.fault_places.specs.Signs.{check_sign};
 ghost use Rattle.fault_places.specs.Search.{signed_fault_of, signed_fault, or_later, first_fault_in, first_fault_in_item, first_fault_in_parameters, first_fault_in_body};
@@ -31,7 +31,7 @@ fn declare_all(
     item: usize,
     group: &[Binding],
 ) -> Result<(), AllocError>
-    ensures { (senses : List Sense) → AreKept functions.now senses
+    ensures { (senses : List Sense) → HaveSenses functions.now senses
         → OnOk result (reverse (map entry_of entries.new.items)
         ≡ with_all senses (reverse (map entry_of entries.old.items))
         (reverse (map entry_of entries.old.items)) item 0 (map bound_of group.now)) }
@@ -55,7 +55,7 @@ fn check_fault<'t>(
     check: &'t Check,
 ) -> Option<SignFault<'t>>
     ensures { let names = reverse (map entry_of entries.now) in
-        (senses : List Sense) → AreKept functions.now senses
+        (senses : List Sense) → HaveSenses functions.now senses
         → option_map signed_fault_of result
         ≡ or_later
         (signed_fault
@@ -86,19 +86,19 @@ fn declare_function<'t>(
     parameters: &'t [Name],
     body: &'t Expression,
 ) -> Result<Option<SignFault<'t>>, AllocError>
-    ensures fault { (senses : List Sense) → AreKept scope.old.functions.items senses
+    ensures fault { (senses : List Sense) → HaveSenses scope.old.functions.items senses
         → IfOk result (λ f. option_map signed_fault_of f
         ≡ or_later (first_fault_in_parameters [] parameters.now) (first_fault_in_body senses
         (reverse (map entry_of scope.old.entries.items)) parameters.now
         (term_of body.now))) }
-    ensures names { (senses : List Sense) → AreKept scope.old.functions.items senses
+    ensures names { (senses : List Sense) → HaveSenses scope.old.functions.items senses
         → IfOk result (λ f. f ≡ None
         → reverse (map entry_of scope.new.entries.items)
-        ≡ extended senses (reverse (map entry_of scope.old.entries.items)) index
+        ≡ names_after senses (reverse (map entry_of scope.old.entries.items)) index
         (Defined name.now parameters.now (term_of body.now))) }
-    ensures functions { (senses : List Sense) → AreKept scope.old.functions.items senses
+    ensures functions { (senses : List Sense) → HaveSenses scope.old.functions.items senses
         → IfOk result (λ f. f ≡ None
-        → AreKept scope.new.functions.items (senses_after senses
+        → HaveSenses scope.new.functions.items (senses_after senses
         (reverse (map entry_of scope.old.entries.items))
         (Defined name.now parameters.now (term_of body.now)))) }
 {
@@ -134,19 +134,19 @@ pub fn declare_item<'t>(
     index: usize,
     item: &'t Item,
 ) -> Result<Option<SignFault<'t>>, AllocError>
-    ensures fault { (senses : List Sense) → AreKept scope.old.functions.items senses
+    ensures fault { (senses : List Sense) → HaveSenses scope.old.functions.items senses
         → IfOk result (λ f. option_map signed_fault_of f
         ≡ first_fault_in_item senses (reverse (map entry_of scope.old.entries.items)) index
-        (clause_of item.now)) }
-    ensures names { (senses : List Sense) → AreKept scope.old.functions.items senses
+        (bare_item item.now)) }
+    ensures names { (senses : List Sense) → HaveSenses scope.old.functions.items senses
         → IfOk result (λ f. f ≡ None
         → reverse (map entry_of scope.new.entries.items)
-        ≡ extended senses (reverse (map entry_of scope.old.entries.items)) index
-        (clause_of item.now)) }
-    ensures functions { (senses : List Sense) → AreKept scope.old.functions.items senses
+        ≡ names_after senses (reverse (map entry_of scope.old.entries.items)) index
+        (bare_item item.now)) }
+    ensures functions { (senses : List Sense) → HaveSenses scope.old.functions.items senses
         → IfOk result (λ f. f ≡ None
-        → AreKept scope.new.functions.items (senses_after senses
-        (reverse (map entry_of scope.old.entries.items)) (clause_of item.now))) }
+        → HaveSenses scope.new.functions.items (senses_after senses
+        (reverse (map entry_of scope.old.entries.items)) (bare_item item.now))) }
 {
     let from = scope.entries.len();
     match item {

@@ -3,7 +3,7 @@
 ghost use Rattle.std.specs.Prelude.{◌≡◌, List, reverse, map, option_map};
 ghost use Rattle.text_values.specs.ModelValues.{term_of};
 ghost use Rattle.binding_kinds.specs.Value.{entry_of};
-ghost use Rattle.binding_kinds.specs.Senses.{Sense, AreKept, kind_in};
+ghost use Rattle.binding_kinds.specs.Senses.{Sense, HaveSenses, kind_in};
 ghost use Rattle.fault_places.specs.Search.{signed_fault_of, signed_fault, first_fault_in};
 
 use crate::application::{application_fault, is_under};
@@ -13,7 +13,7 @@ use binding_kinds::{Entry, Function, Kind, ModelFault, either, is_turned, judge,
 use text_values::Expression;
 
 fn kind_of(entries: &[Entry], functions: &[Function], term: &Expression) -> Kind
-    ensures { (senses : List Sense) → AreKept functions.now senses
+    ensures { (senses : List Sense) → HaveSenses functions.now senses
         → result ≡ kind_in senses (reverse (map entry_of entries.now)) (term_of term.now) }
 {
     judge(entries, functions, 0, false, term).kind
@@ -28,7 +28,7 @@ pub fn expression_fault<'t>(
     under: bool,
     term: &'t Expression,
 ) -> Option<SignFault<'t>>
-    ensures { (senses : List Sense) → AreKept functions.now senses
+    ensures { (senses : List Sense) → HaveSenses functions.now senses
         → option_map signed_fault_of result
         ≡ first_fault_in senses (reverse (map entry_of entries.now)) from under
         (term_of term.now) }

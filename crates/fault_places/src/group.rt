@@ -2,7 +2,7 @@
 
 ghost use Rattle.std.specs.Prelude.{◌≡◌, [], List, reverse, map, option_map};
 ghost use Rattle.binding_kinds.specs.Value.{entry_of, bound_of};
-ghost use Rattle.binding_kinds.specs.Senses.{Sense, AreKept};
+ghost use Rattle.binding_kinds.specs.Senses.{Sense, HaveSenses};
 ghost use Rattle.fault_places.specs.Search.{signed_fault_of, signed_fault, first_fault_in_group, first_fault_in_parameters};
 
 use crate::expression::expression_fault;
@@ -18,7 +18,7 @@ pub fn group_fault<'t>(
     recursive: bool,
     group: &'t [Binding],
 ) -> Option<SignFault<'t>>
-    ensures { (senses : List Sense) → AreKept functions.now senses
+    ensures { (senses : List Sense) → HaveSenses functions.now senses
         → option_map signed_fault_of result
         ≡ first_fault_in_group senses (reverse (map entry_of entries.now)) from recursive []
         (map bound_of group.now) }

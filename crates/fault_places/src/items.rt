@@ -1,10 +1,10 @@
 //! The first fault of a model, by item and then by index.
 
 ghost use Rattle.std.specs.Prelude.{◌≡◌, List, reverse, map, IfOk, option_map};
-ghost use Rattle.binding_kinds.specs.Value.{entry_of, clause_of};
-ghost use Rattle.binding_kinds.specs.Senses.{Sense, AreKept};
-ghost use Rattle.fault_places.specs.Search.{placed_fault_of, first_fault_in_items};
-ghost use Rattle.fault_places.specs.Found.{IsFound};
+ghost use Rattle.binding_kinds.specs.Value.{entry_of, bare_item};
+ghost use Rattle.binding_kinds.specs.Senses.{Sense, HaveSenses};
+ghost use Rattle.fault_places.specs.Search.{indexed_fault_of, first_fault_in_items};
+ghost use Rattle.fault_places.specs.Found.{IsFirstItemFault};
 
 use crate::declare::declare_item;
 use crate::place::ItemFault;
@@ -18,10 +18,10 @@ fn find_fault<'t>(
     scope: &mut Scope,
     items: &'t [Item],
 ) -> Result<Option<ItemFault<'t>>, AllocError>
-    ensures { (senses : List Sense) → AreKept scope.old.functions.items senses
-        → IfOk result (λ f. option_map placed_fault_of f
+    ensures { (senses : List Sense) → HaveSenses scope.old.functions.items senses
+        → IfOk result (λ f. option_map indexed_fault_of f
         ≡ first_fault_in_items senses (reverse (map entry_of scope.old.entries.items)) 0
-        (map clause_of items.now)) }
+        (map bare_item items.now)) }
 {
     for (index, item) in items.iter().enumerate() {
         let fault = declare_item(alloc, scope, index, item)?;
@@ -45,7 +45,7 @@ pub fn first_fault<'t>(
     alloc: Global,
     items: &'t [Item],
 ) -> Result<Option<ItemFault<'t>>, AllocError>
-    ensures { IfOk result (IsFound (map clause_of items.now)) }
+    ensures { IfOk result (IsFirstItemFault (map bare_item items.now)) }
 {
     let mut scope = Scope::new(alloc)?;
     find_fault(alloc, &mut scope, items)

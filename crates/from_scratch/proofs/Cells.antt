@@ -12,7 +12,7 @@ use Rattle.binding_graph.specs.declared.resolved.ResolvedItem.{ResolvedItem}
 use Rattle.candidates.specs.Space.{shown_in}
 use Rattle.candidates.specs.declared.candidate.Space.{Space}
 use Rattle.candidates.specs.Listed.{ListsExecutions}
-use Rattle.verdict.specs.Evaluated.{IsEvaluatedAs, IsOutcome}
+use Rattle.verdict.specs.Evaluated.{IsEvaluatedAs, IsOutcomeOn}
 use Rattle.verdict.specs.declared.answer.Evaluation.{Evaluation}
 use Rattle.verdict.specs.declared.answer.Outcome.{Outcome}
 use Rattle.verdict.specs.declared.answer.OutcomeResult.{OutcomeResult}
@@ -23,11 +23,11 @@ use Rattle.verdict.specs.declared.judgement.Raised.{Raised}
 use Rattle.verdict.specs.Kept.{Flag, of_raised}
 use Rattle.from_scratch.specs.declared.cell.ItemAnswers.{ItemAnswers}
 use Rattle.from_scratch.specs.declared.cell.FlagAnswer.{FlagAnswer}
-use Rattle.from_scratch.specs.Answers.{AreSaid, AreSound}
-use Rattle.from_scratch.specs.Known.{kept_of, of_flags, flags_of, AreKeptIn, AreJudged}
+use Rattle.from_scratch.specs.Answers.{AreSaid, AreSoundItems}
+use Rattle.from_scratch.specs.Known.{kept_of, of_flags, flags_of, AreKeptIn, AreKeptAndFlagged}
 use Rattle.text_values.specs.declared.model.ModelText.{ModelText}
-use Rattle.from_scratch.specs.FromScratch.{outermost, clauses_of, IsFaultOf, IsFaultless, AreItemsOf, IsEvaluationOf, IsResultOf, IsFromScratch}
-use Rattle.from_scratch.specs.Cell.{IsSaid, IsEvaluationFrom, IsResult, IsCell, IsEvaluationBy, IsEvaluationOver, OfModel}
+use Rattle.from_scratch.specs.FromScratch.{outermost, bare_items, IsFaultOf, IsFaultless, AreItemsOf, IsEvaluationOf, IsResultOf, IsFromScratch}
+use Rattle.from_scratch.specs.Cell.{IsSaidFromSome, IsEvaluationFrom, IsResult, IsCell, IsEvaluationBy, IsEvaluationOver, OfModel}
 use Rattle.from_scratch.proofs.Ordered.{resolved_ordered}
 use Rattle.from_scratch.proofs.Rising.{resolved_rising}
 
@@ -38,7 +38,7 @@ result_said test space checks flags (Refused _) own h = absurd h
 result_said test space checks flags (Evaluated e) own h = (space, own, checks, flags, h)
 
 pub cell_said : (test : Test) (space : Space) (o : Outcome) → ListsExecutions test space
-    → IsSaid space test o → IsCell test o
+    → IsSaidFromSome space test o → IsCell test o
 cell_said test space o own h = record {
   kind = h.2.kind_is;
   text = h.2.text;
@@ -71,9 +71,9 @@ pub outcome_said : (items : List ResolvedItem) (test : Test) (space : Space) (an
     (raised : Vec Raised Global) (flags : List Raised) (r : Result Outcome AllocError)
     → observed ≡ test.observed.items → keep ≡ kept_of answers → given ≡ answers.flags.items
     → of_raised raised.items ≡ of_flags given → flags ≡ raised.items
-    → AreJudged space (reverse items) (kept_of answers) (flags_of answers)
+    → AreKeptAndFlagged space (reverse items) (kept_of answers) (flags_of answers)
     → ((checks : List (List Bool)) → AreKeptIn space checks keep
-    → IfOk r (λ o. IsOutcome space.locations.items (shown_in space)
+    → IfOk r (λ o. IsOutcomeOn space.locations.items (shown_in space)
     test.condition.quantifier (formula_of test.condition.proposition) observed
     checks (of_raised flags) o))
     → IfOk r (λ o. IsEvaluatedAs (IsEvaluationBy items space test) o.result)
@@ -88,24 +88,24 @@ outcome_said items test space answers observed keep given raised flags (Err e) s
 
 pub said_from : (test : Test) (space : Space) (observed : List Place) (checks : List (List Bool))
     (flags : List Flag) (r : Result Outcome AllocError) → observed ≡ test.observed.items
-    → IfOk r (λ o. IsOutcome space.locations.items (shown_in space) test.condition.quantifier
+    → IfOk r (λ o. IsOutcomeOn space.locations.items (shown_in space) test.condition.quantifier
     (formula_of test.condition.proposition) observed checks flags o)
-    → IfOk r (IsSaid space test)
+    → IfOk r (IsSaidFromSome space test)
 said_from test space observed checks flags (Ok o) said_is h = (checks, flags, rw said_is at h)
 said_from test space observed checks flags (Err e) said_is h = tt
 
 -- an evaluation over that space, where the items are ordered
 over_space : (items : List ResolvedItem) (test : Test) (space : Space) (P : Evaluation → Type 0)
     (r : OutcomeResult) → ListsExecutions test space → IsEvaluatedAs P r
-    → (AreSound items → IsEvaluatedAs (IsEvaluationBy items space test) r)
-    → OfModel (λ _. ⊥) (Unit {0}) (λ e. AreSound items → IsEvaluationOver items test e) r
+    → (AreSoundItems items → IsEvaluatedAs (IsEvaluationBy items space test) r)
+    → OfModel (λ _. ⊥) (Unit {0}) (λ e. AreSoundItems items → IsEvaluationOver items test e) r
 over_space items test space P (Refused _) own h f = absurd h
 over_space items test space P (Evaluated e) own h f = (tt, λ ordered. (space, own, f ordered))
 
 pub model_over : (items : List ResolvedItem) (test : Test) (space : Space)
-    (r : Result Outcome AllocError) → ListsExecutions test space → IfOk r (IsSaid space test)
-    → (AreSound items → IfOk r (λ o. IsEvaluatedAs (IsEvaluationBy items space test) o.result))
-    → IfOk r (λ o. OfModel (λ _. ⊥) (Unit {0}) (λ e. AreSound items → IsEvaluationOver items test e)
+    (r : Result Outcome AllocError) → ListsExecutions test space → IfOk r (IsSaidFromSome space test)
+    → (AreSoundItems items → IfOk r (λ o. IsEvaluatedAs (IsEvaluationBy items space test) o.result))
+    → IfOk r (λ o. OfModel (λ _. ⊥) (Unit {0}) (λ e. AreSoundItems items → IsEvaluationOver items test e)
     o.result)
 model_over items test space (Ok o) own said f =
     over_space items test space _ o.result own said.2.result f
@@ -142,23 +142,23 @@ scratch_by_parts test model (Err e) cell h = tt
 
 -- an evaluation over the items of the model
 pub evaluation_of : (model : ModelText) (items : List ResolvedItem) (test : Test) (e : Evaluation)
-    → IsFaultless model → AreItemsOf model items → (AreSound items → IsEvaluationOver items test e)
+    → IsFaultless model → AreItemsOf model items → (AreSoundItems items → IsEvaluationOver items test e)
     → IsEvaluationOf test model e
 evaluation_of model items test e none resolved over =
-    let o = over (resolved_ordered PREDEFINED (clauses_of model) items resolved.0, resolved_rising outermost 0 (clauses_of model) items none resolved.0) in
+    let o = over (resolved_ordered PREDEFINED (bare_items model) items resolved.0, resolved_rising outermost 0 (bare_items model) items none resolved.0) in
     (items, resolved, o.0, o.1, o.2)
 
 pub scratch_evaluated : (model : ModelText) (items : List ResolvedItem) (test : Test)
     (r : Result Outcome AllocError) → IsFaultless model → AreItemsOf model items
     → IfOk r (IsCell test)
-    → IfOk r (λ o. OfModel (λ _. ⊥) (Unit {0}) (λ e. AreSound items → IsEvaluationOver items test e)
+    → IfOk r (λ o. OfModel (λ _. ⊥) (Unit {0}) (λ e. AreSoundItems items → IsEvaluationOver items test e)
     o.result) → IfOk r (IsFromScratch test model)
 scratch_evaluated model items test r none resolved cell h =
     scratch_by_parts test model r cell (IfOk-weaker r
-    (λ o. OfModel (λ _. ⊥) (Unit {0}) (λ e. AreSound items → IsEvaluationOver items test e)
+    (λ o. OfModel (λ _. ⊥) (Unit {0}) (λ e. AreSoundItems items → IsEvaluationOver items test e)
     o.result)
     (λ o. OfModel (IsFaultOf model) (IsFaultless model) (IsEvaluationOf test model) o.result)
-    (λ o s. of_model _ _ _ (λ e. AreSound items → IsEvaluationOver items test e) o.result none
+    (λ o s. of_model _ _ _ (λ e. AreSoundItems items → IsEvaluationOver items test e) o.result none
     (λ e. evaluation_of model items test e none resolved) s) h)
 
 -- the outcome that is a fault of the model

@@ -23,13 +23,13 @@ use Rattle.std.proofs.lemmas.List.Folds.{list_all-append}
 use Rattle.candidates.specs.Space.{candidates_in, Candidate, shown_in, shown_of}
 use Rattle.cat_eval.specs.Kept.{AreWhere, KeptAnswersOf, is_kept_at}
 use Rattle.verdict.specs.Kept.{holds_at, is_kept}
-use Rattle.cat_eval.specs.Columns.{AreColumns, ColumnsOf}
+use Rattle.cat_eval.specs.Columns.{AreGroupColumns, ColumnsOf}
 use Rattle.cat_eval.specs.Values.{AnswersOf}
 use Rattle.cat_eval.specs.Candidates.{name_count}
-use Rattle.binding_graph.specs.Reach.{is_check, IsCheckAt, UsesAt, IsReached, AreReached}
+use Rattle.binding_graph.specs.Reach.{is_check, IsCheckAt, ItemUses, IsReached, AreReached}
 use Rattle.verdict.specs.Kept.{Flag}
-use Rattle.from_scratch.specs.Answers.{IsNamed, AreNamed, HasAnswers, IsValued, IsSaidAs, IsSaidBy, AreSaid, IsBound, AreOrdered, AreLeast, LeastOf, AreRising, IsRising, AreSound}
-use Rattle.from_scratch.specs.Known.{column_in, column_of, AreFound, kept_of, flags_of, ColumnsAt, HasAllColumns, AreKeptIn, AreJudged, IsAnswered, AreKnown, AreKnownTo}
+use Rattle.from_scratch.specs.Answers.{IsNamed, AreNamed, HasAnswers, AreItemColumns, IsSaidAs, IsSaidBy, AreSaid, IsBound, AreOrdered, AreLeast, LeastOf, AreRisingBodies, IsRisingRole, AreSoundItems}
+use Rattle.from_scratch.specs.Known.{column_in, column_of, AreFound, kept_of, flags_of, ColumnsAt, HasAllColumns, AreKeptIn, AreKeptAndFlagged, IsAnswered, AreKnown, AreKnownTo}
 use Rattle.binding_graph.proofs.Reaching.{leads_more}
 use Rattle.cat_eval.proofs.Columns.{columns_named}
 
@@ -58,37 +58,37 @@ rev_count xs k le = rw length-reverse (omega (arith, length-take k xs))
 -- ---- columns of earlier items
 
 value_below : (space : Space) (rs : List ResolvedItem) (j : ℕ) (cs : List Column)
-    → IsValued space rs j cs → j < length rs
+    → AreItemColumns space rs j cs → j < length rs
 value_below space [] j cs h = absurd h
 value_below space (r ∷ rs) j cs (inl h) = omega (arith, h.0)
 value_below space (r ∷ rs) j cs (inr h) = omega (arith, value_below space rs j cs h)
 
 long_at : (space : Space) (rs : List ResolvedItem) (j : ℕ) (s : ResolvedItem) (cs : List Column)
-    → length rs ≡ j → IsValued space (s ∷ rs) j cs → length cs ≡ name_count s.role
+    → length rs ≡ j → AreItemColumns space (s ∷ rs) j cs → length cs ≡ name_count s.role
 long_at space rs j s cs long (inl h) = columns_named s.role h.1.0 space cs h.1.2
 long_at space rs j s cs long (inr h) = absurd (omega (arith, value_below space rs j cs h))
 
 value_long : (space : Space) (items : List ResolvedItem) (j : ℕ) (s : ResolvedItem)
     (cs : List Column) → slice_get items j ≡ Some s
-    → IsValued space (reverse (take (suc j) items)) j cs → length cs ≡ name_count s.role
+    → AreItemColumns space (reverse (take (suc j) items)) j cs → length cs ≡ name_count s.role
 value_long space items j s cs e h =
     long_at space (reverse (take j items)) j s cs
     (rev_count items j (omega (arith, slice_get_within items j s e)))
     (rw (rev_suc items j s e) at h)
 
 value_later_at : (space : Space) (items : List ResolvedItem) (j k : ℕ) (cs : List Column)
-    → j < suc k → k < length items → IsValued space (reverse (take (suc j) items)) j cs
-    → (j < k → IsValued space (reverse (take k items)) j cs) → (j ≡ k) ⊎ ((j < k) ⊎ (k < j))
-    → IsValued space (reverse (take (suc k) items)) j cs
+    → j < suc k → k < length items → AreItemColumns space (reverse (take (suc j) items)) j cs
+    → (j < k → AreItemColumns space (reverse (take k items)) j cs) → (j ≡ k) ⊎ ((j < k) ⊎ (k < j))
+    → AreItemColumns space (reverse (take (suc k) items)) j cs
 value_later_at space items j k cs lt le h rest (inl e) =
-    subst (λ m. IsValued space (reverse (take (suc m) items)) j cs) e h
+    subst (λ m. AreItemColumns space (reverse (take (suc m) items)) j cs) e h
 value_later_at space items j k cs lt le h rest (inr (inl less)) =
     let one = item_at items k le in rw (rev_suc items k one.0 one.1) (inr (rest less))
 value_later_at space items j k cs lt le h rest (inr (inr more)) = absurd (omega arith)
 
 value_later : (space : Space) (items : List ResolvedItem) (j n : ℕ) (cs : List Column) → j < n
-    → n ≤ length items → IsValued space (reverse (take (suc j) items)) j cs
-    → IsValued space (reverse (take n items)) j cs
+    → n ≤ length items → AreItemColumns space (reverse (take (suc j) items)) j cs
+    → AreItemColumns space (reverse (take n items)) j cs
 value_later space items j zero cs lt le h = absurd (omega arith)
 value_later space items j (suc k) cs lt le h =
     value_later_at space items j k cs lt (omega arith) h
@@ -168,15 +168,15 @@ one_of Values a name v c at_item at_index value = (
 one_name : (space : Space) (items : List ResolvedItem) (indexes : List ℕ) (n at : ℕ)
     (a : ItemAnswers) (name : Input) → AreKnown space items indexes n a → at ≤ length items
     → ((k : ℕ) → n ≤ k → k < at → Contains indexes k → ⊥) → Contains indexes name.item
-    → IsThere items at name → IsOne (IsValued space (reverse (take at items))) a name
+    → IsThere items at name → IsOne (AreItemColumns space (reverse (take at items))) a name
 one_name space items indexes n at a name known le gap is t =
     let j = name.item in
     let less : j < n = none_between indexes n at j gap is t.2 (cases_lt j n) in
     let at_j = item_at a.columns.items j (omega (arith, known.count, slice_get_within items j t.0 t.1)) in
     let v = at_j.0 in
-    let value : IsValued space (reverse (take (suc j) items)) j v.items = subst (λ (w : Vec Column Global). IsValued space (reverse (take (suc j) items)) j w.items) (get_or_from_slice_get a.columns.items j v v at_j.1) (known.values j less is v) in
+    let value : AreItemColumns space (reverse (take (suc j) items)) j v.items = subst (λ (w : Vec Column Global). AreItemColumns space (reverse (take (suc j) items)) j w.items) (get_or_from_slice_get a.columns.items j v v at_j.1) (known.values j less is v) in
     let c = item_at v.items name.position (omega (arith, t.3, value_long space items j t.0 v.items t.1 value)) in
-    one_of (IsValued space (reverse (take at items))) a name v c.0 at_j.1 c.1
+    one_of (AreItemColumns space (reverse (take at items))) a name v c.0 at_j.1 c.1
     (value_later space items j at v.items t.2 le value)
 
 all_names : (space : Space) (items : List ResolvedItem) (indexes : List ℕ) (n at : ℕ)
@@ -184,7 +184,7 @@ all_names : (space : Space) (items : List ResolvedItem) (indexes : List ℕ) (n 
     → at ≤ length items → ((k : ℕ) → n ≤ k → k < at → Contains indexes k → ⊥)
     → ((k : ℕ) → k < length items → Contains (map (λ i. i.item) names) k → Contains indexes k)
     → AllByRecursion (IsBound (reverse (take at items))) names
-    → AllByRecursion (IsOne (IsValued space (reverse (take at items))) a) names
+    → AllByRecursion (IsOne (AreItemColumns space (reverse (take at items))) a) names
 all_names space items indexes n at a [] known le gap used h = tt
 all_names space items indexes n at a (x ∷ xs) known le gap used h =
     let t = there items at x le h.0 in (
@@ -270,23 +270,23 @@ said_later space items n (suc k) cs fs below le gap h =
 -- ---- recursive groups
 
 pub risen_at : (items : List ResolvedItem) (k : ℕ) (r : ResolvedItem) → slice_get items k ≡ Some r
-    → AllByRecursion (λ s. IsRising s.role) items → IsRising r.role
+    → AllByRecursion (λ s. IsRisingRole s.role) items → IsRisingRole r.role
 risen_at [] k r e h = absurd (omega (arith, slice_get_within [] k r e))
 risen_at (x ∷ xs) zero r e h =
     let f : Some x ≡ Some r = e in
-    let same : x ≡ r = cc in subst (λ (s : ResolvedItem). IsRising s.role) same h.0
+    let same : x ≡ r = cc in subst (λ (s : ResolvedItem). IsRisingRole s.role) same h.0
 risen_at (x ∷ xs) (suc k) r e h = risen_at xs k r e h.1
 
 least_by : (recursive : Bool) (bodies : List Body) (inputs : List (Bor Column))
-    (candidates : List Candidate) (cs : List Column) → AreRising recursive bodies
-    → AreColumns recursive bodies inputs candidates cs
+    (candidates : List Candidate) (cs : List Column) → AreRisingBodies recursive bodies
+    → AreGroupColumns recursive bodies inputs candidates cs
     → AreLeast recursive bodies inputs candidates cs
 least_by false bodies inputs candidates cs rising h = tt
 least_by true bodies inputs candidates cs rising h =
     (rising.0, rising.1, λ k one e. h.values k one e rising.0 rising.1 rising.2)
 
 pub least_of : (role : Role) (inputs : List (Bor Column)) (space : Space) (cs : List Column)
-    → IsRising role → ColumnsOf role inputs space cs → LeastOf role inputs space cs
+    → IsRisingRole role → ColumnsOf role inputs space cs → LeastOf role inputs space cs
 least_of (roles.Group r b) inputs space cs rising h =
     least_by r b.items inputs (candidates_in space.combinations.items) cs rising h
 least_of (roles.Check c) inputs space cs rising h = tt
@@ -300,11 +300,11 @@ pub known_more : (space : Space) (items : List ResolvedItem) (indexes : List ℕ
     → ((k : ℕ) → IsCheckAt items k → Contains indexes k)
     → ((k : ℕ) → k < length items → Contains (map (λ i. i.item) r.inputs.items) k
     → Contains indexes k)
-    → AreSound items → AreKnown space items indexes n old → IsAnswered space at r old new
+    → AreSoundItems items → AreKnown space items indexes n old → IsAnswered space at r old new
     → AreKnown space items indexes (suc at) new
 known_more space items indexes n at r old new e le gap checks used ordered known given =
     let lt = slice_get_within items at r e in
-    let Before : ℕ → List Column → Type 0 = λ j ds. IsValued space (reverse (take at items)) j ds in
+    let Before : ℕ → List Column → Type 0 = λ j ds. AreItemColumns space (reverse (take at items)) j ds in
     let named : AreNamed Before r.inputs.items given.inputs =
     named_all Before old r.inputs.items given.inputs
     (all_names space items indexes n at old r.inputs.items known (omega arith) gap used
@@ -312,7 +312,7 @@ known_more space items indexes n at r old new e le gap checks used ordered known
     let (found, were, keeps) = known.said in
     let said = said_later space items n at found (flags_of old) le (omega arith) (λ j from to c. gap j from to (checks j c)) were in
     let (more, kept, says) = given.said found keeps in
-    let here : ColumnsAt new at (IsValued space (reverse (take (suc at) items)) at) =
+    let here : ColumnsAt new at (AreItemColumns space (reverse (take (suc at) items)) at) =
     λ d.
     let columns = given.here (omega (arith, known.count)) (known.empty at le lt) d in
     let least = least_of r.role given.inputs space (get_or new.columns.items at d).items (risen_at items at r e ordered.1) columns in
@@ -336,23 +336,23 @@ known_more space items indexes n at r old new e le gap checks used ordered known
     }
   where
     value_of : (j : ℕ) → j < suc at → Contains indexes j
-        → ColumnsAt new at (IsValued space (reverse (take (suc at) items)) at) → (j < at) ⊎ (at ≤ j)
-        → ColumnsAt new j (IsValued space (reverse (take (suc j) items)) j)
+        → ColumnsAt new at (AreItemColumns space (reverse (take (suc at) items)) at) → (j < at) ⊎ (at ≤ j)
+        → ColumnsAt new j (AreItemColumns space (reverse (take (suc j) items)) j)
     value_of j less is here (inl before) =
         λ d. subst
-        (λ (v : Vec Column Global). IsValued space (reverse (take (suc j) items)) j v.items)
+        (λ (v : Vec Column Global). AreItemColumns space (reverse (take (suc j) items)) j v.items)
         (sym (given.others j (λ same. omega arith) d)) (known.values j
         (none_between indexes n at j gap is before (cases_lt j n)) is d)
     value_of j less is here (inr after) =
         let same : at ≡ j = omega arith in
-        subst (λ k. ColumnsAt new k (IsValued space (reverse (take (suc k) items)) k)) same here
+        subst (λ k. ColumnsAt new k (AreItemColumns space (reverse (take (suc k) items)) k)) same here
 
 -- behind the last of them
 pub known_all : (space : Space) (items : List ResolvedItem) (indexes : List ℕ) (n : ℕ)
     (a : ItemAnswers) → n ≤ length items
     → ((k : ℕ) → n ≤ k → k < length items → Contains indexes k → ⊥)
     → ((k : ℕ) → IsCheckAt items k → Contains indexes k) → AreKnown space items indexes n a
-    → AreJudged space (reverse items) (kept_of a) (flags_of a)
+    → AreKeptAndFlagged space (reverse items) (kept_of a) (flags_of a)
 known_all space items indexes n a le gap checks known =
     let (found, were, keeps) = known.said in
     let all = said_later space items n (length items) found (flags_of a) le (omega arith) (λ j from to c. gap j from to (checks j c)) were in
@@ -361,7 +361,7 @@ known_all space items indexes n a le gap checks known =
 -- ---- the items that are reached
 
 reached_used : (items : List ResolvedItem) (indexes : List ℕ) → AreReached items indexes → (b c : ℕ)
-    → Contains indexes b → UsesAt items b c → c < length items → Contains indexes c
+    → Contains indexes b → ItemUses items b c → c < length items → Contains indexes c
 reached_used items indexes all b c is uses lt =
     let r : IsReached items b = ((all.exact b).0 is).1 in
     (all.exact c).1 (
@@ -421,7 +421,7 @@ gap_at items indexes n p at all lt is below k from to m = by_order (cases_order 
     by_order (inr (inr more)) = omega (arith, all.rising p m.0 k more m.1, is k, m.2)
 
 pub known_next : (space : Space) (items : List ResolvedItem) (indexes : List ℕ) (p at : ℕ)
-    (r : ResolvedItem) (old new : ItemAnswers) → AreReached items indexes → AreSound items
+    (r : ResolvedItem) (old new : ItemAnswers) → AreReached items indexes → AreSoundItems items
     → p < length indexes → ((d : ℕ) → at ≡ get_or indexes p d) → slice_get items at ≡ Some r
     → AreKnownTo space items indexes p old → IsAnswered space at r old new
     → AreKnownTo space items indexes (p + 1) new
@@ -450,7 +450,7 @@ known_next space items indexes p at r old new all ordered lt is e to given =
 
 pub known_end : (space : Space) (items : List ResolvedItem) (indexes : List ℕ) (p : ℕ)
     (a : ItemAnswers) → AreReached items indexes → length indexes ≤ p
-    → AreKnownTo space items indexes p a → AreJudged space (reverse items) (kept_of a) (flags_of a)
+    → AreKnownTo space items indexes p a → AreKeptAndFlagged space (reverse items) (kept_of a) (flags_of a)
 known_end space items indexes p a all le to =
     known_all space items indexes to.number a to.within
     (λ k from less m. omega (arith, to.below m.0 k (omega (arith, m.1)), m.2))

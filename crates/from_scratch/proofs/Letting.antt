@@ -16,12 +16,12 @@ use Rattle.candidates.specs.declared.candidate.Space.{Space}
 use Rattle.cat_eval.specs.declared.column.Column.{Column}
 use Rattle.cat_eval.specs.Columns.{ColumnsOf}
 use Rattle.cat_eval.specs.Values.{AnswersOf}
-use Rattle.cat_eval.specs.Wanted.{is_wanted, AreShown, WantedColumnsOf}
+use Rattle.cat_eval.specs.Wanted.{is_wanted, AreWantedColumns, WantedColumnsOf}
 use Rattle.verdict.specs.Kept.{Flag}
 use Rattle.from_scratch.specs.declared.cell.ItemAnswers.{ItemAnswers}
 use Rattle.from_scratch.specs.declared.keeping.LastUsers.{LastUsers}
-use Rattle.from_scratch.specs.Answers.{IsSaidBy, IsValued, AreSound}
-use Rattle.from_scratch.specs.Known.{column_in, column_of, AreFound, kept_of, flags_of, IsGroup, HasAllColumns, IsReachedGroup, HasNoOtherColumns, AreKeptIn, AreJudged, IsAnswered, AreKnownTo}
+use Rattle.from_scratch.specs.Answers.{IsSaidBy, AreItemColumns, AreSoundItems}
+use Rattle.from_scratch.specs.Known.{column_in, column_of, AreFound, kept_of, flags_of, IsGroup, HasAllColumns, IsReachedGroup, HasNoOtherColumns, AreKeptIn, AreKeptAndFlagged, IsAnswered, AreKnownTo}
 use Rattle.from_scratch.specs.Keeping.{last_user, IsBelow, IsGone, KeepsAll, Notes, HasInput, AreLast, LetsGo, AreEnough, IsLeftOut, IsAnsweredBut, AreAlike, AreKeptTo}
 use Rattle.from_scratch.proofs.Knowing.{item_at, same_at, known_next, known_end, columns_end}
 
@@ -353,7 +353,7 @@ with_list v cs same =
     }
 
 module _ (wanted : List Bool) (at : ℕ) (old new : Vec (Vec Column Global) Global)
-    (found all : Vec Column Global) (shown : AreShown wanted all.items found.items)
+    (found all : Vec Column Global) (shown : AreWantedColumns wanted all.items found.items)
     (count : vec_len new ≡ vec_len old)
     (others : (j : ℕ) → (j ≡ at → ⊥) → (d : Vec Column Global)
     → get_or new.items j d ≡ get_or old.items j d)
@@ -494,7 +494,7 @@ kept_start space items last indexes a known = record {
 
 pub kept_next : (space : Space) (items : List ResolvedItem) (last : LastUsers) (indexes : List ℕ)
     (p at : ℕ) (r : ResolvedItem) (old answered new : ItemAnswers) → AreReached items indexes
-    → AreLast items indexes last → AreSound items → p < length indexes
+    → AreLast items indexes last → AreSoundItems items → p < length indexes
     → ((d : ℕ) → at ≡ get_or indexes p d) → slice_get items at ≡ Some r
     → AreKeptTo space items last indexes p old → IsAnswered space at r old answered
     → LetsGo (IsGone last (at + 1)) answered.columns new.columns
@@ -527,7 +527,7 @@ kept_next space items last indexes p at r old answered new all users ordered lt 
 pub kept_end : (space : Space) (items : List ResolvedItem) (last : LastUsers) (indexes : List ℕ)
     (p : ℕ) (a : ItemAnswers) → AreReached items indexes → length indexes ≤ p
     → AreKeptTo space items last indexes p a
-    → AreJudged space (reverse items) (kept_of a) (flags_of a)
+    → AreKeptAndFlagged space (reverse items) (kept_of a) (flags_of a)
 kept_end space items last indexes p a all le to =
     rw (to.alike.kept, to.alike.flags) (known_end space items indexes p to.whole all le to.known)
 
@@ -577,7 +577,7 @@ pub kept_columns : (space : Space) (items : List ResolvedItem) (last : LastUsers
     (p : ℕ) (a : ItemAnswers) → AreReached items indexes → length indexes ≤ p → KeepsAll last
     → AreKeptTo space items last indexes p a → HasAllColumns space items a
 kept_columns space items last indexes p a all le keeps to j lt reached d =
-    subst (IsValued space (reverse items) j) (sym same) (columns_end space items indexes p to.whole
+    subst (AreItemColumns space (reverse items) j) (sym same) (columns_end space items indexes p to.whole
     all le to.known j lt reached d)
   where
     columns : LetsGo (IsGone last to.number) to.whole.columns a.columns

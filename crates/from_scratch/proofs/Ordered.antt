@@ -11,20 +11,20 @@ use Rattle.binding_kinds.specs.declared.scope.Found.{Found}
 use Rattle.binding_kinds.specs.declared.scope.Input.{Input}
 use Rattle.binding_kinds.specs.declared.scope.Used.{Used}
 use Rattle.text_values.specs.ModelValue.{Term, Terms, Atom, AllEvents, EmptyRelation, EmptySet, Join, Mark, Not, On, Apply, NoTerm, OneMore}
-use Rattle.binding_kinds.specs.Value.{Naming, Bound, Clause, Group, Check, Mute, Defined}
+use Rattle.binding_kinds.specs.Value.{Naming, Bound, BareItem, Group, Check, Mute, Defined}
 use Rattle.binding_kinds.specs.Kinds.{found}
 use Rattle.binding_kinds.specs.declared.fault.ModelFault.{ModelFault}
 use Rattle.binding_kinds.specs.Meanings.{parameter_of}
 use Rattle.binding_kinds.specs.Applicable.{applied_of}
 use Rattle.binding_kinds.specs.Senses.{Sense, kind_in, count_of}
-use Rattle.binding_kinds.specs.Faults.{with_own, with_all, extended, senses_after}
+use Rattle.binding_kinds.specs.Faults.{with_own, with_all, names_after, senses_after}
 use Rattle.binding_kinds.specs.Outermost.{naming_of}
 use Rattle.binding_graph.specs.declared.resolved.Body.{Body}
 use Rattle.binding_graph.specs.declared.resolved.Role.{Role}
 use Rattle.binding_graph.specs.declared.resolved.Role.TheVariants as roles
 use Rattle.binding_graph.specs.declared.resolved.ResolvedItem.{ResolvedItem}
-use Rattle.binding_graph.specs.Inputs.{index_of, noted, with_binder, with_name, inputs_of}
-use Rattle.binding_graph.specs.Usages.{Usage, all_noted, values_of, usage_at, usage_seen, with_meaning, with_values, with_values_among, with_all_values, usage_of_function, usages_after}
+use Rattle.binding_graph.specs.Inputs.{index_of, with_used, with_binder, with_name, inputs_of}
+use Rattle.binding_graph.specs.Usages.{Usage, with_all_used, values_of, usage_at, usage_seen, with_meaning, with_values, with_values_among, with_all_values, usage_of_function, usages_after}
 use Rattle.binding_graph.specs.Resolved.{AreBodies, IsGroupRole, IsResolvedIn, AreResolved}
 use Rattle.cat_eval.specs.Candidates.{name_count}
 use Rattle.from_scratch.specs.Answers.{IsBound, AreOrdered}
@@ -105,10 +105,10 @@ with_meaning_bound rs names from x vs None b h =
     with_name_bound rs names from x vs (found names x) b h refl
 
 all_noted_bound : (rs : List ResolvedItem) (vs us : List Used) → AllBound rs vs → AllBound rs us
-    → AllBound rs (all_noted vs us)
+    → AllBound rs (with_all_used vs us)
 all_noted_bound rs vs [] h all = h
 all_noted_bound rs vs (u ∷ us) h all =
-    all_noted_bound rs (noted vs u) us (noted_by rs vs u (is_some (index_of vs u.slot)) h all.0)
+    all_noted_bound rs (with_used vs u) us (noted_by rs vs u (is_some (index_of vs u.slot)) h all.0)
     all.1
 
 -- what functions use
@@ -148,7 +148,7 @@ module _ (rs : List ResolvedItem) (us : List Usage) (names : List Naming) (ps : 
     uses_bound (Not a) vs h = uses_bound a vs h
     uses_bound (On a) vs h = uses_bound a vs h
     uses_bound (Apply x ts) vs h =
-        uses_among ts (all_noted vs (values_of (usage_seen us names ps (count_of ts) x)))
+        uses_among ts (with_all_used vs (values_of (usage_seen us names ps (count_of ts) x)))
         (all_noted_bound rs vs (values_of (usage_seen us names ps (count_of ts) x)) h
         (seen_bound (count_of ts) x))
 
@@ -270,8 +270,8 @@ none_used : (rs : List ResolvedItem) (inputs : List Input) → inputs ≡ []
 none_used rs inputs e = subst (λ (is : List Input). AllByRecursion (IsBound rs) is) (sym e) tt
 
 item_inputs : (ss : List Sense) (us : List Usage) (rs : List ResolvedItem) (names : List Naming)
-    (at : ℕ) (c : Clause) (r : ResolvedItem) → AreClosed rs us → AreAllBound rs names
-    → IsResolvedIn ss us names (extended ss names at c) (length names) c r
+    (at : ℕ) (c : BareItem) (r : ResolvedItem) → AreClosed rs us → AreAllBound rs names
+    → IsResolvedIn ss us names (names_after ss names at c) (length names) c r
     → AllByRecursion (IsBound rs) r.inputs.items
 item_inputs ss us rs names at (Group true bs) r closed all h =
     let own = with_own names at 0 bs in
@@ -294,9 +294,9 @@ item_inputs ss us rs names at (Defined n ps b) r closed all h =
     [] tt)
 
 item_names : (ss : List Sense) (us : List Usage) (rs : List ResolvedItem) (names : List Naming)
-    (at : ℕ) (c : Clause) (r : ResolvedItem) → length rs ≡ at → AreAllBound rs names
-    → IsResolvedIn ss us names (extended ss names at c) (length names) c r
-    → AreAllBound (r ∷ rs) (extended ss names at c)
+    (at : ℕ) (c : BareItem) (r : ResolvedItem) → length rs ≡ at → AreAllBound rs names
+    → IsResolvedIn ss us names (names_after ss names at c) (length names) c r
+    → AreAllBound (r ∷ rs) (names_after ss names at c)
 unfolding OfBinder
 item_names ss us rs names at (Group true bs) r long all h =
     let many = role_count ss us (with_own names at 0 bs) (length names) true bs r.role h.0 in
@@ -312,7 +312,7 @@ item_names ss us rs names at (Defined n ps b) r long all h = (tt, all_later rs r
 
 -- what the functions use after the item
 item_functions : (rs : List ResolvedItem) (us : List Usage) (names : List Naming) (at : ℕ)
-    (c : Clause) (r : ResolvedItem) → AreClosed rs us → AreAllBound rs names
+    (c : BareItem) (r : ResolvedItem) → AreClosed rs us → AreAllBound rs names
     → AreClosed (r ∷ rs) (usages_after us names at c)
 item_functions rs us names at (Group recursive bs) r closed all = closed_later rs r us closed
 item_functions rs us names at (Check w e) r closed all = closed_later rs r us closed
@@ -324,14 +324,14 @@ item_functions rs us names at (Defined n ps b) r closed all =
     (closed_later rs r us closed) (used_later rs r (reverse vs)
     (all_reverse (λ u. IsBound rs u.input) vs used))
 
-ordered : (ss : List Sense) (us : List Usage) (names : List Naming) (at : ℕ) (clauses : List Clause)
+ordered : (ss : List Sense) (us : List Usage) (names : List Naming) (at : ℕ) (clauses : List BareItem)
     (items rs : List ResolvedItem) → length rs ≡ at → AreClosed rs us → AreAllBound rs names
     → AreOrdered rs → AreResolved ss us names at clauses items → AreOrdered (reverse items ++ rs)
 ordered ss us names at [] [] rs long closed all before h = before
 ordered ss us names at [] (r ∷ items) rs long closed all before h = absurd h
 ordered ss us names at (c ∷ cs) [] rs long closed all before h = absurd h
 ordered ss us names at (c ∷ cs) (r ∷ items) rs long closed all before h =
-    let rest : AreOrdered (reverse items ++ r ∷ rs) = ordered (senses_after ss names c) (usages_after us names at c) (extended ss names at c) (at + 1) cs items (r ∷ rs) (omega (arith, long)) (item_functions rs us names at c r closed all) (item_names ss us rs names at c r long all h.0) (item_inputs ss us rs names at c r closed all h.0, before) h.1 in
+    let rest : AreOrdered (reverse items ++ r ∷ rs) = ordered (senses_after ss names c) (usages_after us names at c) (names_after ss names at c) (at + 1) cs items (r ∷ rs) (omega (arith, long)) (item_functions rs us names at c r closed all) (item_names ss us rs names at c r long all h.0) (item_inputs ss us rs names at c r closed all h.0, before) h.1 in
     subst (λ (xs : List ResolvedItem). AreOrdered xs)
     (sym (ap (λ (ys : List ResolvedItem). ys ++ rs) (reverse-append (r ∷ []) items)
     ∙ append_assoc (reverse items) (r ∷ []) rs)) rest
@@ -341,7 +341,7 @@ unfolding OfBinder
 predefined_bound [] = tt
 predefined_bound (p ∷ ps) = (tt, predefined_bound ps)
 
-pub resolved_ordered : (ps : List Predefined) (clauses : List Clause) (items : List ResolvedItem)
+pub resolved_ordered : (ps : List Predefined) (clauses : List BareItem) (items : List ResolvedItem)
     → AreResolved [] [] (reverse (map naming_of ps)) 0 clauses items → AreOrdered (reverse items)
 resolved_ordered ps clauses items h =
     rw append-nil at (ordered [] [] (reverse (map naming_of ps)) 0 clauses items [] refl tt

@@ -12,15 +12,15 @@ use Rattle.binding_kinds.specs.declared.scope.Found.{Found}
 use Rattle.binding_kinds.specs.declared.scope.Used.{Used}
 use Rattle.binding_kinds.specs.declared.scope.Binder.{Binder}
 use Rattle.binding_kinds.specs.declared.scope.Binder.TheVariants as binders
-use Rattle.binding_kinds.specs.Value.{Naming, Bound, Clause, Group, Check, Mute, Defined}
+use Rattle.binding_kinds.specs.Value.{Naming, Bound, BareItem, Group, Check, Mute, Defined}
 use Rattle.binding_kinds.specs.Kinds.{found, is_turned}
 use Rattle.binding_kinds.specs.Formula.{Formula}
 use Rattle.binding_kinds.specs.Senses.{Sense, kind_in, sense_of, under_of, count_of}
 use Rattle.binding_kinds.specs.Functions.{sense_seen, bound_formula, named_formula, applied_formula, formula_in, formulas_in}
-use Rattle.binding_kinds.specs.Faults.{width, with_own, extended, IsFaultOfName, IsFaultAt, IsFaultAmong, IsFaultIn, IsFaultOfItem, HasNoFault, senses_after}
+use Rattle.binding_kinds.specs.Faults.{width, with_own, names_after, IsFaultOfName, IsFaultAt, IsFaultAmong, IsFaultIn, IsFaultOfItem, HasNoFault, senses_after}
 use Rattle.binding_graph.specs.declared.resolved.Body.{Body}
 use Rattle.binding_graph.specs.Usages.{Usage, with_values, usages_after}
-use Rattle.binding_graph.specs.Meaning.{set_of, relation_of, steps_of}
+use Rattle.binding_graph.specs.Meaning.{set_tree, rel_tree, steps_of}
 use Rattle.binding_graph.specs.Resolved.{AreBodies, IsGroupRole, IsCheckRole, IsResolvedIn, AreResolved}
 use Rattle.binding_graph.specs.declared.resolved.Role.{Role}
 use Rattle.binding_graph.specs.declared.resolved.Role.TheVariants as roles
@@ -29,7 +29,7 @@ use Rattle.text_values.specs.declared.model.CheckWord.{CheckWord}
 use Rattle.binding_graph.specs.Trees.{SetTree, RelTree, rel_code}
 use Rattle.cat_eval.specs.Least.{IsMonotone, AreMonotone, body}
 use Rattle.cat_eval.specs.Rising.{AreCodes}
-use Rattle.from_scratch.specs.Answers.{AreRising, IsRising}
+use Rattle.from_scratch.specs.Answers.{AreRisingBodies, IsRisingRole}
 use Rattle.from_scratch.proofs.Safe.{Fixed, Rises, AllFixed, AllRise, IsSafe, AreSafe, by_turned, sense_found, source_outside, safe_after}
 
 -- ---- one body
@@ -209,16 +209,16 @@ group_rises ss us names from n vs earlier (b ∷ bs) (r ∷ rs) le safe h none =
     let used = with_values us names [] from b.body vs in
     let rest = group_rises ss us names from n used (b.name ∷ earlier) bs rs le safe h.2 (λ p k f. none (1 + width b.body + p) k (inr (inr (p, refl, f)))) in
     let no_set : kind_in ss names b.body ≡ OfSet → ⊥ = λ e. none 0 faults.SetInRec (inl (refl, inr (search rules, e, refl))) in
-    let one : IsMonotone (relation_of used from (formula_in ss names [] b.body)) = monotone ss names used from n le safe b.body (λ p k f. none (1 + p) k (inr (inl (p, refl, f)))) in (
-      relation_of used from (formula_in ss names [] b.body) ∷ rest.0,
+    let one : IsMonotone (rel_tree used from (formula_in ss names [] b.body)) = monotone ss names used from n le safe b.body (λ p k f. none (1 + p) k (inr (inl (p, refl, f)))) in (
+      rel_tree used from (formula_in ss names [] b.body) ∷ rest.0,
       (
         h.1.1
             ∙ relation_steps (kind_in ss names b.body)
-            (set_of used from (formula_in ss names [] b.body))
-            (relation_of used from (formula_in ss names [] b.body)) no_set,
+            (set_tree used from (formula_in ss names [] b.body))
+            (rel_tree used from (formula_in ss names [] b.body)) no_set,
         rest.1,
       ),
-      more (relation_of used from (formula_in ss names [] b.body)) rest.0 one rest.2,
+      more (rel_tree used from (formula_in ss names [] b.body)) rest.0 one rest.2,
     )
 
 -- ---- the items of a model
@@ -226,30 +226,30 @@ group_rises ss us names from n vs earlier (b ∷ bs) (r ∷ rs) le safe h none =
 group_role : (ss : List Sense) (us : List Usage) (names : List Naming) (from n : ℕ)
     (bs : List Bound) (role : Role) → n ≤ from → AreSafe n ss
     → IsGroupRole ss us names from true bs role
-    → ((p : ℕ) (k : ModelFault) → IsFaultIn ss names from true [] bs p k → ⊥) → IsRising role
+    → ((p : ℕ) (k : ModelFault) → IsFaultIn ss names from true [] bs p k → ⊥) → IsRisingRole role
 group_role ss us names from n bs (roles.Group r bodies) le safe h none =
-    subst (λ (b : Bool). AreRising b bodies.items) (sym h.0) (group_rises ss us names from n [] []
+    subst (λ (b : Bool). AreRisingBodies b bodies.items) (sym h.0) (group_rises ss us names from n [] []
     bs bodies.items le safe h.1 none)
 group_role ss us names from n bs (roles.Check c) le safe h none = absurd h
 group_role ss us names from n bs roles.Silent le safe h none = absurd h
 
 other_role : (ss : List Sense) (us : List Usage) (names : List Naming) (from : ℕ) (bs : List Bound)
-    (role : Role) → IsGroupRole ss us names from false bs role → IsRising role
+    (role : Role) → IsGroupRole ss us names from false bs role → IsRisingRole role
 other_role ss us names from bs (roles.Group r bodies) h =
-    subst (λ (b : Bool). AreRising b bodies.items) (sym h.0) tt
+    subst (λ (b : Bool). AreRisingBodies b bodies.items) (sym h.0) tt
 other_role ss us names from bs (roles.Check c) h = absurd h
 other_role ss us names from bs roles.Silent h = absurd h
 
 check_role : (ss : List Sense) (us : List Usage) (names : List Naming) (from : ℕ) (w : CheckWord)
-    (e : Term) (role : Role) → IsCheckRole ss us names from w e role → IsRising role
+    (e : Term) (role : Role) → IsCheckRole ss us names from w e role → IsRisingRole role
 check_role ss us names from w e (roles.Group r bodies) h = absurd h
 check_role ss us names from w e (roles.Check c) h = tt
 check_role ss us names from w e roles.Silent h = absurd h
 
-item_rises : (ss : List Sense) (us : List Usage) (names : List Naming) (at : ℕ) (c : Clause)
+item_rises : (ss : List Sense) (us : List Usage) (names : List Naming) (at : ℕ) (c : BareItem)
     (r : ResolvedItem) → AreSafe (length names) ss
     → ((p : ℕ) (k : ModelFault) → IsFaultOfItem ss names at c p k → ⊥)
-    → IsResolvedIn ss us names (extended ss names at c) (length names) c r → IsRising r.role
+    → IsResolvedIn ss us names (names_after ss names at c) (length names) c r → IsRisingRole r.role
 item_rises ss us names at (Group true bs) r safe none h =
     group_role ss us (with_own names at 0 bs) (length names) (length names) bs r.role (omega arith)
     safe h.0 none
@@ -257,25 +257,25 @@ item_rises ss us names at (Group false bs) r safe none h =
     other_role ss us names (length names) bs r.role h.0
 item_rises ss us names at (Check w e) r safe none h =
     check_role ss us names (length names) w e r.role h.0
-item_rises ss us names at Mute r safe none h = subst (λ (role : Role). IsRising role) (sym h.0) tt
+item_rises ss us names at Mute r safe none h = subst (λ (role : Role). IsRisingRole role) (sym h.0) tt
 item_rises ss us names at (Defined n ps b) r safe none h =
-    subst (λ (role : Role). IsRising role) (sym h.0) tt
+    subst (λ (role : Role). IsRisingRole role) (sym h.0) tt
 
 all_rise : (ss : List Sense) (us : List Usage) (names : List Naming) (at : ℕ)
-    (clauses : List Clause) (items : List ResolvedItem) → AreSafe (length names) ss
+    (clauses : List BareItem) (items : List ResolvedItem) → AreSafe (length names) ss
     → HasNoFault ss names at clauses → AreResolved ss us names at clauses items
-    → AllByRecursion (λ r. IsRising r.role) items
+    → AllByRecursion (λ r. IsRisingRole r.role) items
 all_rise ss us names at [] [] safe none h = tt
 all_rise ss us names at [] (r ∷ rs) safe none h = absurd h
 all_rise ss us names at (c ∷ cs) [] safe none h = absurd h
 all_rise ss us names at (c ∷ cs) (r ∷ rs) safe none h = (
   item_rises ss us names at c r safe (λ p k f. none 0 p k (inl (refl, f))) h.0,
-  all_rise (senses_after ss names c) (usages_after us names at c) (extended ss names at c) (at + 1)
+  all_rise (senses_after ss names c) (usages_after us names at c) (names_after ss names at c) (at + 1)
       cs rs (safe_after ss names at c safe) (λ i p k f. none (1 + i) p k (inr (i, refl, f))) h.1,
 )
 
 -- the bodies of the recursive groups of a model without fault rise
-pub resolved_rising : (names : List Naming) (at : ℕ) (clauses : List Clause)
+pub resolved_rising : (names : List Naming) (at : ℕ) (clauses : List BareItem)
     (items : List ResolvedItem) → HasNoFault [] names at clauses
-    → AreResolved [] [] names at clauses items → AllByRecursion (λ r. IsRising r.role) items
+    → AreResolved [] [] names at clauses items → AllByRecursion (λ r. IsRisingRole r.role) items
 resolved_rising names at clauses items none h = all_rise [] [] names at clauses items tt none h

@@ -14,18 +14,18 @@ use Rattle.binding_kinds.specs.declared.scope.Found.{Found}
 use Rattle.binding_kinds.specs.declared.scope.Used.{Used}
 use Rattle.binding_kinds.specs.declared.scope.Binder.{Binder}
 use Rattle.binding_kinds.specs.declared.scope.Binder.TheVariants as binders
-use Rattle.binding_kinds.specs.Value.{Naming, Bound, Clause, Group, Check, Mute, Defined}
+use Rattle.binding_kinds.specs.Value.{Naming, Bound, BareItem, Group, Check, Mute, Defined}
 use Rattle.binding_kinds.specs.Kinds.{found}
 use Rattle.binding_kinds.specs.Meanings.{parameter_of}
 use Rattle.binding_kinds.specs.Formula.{Formula, Value, Parameter, Everything, NoPairs, NoEvents, Joined, Marked, Complement, Identity, filled}
 use Rattle.binding_kinds.specs.declared.kinds.Kind.TheVariants.{OfRelation}
 use Rattle.binding_kinds.specs.Senses.{Sense, kind_in, with_arity, sense_of_binder, sense_of, count_of}
 use Rattle.binding_kinds.specs.Functions.{sense_seen, is_at, under_at, is_under_in, is_under_among, bound_formula, named_formula, applied_formula, formula_in, formulas_in, sense_of_function}
-use Rattle.binding_kinds.specs.Faults.{with_own, with_all, extended, senses_after}
+use Rattle.binding_kinds.specs.Faults.{with_own, with_all, names_after, senses_after}
 use Rattle.binding_graph.specs.declared.resolved.Blend.TheVariants as blends
-use Rattle.binding_graph.specs.Meaning.{source_of, source_of_binder, relation_of}
-use Rattle.binding_graph.specs.Trees.{RelTree, RelName, NoPair, RelBlend, Then, Cross, OnSet, Close, RelNot}
-use Rattle.cat_eval.specs.Least.{IsOutside, IsFixed, IsMonotone}
+use Rattle.binding_graph.specs.Meaning.{source_of, source_of_binder, rel_tree}
+use Rattle.binding_graph.specs.Trees.{RelTree, RelName, NoPair, BlendRelations, Compose, Multiply, IdentityOn, Close, ComplementRelation}
+use Rattle.cat_eval.specs.Least.{IsNotOwn, HasNoOwnName, IsMonotone}
 
 -- the slot of a name is that of a name that is seen
 found_below : (names : List Naming) (x : List ℕ) (f : Found) → found names x ≡ Some f
@@ -45,10 +45,10 @@ found_below (n ∷ ns) x f e = at_test (bytes_eq n.name x) (found_below ns x f) 
 -- ---- expressions that hold no name of a group, and those that rise with the names of a group
 
 abbrev pub Fixed : List Used → ℕ → Formula → Type 0
-Fixed us from f = IsFixed (relation_of us from f)
+Fixed us from f = HasNoOwnName (rel_tree us from f)
 
 abbrev pub Rises : List Used → ℕ → Formula → Type 0
-Rises us from f = IsMonotone (relation_of us from f)
+Rises us from f = IsMonotone (rel_tree us from f)
 
 abbrev pub AllFixed : List Used → ℕ → List Formula → Type 0
 AllFixed us from [] = Unit {0}
@@ -74,22 +74,22 @@ abbrev pub SafeIf : ℕ → Option Sense → Type 0
 SafeIf n None = Unit {0}
 SafeIf n (Some s) = IsSafe n s
 
-pub fixed_rises : (t : RelTree) → IsFixed t → IsMonotone t
+pub fixed_rises : (t : RelTree) → HasNoOwnName t → IsMonotone t
 fixed_rises (RelName source) h = tt
 fixed_rises NoPair h = tt
-fixed_rises (RelBlend blends.Union e f) h = (fixed_rises e h.0, fixed_rises f h.1)
-fixed_rises (RelBlend blends.Intersection e f) h = (fixed_rises e h.0, fixed_rises f h.1)
-fixed_rises (RelBlend blends.Difference e f) h = (fixed_rises e h.0, h.1)
-fixed_rises (Then e f) h = (fixed_rises e h.0, fixed_rises f h.1)
-fixed_rises (Cross s t) h = tt
-fixed_rises (OnSet s) h = tt
+fixed_rises (BlendRelations blends.Union e f) h = (fixed_rises e h.0, fixed_rises f h.1)
+fixed_rises (BlendRelations blends.Intersection e f) h = (fixed_rises e h.0, fixed_rises f h.1)
+fixed_rises (BlendRelations blends.Difference e f) h = (fixed_rises e h.0, h.1)
+fixed_rises (Compose e f) h = (fixed_rises e h.0, fixed_rises f h.1)
+fixed_rises (Multiply s t) h = tt
+fixed_rises (IdentityOn s) h = tt
 fixed_rises (Close how e) h = fixed_rises e h
-fixed_rises (RelNot e) h = h
+fixed_rises (ComplementRelation e) h = h
 
 -- one argument, marked or not
 pub by_turned : (us : List Used) (from : ℕ) (f : Formula) (b : Bool) → (b ≡ true → Fixed us from f)
     → (b ≡ false → Rises us from f) → Rises us from f × (b ≡ true → Fixed us from f)
-by_turned us from f true fixed rises = (fixed_rises (relation_of us from f) (fixed refl), fixed)
+by_turned us from f true fixed rises = (fixed_rises (rel_tree us from f) (fixed refl), fixed)
 by_turned us from f false fixed rises = (rises refl, fixed)
 
 fixed_at : (us : List Used) (from : ℕ) (fs : List Formula) (j : ℕ) → AllFixed us from fs
@@ -185,16 +185,16 @@ seen_safe m ss names ps n x None (Ok s) is there safe =
 
 -- ---- names
 
-outer_source : (us : List Used) (slot : ℕ) (b : Binder) → IsOutside (source_of_binder us slot b)
+outer_source : (us : List Used) (slot : ℕ) (b : Binder) → IsNotOwn (source_of_binder us slot b)
 outer_source us slot (binders.Predefined p) = tt
 outer_source us slot (binders.Bound i) = tt
 outer_source us slot (binders.Applicable f) = tt
 
 pub source_outside : (us : List Used) (from : ℕ) (f : Found) → (from ≤ f.slot → ⊥)
-    → IsOutside (source_of us from f)
+    → IsNotOwn (source_of us from f)
 source_outside us from f none = at_test (nat_le from f.slot) refl
   where
-    at_test : (b : Bool) → nat_le from f.slot ≡ b → IsOutside (source_of us from f)
+    at_test : (b : Bool) → nat_le from f.slot ≡ b → IsNotOwn (source_of us from f)
     at_test true e = absurd (none (leb-true from f.slot e))
     at_test false e = rw e (outer_source us f.slot f.binder)
 
@@ -377,9 +377,9 @@ all_longer ss outer names item at (b ∷ bs) =
     let h = all_longer ss outer (one ∷ names) item (suc at) bs in
     omega (arith, h)
 
-pub safe_after : (ss : List Sense) (names : List Naming) (item : ℕ) (c : Clause)
+pub safe_after : (ss : List Sense) (names : List Naming) (item : ℕ) (c : BareItem)
     → AreSafe (length names) ss
-    → AreSafe (length (extended ss names item c)) (senses_after ss names c)
+    → AreSafe (length (names_after ss names item c)) (senses_after ss names c)
 safe_after ss names item (Group true bs) h = safe_later _ _ ss (own_longer names item 0 bs) h
 safe_after ss names item (Group false bs) h =
     safe_later _ _ ss (all_longer ss names names item 0 bs) h

@@ -8,19 +8,19 @@ use Rattle.bit_relations.specs.Relation.{Relation, Bit}
 use Rattle.text_values.specs.declared.model.ModelText.{ModelText}
 use Rattle.binding_kinds.specs.declared.fault.ModelFault.{ModelFault}
 use Rattle.binding_kinds.specs.declared.fault.ModelFault.TheVariants as faults
-use Rattle.binding_kinds.specs.Value.{Naming, Clause}
+use Rattle.binding_kinds.specs.Value.{Naming, BareItem}
 use Rattle.binding_kinds.specs.Senses.{Sense}
 use Rattle.binding_kinds.specs.Faults.{rank, FirstFault, HasNoFault}
 use Rattle.binding_graph.specs.declared.resolved.Source.{Source}
 use Rattle.binding_graph.specs.Trees.{RelTree}
 use Rattle.cat_eval.specs.Least.{IsLeast, AreMonotone, body}
-use Rattle.cat_eval.specs.Named.{PairsFound, Of}
+use Rattle.cat_eval.specs.Named.{PairsFound, OwnPairs}
 use Rattle.cat_eval.proofs.Monotone.{monotone}
 use Rattle.verdict.specs.declared.answer.OutcomeResult.{OutcomeResult}
 use Rattle.verdict.specs.declared.answer.OutcomeResult.TheVariants.{Refused, Evaluated}
 use Rattle.verdict.specs.declared.answer.Refusal.TheVariants as refusals
 use Rattle.from_scratch.specs.FromScratch.{IsFaultOf, IsResultOf}
-use Rattle.from_scratch.specs.Laws.{HasOneRefusal}
+use Rattle.from_scratch.specs.Laws.{HasOneModelRefusal}
 
 -- ---- the first fault
 
@@ -55,14 +55,14 @@ both_first i j p q m n (inr x) (inr y) = at_index x.1 y.1
     at_index (inr u) (inl v) = absurd (omega (arith, u.0, v))
     at_index (inr u) (inr v) = omega (arith, u.1, v.1)
 
-pub one_fault : (ss : List Sense) (names : List Naming) (from : ℕ) (items : List Clause)
+pub one_fault : (ss : List Sense) (names : List Naming) (from : ℕ) (items : List BareItem)
     (k l : ModelFault) → FirstFault ss names from items k → FirstFault ss names from items l
     → k ≡ l
 one_fault ss names from items k l f g =
     one_rank k l (both_first f.item g.item f.index g.index (rank k) (rank l)
     (f.none_before g.item g.index l g.there) (g.none_before f.item f.index k f.there))
 
-pub fault_or_none : (ss : List Sense) (names : List Naming) (from : ℕ) (items : List Clause)
+pub fault_or_none : (ss : List Sense) (names : List Naming) (from : ℕ) (items : List BareItem)
     (k : ModelFault) → FirstFault ss names from items k → HasNoFault ss names from items → ⊥
 fault_or_none ss names from items k f none = none f.item f.index k f.there
 
@@ -75,7 +75,7 @@ same_refusal test model k (Refused (refusals.Model l)) f h =
 same_refusal test model k (Refused (refusals.Space x)) f h = absurd (fault_or_none _ _ _ _ k f h.0)
 same_refusal test model k (Evaluated e) f h = absurd (fault_or_none _ _ _ _ k f h.0)
 
-pub one_refusal : (test : Test) (model : ModelText) → HasOneRefusal test model
+pub one_refusal : (test : Test) (model : ModelText) → HasOneModelRefusal test model
 one_refusal test model o p k h g is =
     let f : IsFaultOf model k = subst (λ (r : OutcomeResult). IsResultOf test model r) is h.result in (
       g.kind ∙ sym h.kind,
@@ -121,11 +121,11 @@ so_found (Some r) n a b h =
 pub one_least : (n : ℕ) (sets : Source → ℕ → Type 0) (outer : Source → ℕ → ℕ → Type 0)
     (trees : List RelTree) (values others : List Relation) → AreMonotone trees
     → IsLeast n sets outer trees values → IsLeast n sets outer trees others → (x : ℕ)
-    → x < length trees → (a b : ℕ) → Of n values x a b → Of n others x a b
+    → x < length trees → (a b : ℕ) → OwnPairs n values x a b → OwnPairs n others x a b
 one_least n sets outer trees values others rises h g x lt a b pair =
     let test : ℕ → ℕ → ℕ → Bool = λ y c d. is_found (slice_get others y) n c d in
     found_so (slice_get others x) n a b (h.inside test (λ y y_lt c d meant. so_found
     (slice_get others y) n c d ((g.solves y y_lt c d).1
-    (monotone n sets outer (λ z i j. IsTrue (test z i j)) (Of n others)
+    (monotone n sets outer (λ z i j. IsTrue (test z i j)) (OwnPairs n others)
     (λ z i j t. found_so (slice_get others z) n i j t) (body trees y) (rises y y_lt) c d
     meant))) x lt a b pair)

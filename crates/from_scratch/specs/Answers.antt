@@ -13,7 +13,7 @@ use Rattle.binding_graph.specs.Trees.{RelTree}
 use Rattle.candidates.specs.declared.candidate.Space.{Space}
 use Rattle.candidates.specs.Space.{candidates_in, Candidate}
 use Rattle.cat_eval.specs.declared.column.Column.{Column}
-use Rattle.cat_eval.specs.Columns.{ColumnsOf, HasValue}
+use Rattle.cat_eval.specs.Columns.{ColumnsOf, HasColumnValue}
 use Rattle.cat_eval.specs.Executions.{events_of, EventsAt, PairsAt}
 use Rattle.cat_eval.specs.Least.{IsLeast, AreMonotone}
 use Rattle.cat_eval.specs.Rising.{AreCodes}
@@ -42,7 +42,7 @@ AreLeast true bodies inputs candidates cs =
     (PairsAt (events_of one) one inputs k) trees values
     × ((j : ℕ) → j < length bodies → (c : Column)
     → (s : Events)
-    × HasValue (slice_index_or cs j c) k s (slice_index_or values j no_slot)))
+    × HasColumnValue (slice_index_or cs j c) k s (slice_index_or values j no_slot)))
 
 abbrev pub LeastOf : Role → List (Bor Column) → Space → List Column → Type 0
 LeastOf (roles.Group recursive bodies) inputs space cs =
@@ -63,11 +63,11 @@ HasAnswers space Values r answers =
     × AnswersOf r.role inputs space answers
 
 -- the columns of the names of the item of that number
-abbrev pub IsValued : Space → List ResolvedItem → ℕ → List Column → Type 0
-IsValued space [] i cs = ⊥
-IsValued space (r ∷ rs) i cs =
-    ((i ≡ length rs) × HasColumns space (λ j ds. IsValued space rs j ds) r cs)
-    ⊎ IsValued space rs i cs
+abbrev pub AreItemColumns : Space → List ResolvedItem → ℕ → List Column → Type 0
+AreItemColumns space [] i cs = ⊥
+AreItemColumns space (r ∷ rs) i cs =
+    ((i ≡ length rs) × HasColumns space (λ j ds. AreItemColumns space rs j ds) r cs)
+    ⊎ AreItemColumns space rs i cs
 
 -- what the checks and what the flags say after those before, of a check or a flag with these
 -- answers
@@ -92,7 +92,7 @@ IsSaidBy roles.Silent Answers Before checks flags = Before checks flags
 abbrev pub AreSaid : Space → List ResolvedItem → List (List Bool) → List Flag → Type 0
 AreSaid space [] checks flags = (checks ≡ []) × (flags ≡ [])
 AreSaid space (r ∷ rs) checks flags =
-    IsSaidBy r.role (HasAnswers space (λ j ds. IsValued space rs j ds) r)
+    IsSaidBy r.role (HasAnswers space (λ j ds. AreItemColumns space rs j ds) r)
     (λ cs fs. AreSaid space rs cs fs) checks flags
 
 -- one of these items binds the name
@@ -108,15 +108,15 @@ AreOrdered (r ∷ rs) = AllByRecursion (IsBound rs) r.inputs.items × AreOrdered
 
 -- the bodies of a recursive group are the steps of trees in which no name of the group stands right
 -- of a difference or in a complement
-abbrev pub AreRising : Bool → List Body → Type 0
-AreRising false bodies = Unit {0}
-AreRising true bodies = (trees : List RelTree) × AreCodes trees bodies × AreMonotone trees
+abbrev pub AreRisingBodies : Bool → List Body → Type 0
+AreRisingBodies false bodies = Unit {0}
+AreRisingBodies true bodies = (trees : List RelTree) × AreCodes trees bodies × AreMonotone trees
 
-abbrev pub IsRising : Role → Type 0
-IsRising (roles.Group recursive bodies) = AreRising recursive bodies.items
-IsRising (roles.Check check) = Unit {0}
-IsRising roles.Silent = Unit {0}
+abbrev pub IsRisingRole : Role → Type 0
+IsRisingRole (roles.Group recursive bodies) = AreRisingBodies recursive bodies.items
+IsRisingRole (roles.Check check) = Unit {0}
+IsRisingRole roles.Silent = Unit {0}
 
 -- each item uses names of earlier items alone, and the bodies of each recursive group rise
-abbrev pub AreSound : List ResolvedItem → Type 0
-AreSound items = AreOrdered (reverse items) × AllByRecursion (λ r. IsRising r.role) items
+abbrev pub AreSoundItems : List ResolvedItem → Type 0
+AreSoundItems items = AreOrdered (reverse items) × AllByRecursion (λ r. IsRisingRole r.role) items

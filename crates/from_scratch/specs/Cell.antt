@@ -8,7 +8,7 @@ use Rattle.candidates.specs.declared.candidate.Space.{Space}
 use Rattle.candidates.specs.Listed.{ListsExecutions, IsSpaceRefusal}
 use Rattle.binding_kinds.specs.declared.fault.ModelFault.{ModelFault}
 use Rattle.binding_graph.specs.declared.resolved.ResolvedItem.{ResolvedItem}
-use Rattle.verdict.specs.Evaluated.{IsEvaluation, IsOutcome}
+use Rattle.verdict.specs.Evaluated.{IsEvaluation, IsOutcomeOn}
 use Rattle.verdict.specs.declared.answer.Evaluation.{Evaluation}
 use Rattle.verdict.specs.declared.answer.Outcome.{Outcome}
 use Rattle.verdict.specs.declared.answer.OutcomeResult.{OutcomeResult}
@@ -27,12 +27,12 @@ IsEvaluationFrom space test checks flags e =
 -- what the test says from these
 abbrev pub IsOutcomeFrom : Space → Test → List (List Bool) → List Flag → Outcome → Type 0
 IsOutcomeFrom space test checks flags o =
-    IsOutcome space.locations.items (shown_in space) test.condition.quantifier
+    IsOutcomeOn space.locations.items (shown_in space) test.condition.quantifier
     (formula_of test.condition.proposition) test.observed.items checks flags o
 
 -- what the test says from some answers of checks and flags over the candidates of a space
-abbrev pub IsSaid : Space → Test → Outcome → Type 0
-IsSaid space test o =
+abbrev pub IsSaidFromSome : Space → Test → Outcome → Type 0
+IsSaidFromSome space test o =
     (checks : List (List Bool)) × (flags : List Flag) × IsOutcomeFrom space test checks flags o
 
 -- a fault of the model, why the test has no space, or the evaluation of its condition from some

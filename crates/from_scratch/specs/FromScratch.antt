@@ -13,7 +13,7 @@ use Rattle.text_values.specs.declared.predefined.TheConstants.{PREDEFINED}
 use Rattle.binding_kinds.specs.declared.fault.ModelFault.{ModelFault}
 use Rattle.binding_kinds.specs.Faults.{HasNoFault, FirstFault}
 use Rattle.binding_kinds.specs.Outermost.{naming_of}
-use Rattle.binding_kinds.specs.Value.{Naming, Clause, clause_of}
+use Rattle.binding_kinds.specs.Value.{Naming, BareItem, bare_item}
 use Rattle.binding_graph.specs.declared.resolved.ResolvedItem.{ResolvedItem}
 use Rattle.binding_graph.specs.Resolved.{AreResolved, AreLabelled}
 use Rattle.verdict.specs.declared.answer.Evaluation.{Evaluation}
@@ -27,21 +27,21 @@ use Rattle.from_scratch.specs.Cell.{IsEvaluationBy}
 abbrev pub outermost : List Naming
 outermost = reverse (map naming_of PREDEFINED)
 
-abbrev pub clauses_of : ModelText → List Clause
-clauses_of model = map clause_of model.items.items
+abbrev pub bare_items : ModelText → List BareItem
+bare_items model = map bare_item model.items.items
 
 -- the model has this fault as its first
 abbrev pub IsFaultOf : ModelText → ModelFault → Type 0
-IsFaultOf model k = FirstFault [] outermost 0 (clauses_of model) k
+IsFaultOf model k = FirstFault [] outermost 0 (bare_items model) k
 
 abbrev pub IsFaultless : ModelText → Type 0
-IsFaultless model = HasNoFault [] outermost 0 (clauses_of model)
+IsFaultless model = HasNoFault [] outermost 0 (bare_items model)
 
 -- the items of the model with their names resolved, their checks negated and their flags named as
 -- in the text
 abbrev pub AreItemsOf : ModelText → List ResolvedItem → Type 0
 AreItemsOf model items =
-    AreResolved [] [] outermost 0 (clauses_of model) items × AreLabelled model.items.items items
+    AreResolved [] [] outermost 0 (bare_items model) items × AreLabelled model.items.items items
 
 -- the evaluation of the test's condition on its candidates that the checks of the model keep
 abbrev pub IsEvaluationOf : Test → ModelText → Evaluation → Type 0

@@ -16,7 +16,7 @@ use Rattle.from_scratch.specs.declared.cell.FlagAnswer.{FlagAnswer}
 use Rattle.cat_eval.specs.Columns.{ColumnsOf}
 use Rattle.cat_eval.specs.Values.{AnswersOf}
 use Rattle.verdict.specs.Kept.{Flag, AreKeptBy}
-use Rattle.from_scratch.specs.Answers.{IsSaidBy, IsValued, AreSaid}
+use Rattle.from_scratch.specs.Answers.{IsSaidBy, AreItemColumns, AreSaid}
 
 abbrev pub column_in : Option (Vec Column Global) → ℕ → Option Column
 column_in None position = None
@@ -47,7 +47,7 @@ ColumnsAt a index P = (d : Vec Column Global) → P (slice_index_or a.columns.it
 abbrev pub HasAllColumns : Space → List ResolvedItem → ItemAnswers → Type 0
 HasAllColumns space items a =
     (j : ℕ) → j < length items → IsReached items j
-    → ColumnsAt a j (IsValued space (reverse items) j)
+    → ColumnsAt a j (AreItemColumns space (reverse items) j)
 
 -- the item gives columns
 abbrev pub IsGroup : Role → Type 0
@@ -70,8 +70,8 @@ abbrev pub AreKeptIn : Space → List (List Bool) → List Bool → Type 0
 AreKeptIn space checks kept = AreKeptBy checks (length (shown_in space)) kept
 
 -- on which candidates all checks among the items hold, and the answers of the flags among them
-abbrev pub AreJudged : Space → List ResolvedItem → List Bool → List Flag → Type 0
-AreJudged space rs kept flags =
+abbrev pub AreKeptAndFlagged : Space → List ResolvedItem → List Bool → List Flag → Type 0
+AreKeptAndFlagged space rs kept flags =
     (checks : List (List Bool)) × AreSaid space rs checks flags × AreKeptIn space checks kept
 
 -- what the item at that index gives, from what was known, is known too
@@ -95,9 +95,9 @@ pub record AreKnown (space : Space) (items : List ResolvedItem) (indexes : List 
     (a : ItemAnswers) : Type 0 where
   pub count : vec_len a.columns ≡ length items
   pub values : (j : ℕ) → j < n → Contains indexes j
-      → ColumnsAt a j (IsValued space (reverse (take (suc j) items)) j)
+      → ColumnsAt a j (AreItemColumns space (reverse (take (suc j) items)) j)
   pub empty : (j : ℕ) → n ≤ j → j < length items → ColumnsAt a j (λ cs. cs ≡ [])
-  pub said : AreJudged space (reverse (take n items)) (kept_of a) (flags_of a)
+  pub said : AreKeptAndFlagged space (reverse (take n items)) (kept_of a) (flags_of a)
 
 -- that many of the indexes are behind, which rise
 pub record AreKnownTo (space : Space) (items : List ResolvedItem) (indexes : List ℕ) (p : ℕ)

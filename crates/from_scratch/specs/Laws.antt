@@ -11,20 +11,20 @@ use Rattle.candidates.specs.Space.{Candidate}
 use Rattle.cat_eval.specs.declared.column.Column.{Column}
 use Rattle.cat_eval.specs.Executions.{events_of, EventsAt, PairsAt}
 use Rattle.cat_eval.specs.Least.{IsLeast, AreMonotone}
-use Rattle.cat_eval.specs.Named.{Of}
+use Rattle.cat_eval.specs.Named.{OwnPairs}
 use Rattle.verdict.specs.declared.answer.Outcome.{Outcome}
 use Rattle.verdict.specs.declared.answer.OutcomeResult.TheVariants.{Refused}
 use Rattle.verdict.specs.declared.answer.Refusal.TheVariants as refusals
 use Rattle.from_scratch.specs.FromScratch.{IsFaultOf, IsFaultless, IsFromScratch}
 
 -- a model has one first fault, or none
-pub record HasOneFault (model : ModelText) : Type 0 where
+pub record HasOneModelFault (model : ModelText) : Type 0 where
   pub one : (k l : ModelFault) → IsFaultOf model k → IsFaultOf model l → k ≡ l
   pub or_none : (k : ModelFault) → IsFaultOf model k → IsFaultless model → ⊥
 
 -- a model with a fault has one outcome with a test
-abbrev pub HasOneRefusal : Test → ModelText → Type 0
-HasOneRefusal test model =
+abbrev pub HasOneModelRefusal : Test → ModelText → Type 0
+HasOneModelRefusal test model =
     (o p : Outcome) (k : ModelFault) → IsFromScratch test model o → IsFromScratch test model p
     → o.result ≡ Refused (refusals.Model k)
     → (p.kind ≡ o.kind) × (p.condition ≡ o.condition) × (p.result ≡ o.result)
@@ -38,5 +38,5 @@ HasOneLeast one inputs index trees =
     (PairsAt (events_of one) one inputs index) trees values
     → IsLeast (events_of one) (EventsAt (events_of one) one inputs index)
     (PairsAt (events_of one) one inputs index) trees others
-    → (x : ℕ) → x < length trees → (a b : ℕ) → Of (events_of one) values x a b
-    → Of (events_of one) others x a b
+    → (x : ℕ) → x < length trees → (a b : ℕ) → OwnPairs (events_of one) values x a b
+    → OwnPairs (events_of one) others x a b

@@ -18,8 +18,8 @@ abbrev pub AreOutcomes : List (Bor ModelText) → Test → List Outcome → Type
 AreOutcomes models test outcomes = AllZip (λ m o. IsFromScratch test m.now o) models outcomes
 
 -- for each test its outcomes
-abbrev pub AreRows : List (Bor ModelText) → List Test → List (Vec Outcome Global) → Type 0
-AreRows models tests rows = AllZip (λ test row. AreOutcomes models test row.items) tests rows
+abbrev pub AreSuiteRows : List (Bor ModelText) → List Test → List (Vec Outcome Global) → Type 0
+AreSuiteRows models tests rows = AllZip (λ test row. AreOutcomes models test row.items) tests rows
 
 -- ---- what is made once
 

@@ -11,11 +11,11 @@ ghost use Rattle.cat_eval.specs.Tables.{IsOver};
 ghost use Rattle.cat_eval.specs.Values.{AnswersOf};
 ghost use Rattle.verdict.specs.Evaluated.{IsEvaluatedAs};
 ghost use Rattle.verdict.specs.Kept.{of_raised, AreKeptBy};
-ghost use Rattle.from_scratch.specs.Answers.{AreSound};
-ghost use Rattle.from_scratch.specs.Known.{column_of, AreFound, IsAnswered, ColumnsAt, IsGroup, HasAllColumns, HasNoOtherColumns, of_flags, kept_of, flags_of, AreJudged};
+ghost use Rattle.from_scratch.specs.Answers.{AreSoundItems};
+ghost use Rattle.from_scratch.specs.Known.{column_of, AreFound, IsAnswered, ColumnsAt, IsGroup, HasAllColumns, HasNoOtherColumns, of_flags, kept_of, flags_of, AreKeptAndFlagged};
 ghost use Rattle.from_scratch.specs.FromScratch.{IsFromScratch};
 ghost use Rattle.from_scratch.specs.Keeping.{IsGone, IsLeftOut, IsAnsweredBut};
-ghost use Rattle.from_scratch.specs.Cell.{IsSaid, IsCell, IsEvaluationBy, IsEvaluationOver, OfModel};
+ghost use Rattle.from_scratch.specs.Cell.{IsSaidFromSome, IsCell, IsEvaluationBy, IsEvaluationOver, OfModel};
 ghost use Rattle.from_scratch.specs.Suites.{IsSpaceFor};
 
 use crate::keeping::{Keeping, LastUsers, last_users, let_go_behind};
@@ -322,11 +322,11 @@ pub fn answers<'a>(
     resolved: &'a Resolved,
 ) -> Result<ItemAnswers<'a>, AllocError>
     ensures said { let items = resolved.now.items.items in
-        AreSound items
-        → IfOk result (λ a. AreJudged space.now (reverse items) (kept_of a) (flags_of a)) }
+        AreSoundItems items
+        → IfOk result (λ a. AreKeptAndFlagged space.now (reverse items) (kept_of a) (flags_of a)) }
     ensures long { IfOk result (λ a. length (kept_of a) ≡ length (shown_in space.now)) }
     ensures columns { let items = resolved.now.items.items in
-        AreSound items → IfOk result (HasAllColumns space.now items) }
+        AreSoundItems items → IfOk result (HasAllColumns space.now items) }
     ensures count { IfOk result (λ a. vec_len a.columns ≡ length resolved.now.items.items) }
     ensures no_others { IfOk result (HasNoOtherColumns resolved.now.items.items) }
 {
@@ -346,11 +346,11 @@ fn answers_by<'a>(
     requires { IsOver evaluator.old space.now }
     ensures over { IsOver evaluator.new space.now }
     ensures said { let items = resolved.now.items.items in
-        AreSound items
-        → IfOk result (λ a. AreJudged space.now (reverse items) (kept_of a) (flags_of a)) }
+        AreSoundItems items
+        → IfOk result (λ a. AreKeptAndFlagged space.now (reverse items) (kept_of a) (flags_of a)) }
     ensures long { IfOk result (λ a. length (kept_of a) ≡ length (shown_in space.now)) }
     ensures columns { let items = resolved.now.items.items in
-        keeping ≡ Keeping.All → AreSound items → IfOk result (HasAllColumns space.now items) }
+        keeping ≡ Keeping.All → AreSoundItems items → IfOk result (HasAllColumns space.now items) }
     ensures count { IfOk result (λ a. vec_len a.columns ≡ length resolved.now.items.items) }
     ensures no_others { IfOk result (HasNoOtherColumns resolved.now.items.items) }
 {
@@ -397,8 +397,8 @@ pub(crate) fn evaluated(
 ) -> Result<Outcome, AllocError>
     requires { IsOver evaluator.old space.now }
     ensures over { IsOver evaluator.new space.now }
-    ensures said { IfOk result (λ o. IsSaid space.now test.now o) }
-    ensures answers { AreSound resolved.now.items.items
+    ensures said { IfOk result (λ o. IsSaidFromSome space.now test.now o) }
+    ensures answers { AreSoundItems resolved.now.items.items
         → IfOk result (λ o. IsEvaluatedAs
         (IsEvaluationBy resolved.now.items.items space.now test.now) o.result) }
 {
@@ -438,7 +438,7 @@ fn over_space_alone(
     requires { IsSpaceFor test.now space.now }
     ensures cell { IfOk result (λ o. IsCell test.now o) }
     ensures model { IfOk result (λ o. OfModel (λ _. ⊥) (Unit {0})
-        (λ e. AreSound resolved.now.items.items
+        (λ e. AreSoundItems resolved.now.items.items
         → IsEvaluationOver resolved.now.items.items test.now e) o.result) }
 {
     over_space(alloc, &mut Evaluator::new(alloc), test, resolved, space)
@@ -447,7 +447,7 @@ fn over_space_alone(
 fn over_candidates(alloc: Global, test: &Test, resolved: &Resolved) -> Result<Outcome, AllocError>
     ensures cell { IfOk result (λ o. IsCell test.now o) }
     ensures model { IfOk result (λ o. OfModel (λ _. ⊥) (Unit {0})
-        (λ e. AreSound resolved.now.items.items
+        (λ e. AreSoundItems resolved.now.items.items
         → IsEvaluationOver resolved.now.items.items test.now e) o.result) }
 {
     let space = space_for(alloc, test)?;

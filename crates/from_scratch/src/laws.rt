@@ -4,21 +4,21 @@ ghost use denote.Ref.{Bor};
 ghost use Rattle.std.specs.Prelude.{ℕ, List};
 ghost use Rattle.binding_graph.specs.Trees.{RelTree};
 ghost use Rattle.candidates.specs.Space.{Candidate};
-ghost use Rattle.from_scratch.specs.Laws.{HasOneFault, HasOneRefusal, HasOneLeast};
+ghost use Rattle.from_scratch.specs.Laws.{HasOneModelFault, HasOneModelRefusal, HasOneLeast};
 
 use cat_eval::Column;
 use text_values::{ModelText, Test};
 
 /// A model has one first fault, or none.
 pub fn faults_are_one(model: &ModelText)
-    ensures { HasOneFault model.now }
+    ensures { HasOneModelFault model.now }
 {
     let _model = model;
 }
 
 /// A model with a fault has one outcome with a test: that fault.
 pub fn refusals_of_models_are_one(test: &Test, model: &ModelText)
-    ensures { HasOneRefusal test.now model.now }
+    ensures { HasOneModelRefusal test.now model.now }
 {
     let _test = test;
     let _model = model;

@@ -5,10 +5,10 @@ ghost use Rattle.std.specs.Prelude.{List, IfOk};
 ghost use Rattle.std.specs.Result.{ForOk};
 ghost use Rattle.text_values.specs.declared.model.ModelText.{ModelText};
 ghost use Rattle.cat_eval.specs.Tables.{IsOver};
-ghost use Rattle.from_scratch.specs.Answers.{AreSound};
+ghost use Rattle.from_scratch.specs.Answers.{AreSoundItems};
 ghost use Rattle.from_scratch.specs.Cell.{IsCell, IsEvaluationOver, OfModel};
 ghost use Rattle.from_scratch.specs.FromScratch.{IsFromScratch};
-ghost use Rattle.from_scratch.specs.Suites.{AreOutcomes, AreRows, IsSpaceFor, IsResolvedAs, AreResolvedAs};
+ghost use Rattle.from_scratch.specs.Suites.{AreOutcomes, AreSuiteRows, IsSpaceFor, IsResolvedAs, AreResolvedAs};
 
 use crate::cell::{evaluated, refused};
 use binding_graph::{ModelFault, ResolveFault, Resolved, resolve};
@@ -73,7 +73,7 @@ pub(crate) fn over_space(
     ensures over { ForOk space.now (IsOver evaluator.new) }
     ensures cell { IfOk result (λ o. IsCell test.now o) }
     ensures model { IfOk result (λ o. OfModel (λ _. ⊥) (Unit {0})
-        (λ e. AreSound resolved.now.items.items
+        (λ e. AreSoundItems resolved.now.items.items
         → IsEvaluationOver resolved.now.items.items test.now e) o.result) }
 {
     match space {
@@ -142,7 +142,7 @@ fn each_test(
     models: &[Result<Resolved, ModelFault>],
 ) -> Result<Vec<Vec<Outcome>>, AllocError>
     ensures { (texts : List (Bor ModelText)) → AreResolvedAs texts models.now
-        → IfOk result (λ rows. AreRows texts tests.now rows.items) }
+        → IfOk result (λ rows. AreSuiteRows texts tests.now rows.items) }
 {
     let mut rows = Vec::with_capacity(alloc, tests.len())?;
     for test in tests {
@@ -159,7 +159,7 @@ pub fn eval_suite(
     tests: &[Test],
     models: &[&ModelText],
 ) -> Result<Vec<Vec<Outcome>>, AllocError>
-    ensures { IfOk result (λ rows. AreRows models.now tests.now rows.items) }
+    ensures { IfOk result (λ rows. AreSuiteRows models.now tests.now rows.items) }
 {
     let resolved = resolved_models(alloc, models)?;
     each_test(alloc, tests, &resolved)

@@ -10,7 +10,7 @@ use Rattle.text_values.specs.declared.model.ModelText.{ModelText}
 use Rattle.text_values.specs.ModelValue as said
 use Rattle.text_values.specs.ModelValue.{Term}
 use Rattle.text_values.specs.ModelValues as values
-use Rattle.binding_kinds.specs.Value.{Bound, Clause, Group, Check, Mute, Defined, clause_of}
+use Rattle.binding_kinds.specs.Value.{Bound, BareItem, Group, Check, Mute, Defined, bare_item}
 use Rattle.binding_kinds.specs.Faults.{HasNoFault, FirstFault}
 use Rattle.binding_graph.specs.declared.resolved.ResolvedItem.{ResolvedItem}
 use Rattle.binding_graph.specs.Resolved.{AreResolved, IsLabelled, IsLabelledAs, AreLabelled}
@@ -29,7 +29,7 @@ use Rattle.session_laws.specs.Laws.{HasOneOutcome}
 abbrev bound_by : List ℕ × Term → Bound
 bound_by b = record { name = b.0; body = b.1 }
 
-abbrev clause_by : said.Clause → Clause
+abbrev clause_by : said.Clause → BareItem
 clause_by (said.Binding recursive group) = Group recursive (map bound_by group)
 clause_by (said.Function name parameters body) = Defined name parameters body
 clause_by (said.Checking check label) = Check check.word check.body
@@ -37,7 +37,7 @@ clause_by (said.Flagging check label) = Check check.word check.body
 clause_by (said.Showing hidden shown) = Mute
 clause_by (said.Including path) = Mute
 
-one_clause : (i : code_item.Item) → clause_by (values.clause_of i) ≡ clause_of i
+one_clause : (i : code_item.Item) → clause_by (values.clause_of i) ≡ bare_item i
 one_clause (items.Let r g) = ap (Group r) (map-map bound_by values.binding_of g.items)
 one_clause (items.Function n ps b) = refl
 one_clause (items.Check c l) = refl
@@ -45,14 +45,14 @@ one_clause (items.Flag c l) = refl
 one_clause (items.Show h s) = refl
 one_clause (items.Include n) = refl
 
-all_clauses : (is : List code_item.Item) → map clause_by (values.clauses_of is) ≡ map clause_of is
+all_clauses : (is : List code_item.Item) → map clause_by (values.clauses_of is) ≡ map bare_item is
 all_clauses [] = refl
 all_clauses (i ∷ is) = let a = one_clause i in let b = all_clauses is in λ k. a k ∷ b k
 
 -- items that say the same bind and check the same
 pub equal_clauses : (items others : List code_item.Item)
     → values.clauses_of items ≡ values.clauses_of others
-    → map clause_of items ≡ map clause_of others
+    → map bare_item items ≡ map bare_item others
 equal_clauses items others same =
     sym (all_clauses items) ∙ (ap (map clause_by) same ∙ all_clauses others)
 
@@ -103,7 +103,7 @@ all_labelled (i ∷ is) (r ∷ rs) h = (labelled_of i r h.0, all_labelled is rs 
 
 module _ (model other : ModelText)
     (same : values.clauses_of model.items.items ≡ values.clauses_of other.items.items) where
-  clauses : map clause_of model.items.items ≡ map clause_of other.items.items
+  clauses : map bare_item model.items.items ≡ map bare_item other.items.items
   clauses = equal_clauses model.items.items other.items.items same
 
   labels : (rs : List ResolvedItem) → AreLabelled model.items.items rs
@@ -114,15 +114,15 @@ module _ (model other : ModelText)
 
   moved : (test : Test) (r : OutcomeResult) → IsResultOf test model r → IsResultOf test other r
   moved test (Refused (refusals.Model k)) h =
-      subst (λ (cs : List Clause). FirstFault [] outermost 0 cs k) clauses h
+      subst (λ (cs : List BareItem). FirstFault [] outermost 0 cs k) clauses h
   moved test (Refused (refusals.Space r)) h =
-      (subst (λ (cs : List Clause). HasNoFault [] outermost 0 cs) clauses h.0, h.1)
+      (subst (λ (cs : List BareItem). HasNoFault [] outermost 0 cs) clauses h.0, h.1)
   moved test (Evaluated e) h = (
-    subst (λ (cs : List Clause). HasNoFault [] outermost 0 cs) clauses h.0,
+    subst (λ (cs : List BareItem). HasNoFault [] outermost 0 cs) clauses h.0,
     (
       h.1.0,
       (
-        subst (λ (cs : List Clause). AreResolved [] [] outermost 0 cs h.1.0) clauses h.1.1.0,
+        subst (λ (cs : List BareItem). AreResolved [] [] outermost 0 cs h.1.0) clauses h.1.1.0,
         labels h.1.0 h.1.1.1,
       ),
       h.1.2,

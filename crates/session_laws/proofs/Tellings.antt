@@ -6,13 +6,13 @@ use Rattle.binding_kinds.specs.declared.fault.ModelFault.{ModelFault}
 use Rattle.binding_kinds.specs.Value as kinds
 use Rattle.binding_kinds.specs.Faults.{HasNoFault, FirstFault}
 use Rattle.fault_places.specs.declared.place.ItemFault.{ItemFault}
-use Rattle.fault_places.specs.Found.{outermost, IsPlace}
+use Rattle.fault_places.specs.Found.{outermost, IsItemFault}
 use Rattle.fault_places.specs.Signs.{signs_of_item}
 use Rattle.command_answers.specs.declared.file.TextFile.{TextFile}
 use Rattle.command_answers.specs.Reports.{IsModelTold, IsTestTold, IsToldOf}
 use Rattle.command_answers.specs.Told.{IsFaultTold, IsRead, IsUnread}
 use Rattle.from_scratch.proofs.Sole.{one_fault}
-use Rattle.fault_models.specs.Told.{item_number, fault_told, IsTold, IsFaultless, IsFaulty}
+use Rattle.fault_models.specs.Told.{item_number, fault_told, IsModelFaultText, IsFaultless, IsFaulty}
 use Rattle.text_values.specs.declared.model.Item.{Item}
 use Rattle.text_values.specs.ModelValue.{Clause}
 use Rattle.text_values.specs.ModelValues.{clause_of, clauses_of}
@@ -66,7 +66,7 @@ both_first i j p q A B (inr x) (inr y) = record { items = x.0; indexes = at_inde
     at_index (inl u) (inr v) = sym v.0
     at_index (inr u) v = u.0
 
-one_first : (clauses : List kinds.Clause) (k l : ModelFault)
+one_first : (clauses : List kinds.BareItem) (k l : ModelFault)
     (h : FirstFault [] outermost 0 clauses k) (g : FirstFault [] outermost 0 clauses l)
     → IsOnePlace h.item g.item h.index g.index
 one_first clauses k l h g =
@@ -85,7 +85,7 @@ record IsOneFault (a b : ItemFault) : Type 0 where
   faults : a.fault ≡ b.fault
   signs : a.sign.now ≡ b.sign.now
 
-one_place : (clauses : List kinds.Clause) (a b : ItemFault) → IsPlace clauses a → IsPlace clauses b
+one_place : (clauses : List kinds.BareItem) (a b : ItemFault) → IsItemFault clauses a → IsItemFault clauses b
     → IsOneFault a b
 one_place clauses a b h g =
     let place = one_first clauses a.fault b.fault h.first g.first in
@@ -111,30 +111,30 @@ one_item items others k n x y same at_one h g =
 
 module _ (name other : List ℕ) (items others : List Item) (named : name ≡ other)
     (same : clauses_of items ≡ clauses_of others) where
-  moved : (b : ItemFault) → IsPlace (map kinds.clause_of others) b
-      → IsPlace (map kinds.clause_of items) b
+  moved : (b : ItemFault) → IsItemFault (map kinds.bare_item others) b
+      → IsItemFault (map kinds.bare_item items) b
   moved b g =
-      subst (λ (cs : List kinds.Clause). IsPlace cs b) (sym (equal_clauses items others same)) g
+      subst (λ (cs : List kinds.BareItem). IsItemFault cs b) (sym (equal_clauses items others same)) g
 
-  none_here : HasNoFault [] outermost 0 (map kinds.clause_of others)
-      → HasNoFault [] outermost 0 (map kinds.clause_of items)
+  none_here : HasNoFault [] outermost 0 (map kinds.bare_item others)
+      → HasNoFault [] outermost 0 (map kinds.bare_item items)
   none_here g =
-      subst (λ (cs : List kinds.Clause). HasNoFault [] outermost 0 cs)
+      subst (λ (cs : List kinds.BareItem). HasNoFault [] outermost 0 cs)
       (sym (equal_clauses items others same)) g
 
-  fault_or_none : (clauses : List kinds.Clause) (a : ItemFault)
-      → HasNoFault [] outermost 0 clauses → IsPlace clauses a → ⊥
+  fault_or_none : (clauses : List kinds.BareItem) (a : ItemFault)
+      → HasNoFault [] outermost 0 clauses → IsItemFault clauses a → ⊥
   fault_or_none clauses a none h = none h.first.item h.first.index a.fault h.first.there
 
-  one_fault_text : (text more : List ℕ) → IsTold name [] items text → IsTold other [] others more
+  one_fault_text : (text more : List ℕ) → IsModelFaultText name [] items text → IsModelFaultText other [] others more
       → text ≡ more
   one_fault_text text more (IsFaultless none e) (IsFaultless also f) = e ∙ sym f
   one_fault_text text more (IsFaultless none e) (IsFaulty b stands y there f) =
-      absurd (fault_or_none (map kinds.clause_of items) b none (moved b stands))
+      absurd (fault_or_none (map kinds.bare_item items) b none (moved b stands))
   one_fault_text text more (IsFaulty a stands x here e) (IsFaultless none f) =
-      absurd (fault_or_none (map kinds.clause_of items) a (none_here none) stands)
+      absurd (fault_or_none (map kinds.bare_item items) a (none_here none) stands)
   one_fault_text text more (IsFaulty a stands x here e) (IsFaulty b also y there f) =
-      let one = one_place (map kinds.clause_of items) a b stands (moved b also) in
+      let one = one_place (map kinds.bare_item items) a b stands (moved b also) in
       let item = one_item items others a.item b.item x y same one.items here there in
       e
       ∙ (λ i. fault_told (named i) (item_number [] (one.items i)) (one.faults i) (one.signs i)

@@ -15,7 +15,7 @@ use Rattle.std.proofs.lemmas.List.Elements.{filter_map-append}
 use Rattle.text_values.specs.declared.test.Connective.{Connective}
 use Rattle.text_values.specs.TestValue.{Formula, Join}
 use Rattle.verdict.specs.declared.formula.Formula as code
-use Rattle.verdict.specs.Compiled.{is_there, value_of, Shows, Means}
+use Rattle.verdict.specs.Compiled.{holds_final_value, value_of, Shows, Compiles}
 use Rattle.verdict.specs.Meaning.{known_place, known_value, is_held, joined_by, satisfies, places_of}
 use Rattle.verdict.specs.Order.{is_place}
 use Rattle.verdict.specs.Shown.{is_among, known_places}
@@ -43,12 +43,12 @@ pub atom_found : (ls : List (List ℕ)) (places : List ShownPlace) (place : Plac
     (value : text.Value) (p : ShownPlace) (v : FinalValue) (n : ℕ)
     → known_place ls place ≡ Some p → known_value ls value ≡ Some v
     → position (is_place p) places ≡ Some n → (content : ShownPlace → FinalValue)
-    → is_there (slice_get (map content places) n) v
+    → holds_final_value (slice_get (map content places) n) v
     ≡ is_held content (known_place ls place) (known_value ls value)
 atom_found ls places place value p v n known meant at content =
     let found = position-Some (is_place p) places n p at in
     let same : p ≡ get_or places n p = is_place_same p (get_or places n p) found.1 in
-    ap (λ (o : Option FinalValue). is_there o v) (slice_get-map content places n
+    ap (λ (o : Option FinalValue). holds_final_value o v) (slice_get-map content places n
     ∙ ap (option_map content) (slice_get-get_or places n p found.0
     ∙ ap (λ (q : ShownPlace). Some q) (sym same)))
     ∙ ap (λ (o : Option ShownPlace). is_held content o (Some v)) (sym known)
@@ -72,8 +72,8 @@ known_of_both ls ps qs p =
 
 -- two propositions joined
 pub both_meant : (ls : List (List ℕ)) (shown : List ShownPlace) (op : Connective)
-    (a b whole : Formula) (f g : code.Formula) → whole ≡ Join op a b → Means ls shown a f
-    → Means ls shown b g → Shows ls shown (places_of whole) → (content : ShownPlace → FinalValue)
+    (a b whole : Formula) (f g : code.Formula) → whole ≡ Join op a b → Compiles ls shown a f
+    → Compiles ls shown b g → Shows ls shown (places_of whole) → (content : ShownPlace → FinalValue)
     → joined_by op (value_of (map content shown) f) (value_of (map content shown) g)
     ≡ satisfies ls content whole
 both_meant ls shown op a b whole f g is left right shows content =

@@ -18,12 +18,12 @@ use Rattle.text_values.specs.declared.test.Quantifier.{Quantifier}
 use Rattle.text_values.specs.declared.test.Place.{Place}
 use Rattle.text_values.specs.TestValue.{Formula}
 use Rattle.candidates.specs.Space.{Shown}
-use Rattle.verdict.specs.Compiled.{value_of, Shows, Means}
+use Rattle.verdict.specs.Compiled.{value_of, Shows, Compiles}
 use Rattle.verdict.specs.Counting.{count_kept, tally, AreAbove, pairs_of, pairs_in}
-use Rattle.verdict.specs.Evaluated.{number_that, is_satisfied, values_of, IsWorded, IsCounted, Says}
+use Rattle.verdict.specs.Evaluated.{number_that, is_satisfied, values_of, IsWorded, IsStateOf, Says}
 use Rattle.verdict.specs.Final.{final_value, final_state}
 use Rattle.verdict.specs.Judgement.{is_same, total_of, IsJudged}
-use Rattle.verdict.specs.Kept.{holds_at, is_kept, holds_on_some, kept, Flag, names_of, raised_names}
+use Rattle.verdict.specs.Kept.{holds_at, is_kept, holds_on_some, kept, Flag, names_of_flags, raised_names}
 use Rattle.verdict.specs.Meaning.{places_of}
 use Rattle.verdict.specs.Order.{state_cmp, is_state}
 use Rattle.verdict.specs.Shown.{known_places, is_among, AreShown}
@@ -165,7 +165,7 @@ module _ (locations : List (List ℕ)) (all : List Shown) (kind : Quantifier) (p
       (counts : pairs_of e.states ≡ pairs_in es)
       (rises : IsStrictlySortedBy state_cmp (values_of e.states))
       (words : All (IsWorded locations shown f) e.states)
-      (means : Means locations shown proposition f)
+      (means : Compiles locations shown proposition f)
       (shows : Shows locations shown (places_of proposition)) where
     within : (p : ℕ × Shown → Bool) → how_many p numbered ≤ 2 ^ 64 - 1
     within p = omega (arith, fits, many_within p 0 all)
@@ -215,14 +215,14 @@ module _ (locations : List (List ℕ)) (all : List Shown) (kind : Quantifier) (p
         (λ x. ap (λ (a : Bool). is_in x && is_same a b) (means shows (final_value x.1))) numbered
         ∙ sym (number_is (λ x. is_same (is_satisfied locations proposition x) b))
 
-    raised : names_of (λ g. holds_on_some keep g.1) flags ≡ raised_names (kept checks all) flags
+    raised : names_of_flags (λ g. holds_on_some keep g.1) flags ≡ raised_names (kept checks all) flags
     raised =
-        ap (λ (test : Flag → Bool). names_of test flags)
+        ap (λ (test : Flag → Bool). names_of_flags test flags)
         (fun_ext (λ g. raised_by_places (is_kept checks) (λ k. holds_at k g.1) 0 keep g.1 all long
         (λ k lt. let z : k ≡ 0 + k = omega arith in keeps k lt ∙ ap (is_kept checks) z)
         (λ k. let z : k ≡ 0 + k = omega arith in ap (λ (m : ℕ). holds_at m g.1) z)))
 
-    counted : All (IsCounted locations proposition shown (kept checks all)) e.states
+    counted : All (IsStateOf locations proposition shown (kept checks all)) e.states
     counted k d lt =
         let s : CountedState = get_or e.states k d in
         let word = words k d lt in
@@ -246,7 +246,7 @@ module _ (locations : List (List ℕ)) (all : List Shown) (kind : Quantifier) (p
 
     pub says : e.positive ≡ min (total_of (λ s. is_same s.holds true) e.states) (2 ^ 64 - 1)
         → e.negative ≡ min (total_of (λ s. is_same s.holds false) e.states) (2 ^ 64 - 1)
-        → e.flags ≡ names_of (λ g. holds_on_some keep g.1) flags → IsJudged kind e
+        → e.flags ≡ names_of_flags (λ g. holds_on_some keep g.1) flags → IsJudged kind e
         → Says locations kind proposition shown (kept checks all) flags e
     says positive negative names judged = record {
       rising = rises;

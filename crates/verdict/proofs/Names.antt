@@ -6,7 +6,7 @@ use Rattle.std.specs.List.{list_any}
 use Rattle.std.specs.Bool.{Decides}
 use Rattle.std.proofs.lemmas.Slice.Eq.{bytes_eq-Decides}
 use Rattle.verdict.specs.Names.{is_name}
-use Rattle.verdict.specs.Kept.{each_once, Flag, of_raised, names_of}
+use Rattle.verdict.specs.Kept.{each_once, Flag, of_raised, names_of_flags}
 use Rattle.verdict.specs.declared.judgement.Raised.{Raised}
 
 -- the test of names says that they are the same
@@ -84,10 +84,10 @@ each_once_push (m ∷ ms) n =
     (list_any (is_name n) (each_once ms)) refl refl)
 
 flag_push : (test : Flag → Bool) (fs : List Flag) (f : Flag) (passes : Bool) → test f ≡ passes
-    → names_of test (fs ++ f ∷ [])
-    ≡ names_of test fs
-    ++ cond passes (cond (list_any (is_name f.0) (names_of test fs)) [] (f.0 ∷ [])) []
-unfolding names_of
+    → names_of_flags test (fs ++ f ∷ [])
+    ≡ names_of_flags test fs
+    ++ cond passes (cond (list_any (is_name f.0) (names_of_flags test fs)) [] (f.0 ∷ [])) []
+unfolding names_of_flags
 flag_push test fs f true e =
     rw (filter_at_end test fs f, e, map-append)
     (each_once_push (map (λ g. g.0) (filter test fs)) f.0)
@@ -96,15 +96,15 @@ flag_push test fs f false e = rw (filter_at_end test fs f, e, append-nil, append
 -- one more flag
 pub one_flag_more : (test : Flag → Bool) (fs : List Raised) (i : ℕ) (f : Raised) → i < length fs
     → f ≡ get_or fs i f
-    → names_of test (of_raised (take (i + 1) fs))
-    ≡ names_of test (of_raised (take i fs))
+    → names_of_flags test (of_raised (take (i + 1) fs))
+    ≡ names_of_flags test (of_raised (take i fs))
     ++ cond (test (f.name.now, f.holds.now))
-    (cond (list_any (is_name f.name.now) (names_of test (of_raised (take i fs)))) []
+    (cond (list_any (is_name f.name.now) (names_of_flags test (of_raised (take i fs)))) []
     (f.name.now ∷ [])) []
 one_flag_more test fs i f lt is =
-    ap (λ (gs : List Raised). names_of test (of_raised gs)) (take_more fs i f lt
+    ap (λ (gs : List Raised). names_of_flags test (of_raised gs)) (take_more fs i f lt
     ∙ ap (λ (g : Raised). take i fs ++ g ∷ []) (sym is))
-    ∙ ap (names_of test) (map-append (λ (g : Raised). (g.name.now, g.holds.now)) (take i fs)
+    ∙ ap (names_of_flags test) (map-append (λ (g : Raised). (g.name.now, g.holds.now)) (take i fs)
     (f ∷ []))
     ∙ flag_push test (of_raised (take i fs)) (f.name.now, f.holds.now)
     (test (f.name.now, f.holds.now)) refl

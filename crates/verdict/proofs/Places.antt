@@ -13,7 +13,7 @@ use Rattle.std.proofs.lemmas.List.Folds.{list_any-append}
 use Rattle.std.proofs.lemmas.List.Elements.{filter_map-append}
 use Rattle.text_values.specs.declared.test.Place.{Place}
 use Rattle.verdict.specs.Order.{is_place}
-use Rattle.verdict.specs.Shown.{is_among, Adds, known_places, AreShown}
+use Rattle.verdict.specs.Shown.{is_among, AddsPlaces, known_places, AreShown}
 use Rattle.verdict.specs.declared.shown_place.ShownPlace.{ShownPlace}
 use Rattle.verdict.proofs.Orders.{place_orders, place_total}
 use Rattle.verdict.specs.contracts.shown_place.ShownPlaceOrd.TheImpl as place_ord
@@ -48,7 +48,7 @@ pub one_added : (old new : List ShownPlace) (k : ShownPlace)
     → list_any (λ x. is_eq ((place_ord.ghosts).cmp q x)) new
     ≡ cond (is_eq ((place_ord.ghosts).cmp k q)) true
     (list_any (λ x. is_eq ((place_ord.ghosts).cmp q x)) old))
-    → Adds old new (k ∷ [])
+    → AddsPlaces old new (k ∷ [])
 one_added old new k h p =
     subst
     (λ (R : ShownPlace → ShownPlace → Ordering). (q : ShownPlace)
@@ -58,8 +58,8 @@ one_added old new k h p =
     ∙ either_way (is_among old p) (is_place p k)
 
 pub added_twice : (ls : List (List ℕ)) (old mid new : List ShownPlace) (ps qs : List Place)
-    → Adds old mid (known_places ls ps) → Adds mid new (known_places ls qs)
-    → Adds old new (known_places ls (ps ++ qs))
+    → AddsPlaces old mid (known_places ls ps) → AddsPlaces mid new (known_places ls qs)
+    → AddsPlaces old new (known_places ls (ps ++ qs))
 added_twice ls old mid new ps qs h k p =
     k p ∙ ap (λ (b : Bool). b || is_among (known_places ls qs) p) (h p)
     ∙ or_assoc (is_among old p) (is_among (known_places ls ps) p)
@@ -71,11 +71,11 @@ added_twice ls old mid new ps qs h k p =
 
 pub one_place_more : (ls : List (List ℕ)) (mid new : List ShownPlace) (front observed : List Place)
     (i : ℕ) (d : Place) → i < length observed
-    → Adds [] mid (known_places ls (front ++ take i observed))
-    → Adds mid new (known_places ls (get_or observed i d ∷ []))
-    → Adds [] new (known_places ls (front ++ take (i + 1) observed))
+    → AddsPlaces [] mid (known_places ls (front ++ take i observed))
+    → AddsPlaces mid new (known_places ls (get_or observed i d ∷ []))
+    → AddsPlaces [] new (known_places ls (front ++ take (i + 1) observed))
 one_place_more ls mid new front observed i d lt h k =
-    subst (λ (l : List Place). Adds [] new (known_places ls l)) (append_assoc front
+    subst (λ (l : List Place). AddsPlaces [] new (known_places ls l)) (append_assoc front
     (take i observed) (get_or observed i d ∷ [])
     ∙ ap (λ (l : List Place). front ++ l) (sym (take_more observed i d lt)))
     (added_twice ls [] mid new (front ++ take i observed) (get_or observed i d ∷ []) h k)
@@ -84,7 +84,7 @@ one_place_more ls mid new front observed i d lt h k =
 pub all_shown : (ls : List (List ℕ)) (front observed : List Place) (i : ℕ)
     (keys shown : List ShownPlace) → length observed ≤ i → shown ≡ keys
     → IsStrictlySortedBy ((place_ord.ghosts).cmp) keys
-    → Adds [] keys (known_places ls (front ++ take i observed))
+    → AddsPlaces [] keys (known_places ls (front ++ take i observed))
     → AreShown ls (front ++ observed) shown
 all_shown ls front observed i keys shown past same sorted h =
     subst (λ (l : List ShownPlace). AreShown ls (front ++ observed) l) (sym same) (record {

@@ -16,11 +16,11 @@ use Rattle.text_values.specs.TestValue.{Formula}
 use Rattle.candidates.specs.Space.{Shown}
 use Rattle.candidates.proofs.Elements.{member_cases, member_later}
 use Rattle.candidates.proofs.Sole.{same_rising}
-use Rattle.verdict.specs.Evaluated.{number_that, values_of, IsCounted, Says, IsEvaluation, IsEvaluatedAs}
+use Rattle.verdict.specs.Evaluated.{number_that, values_of, IsStateOf, Says, IsEvaluation, IsEvaluatedAs}
 use Rattle.verdict.specs.Final.{final_value, final_state}
 use Rattle.verdict.specs.Judgement.{observation_of, is_met}
 use Rattle.verdict.specs.Kept.{Flag, kept}
-use Rattle.verdict.specs.Laws.{HasOneOutcome}
+use Rattle.verdict.specs.Laws.{HasOneConditionOutcome}
 use Rattle.verdict.specs.Order.{place_cmp, state_cmp, is_place, is_state}
 use Rattle.verdict.specs.Shown.{AreShown}
 use Rattle.verdict.specs.Text.{state_text}
@@ -85,7 +85,7 @@ passing p (x ∷ xs) some = passing_at p x xs (p x) refl some (passing p xs)
 module _ (locations : List (List ℕ)) (proposition : Formula) (shown : List ShownPlace)
     (candidates : List (ℕ × Shown)) where
   abbrev Counted : CountedState → Type 0
-  Counted = IsCounted locations proposition shown candidates
+  Counted = IsStateOf locations proposition shown candidates
 
   abbrev end : ℕ × Shown → List FinalValue
   end x = final_state shown x.1
@@ -180,7 +180,7 @@ result_alike locations executions kind proposition observed checks flags (Evalua
 pub one_outcome : (locations : List (List ℕ)) (executions : List Shown) (kind : Quantifier)
     (proposition : Formula) (observed : List Place) (checks : List (List Bool))
     (flags : List Flag)
-    → HasOneOutcome locations executions kind proposition observed checks flags
+    → HasOneConditionOutcome locations executions kind proposition observed checks flags
 one_outcome locations executions kind proposition observed checks flags o p h k =
     let same_kind : o.kind ≡ p.kind = h.kind_is ∙ sym k.kind_is in
     let condition : o.condition ≡ p.condition = h.text ∙ sym k.text in

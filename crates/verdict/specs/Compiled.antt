@@ -1,4 +1,4 @@
--- What a proposition over the places of a state says of it.
+-- What a proposition over the observables of a state says of it.
 use Rattle.std.specs.Prelude.{ℕ, ◌≡◌, Bool, true, false, not, List, Option, Some, None, map, slice_get}
 use Rattle.text_values.specs.declared.test.Place.{Place}
 use Rattle.text_values.specs.TestValue as text
@@ -9,24 +9,24 @@ use Rattle.verdict.specs.declared.formula.Formula as code
 use Rattle.verdict.specs.declared.formula.Formula.TheVariants as formulas
 use Rattle.verdict.specs.declared.shown_place.ShownPlace.{ShownPlace}
 
-abbrev pub is_there : Option FinalValue → FinalValue → Bool
-is_there None value = false
-is_there (Some content) value = is_value content value
+abbrev pub holds_final_value : Option FinalValue → FinalValue → Bool
+holds_final_value None value = false
+holds_final_value (Some content) value = is_value content value
 
 -- whether it is true of the state
 abbrev pub value_of : List FinalValue → code.Formula → Bool
 value_of state (formulas.Constant b) = b
-value_of state (formulas.Holds at value) = is_there (slice_get state at) value
+value_of state (formulas.Holds at value) = holds_final_value (slice_get state at) value
 value_of state (formulas.Not' p a) = not (value_of state a)
 value_of state (formulas.Joined' op p a q b) = joined_by op (value_of state a) (value_of state b)
 
--- all known places of a text are among these
+-- all known observables of a text are among these
 abbrev pub Shows : List (List ℕ) → List ShownPlace → List Place → Type 0
 Shows locations shown places =
     (p : ShownPlace) → is_among (known_places locations places) p ≡ true → is_among shown p ≡ true
 
--- it is true of each state over these places just where the proposition is
-abbrev pub Means : List (List ℕ) → List ShownPlace → text.Formula → code.Formula → Type 0
-Means locations shown proposition f =
+-- it is true of each state over these observables just where the proposition is
+abbrev pub Compiles : List (List ℕ) → List ShownPlace → text.Formula → code.Formula → Type 0
+Compiles locations shown proposition f =
     Shows locations shown (places_of proposition) → (content : ShownPlace → FinalValue)
     → value_of (map content shown) f ≡ satisfies locations content proposition

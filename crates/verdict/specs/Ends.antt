@@ -8,7 +8,7 @@ use Rattle.candidates.specs.Space.{Candidate}
 use Rattle.thread_runs.specs.declared.value.Value.{Value}
 use Rattle.thread_runs.specs.declared.value.Value.TheVariants as run_values
 use Rattle.verdict.specs.declared.answer.FinalValue.{FinalValue}
-use Rattle.verdict.specs.Final.{value_shown, stored_by, last_or}
+use Rattle.verdict.specs.Final.{value_shown, value_stored_by, last_or}
 use Rattle.verdict.specs.declared.shown_place.ShownPlace.{ShownPlace}
 use Rattle.verdict.specs.declared.shown_place.ShownPlace.TheVariants as shown
 
@@ -25,19 +25,19 @@ final_register space c thread register =
 
 abbrev pub stored_at : Combination → ℕ → ℕ → Option Value
 stored_at c location event =
-    option_and_then (λ e. stored_by location e.action) (slice_get c.events.items event)
+    option_and_then (λ e. value_stored_by location e.action) (slice_get c.events.items event)
 
 -- what a location holds after stores in this order: what the last of them at it stores
 abbrev pub final_word : Combination → List ℕ → ℕ → Value
 final_word c order location = last_or run_values.NoValue (filter_map (stored_at c location) order)
 
--- what a place holds at the end
+-- what an observable holds at the end
 abbrev pub final_value : Space → Combination → List ℕ → ShownPlace → FinalValue
 final_value space c order (shown.Register thread register) =
     value_shown (final_register space c thread register)
 final_value space c order (shown.Location location) = value_shown (final_word c order location)
 
--- the state over these places in which a candidate ends: a combination, and a way to read with an
+-- the state over these observables in which a candidate ends: a combination, and reads-from with an
 -- order of the stores
 abbrev pub final_state : Space → List ShownPlace → Candidate → List FinalValue
 final_state space places x = map (final_value space x.0 x.1.1) places

@@ -16,7 +16,7 @@ use Rattle.verdict.specs.declared.answer.OutcomeResult.{OutcomeResult}
 use Rattle.verdict.specs.declared.answer.OutcomeResult.TheVariants.{Refused, Evaluated}
 use Rattle.verdict.specs.declared.formula.Formula as code
 use Rattle.verdict.specs.declared.shown_place.ShownPlace.{ShownPlace}
-use Rattle.verdict.specs.Compiled.{value_of, Means}
+use Rattle.verdict.specs.Compiled.{value_of, Compiles}
 use Rattle.verdict.specs.Counting.{count_kept, tally, AreAbove, pairs_of, pairs_in}
 use Rattle.verdict.specs.Final.{final_value, final_state}
 use Rattle.verdict.specs.Judgement.{IsJudged}
@@ -37,13 +37,14 @@ is_satisfied locations proposition e = satisfies locations (final_value e) propo
 abbrev pub values_of : List CountedState → List (List FinalValue)
 values_of states = map (λ s. s.values) states
 
--- a state over these places has its text, and the answer of a proposition over places of a state
+-- a state over these observables has its text, and the answer of a proposition over observables of
+-- a state
 abbrev pub IsWorded : List (List ℕ) → List ShownPlace → code.Formula → CountedState → Type 0
 IsWorded locations shown f s =
     (s.text ≡ state_text locations shown s.values) × (s.holds ≡ value_of s.values f)
 
--- the states in which those of the executions end that are kept, over places that show those of the
--- proposition and the observed ones
+-- the states in which those of the executions end that are kept, over observables that show those
+-- of the proposition and the observed ones
 pub record AreEndStates (locations : List (List ℕ)) (executions : List Shown)
     (proposition : Formula) (observed : List Place) (keep : List Bool) (states : List CountedState)
     : Type 0 where
@@ -51,7 +52,7 @@ pub record AreEndStates (locations : List (List ℕ)) (executions : List Shown)
   pub compiled : code.Formula
   pub entries : List (Vec FinalValue Global × ℕ)
   pub are_shown : AreShown locations (places_of proposition ++ observed) shown
-  pub means : Means locations shown proposition compiled
+  pub means : Compiles locations shown proposition compiled
   pub tallies : (v : List FinalValue)
       → tally entries v
       ≡ min (count_kept (λ e. is_state v (final_state shown e)) keep executions) (2 ^ 64 - 1)
@@ -60,9 +61,9 @@ pub record AreEndStates (locations : List (List ℕ)) (executions : List Shown)
   pub rising : IsStrictlySortedBy state_cmp (values_of states)
   pub words : All (IsWorded locations shown compiled) states
 
--- a state over these places in which some of the executions end: its text, their number, and
+-- a state over these observables in which some of the executions end: its text, their number, and
 -- whether the proposition holds
-pub record IsCounted (locations : List (List ℕ)) (proposition : Formula) (shown : List ShownPlace)
+pub record IsStateOf (locations : List (List ℕ)) (proposition : Formula) (shown : List ShownPlace)
     (candidates : List (ℕ × Shown)) (s : CountedState) : Type 0 where
   pub text : s.text ≡ state_text locations shown s.values
   pub count : s.count ≡ number_that (λ x. is_state s.values (final_state shown x)) candidates
@@ -70,12 +71,12 @@ pub record IsCounted (locations : List (List ℕ)) (proposition : Formula) (show
   pub holds : (content : ShownPlace → FinalValue) → s.values ≡ map content shown
       → s.holds ≡ satisfies locations content proposition
 
--- the evaluation says this of these executions over these places
+-- the evaluation says this of these executions over these observables
 pub record Says (locations : List (List ℕ)) (kind : Quantifier) (proposition : Formula)
     (shown : List ShownPlace) (candidates : List (ℕ × Shown)) (flags : List Flag) (e : Evaluation)
     : Type 0 where
   pub rising : IsStrictlySortedBy state_cmp (values_of e.states)
-  pub states : All (IsCounted locations proposition shown candidates) e.states
+  pub states : All (IsStateOf locations proposition shown candidates) e.states
   pub ended : All (λ x. Contains (values_of e.states) (final_state shown x.1)) candidates
   pub positive : e.positive ≡ number_that (is_satisfied locations proposition) candidates
   pub negative : e.negative
@@ -83,8 +84,8 @@ pub record Says (locations : List (List ℕ)) (kind : Quantifier) (proposition :
   pub names : e.flags ≡ raised_names candidates flags
   pub judged : IsJudged kind e
 
--- the evaluation of a condition on the executions that the checks keep: its states show the places
--- of the proposition and the observed ones
+-- the evaluation of a condition on the executions that the checks keep: its states show the
+-- observables of the proposition and the observed ones
 abbrev pub IsEvaluation : List (List ℕ) → List Shown → Quantifier → Formula → List Place
     → List (List Bool) → List Flag → Evaluation → Type 0
 IsEvaluation locations executions kind proposition observed checks flags e =
@@ -97,7 +98,7 @@ IsEvaluatedAs P (Evaluated e) = P e
 
 -- the outcome of a condition of this kind on these executions: the condition as it is printed, and
 -- its evaluation
-pub record IsOutcome (locations : List (List ℕ)) (executions : List Shown) (kind : Quantifier)
+pub record IsOutcomeOn (locations : List (List ℕ)) (executions : List Shown) (kind : Quantifier)
     (proposition : Formula) (observed : List Place) (checks : List (List Bool)) (flags : List Flag)
     (o : Outcome) : Type 0 where
   pub kind_is : o.kind ≡ kind

@@ -27,15 +27,15 @@ final_register e thread register =
     run_values.NoValue
 
 -- what an action stores at a location, if it stores there
-abbrev pub stored_by : ℕ → Action → Option Value
-stored_by location (actions.Write to value) = if to == location then Some value else None
-stored_by location (actions.Read from value) = None
-stored_by location (actions.Fence f) = None
+abbrev pub value_stored_by : ℕ → Action → Option Value
+value_stored_by location (actions.Write to value) = if to == location then Some value else None
+value_stored_by location (actions.Read from value) = None
+value_stored_by location (actions.Fence f) = None
 
 -- what an event stores at a location, if it stores there
-abbrev pub stored_at : List Event → ℕ → ℕ → Option Value
-stored_at events location event =
-    option_and_then (λ e. stored_by location e.action) (slice_get events event)
+abbrev pub value_stored_at : List Event → ℕ → ℕ → Option Value
+value_stored_at events location event =
+    option_and_then (λ e. value_stored_by location e.action) (slice_get events event)
 
 -- the last of a list, or this where it has none
 abbrev pub last_or : {X : Type 0} → X → List X → X
@@ -45,7 +45,7 @@ last_or d (x ∷ xs) = last_or x xs
 -- what a location holds at the end: what the last store at it stores, in coherence order
 abbrev pub final_word : Shown → ℕ → Value
 final_word e location =
-    last_or run_values.NoValue (filter_map (stored_at e.events location) e.order)
+    last_or run_values.NoValue (filter_map (value_stored_at e.events location) e.order)
 
 -- what an observable holds at the end
 abbrev pub final_value : Shown → ShownPlace → FinalValue

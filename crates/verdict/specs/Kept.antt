@@ -42,9 +42,9 @@ each_once [] = []
 each_once (n ∷ ns) = n ∷ filter (λ m. not (is_name n m)) (each_once ns)
 
 -- the names of the flags that pass a test, each once, in the order of the text
-unfoldable pub names_of : (Flag → Bool) → List Flag → List (List ℕ)
-names_of test flags = each_once (map (λ f. f.0) (filter test flags))
+unfoldable pub names_of_flags : (Flag → Bool) → List Flag → List (List ℕ)
+names_of_flags test flags = each_once (map (λ f. f.0) (filter test flags))
 
 -- the names that the kept candidates raise
 abbrev pub raised_names : {X : Type 0} → List (ℕ × X) → List Flag → List (List ℕ)
-raised_names candidates flags = names_of (is_raised candidates) flags
+raised_names candidates flags = names_of_flags (is_raised candidates) flags

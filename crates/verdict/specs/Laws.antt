@@ -4,14 +4,14 @@ use Rattle.text_values.specs.declared.test.Place.{Place}
 use Rattle.text_values.specs.declared.test.Quantifier.{Quantifier}
 use Rattle.text_values.specs.TestValue.{Formula}
 use Rattle.candidates.specs.Space.{Shown}
-use Rattle.verdict.specs.Evaluated.{IsOutcome}
+use Rattle.verdict.specs.Evaluated.{IsOutcomeOn}
 use Rattle.verdict.specs.Kept.{Flag}
 use Rattle.verdict.specs.declared.answer.Outcome.{Outcome}
 
 -- an outcome is the only one of its locations, its executions, its condition, what it observes, and
 -- the answers of checks and flags
-abbrev pub HasOneOutcome : List (List ℕ) → List Shown → Quantifier → Formula → List Place
+abbrev pub HasOneConditionOutcome : List (List ℕ) → List Shown → Quantifier → Formula → List Place
     → List (List Bool) → List Flag → Type 0
-HasOneOutcome locations executions kind proposition observed checks flags =
-    (o p : Outcome) → IsOutcome locations executions kind proposition observed checks flags o
-    → IsOutcome locations executions kind proposition observed checks flags p → o ≡ p
+HasOneConditionOutcome locations executions kind proposition observed checks flags =
+    (o p : Outcome) → IsOutcomeOn locations executions kind proposition observed checks flags o
+    → IsOutcomeOn locations executions kind proposition observed checks flags p → o ≡ p

@@ -19,7 +19,7 @@ use Rattle.verdict.specs.declared.shown_place.ShownPlace.TheVariants as shown
 abbrev pub location_of : List (List ℕ) → List ℕ → Option ℕ
 location_of locations name = position (is_name name) locations
 
--- a place that a test writes, where its location is one of the test
+-- an observable that a test writes, where its location is one of the test
 abbrev pub known_place : List (List ℕ) → Place → Option ShownPlace
 known_place locations (places.Register thread register) = Some (shown.Register thread register)
 known_place locations (places.Location name) =
@@ -41,7 +41,7 @@ is_value (values.Address k) values.NoValue = false
 is_value values.NoValue (values.Number n) = false
 is_value values.NoValue (values.Address l) = false
 
--- whether a known place holds a known value: nothing holds of others
+-- whether a known observable holds a known value: nothing holds of others
 abbrev pub is_held : (ShownPlace → FinalValue) → Option ShownPlace → Option FinalValue → Bool
 is_held content (Some place) (Some value) = is_value (content place) value
 is_held content (Some place) None = false
@@ -52,7 +52,7 @@ joined_by And a b = a && b
 joined_by Or a b = a || b
 joined_by Implies a b = not a || b
 
--- whether a proposition is true where the places hold this
+-- whether a proposition is true where the observables hold this
 abbrev pub satisfies : List (List ℕ) → (ShownPlace → FinalValue) → Formula → Bool
 satisfies locations content (Constant b) = b
 satisfies locations content (Holds place value) =
@@ -61,7 +61,7 @@ satisfies locations content (Not a) = not (satisfies locations content a)
 satisfies locations content (Join op a b) =
     joined_by op (satisfies locations content a) (satisfies locations content b)
 
--- the places of a proposition
+-- the observables of a proposition
 abbrev pub places_of : Formula → List Place
 places_of (Constant b) = []
 places_of (Holds place value) = place ∷ []

@@ -1,4 +1,4 @@
--- The orders of places, of values and of states.
+-- The orders of observables, of values and of states.
 use Rattle.std.specs.Prelude.{Bool, List}
 use Rattle.std.specs.Ordering.{nat_cmp, int_cmp, ordering_then, is_eq}
 use Rattle.std.specs.Cmp.Lexicographic.{slice_cmp}

@@ -15,7 +15,7 @@ use Rattle.verdict.specs.declared.shown_place.ShownPlace.TheVariants as shown
 abbrev pub name_at : List (List ℕ) → ℕ → List ℕ
 name_at locations location = slice_index_or locations location []
 
--- a place of a state, as tests write it
+-- an observable of a state, as tests write it
 abbrev pub place_of : List (List ℕ) → ShownPlace → Place
 place_of locations (shown.Register thread register) = places.Register thread register
 place_of locations (shown.Location location) = places.Location (name_at locations location)
@@ -25,13 +25,13 @@ value_text locations (values.Number number) = signed_decimal number
 value_text locations (values.Address location) = name_at locations location
 value_text locations values.NoValue = []
 
--- what a place holds, as `1:r1=0;`
+-- what an observable holds, as `1:r1=0;`
 abbrev pub held_text : List (List ℕ) → ShownPlace → FinalValue → List ℕ
 held_text locations place value =
     place_text (place_of locations place)
     ++ (codes "=" ++ (value_text locations value ++ codes ";"))
 
--- the state, its places joined by one space
+-- the state, its observables joined by one space
 abbrev pub state_text : List (List ℕ) → List ShownPlace → List FinalValue → List ℕ
 state_text locations places values =
     joined (codes " ") (map (λ x. held_text locations x.0 x.1) (zip places values))

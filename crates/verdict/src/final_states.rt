@@ -86,7 +86,7 @@ fn final_word(combination: &Combination, order: &[u8], location: usize) -> Value
     Value::NoValue
 }
 
-// What a place holds at the end.
+// What an observable holds at the end.
 fn held_value(
     space: &Space,
     combination: &Combination,

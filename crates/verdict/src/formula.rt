@@ -3,7 +3,7 @@
 ghost use Rattle.std.specs.Prelude.{◌≡◌, IfOk, position};
 ghost use Rattle.text_values.specs.TestValue as text;
 ghost use Rattle.text_values.specs.TestValue.{formula_of};
-ghost use Rattle.verdict.specs.Compiled.{value_of, Means};
+ghost use Rattle.verdict.specs.Compiled.{value_of, Compiles};
 ghost use Rattle.verdict.specs.Meaning.{known_value};
 ghost use Rattle.verdict.specs.Order.{is_place};
 
@@ -39,7 +39,7 @@ pub fn known_value(locations: &[Name], value: &Value) -> Option<FinalValue>
     }
 }
 
-// The number of a place among those that are shown.
+// The number of an observable among those that are shown.
 fn place_number(places: &[ShownPlace], place: ShownPlace) -> Option<usize>
     ensures { result ≡ position (is_place place) places.now }
 {
@@ -52,7 +52,7 @@ fn place_number(places: &[ShownPlace], place: ShownPlace) -> Option<usize>
 }
 
 fn atom(places: &[ShownPlace], locations: &[Name], place: &Place, value: &Value) -> Formula
-    ensures { Means locations.now places.now (text.Holds place.now value.now) result }
+    ensures { Compiles locations.now places.now (text.Holds place.now value.now) result }
 {
     let Some(shown) = shown_place(locations, place) else {
         return Formula::Constant(false);
@@ -73,7 +73,7 @@ pub fn formula_over(
     locations: &[Name],
     proposition: &Proposition,
 ) -> Result<Formula, AllocError>
-    ensures { IfOk result (λ f. Means locations.now places.now (formula_of proposition.now) f) }
+    ensures { IfOk result (λ f. Compiles locations.now places.now (formula_of proposition.now) f) }
 {
     match proposition {
         Proposition::Constant(value) => Ok(Formula::Constant(*value)),

@@ -6,9 +6,9 @@ ghost use Rattle.std.specs.List.Sorted.{IsStrictlySortedBy};
 ghost use Rattle.candidates.specs.Space.{shown_in};
 ghost use Rattle.text_values.specs.TestValue.{formula_of};
 ghost use Rattle.verdict.specs.Counting.{pairs_of, pairs_in};
-ghost use Rattle.verdict.specs.Kept.{holds_at, is_kept, AreKeptBy, holds_on_some, of_raised, names_of};
+ghost use Rattle.verdict.specs.Kept.{holds_at, is_kept, AreKeptBy, holds_on_some, of_raised, names_of_flags};
 ghost use Rattle.verdict.specs.Names.{is_name};
-ghost use Rattle.verdict.specs.Evaluated.{values_of, IsWorded, AreEndStates, IsEvaluation, IsOutcome};
+ghost use Rattle.verdict.specs.Evaluated.{values_of, IsWorded, AreEndStates, IsEvaluation, IsOutcomeOn};
 ghost use Rattle.verdict.specs.Order.{state_cmp};
 ghost use Rattle.verdict.specs.Judgement.{is_same, total_of, observation_of, is_met, IsJudged, IsOutcomeOf};
 
@@ -90,7 +90,7 @@ fn add_name(alloc: Global, names: &mut Vec<Name>, name: &Name) -> Result<(), All
 
 fn raised_names(alloc: Global, kept: &[bool], flags: &[Raised]) -> Result<Vec<Name>, AllocError>
     ensures { IfOk result (λ v. v.items
-        ≡ names_of (λ f. holds_on_some kept.now f.1) (of_raised flags.now)) }
+        ≡ names_of_flags (λ f. holds_on_some kept.now f.1) (of_raised flags.now)) }
 {
     let mut names: Vec<Name> = Vec::new(alloc);
     for flag in flags {
@@ -221,7 +221,7 @@ pub fn outcome_kept(
 ) -> Result<Outcome, AllocError>
     ensures whole { (checks : List (List Bool))
         → AreKeptBy checks (length (shown_in space.now)) kept.now
-        → IfOk result (λ o. IsOutcome space.now.locations.items (shown_in space.now)
+        → IfOk result (λ o. IsOutcomeOn space.now.locations.items (shown_in space.now)
         condition.now.quantifier (formula_of condition.now.proposition) observed.now checks
         (of_raised flags.now) o) }
     ensures judged { IfOk result (λ o. IsOutcomeOf condition.now.quantifier o) }
@@ -245,7 +245,7 @@ pub fn outcome(
     checks: &[&[bool]],
     flags: &[Raised],
 ) -> Result<Outcome, AllocError>
-    ensures whole { IfOk result (λ o. IsOutcome space.now.locations.items (shown_in space.now)
+    ensures whole { IfOk result (λ o. IsOutcomeOn space.now.locations.items (shown_in space.now)
         condition.now.quantifier (formula_of condition.now.proposition) observed.now
         (map (λ c. c.now) checks.now) (of_raised flags.now) o) }
     ensures judged { IfOk result (λ o. IsOutcomeOf condition.now.quantifier o) }

@@ -6,12 +6,12 @@ ghost use Rattle.text_values.specs.declared.test.Quantifier.{Quantifier};
 ghost use Rattle.text_values.specs.TestValue.{Formula};
 ghost use Rattle.candidates.specs.Space.{Shown};
 ghost use Rattle.verdict.specs.Kept.{Flag};
-ghost use Rattle.verdict.specs.Laws.{HasOneOutcome};
+ghost use Rattle.verdict.specs.Laws.{HasOneConditionOutcome};
 
 /// Executions, a condition and the answers of checks and flags have one outcome.
 pub fn outcome_is_one()
     ensures { (locations : List (List ℕ)) (executions : List Shown) (kind : Quantifier)
         (proposition : Formula) (observed : List Place) (checks : List (List Bool))
         (flags : List Flag)
-        → HasOneOutcome locations executions kind proposition observed checks flags }
+        → HasOneConditionOutcome locations executions kind proposition observed checks flags }
 {}

@@ -3,7 +3,7 @@
 ghost use Rattle.std.specs.Prelude.{◌≡◌, ◌++◌, [], ◌∷◌, IfOk, OnOk};
 ghost use Rattle.text_values.specs.TestValue.{formula_of};
 ghost use Rattle.verdict.specs.Meaning.{location_of, known_place, places_of};
-ghost use Rattle.verdict.specs.Shown.{known_places, Adds, AreShown};
+ghost use Rattle.verdict.specs.Shown.{known_places, AddsPlaces, AreShown};
 
 use std::alloc::{AllocError, Global};
 use std::collections::BTreeSet;
@@ -51,7 +51,7 @@ fn add_place(
     locations: &[Name],
     place: &Place,
 ) -> Result<(), AllocError>
-    ensures { OnOk result (Adds shown.old.keys shown.new.keys
+    ensures { OnOk result (AddsPlaces shown.old.keys shown.new.keys
         (known_places locations.now (place.now ∷ []))) }
 {
     if let Some(place) = shown_place(locations, place) {
@@ -65,7 +65,7 @@ fn add_proposition(
     locations: &[Name],
     proposition: &Proposition,
 ) -> Result<(), AllocError>
-    ensures { OnOk result (Adds shown.old.keys shown.new.keys (known_places locations.now
+    ensures { OnOk result (AddsPlaces shown.old.keys shown.new.keys (known_places locations.now
         (places_of (formula_of proposition.now)))) }
 {
     match proposition {

@@ -54,7 +54,7 @@ fn put_final(text: &mut Vec<u8>, locations: &[Name], value: FinalValue) -> Resul
     }
 }
 
-// Appends what a place holds, behind a space unless it is the first.
+// Appends what an observable holds, behind a space unless it is the first.
 fn put_held(
     text: &mut Vec<u8>,
     locations: &[Name],

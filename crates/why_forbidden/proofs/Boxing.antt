@@ -11,15 +11,15 @@ use Rattle.cat_eval.proofs.Visits.{get_more}
 use Rattle.draw_graph.specs.declared.drawing.Cluster.{Cluster}
 use Rattle.why_text.specs.declared.event.ToldEvent.{ToldEvent}
 use Rattle.run_combinations.specs.declared.combination.Event.{Event}
-use Rattle.why_forbidden.specs.Drawings.{AreBoxes, AreClusters, HasThread, IsBox, IsBoxed, IsCluster, numbers_of}
+use Rattle.why_forbidden.specs.Drawings.{AreBoxes, AreClusters, HasThread, IsBox, IsBoxed, IsCluster, box_numbers}
 use Rattle.why_forbidden.specs.Told.{Scene}
 
 -- the boxes of the events below a number
 pub record BoxesBelow (scene : Scene) (P : ℕ → Type 0) (i : ℕ) (boxes : List ToldEvent)
     : Type 0 where
-  pub rising : AllPairs (λ m n. m < n) (numbers_of boxes)
+  pub rising : AllPairs (λ m n. m < n) (box_numbers boxes)
   pub each : All (IsBox scene) boxes
-  pub exact : (n : ℕ) → Contains (numbers_of boxes) n ↔ ((n < i) × P n)
+  pub exact : (n : ℕ) → Contains (box_numbers boxes) n ↔ ((n < i) × P n)
 
 none_in : (n : ℕ) → Contains (let ns : List ℕ = [] in ns) n → ⊥
 none_in n here = let (k, lt, same) = here in absurd (omega (arith, lt))
@@ -31,7 +31,7 @@ pub one_boxed : (scene : Scene) (P : ℕ → Type 0) (i : ℕ) (boxes : List Tol
 one_boxed scene P i boxes b here at is by old = record {
   rising =
       subst (λ (ns : List ℕ). AllPairs (λ m n. m < n) ns) (sym more) (all_pairs_push (λ m n. m < n)
-      (numbers_of boxes) i old.rising below);
+      (box_numbers boxes) i old.rising below);
   each = All-push (IsBox scene) boxes b old.each record {
     event = subst (λ (k : ℕ). slice_get scene.events k ≡ Some b.event) (sym at) is;
     instruction =
@@ -39,28 +39,28 @@ one_boxed scene P i boxes b here at is by old = record {
   };
   exact =
       λ n. subst (λ (ns : List ℕ). Contains ns n ↔ ((n < i + 1) × P n)) (sym more)
-      ((λ x. forth n (Contains-push_cases (numbers_of boxes) i n x)), back n);
+      ((λ x. forth n (Contains-push_cases (box_numbers boxes) i n x)), back n);
 }
   where
-    more : numbers_of (boxes ++ b ∷ []) ≡ numbers_of boxes ++ i ∷ []
+    more : box_numbers (boxes ++ b ∷ []) ≡ box_numbers boxes ++ i ∷ []
     more =
         map-append (λ (c : ToldEvent). c.number) boxes (b ∷ [])
-        ∙ ap (λ (k : ℕ). numbers_of boxes ++ k ∷ []) at
+        ∙ ap (λ (k : ℕ). box_numbers boxes ++ k ∷ []) at
 
-    below : (k d : ℕ) → k < length (numbers_of boxes) → get_or (numbers_of boxes) k d < i
+    below : (k d : ℕ) → k < length (box_numbers boxes) → get_or (box_numbers boxes) k d < i
     below k d lt =
-        ((old.exact (get_or (numbers_of boxes) k d)).0
-        (Contains-get_or (numbers_of boxes) k d lt)).0
+        ((old.exact (get_or (box_numbers boxes) k d)).0
+        (Contains-get_or (box_numbers boxes) k d lt)).0
 
-    forth : (n : ℕ) → Contains (numbers_of boxes) n ⊎ (i ≡ n) → (n < i + 1) × P n
+    forth : (n : ℕ) → Contains (box_numbers boxes) n ⊎ (i ≡ n) → (n < i + 1) × P n
     forth n (inl x) = let (l, p) = (old.exact n).0 x in (omega (arith, l), p)
     forth n (inr e) = (omega (arith, e), subst P e here)
 
-    back : (n : ℕ) → (n < i + 1) × P n → Contains (numbers_of boxes ++ i ∷ []) n
+    back : (n : ℕ) → (n < i + 1) × P n → Contains (box_numbers boxes ++ i ∷ []) n
     back n x = let (l, p) = x in elim (cases_eq n i) [
-      | inl same ↦ subst (λ (k : ℕ). Contains (numbers_of boxes ++ i ∷ []) k) (sym same)
-          (Contains-push (numbers_of boxes) i)
-      | inr ne ↦ Contains-append_left (numbers_of boxes) (i ∷ []) n
+      | inl same ↦ subst (λ (k : ℕ). Contains (box_numbers boxes ++ i ∷ []) k) (sym same)
+          (Contains-push (box_numbers boxes) i)
+      | inr ne ↦ Contains-append_left (box_numbers boxes) (i ∷ []) n
           ((old.exact n).1 (omega (arith, l, ne), p))
     ]
 
@@ -72,7 +72,7 @@ one_left scene P i boxes none old = record {
   exact = λ n. ((λ x. let (l, p) = (old.exact n).0 x in (omega (arith, l), p)), back n);
 }
   where
-    back : (n : ℕ) → (n < i + 1) × P n → Contains (numbers_of boxes) n
+    back : (n : ℕ) → (n < i + 1) × P n → Contains (box_numbers boxes) n
     back n x = let (l, p) = x in elim (cases_eq n i) [
       | inl same ↦ absurd (none (subst P same p))
       | inr ne ↦ (old.exact n).1 (omega (arith, l, ne), p)

@@ -17,14 +17,14 @@ use Rattle.cat_eval.specs.declared.column.Column.{Column}
 use Rattle.cat_eval.specs.Checks.{Holds, IsEmptySet}
 use Rattle.cat_eval.specs.Executions.{events_of, EventsAt, PairsAt}
 use Rattle.cat_eval.specs.Meaning.{Means, MeansSet}
-use Rattle.cat_eval.specs.Named.{WithOwn, Of}
-use Rattle.cat_eval.specs.Values.{IsMeant}
+use Rattle.cat_eval.specs.Named.{WithOwn, OwnPairs}
+use Rattle.cat_eval.specs.Values.{IsMeaning}
 use Rattle.text_values.specs.declared.model.CheckWord.{CheckWord}
 use Rattle.text_values.specs.declared.model.CheckWord.TheVariants as words
 use Rattle.why_witness.specs.declared.witness.Witness.{Witness}
 use Rattle.why_witness.specs.declared.witness.Witness.TheVariants as shown
-use Rattle.why_witness.specs.Refusals.{IsRefusal}
-use Rattle.why_witness.specs.Witnesses.{AreSame, Breaks, BreaksSet, IsExplained, IsExplanation, IsExpression, IsSame}
+use Rattle.why_witness.specs.Refusals.{IsWitness}
+use Rattle.why_witness.specs.Witnesses.{AreSameWitnesses, Breaks, BreaksSet, IsExplained, IsExplanation, IsExpression, IsSame}
 use Rattle.why_witness.proofs.OneReason.{one_refusal}
 use Rattle.why_walks.specs.Values.{AreLinksAt}
 use Rattle.why_walks.specs.Found.{IsWalked}
@@ -38,7 +38,7 @@ use Rattle.why_forbidden.specs.declared.checks.FirstRefusal.{FirstRefusal}
 use Rattle.why_forbidden.specs.Checked.{IsChecked, IsFirstRefusal}
 use Rattle.why_forbidden.specs.Laws.{AreOver, HasOneFirstRefusal, HasSameStarts, HasWalkBack}
 use Rattle.why_forbidden.proofs.Stepping.{through_none}
-use Rattle.why_forbidden.specs.Steps.{AreFactorsOn, AreStarts, HasNoSteps, HasNoWalkBack, HasSteps, IsWalkBack, LeadsBack, StepStart, start_at, starts_at, starts_through}
+use Rattle.why_forbidden.specs.Steps.{AreFactorsOn, AreStarts, HasNoSteps, HasNoWalkBack, HasSteps, IsWalkBack, AreStartsBack, StepStart, start_at, starts_at, starts_through}
 
 -- ---- no walk where none is found
 
@@ -96,8 +96,8 @@ module _ (space : Space) (columns : List (Vec Column Global)) (items : List Reso
     (checks : List CheckValues) (k : ℕ) (one : Candidate)
     (over : AreOver space columns items checks k one) where
   one_answer : (i : ℕ) (d : CheckValues) → i < length checks → (f g : Option Witness) → let c =
-      get_or checks i d in IsRefusal c.check.now c.values k f → IsRefusal c.check.now c.values k g
-      → AreSame f g
+      get_or checks i d in IsWitness c.check.now c.values k f → IsWitness c.check.now c.values k g
+      → AreSameWitnesses f g
   one_answer i d lt f g p q =
       let c : CheckValues = get_or checks i d in
       let checked = over.checked i d lt in
@@ -120,7 +120,7 @@ module _ (space : Space) (columns : List (Vec Column Global)) (items : List Reso
       | inr ge ↦
           let same : b.index ≡ a.index = omega arith in
           let d : CheckValues = some_check checks a.index p.within in
-          let there = subst (λ (i : ℕ). let c = get_or checks i d in IsRefusal c.check.now c.values k (Some b.witness)) same (q.refuses d) in (
+          let there = subst (λ (i : ℕ). let c = get_or checks i d in IsWitness c.check.now c.values k (Some b.witness)) same (q.refuses d) in (
             sym same,
             one_answer a.index d p.within (Some a.witness) (Some b.witness) (p.refuses d)
                 there,
@@ -151,24 +151,24 @@ record IsRelated (check : CheckCode) (n : ℕ) (sets : Source → ℕ → Type 0
   tree : RelTree
   is : check.code.steps.items ≡ rel_code tree []
   word : check.word ≡ words.Irreflexive
-  related : Means n sets (WithOwn outer (Of n [])) tree event event
+  related : Means n sets (WithOwn outer (OwnPairs n [])) tree event event
   few : event < n
 
 module _ (check : CheckCode) (n : ℕ) (sets : Source → ℕ → Type 0) (outer : Source → ℕ → ℕ → Type 0)
     (event : ℕ) (s : Events) (r : Relation) where
   of_tree : (t : RelTree) → check.code.steps.items ≡ rel_code t []
-      → IsRelation r n (Means n sets (WithOwn outer (Of n [])) t)
-      → IsExplanation check.negated (Holds check.word (Means n sets (WithOwn outer (Of n [])) t))
-      (Breaks check.word (Means n sets (WithOwn outer (Of n [])) t))
+      → IsRelation r n (Means n sets (WithOwn outer (OwnPairs n [])) t)
+      → IsExplanation check.negated (Holds check.word (Means n sets (WithOwn outer (OwnPairs n [])) t))
+      (Breaks check.word (Means n sets (WithOwn outer (OwnPairs n [])) t))
       (Some (shown.Reflexive event)) → IsRelated check n sets outer event
   of_tree t is are h =
-      let R = Means n sets (WithOwn outer (Of n [])) t in
+      let R = Means n sets (WithOwn outer (OwnPairs n [])) t in
       let b = broken_word check.word R event (broken check.negated (Holds check.word R) (Breaks check.word R) event h) in
       let inside : event < r.count = (are.regular.within event event ((are.pairs event event).1 b.1)).0 in
       record { tree = t; is = is; word = b.0; related = b.1; few = subst (λ (m : ℕ). event < m) are.count inside }
 
   is_related : (kind : Kind) → IsExpression kind check.code.steps.items
-      → IsMeant kind check.code.steps.items n sets outer s r
+      → IsMeaning kind check.code.steps.items n sets outer s r
       → IsExplained check n sets outer kind (Some (shown.Reflexive event))
       → IsRelated check n sets outer event
   is_related kinds.OfSet (t, is) meant h =
@@ -187,7 +187,7 @@ module _ (space : Space) (check : CheckValues) (columns : List (Vec Column Globa
     (items : List ResolvedItem) (k : ℕ) (one : Candidate)
     (over : AreOver space columns items (check ∷ []) k one) where
   is_shown : (event : ℕ)
-      → IsRefusal check.check.now check.values k (Some (shown.Reflexive event))
+      → IsWitness check.check.now check.values k (Some (shown.Reflexive event))
       → IsShown check k (events_of one) event
   is_shown event refuses =
       let checked : IsChecked space columns items check = over.checked 0 check (omega arith) in
@@ -208,8 +208,8 @@ module _ (space : Space) (check : CheckValues) (columns : List (Vec Column Globa
       }
 
   walk_is_back : (event : ℕ) (starts : List StepStart)
-      → IsRefusal check.check.now check.values k (Some (shown.Reflexive event))
-      → LeadsBack check k (events_of one) event starts
+      → IsWitness check.check.now check.values k (Some (shown.Reflexive event))
+      → AreStartsBack check k (events_of one) event starts
       → HasSteps check k (events_of one) event starts
       ⊎ ((starts ≡ start_at check.check.now.code event ∷ [])
       × IsWalkBack check k (events_of one) event [])
@@ -245,9 +245,9 @@ module _ (space : Space) (check : CheckValues) (columns : List (Vec Column Globa
     (items : List ResolvedItem) (k : ℕ) (one : Candidate)
     (over : AreOver space columns items (check ∷ []) k one) where
   same_back : (event : ℕ) (starts others : List StepStart)
-      → IsRefusal check.check.now check.values k (Some (shown.Reflexive event))
-      → LeadsBack check k (events_of one) event starts
-      → LeadsBack check k (events_of one) event others → starts ≡ others
+      → IsWitness check.check.now check.values k (Some (shown.Reflexive event))
+      → AreStartsBack check k (events_of one) event starts
+      → AreStartsBack check k (events_of one) event others → starts ≡ others
   same_back event starts others refuses p q =
       let n : ℕ = events_of one in
       let is : IsShown check k n event = is_shown space check columns items k one over event refuses in
@@ -265,7 +265,7 @@ module _ (space : Space) (check : CheckValues) (columns : List (Vec Column Globa
       ]
 
   same_starts : (v w : Witness) → IsSame v w
-      → IsRefusal check.check.now check.values k (Some v) → (starts others : List StepStart)
+      → IsWitness check.check.now check.values k (Some v) → (starts others : List StepStart)
       → AreStarts check k (events_of one) v starts → AreStarts check k (events_of one) w others
       → starts ≡ others
   same_starts (shown.Cycle xs) (shown.Cycle ys) same refuses starts others p q =
@@ -277,7 +277,7 @@ module _ (space : Space) (check : CheckValues) (columns : List (Vec Column Globa
   same_starts (shown.Reflexive a) (shown.Cycle ys) same refuses starts others p q = absurd same
   same_starts (shown.Reflexive a) (shown.Reflexive b) same refuses starts others p q =
       same_back a starts others refuses p
-      (subst (λ (e : ℕ). LeadsBack check k (events_of one) e others) (sym same) q)
+      (subst (λ (e : ℕ). AreStartsBack check k (events_of one) e others) (sym same) q)
   same_starts (shown.Reflexive a) (shown.Pair b c) same refuses starts others p q = absurd same
   same_starts (shown.Reflexive a) (shown.Member b) same refuses starts others p q = absurd same
   same_starts (shown.Reflexive a) shown.Met same refuses starts others p q = absurd same

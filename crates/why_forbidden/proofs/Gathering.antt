@@ -6,7 +6,7 @@ use Rattle.why_text.specs.declared.reason.Reason.{Reason}
 use Rattle.why_forbidden.specs.declared.answer.Outcome.{Outcome}
 use Rattle.why_forbidden.specs.declared.answer.Outcome.TheVariants as outcomes
 use Rattle.why_forbidden.specs.Outcomes.{Case, AreFindings, OtherNext, KeptNext, ForbiddenNext, first_shown}
-use Rattle.why_forbidden.specs.Views.{AreFoundOf, AreWith, IsAdded, IsOutcome}
+use Rattle.why_forbidden.specs.Views.{AreFoundOf, AreWith, IsOutcomeAdded, IsOutcome}
 
 by_with : (c : Case) (k kept : ℕ) (shown : List ToldEvent) (reasons : List Reason) (new : Findings)
     → AreWith kept shown reasons new
@@ -17,7 +17,7 @@ by_with c k kept shown reasons new w h =
     (subst (λ (r : List Reason). AreFindings c k kept shown r) (sym w.reasons) h))
 
 pub found_more : (c : Case) (k : ℕ) (old new : Findings) (o : Outcome) → AreFoundOf c k old
-    → IsOutcome c k o → IsAdded o old new → AreFoundOf c (k + 1) new
+    → IsOutcome c k o → IsOutcomeAdded o old new → AreFoundOf c (k + 1) new
 found_more c k old new outcomes.Other h is w =
     by_with c (k + 1) old.kept old.shown.items old.reasons.items new w
     (OtherNext k old.kept old.shown.items old.reasons.items h is)
@@ -29,7 +29,7 @@ found_more c k old new (outcomes.Forbidden reason) h is w =
     by_with c (k + 1) old.kept old.shown.items (old.reasons.items ++ reason ∷ []) new w
     (ForbiddenNext k old.kept old.shown.items old.reasons.items reason h is)
 
-pub few_more : (k : ℕ) (old new : Findings) (o : Outcome) → old.kept ≤ k → IsAdded o old new
+pub few_more : (k : ℕ) (old new : Findings) (o : Outcome) → old.kept ≤ k → IsOutcomeAdded o old new
     → new.kept ≤ k + 1
 few_more k old new outcomes.Other few w = omega (arith, w.kept)
 few_more k old new (outcomes.Kept events) few w = omega (arith, w.kept)

@@ -21,8 +21,8 @@ use Rattle.draw_graph.specs.Drawn.{IsDrawnEvent}
 use Rattle.draw_graph.specs.Texts.{drawing_text}
 use Rattle.text_values.specs.declared.test.Test.{Test}
 use Rattle.text_values.specs.TestValue.{formula_of}
-use Rattle.from_scratch.specs.Answers.{AreSound}
-use Rattle.from_scratch.specs.FromScratch.{AreItemsOf, IsFaultless, clauses_of, outermost}
+use Rattle.from_scratch.specs.Answers.{AreSoundItems}
+use Rattle.from_scratch.specs.FromScratch.{AreItemsOf, IsFaultless, bare_items, outermost}
 use Rattle.from_scratch.proofs.Knowing.{item_at}
 use Rattle.from_scratch.proofs.Ordered.{resolved_ordered}
 use Rattle.from_scratch.proofs.Rising.{resolved_rising}
@@ -34,14 +34,14 @@ use Rattle.why_forbidden.specs.declared.checks.FirstRefusal.{FirstRefusal}
 use Rattle.why_forbidden.specs.declared.drawing.Wanted.{Wanted}
 use Rattle.why_forbidden.specs.Checked.{IsChecked}
 use Rattle.why_forbidden.specs.Drawable.{AddsDrawing}
-use Rattle.why_forbidden.specs.Drawings.{AreBoxesOf, AreClusters, AreDrawings, IsAt, OneDrawn, OneLeft, OneTooMany, Subject, drawings_text, has_asked, is_wanted}
+use Rattle.why_forbidden.specs.Drawings.{AreBoxesOf, AreClusters, AreDrawings, IsCandidateAt, OneDrawn, OneLeft, OneTooMany, Subject, drawings_text, has_asked, is_execution_wanted}
 use Rattle.why_forbidden.specs.Told.{Scene}
 
 -- ---- one execution
 
 -- an execution shows what the candidate of its number does
 pub shown_at : (space : Space) (k : ℕ) (e : Execution) (one : Candidate) → IsShownAt space k e
-    → IsAt space k one → shown_by e ≡ shown_of space.registers.items one
+    → IsCandidateAt space k one → shown_by e ≡ shown_of space.registers.items one
 shown_at space k e one shown is =
     let f = shown_of space.registers.items in
     let cs = candidates_in space.combinations.items in
@@ -49,7 +49,7 @@ shown_at space k e one shown is =
 
 -- there is such a candidate, of so many events
 pub shown_there : (space : Space) (k : ℕ) (e : Execution) → IsShownAt space k e
-    → (one : Candidate) × IsAt space k one
+    → (one : Candidate) × IsCandidateAt space k one
 shown_there space k e shown =
     let cs = candidates_in space.combinations.items in
     let inside : k < length (shown_in space) = slice_get_within (shown_in space) k (shown_by e) shown in
@@ -57,17 +57,17 @@ shown_there space k e shown =
     item_at cs k (omega (arith, inside, same))
 
 pub events_shown : (space : Space) (k : ℕ) (e : Execution) (one : Candidate) → IsShownAt space k e
-    → IsAt space k one → e.events.items ≡ one.0.events.items
+    → IsCandidateAt space k one → e.events.items ≡ one.0.events.items
 events_shown space k e one shown is = ap (λ (s : Shown). s.events) (shown_at space k e one shown is)
 
 pub sources_shown : (space : Space) (k : ℕ) (e : Execution) (one : Candidate) → IsShownAt space k e
-    → IsAt space k one → e.sources.items ≡ one.1.0
+    → IsCandidateAt space k one → e.sources.items ≡ one.1.0
 sources_shown space k e one shown is =
     ap (λ (s : Shown). s.sources) (shown_at space k e one shown is)
 
 -- whether the candidate has what the test asks for
 pub asked_is : (s : Subject) (k : ℕ) (e : Execution) (one : Candidate) (locations : List (List ℕ))
-    (satisfied : Bool) → IsShownAt s.space k e → IsAt s.space k one
+    (satisfied : Bool) → IsShownAt s.space k e → IsCandidateAt s.space k one
     → locations ≡ s.space.locations.items
     → satisfied ≡ is_satisfied locations (formula_of s.test.condition.proposition) (shown_by e)
     → satisfied ≡ has_asked s one
@@ -80,11 +80,11 @@ asked_is s k e one locations satisfied shown is same said =
 -- and whether it is wanted
 pub wanted_is : (wanted : Wanted) (s : Subject) (one : Candidate) (found : Option FirstRefusal)
     (satisfied kept answer : Bool) → satisfied ≡ has_asked s one → kept ≡ is_none found
-    → answer ≡ is_wanted wanted satisfied kept
-    → is_wanted wanted (has_asked s one) (is_none found) ≡ answer
+    → answer ≡ is_execution_wanted wanted satisfied kept
+    → is_execution_wanted wanted (has_asked s one) (is_none found) ≡ answer
 wanted_is wanted s one found satisfied kept answer here none all =
-    sym (all ∙ ap (λ (b : Bool). is_wanted wanted b kept) here
-    ∙ ap (λ (b : Bool). is_wanted wanted (has_asked s one) b) none)
+    sym (all ∙ ap (λ (b : Bool). is_execution_wanted wanted b kept) here
+    ∙ ap (λ (b : Bool). is_execution_wanted wanted (has_asked s one) b) none)
 
 pub none_is : (b : Bool) (found : Option FirstRefusal) → is_some found ≡ not b → b ≡ is_none found
 none_is true found e = sym (ap not e)
@@ -180,10 +180,10 @@ too_many wanted most s k count text full before =
 -- ---- the model and the test
 
 pub resolved_sound : (model : ModelText) (resolved : List ResolvedItem) → IsFaultless model
-    → AreItemsOf model resolved → AreSound resolved
+    → AreItemsOf model resolved → AreSoundItems resolved
 resolved_sound model resolved faultless items = (
-  resolved_ordered PREDEFINED (clauses_of model) resolved items.0,
-  resolved_rising outermost 0 (clauses_of model) resolved faultless items.0,
+  resolved_ordered PREDEFINED (bare_items model) resolved items.0,
+  resolved_rising outermost 0 (bare_items model) resolved faultless items.0,
 )
 
 -- the checks stand in the model's text

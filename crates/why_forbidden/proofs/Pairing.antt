@@ -10,9 +10,9 @@ use Rattle.binding_graph.specs.declared.resolved.Source.TheVariants as sources
 use Rattle.binding_graph.specs.Trees.{RelName}
 use Rattle.candidates.specs.declared.candidate.Space.{Space}
 use Rattle.candidates.specs.Space.{Candidate}
-use Rattle.cat_eval.specs.Columns.{HasValue}
+use Rattle.cat_eval.specs.Columns.{HasColumnValue}
 use Rattle.cat_eval.specs.Executions.{events_of, EventsAt, PairsAt}
-use Rattle.cat_eval.specs.Values.{IsFor, IsMeant}
+use Rattle.cat_eval.specs.Values.{IsFor, IsMeaning}
 use Rattle.text_values.specs.declared.predefined.Predefined.{Predefined}
 use Rattle.draw_graph.specs.declared.drawing.Edges.{Edges}
 use Rattle.draw_graph.specs.declared.drawing.Ink.{Ink}
@@ -22,7 +22,7 @@ use Rattle.draw_relations.specs.declared.values.ShownValues.{ShownValues}
 use Rattle.why_labels.specs.declared.label.PredefinedValue.{PredefinedValue}
 use Rattle.why_forbidden.specs.declared.lines.DrawnRelation.{DrawnRelation}
 use Rattle.why_forbidden.specs.Drawable.{AreValuesOf}
-use Rattle.why_forbidden.specs.Drawings.{AreAllLines, AreLines, AreShownLines, IsAt, PairsOf, Subject, relations}
+use Rattle.why_forbidden.specs.Drawings.{AreAllLines, AreLines, AreShownLines, IsCandidateAt, PairsOfName, Subject, relations}
 use Rattle.why_forbidden.specs.Language.{IsOfLanguage}
 
 -- ---- the same pairs are drawn alike
@@ -75,15 +75,15 @@ edges_as S T R Q events pairs edges old = record {
 -- ---- the value of a name of the language
 
 pub named_pairs : (space : Space) (v : PredefinedValue) (k : ℕ) (one : Candidate) (found : Relation)
-    → IsOfLanguage space v → IsAt space k one
-    → ((s : Events) (r : Relation) → IsFor kinds.OfRelation v.column → HasValue v.column k s r
-    → found ≡ r) → IsRelation found (events_of one) (PairsOf one v.name)
+    → IsOfLanguage space v → IsCandidateAt space k one
+    → ((s : Events) (r : Relation) → IsFor kinds.OfRelation v.column → HasColumnValue v.column k s r
+    → found ≡ r) → IsRelation found (events_of one) (PairsOfName one v.name)
 named_pairs space v k one found of is read =
     let (s, r, has, meant) = of.values.values k one is in
     let suited : IsFor kinds.OfRelation v.column = rw of.kind at of.values.suited in
     let n = events_of one in
-    let as_relation : IsMeant kinds.OfRelation of.code.steps.items n (EventsAt n one [] k) (PairsAt n one [] k) s r = rw of.kind at meant in
-    subst (λ (x : Relation). IsRelation x n (PairsOf one v.name)) (sym (read s r suited has))
+    let as_relation : IsMeaning kinds.OfRelation of.code.steps.items n (EventsAt n one [] k) (PairsAt n one [] k) s r = rw of.kind at meant in
+    subst (λ (x : Relation). IsRelation x n (PairsOfName one v.name)) (sym (read s r suited has))
     (as_relation (RelName (sources.Predefined v.name)) of.steps)
 
 -- ---- the lines of a relation
@@ -102,7 +102,7 @@ lines_as one S T events relation e lines = record {
   name = lines.name;
   ink = lines.ink;
   pairs =
-      edges_as S T (PairsOf one relation.0) (PairsOf one relation.0) events
+      edges_as S T (PairsOfName one relation.0) (PairsOfName one relation.0) events
       (λ a b. ((λ x. x), (λ x. x))) e.pairs.items lines.pairs;
 }
 

@@ -9,17 +9,17 @@ use Rattle.binding_graph.specs.declared.resolved.ResolvedItem.{ResolvedItem}
 use Rattle.candidates.specs.declared.candidate.Space.{Space}
 use Rattle.candidates.specs.Listed.{ListsExecutions, ShowsExecution}
 use Rattle.candidates.specs.Space.{candidate_count, candidates_in, shown_in, shown_of}
-use Rattle.from_scratch.specs.Answers.{AreSound}
-use Rattle.from_scratch.specs.FromScratch.{AreItemsOf, IsFaultless, clauses_of, outermost}
+use Rattle.from_scratch.specs.Answers.{AreSoundItems}
+use Rattle.from_scratch.specs.FromScratch.{AreItemsOf, IsFaultless, bare_items, outermost}
 use Rattle.from_scratch.proofs.Ordered.{resolved_ordered}
 use Rattle.from_scratch.proofs.Rising.{resolved_rising}
 
 -- each item uses names of earlier items alone, and the bodies of each recursive group rise
 pub sound_items : (model : ModelText) (items : List ResolvedItem) → IsFaultless model
-    → AreItemsOf model items → AreSound items
+    → AreItemsOf model items → AreSoundItems items
 sound_items model items none resolved = (
-  resolved_ordered PREDEFINED (clauses_of model) items resolved.0,
-  resolved_rising outermost 0 (clauses_of model) items none resolved.0,
+  resolved_ordered PREDEFINED (bare_items model) items resolved.0,
+  resolved_rising outermost 0 (bare_items model) items none resolved.0,
 )
 
 pub few_candidates : (test : Test) (space : Space) → ListsExecutions test space

@@ -8,7 +8,7 @@ use Rattle.binding_graph.specs.declared.resolved.Role.TheVariants as roles
 use Rattle.candidates.specs.declared.candidate.Space.{Space}
 use Rattle.cat_eval.specs.declared.column.Column.{Column}
 use Rattle.text_values.specs.declared.model.CheckWord.TheVariants as words
-use Rattle.why_witness.specs.Refusals.{IsRefusal}
+use Rattle.why_witness.specs.Refusals.{IsWitness}
 use Rattle.why_witness.specs.Values.{AreValues}
 use Rattle.why_walks.specs.Values.{AreFactorValues}
 use Rattle.from_scratch.specs.Known.{AreFound}
@@ -34,10 +34,10 @@ abbrev pub is_unnamed : {A : Type 0} → Option A → Bool
 is_unnamed None = true
 is_unnamed (Some name) = false
 
-abbrev pub is_check : Role → Bool
-is_check (roles.Group recursive bodies) = false
-is_check (roles.Check check) = is_unnamed check.flag
-is_check roles.Silent = false
+abbrev pub is_unnamed_check : Role → Bool
+is_unnamed_check (roles.Group recursive bodies) = false
+is_unnamed_check (roles.Check check) = is_unnamed check.flag
+is_unnamed_check roles.Silent = false
 
 abbrev pub index_if : Bool → ℕ → List ℕ
 index_if true index = index ∷ []
@@ -47,14 +47,14 @@ index_if false index = []
 abbrev pub check_indexes : ℕ → List ResolvedItem → List ℕ
 check_indexes index [] = []
 check_indexes index (item ∷ items) =
-    index_if (is_check item.role) index ++ check_indexes (index + 1) items
+    index_if (is_unnamed_check item.role) index ++ check_indexes (index + 1) items
 
-abbrev pub items_of : List CheckValues → List ℕ
-items_of checks = map (λ c. c.item) checks
+abbrev pub checked_items : List CheckValues → List ℕ
+checked_items checks = map (λ c. c.item) checks
 
 -- the check accepts the candidate, and the check refuses it for this reason
 abbrev pub Accepts : CheckValues → ℕ → Type 0
-Accepts c k = IsRefusal c.check.now c.values k None
+Accepts c k = IsWitness c.check.now c.values k None
 
 -- the checks before an index accept the candidate
 abbrev pub AcceptBelow : List CheckValues → ℕ → ℕ → Type 0
@@ -67,4 +67,4 @@ pub record IsFirstRefusal (checks : List CheckValues) (k : ℕ) (first : FirstRe
   pub within : first.index < length checks
   pub before : AcceptBelow checks k first.index
   pub refuses : (d : CheckValues) → let c =
-      slice_index_or checks first.index d in IsRefusal c.check.now c.values k (Some first.witness)
+      slice_index_or checks first.index d in IsWitness c.check.now c.values k (Some first.witness)

@@ -15,7 +15,7 @@ use Rattle.why_forbidden.specs.declared.checks.FirstRefusal.{FirstRefusal}
 use Rattle.why_forbidden.specs.declared.drawing.Scene.{Scene}
 use Rattle.why_forbidden.specs.declared.drawing.Wanted.{Wanted}
 use Rattle.why_forbidden.specs.declared.lines.DrawnRelation.{DrawnRelation}
-use Rattle.why_forbidden.specs.Drawings.{AreAllLines, AreLines, IsAt, IsFound, IsGraph, Subject, relations}
+use Rattle.why_forbidden.specs.Drawings.{AreAllLines, AreLines, IsCandidateAt, IsAskedOrNot, IsGraph, Subject, relations}
 use Rattle.why_forbidden.specs.Language.{IsOfLanguage}
 use Rattle.why_forbidden.specs.Views.{judgement_of}
 
@@ -40,32 +40,33 @@ pub record AreReady (s : Subject) (values : List DrawnRelation) : Type 0 where
 
 -- the graph of the candidate of that number
 abbrev pub IsGraphAt : Subject → ℕ → Option FirstRefusal → Drawing → Type 0
-IsGraphAt s k found d = (one : Candidate) → IsAt s.space k one → IsGraph s k one found d
+IsGraphAt s k found d = (one : Candidate) → IsCandidateAt s.space k one → IsGraph s k one found d
 
 -- the candidate of that number has so many events
 abbrev pub HasCount : Space → ℕ → ℕ → Type 0
-HasCount space k n = (one : Candidate) × IsAt space k one × (n ≡ events_of one)
+HasCount space k n = (one : Candidate) × IsCandidateAt space k one × (n ≡ events_of one)
 
 -- the text of one drawing more, where the candidate of number k is asked for
 abbrev pub AddsDrawing : Wanted → Subject → ℕ → List ℕ → List ℕ → Bool → Type 0
 AddsDrawing wanted s k old new true =
     (one : Candidate) × (found : Option FirstRefusal) × (d : Drawing)
-    × IsFound wanted s k one found true × IsGraph s k one found d
+    × IsAskedOrNot wanted s k one found true × IsGraph s k one found d
     × (new ≡ old ++ drawing_text s.space.locations.items (length s.space.locations.items) d)
 AddsDrawing wanted s k old new false =
-    (one : Candidate) × (found : Option FirstRefusal) × IsFound wanted s k one found false
+    (one : Candidate) × (found : Option FirstRefusal) × IsAskedOrNot wanted s k one found false
     × (new ≡ old)
 
 -- the edges of a relation among these events, in the candidate of number k
 abbrev pub AreLinesAt : Space → ℕ → (ℕ → Type 0) → Predefined × Ink → Edges → Type 0
 AreLinesAt space k IsDrawn relation e =
-    (one : Candidate) → IsAt space k one → AreLines one IsDrawn relation e
+    (one : Candidate) → IsCandidateAt space k one → AreLines one IsDrawn relation e
 
 -- the same of all relations
 abbrev pub AreAllLinesAt : Space → ℕ → (ℕ → Type 0) → List Edges → Type 0
 AreAllLinesAt space k IsDrawn es =
-    (one : Candidate) → IsAt space k one → AllZip (AreLines one IsDrawn) relations es
+    (one : Candidate) → IsCandidateAt space k one → AllZip (AreLines one IsDrawn) relations es
 
 -- and of those that the model shows
 abbrev pub AreEdgesAt : Subject → ℕ → (ℕ → Type 0) → List Edges → Type 0
-AreEdgesAt s k IsDrawn es = (one : Candidate) → IsAt s.space k one → AreAllLines s k one IsDrawn es
+AreEdgesAt s k IsDrawn es =
+    (one : Candidate) → IsCandidateAt s.space k one → AreAllLines s k one IsDrawn es

@@ -49,10 +49,10 @@ use Rattle.why_forbidden.specs.declared.checks.CheckValues.{CheckValues}
 use Rattle.why_forbidden.specs.declared.checks.FirstRefusal.{FirstRefusal}
 use Rattle.why_forbidden.specs.declared.drawing.Wanted.{Wanted}
 use Rattle.why_forbidden.specs.declared.drawing.Wanted.TheVariants as wanteds
-use Rattle.why_forbidden.specs.Checked.{AcceptBelow, IsChecked, IsFirstRefusal, check_indexes, items_of}
+use Rattle.why_forbidden.specs.Checked.{AcceptBelow, IsChecked, IsFirstRefusal, check_indexes, checked_items}
 use Rattle.why_forbidden.specs.Labels.{Judgement}
-use Rattle.why_forbidden.specs.Language.{IsOfLanguage, names_in, relation_names}
-use Rattle.why_forbidden.specs.Outcomes.{IsRefusedFor}
+use Rattle.why_forbidden.specs.Language.{IsOfLanguage, valued_names, relation_names}
+use Rattle.why_forbidden.specs.Outcomes.{IsReasonFor}
 use Rattle.why_forbidden.specs.Told.{Scene}
 
 -- a test, its space, and a model over it, with its checks and the relations that it shows
@@ -86,14 +86,14 @@ pub record IsBox (scene : Scene) (box : ToldEvent) : Type 0 where
   pub event : slice_get scene.events box.number ≡ Some box.event
   pub instruction : box.instruction ≡ slice_index_or scene.instructions box.number None
 
-abbrev pub numbers_of : List ToldEvent → List ℕ
-numbers_of boxes = map (λ b. b.number) boxes
+abbrev pub box_numbers : List ToldEvent → List ℕ
+box_numbers boxes = map (λ b. b.number) boxes
 
 -- the boxes are just those of these events, in their order
 pub record AreBoxes (scene : Scene) (P : ℕ → Type 0) (boxes : List ToldEvent) : Type 0 where
-  pub rising : AllPairs (λ m n. m < n) (numbers_of boxes)
+  pub rising : AllPairs (λ m n. m < n) (box_numbers boxes)
   pub each : All (IsBox scene) boxes
-  pub exact : (n : ℕ) → Contains (numbers_of boxes) n ↔ P n
+  pub exact : (n : ℕ) → Contains (box_numbers boxes) n ↔ P n
 
 abbrev pub AreBoxesOf : Scene → (ℕ → Type 0) → Option ℕ → List ToldEvent → Type 0
 AreBoxesOf scene IsDrawn thread boxes = AreBoxes scene (IsBoxed scene.events IsDrawn thread) boxes
@@ -125,19 +125,19 @@ relations =
     ∷ []
 
 -- the candidate of that number
-abbrev pub IsAt : Space → ℕ → Candidate → Type 0
-IsAt space k one = slice_get (candidates_in space.combinations.items) k ≡ Some one
+abbrev pub IsCandidateAt : Space → ℕ → Candidate → Type 0
+IsCandidateAt space k one = slice_get (candidates_in space.combinations.items) k ≡ Some one
 
 -- the pairs of a name of the language in a candidate
-abbrev pub PairsOf : Candidate → Predefined → ℕ → ℕ → Type 0
-PairsOf one name = PairsAt (events_of one) one [] 0 (sources.Predefined name)
+abbrev pub PairsOfName : Candidate → Predefined → ℕ → ℕ → Type 0
+PairsOfName one name = PairsAt (events_of one) one [] 0 (sources.Predefined name)
 
 -- the edges of one of them between the drawn events
 pub record AreLines (one : Candidate) (IsDrawn : ℕ → Type 0) (relation : Predefined × Ink)
     (e : Edges) : Type 0 where
   pub name : e.name.items ≡ spelling relation.0
   pub ink : e.ink ≡ relation.1
-  pub pairs : AreEdges (DrawnAmong IsDrawn (PairsOf one relation.0)) e.pairs.items
+  pub pairs : AreEdges (DrawnAmong IsDrawn (PairsOfName one relation.0)) e.pairs.items
 
 -- the edges of a relation that the model shows, in the candidate of number k
 pub record AreShownLines (k : ℕ) (IsDrawn : ℕ → Type 0) (v : ShownValues) (e : Edges) : Type 0 where
@@ -157,8 +157,8 @@ pub record AreAllLines (s : Subject) (k : ℕ) (one : Candidate) (IsDrawn : ℕ 
 -- ---- the title
 
 -- no check refuses the candidate, or this is the first that does
-abbrev pub IsJudged : List CheckValues → ℕ → Option FirstRefusal → Type 0
-IsJudged checks k found =
+abbrev pub IsFirstRefusalIfAny : List CheckValues → ℕ → Option FirstRefusal → Type 0
+IsFirstRefusalIfAny checks k found =
     MatchOption found (AcceptBelow checks k (length checks)) (IsFirstRefusal checks k)
 
 -- the check that refuses, as it is printed
@@ -186,7 +186,7 @@ abbrev pub AreSteps : Judgement → List CheckValues → Scene → Option FirstR
     → List ToldStep → Type 0
 AreSteps model checks scene None first steps = (first ≡ None) × (steps ≡ [])
 AreSteps model checks scene (Some refusal) first steps =
-    (r : Reason) × IsRefusedFor model checks scene refusal r × (first ≡ r.first)
+    (r : Reason) × IsReasonFor model checks scene refusal r × (first ≡ r.first)
     × (steps ≡ r.steps.items)
 
 -- the candidate of number k: its events, and the instructions that they come from
@@ -223,10 +223,10 @@ pub record IsGraph (s : Subject) (k : ℕ) (one : Candidate) (found : Option Fir
 -- ---- which executions
 
 -- by whether it has what the test asks for, and whether the model keeps it
-abbrev pub is_wanted : Wanted → Bool → Bool → Bool
-is_wanted wanteds.Shown satisfied kept = satisfied && kept
-is_wanted wanteds.Forbidden satisfied kept = satisfied && not kept
-is_wanted wanteds.All satisfied kept = true
+abbrev pub is_execution_wanted : Wanted → Bool → Bool → Bool
+is_execution_wanted wanteds.Shown satisfied kept = satisfied && kept
+is_execution_wanted wanteds.Forbidden satisfied kept = satisfied && not kept
+is_execution_wanted wanteds.All satisfied kept = true
 
 abbrev pub has_asked : Subject → Candidate → Bool
 has_asked s one =
@@ -234,11 +234,11 @@ has_asked s one =
     (shown_of s.space.registers.items one)
 
 -- the candidate of number k, what comes of it, and whether it is asked for
-pub record IsFound (wanted : Wanted) (s : Subject) (k : ℕ) (one : Candidate)
+pub record IsAskedOrNot (wanted : Wanted) (s : Subject) (k : ℕ) (one : Candidate)
     (found : Option FirstRefusal) (answer : Bool) : Type 0 where
-  pub is : IsAt s.space k one
-  pub judged : IsJudged s.checks k found
-  pub asked : is_wanted wanted (has_asked s one) (is_none found) ≡ answer
+  pub is : IsCandidateAt s.space k one
+  pub judged : IsFirstRefusalIfAny s.checks k found
+  pub asked : is_execution_wanted wanted (has_asked s one) (is_none found) ≡ answer
 
 -- of the candidates before a number, the drawings of those that are asked for, until there are so
 -- many
@@ -246,11 +246,11 @@ pub data AreDrawings (wanted : Wanted) (most : ℕ) (s : Subject) : ℕ → List
   NoDrawing : AreDrawings wanted most s 0 []
   OneDrawn : (k : ℕ) (ds : List Drawing) (one : Candidate) (found : Option FirstRefusal)
       (d : Drawing)
-      → AreDrawings wanted most s k ds → length ds < most → IsFound wanted s k one found true
+      → AreDrawings wanted most s k ds → length ds < most → IsAskedOrNot wanted s k one found true
       → IsGraph s k one found d
       → AreDrawings wanted most s (k + 1) (ds ++ d ∷ [])
   OneLeft : (k : ℕ) (ds : List Drawing) (one : Candidate) (found : Option FirstRefusal)
-      → AreDrawings wanted most s k ds → IsFound wanted s k one found false
+      → AreDrawings wanted most s k ds → IsAskedOrNot wanted s k one found false
       → AreDrawings wanted most s (k + 1) ds
   OneTooMany : (k : ℕ) (ds : List Drawing)
       → AreDrawings wanted most s k ds → most ≤ length ds → AreDrawings wanted most s (k + 1) ds
@@ -273,10 +273,10 @@ pub record AreChecks (s : Subject) : Type 0 where
   pub answers : ItemAnswers
   pub valued : HasAllColumns s.space s.model.items answers
   pub each : All (IsChecked s.space answers.columns.items s.model.items) s.checks
-  pub all : items_of s.checks ≡ check_indexes 0 s.model.items
+  pub all : checked_items s.checks ≡ check_indexes 0 s.model.items
   pub bound : s.model.values.bound.now ≡ answers.columns.items
   pub each_name : All (IsOfLanguage s.space) s.model.values.predefined.now
-  pub all_names : names_in s.model.values.predefined.now ≡ relation_names PREDEFINED
+  pub all_names : valued_names s.model.values.predefined.now ≡ relation_names PREDEFINED
 
 -- the drawings of a test over its space, of all candidates, by the checks of a model without fault
 pub record AreDrawn (wanted : Wanted) (most : ℕ) (test : Test) (model : ModelText) (text : List ℕ)

@@ -1,4 +1,4 @@
--- What carries a step: `label` cites `IsLabel`. Read `IsInnermost` of why_labels first.
+-- What carries a step: `label` cites `IsStepLabel`. Read `IsInnermost` of why_labels first.
 use Rattle.std.specs.Prelude.{ℕ, ◌≡◌, List, [], ◌++◌, Bool, true, false, Option, Some, None, slice_get, codes}
 use Rattle.binding_kinds.specs.declared.scope.Input.{Input}
 use Rattle.binding_graph.specs.declared.resolved.Body.{Body}
@@ -36,9 +36,9 @@ spelled items (names.Predefined name) = spelling name
 spelled items (names.Bound input) = spelled_in input.position (slice_get items input.item)
 
 -- the names in what a name stands for; a name of the language stands for nothing of the model
-abbrev pub names_within : List ResolvedItem → ModelName → List ModelName
-names_within items (names.Predefined name) = []
-names_within items (names.Bound input) = names_inside items input
+abbrev pub names_inside_name : List ResolvedItem → ModelName → List ModelName
+names_inside_name items (names.Predefined name) = []
+names_inside_name items (names.Bound input) = names_inside items input
 
 abbrev pub inner_text : List ResolvedItem → Option ModelName → List ℕ
 inner_text items None = []
@@ -49,7 +49,7 @@ inner_text items (Some name) = codes ":" ++ spelled items name
 pub record IsInner (items : List ResolvedItem) (values : NameValues) (pair : EventPair)
     (name : ModelName) (text : List ℕ) : Type 0 where
   pub found : Option ModelName
-  pub innermost : IsInnermost items (Relates values pair) (names_within items name) found
+  pub innermost : IsInnermost items (Relates values pair) (names_inside_name items name) found
   pub told : text ≡ inner_text items found
 
 abbrev pub IsBehind : Bool → List ResolvedItem → NameValues → EventPair → ModelName → List ℕ
@@ -67,16 +67,16 @@ abbrev pub IsLabelOf : Judgement → EventPair → Option ModelName → List ℕ
 IsLabelOf j pair None text = text ≡ []
 IsLabelOf j pair (Some name) text = IsNamed j pair name text
 
-abbrev pub inputs_of : Option ResolvedItem → List Input
-inputs_of None = []
-inputs_of (Some r) = r.inputs.items
+abbrev pub item_inputs_of : Option ResolvedItem → List Input
+item_inputs_of None = []
+item_inputs_of (Some r) = r.inputs.items
 
 -- the innermost name of an expression of the item at an index that relates the two events; nothing
 -- where none does
-pub record IsLabel (j : Judgement) (item : ℕ) (code : Code) (pair : EventPair) (text : List ℕ)
+pub record IsStepLabel (j : Judgement) (item : ℕ) (code : Code) (pair : EventPair) (text : List ℕ)
     : Type 0 where
   pub operands : List ModelName
-  pub united : AreOperands item (inputs_of (slice_get j.items item)) code operands
+  pub united : AreOperands item (item_inputs_of (slice_get j.items item)) code operands
   pub found : Option ModelName
   pub innermost : IsInnermost j.items (Relates j.values pair) operands found
   pub told : IsLabelOf j pair found text

@@ -24,5 +24,5 @@ is_relation_name name = not (is_set name)
 abbrev pub relation_names : List Predefined → List Predefined
 relation_names names = filter is_relation_name names
 
-abbrev pub names_in : List PredefinedValue → List Predefined
-names_in values = map (λ v. v.name) values
+abbrev pub valued_names : List PredefinedValue → List Predefined
+valued_names values = map (λ v. v.name) values

@@ -9,12 +9,12 @@ use Rattle.cat_eval.specs.declared.column.Column.{Column}
 use Rattle.cat_eval.specs.Executions.{events_of}
 use Rattle.why_witness.specs.declared.witness.Witness.{Witness}
 use Rattle.why_witness.specs.declared.witness.Witness.TheVariants as shown
-use Rattle.why_witness.specs.Refusals.{IsRefusal}
+use Rattle.why_witness.specs.Refusals.{IsWitness}
 use Rattle.why_witness.specs.Witnesses.{IsExpression, IsSame}
 use Rattle.why_forbidden.specs.declared.checks.CheckValues.{CheckValues}
 use Rattle.why_forbidden.specs.declared.checks.FirstRefusal.{FirstRefusal}
 use Rattle.why_forbidden.specs.Checked.{IsChecked, IsFirstRefusal}
-use Rattle.why_forbidden.specs.Steps.{AreStarts, HasSteps, IsWalkBack, LeadsBack, StepStart, start_at}
+use Rattle.why_forbidden.specs.Steps.{AreStarts, HasSteps, IsWalkBack, AreStartsBack, StepStart, start_at}
 
 abbrev pub IsOfExpression : CheckValues → Type 0
 IsOfExpression c = IsExpression c.check.now.code.kind c.check.now.code.steps.items
@@ -45,8 +45,8 @@ HasWalkBack space check =
     (columns : List (Vec Column Global)) (items : List ResolvedItem) (k : ℕ) (one : Candidate)
     → AreOver space columns items (check ∷ []) k one
     → (event : ℕ) (starts : List StepStart)
-    → IsRefusal check.check.now check.values k (Some (shown.Reflexive event))
-    → LeadsBack check k (events_of one) event starts
+    → IsWitness check.check.now check.values k (Some (shown.Reflexive event))
+    → AreStartsBack check k (events_of one) event starts
     → HasSteps check k (events_of one) event starts
     ⊎ ((starts ≡ start_at check.check.now.code event ∷ [])
     × IsWalkBack check k (events_of one) event [])
@@ -56,7 +56,7 @@ abbrev pub HasSameStarts : Space → CheckValues → Type 0
 HasSameStarts space check =
     (columns : List (Vec Column Global)) (items : List ResolvedItem) (k : ℕ) (one : Candidate)
     → AreOver space columns items (check ∷ []) k one
-    → (v w : Witness) → IsRefusal check.check.now check.values k (Some v)
-    → IsRefusal check.check.now check.values k (Some w)
+    → (v w : Witness) → IsWitness check.check.now check.values k (Some v)
+    → IsWitness check.check.now check.values k (Some w)
     → (starts others : List StepStart) → AreStarts check k (events_of one) v starts
     → AreStarts check k (events_of one) w others → starts ≡ others

@@ -22,8 +22,8 @@ pub record Case : Type 0 where
   pub model : Judgement
   pub checks : List CheckValues
 
-abbrev pub satisfies : Case → Shown → Bool
-satisfies c shown =
+abbrev pub satisfies_proposition : Case → Shown → Bool
+satisfies_proposition c shown =
     is_satisfied c.space.locations.items (formula_of c.test.condition.proposition) shown
 
 -- the candidate of number k, which does or does not satisfy the proposition
@@ -32,7 +32,7 @@ pub record IsCandidate (c : Case) (k : ℕ) (satisfied : Bool) (scene : Scene) :
   pub shown : Shown
   pub stands : slice_get (shown_in c.space) k ≡ Some shown
   pub events : scene.events ≡ shown.events
-  pub holds : satisfies c shown ≡ satisfied
+  pub holds : satisfies_proposition c shown ≡ satisfied
 
 -- it does not satisfy the proposition
 pub record IsOther (c : Case) (k : ℕ) : Type 0 where
@@ -43,7 +43,7 @@ pub record IsOther (c : Case) (k : ℕ) : Type 0 where
 abbrev pub program_events : Case → Scene → List ToldEvent
 program_events c scene = events_from (length c.space.locations.items) scene
 
-pub record IsKept (c : Case) (k : ℕ) (events : List ToldEvent) : Type 0 where
+pub record IsKeptCandidate (c : Case) (k : ℕ) (events : List ToldEvent) : Type 0 where
   pub scene : Scene
   pub candidate : IsCandidate c k true scene
   pub instructions : AreInstructions c.test scene.events scene.instructions
@@ -51,7 +51,7 @@ pub record IsKept (c : Case) (k : ℕ) (events : List ToldEvent) : Type 0 where
   pub told : events ≡ program_events c scene
 
 -- this check refuses the candidate for this reason
-pub record IsRefusedFor (model : Judgement) (checks : List CheckValues) (scene : Scene)
+pub record IsReasonFor (model : Judgement) (checks : List CheckValues) (scene : Scene)
     (first : FirstRefusal) (reason : Reason)
     : Type 0 where
   pub check : CheckValues
@@ -59,13 +59,13 @@ pub record IsRefusedFor (model : Judgement) (checks : List CheckValues) (scene :
   pub told : IsReason model scene check first.witness reason
 
 -- a check refuses it, and the first that does for this reason
-pub record IsForbidden (c : Case) (k : ℕ) (reason : Reason) : Type 0 where
+pub record IsForbiddenCandidate (c : Case) (k : ℕ) (reason : Reason) : Type 0 where
   pub scene : Scene
   pub candidate : IsCandidate c k true scene
   pub instructions : AreInstructions c.test scene.events scene.instructions
   pub first : FirstRefusal
   pub refuses : IsFirstRefusal c.checks k first
-  pub told : IsRefusedFor c.model c.checks scene first reason
+  pub told : IsReasonFor c.model c.checks scene first reason
 
 -- the events of the first that is kept
 abbrev pub first_shown : ℕ → List ToldEvent → List ToldEvent → List ToldEvent
@@ -78,8 +78,8 @@ pub data AreFindings (c : Case) : ℕ → ℕ → List ToldEvent → List Reason
   OtherNext : (k kept : ℕ) (shown : List ToldEvent) (reasons : List Reason)
       → AreFindings c k kept shown reasons → IsOther c k → AreFindings c (k + 1) kept shown reasons
   KeptNext : (k kept : ℕ) (shown events : List ToldEvent) (reasons : List Reason)
-      → AreFindings c k kept shown reasons → IsKept c k events
+      → AreFindings c k kept shown reasons → IsKeptCandidate c k events
       → AreFindings c (k + 1) (kept + 1) (first_shown kept shown events) reasons
   ForbiddenNext : (k kept : ℕ) (shown : List ToldEvent) (reasons : List Reason) (reason : Reason)
-      → AreFindings c k kept shown reasons → IsForbidden c k reason
+      → AreFindings c k kept shown reasons → IsForbiddenCandidate c k reason
       → AreFindings c (k + 1) kept shown (reasons ++ reason ∷ [])

@@ -12,7 +12,7 @@ use Rattle.why_walks.specs.Walks.{IsFirstWalk, IsNoWalk, IsWalk}
 use Rattle.why_text.specs.declared.reason.ToldStep.{ToldStep}
 use Rattle.why_labels.specs.declared.label.EventPair.{EventPair}
 use Rattle.why_forbidden.specs.declared.checks.CheckValues.{CheckValues}
-use Rattle.why_forbidden.specs.Labels.{Judgement, IsLabel}
+use Rattle.why_forbidden.specs.Labels.{Judgement, IsStepLabel}
 
 -- the event where a step begins, and the expression of whose relation it is a step
 pub record StepStart : Type 0 where
@@ -66,8 +66,8 @@ HasNoSteps check k n event = IsWalkBack check k n event [] ⊎ HasNoWalkBack che
 
 -- from the event back to it, among n events: a walk of one step or more, or one step of the whole
 -- expression where the walk has no step, or there is none
-abbrev pub LeadsBack : CheckValues → ℕ → ℕ → ℕ → List StepStart → Type 0
-LeadsBack check k n event starts =
+abbrev pub AreStartsBack : CheckValues → ℕ → ℕ → ℕ → List StepStart → Type 0
+AreStartsBack check k n event starts =
     HasSteps check k n event starts
     ⊎ ((starts ≡ start_at check.check.now.code event ∷ []) × HasNoSteps check k n event)
 
@@ -75,7 +75,7 @@ LeadsBack check k n event starts =
 abbrev pub AreStarts : CheckValues → ℕ → ℕ → Witness → List StepStart → Type 0
 AreStarts check k n (shown.Cycle events) starts =
     starts ≡ starts_at check.check.now.code events.items
-AreStarts check k n (shown.Reflexive event) starts = LeadsBack check k n event starts
+AreStarts check k n (shown.Reflexive event) starts = AreStartsBack check k n event starts
 AreStarts check k n (shown.Pair from to) starts = starts ≡ start_at check.check.now.code from ∷ []
 AreStarts check k n (shown.Member event) starts = starts ≡ []
 AreStarts check k n shown.Met starts = starts ≡ []
@@ -109,16 +109,17 @@ abbrev pub pair_of : ℕ → StepLeg → EventPair
 pair_of k leg = record { candidate = k; from = leg.from; to = leg.to }
 
 -- the step is told by what carries it, and by where it leads
-pub record IsStep (j : Judgement) (item k : ℕ) (leg : StepLeg) (step : ToldStep) : Type 0 where
-  pub label : IsLabel j item leg.code (pair_of k leg) step.label.items
+pub record IsToldStep (j : Judgement) (item k : ℕ) (leg : StepLeg) (step : ToldStep) : Type 0 where
+  pub label : IsStepLabel j item leg.code (pair_of k leg) step.label.items
   pub to : step.to ≡ leg.to
 
 abbrev pub AreStepsTo : Judgement → ℕ → ℕ → List StepStart → ℕ → List ToldStep → Type 0
-AreStepsTo j item k starts end steps = AllZip (IsStep j item k) (legs_to starts end) steps
+AreStepsTo j item k starts end steps = AllZip (IsToldStep j item k) (legs_to starts end) steps
 
-abbrev pub AreSteps : Judgement → ℕ → ℕ → Option (ℕ × ℕ) → List StepStart → List ToldStep → Type 0
-AreSteps j item k None starts steps = steps ≡ []
-AreSteps j item k (Some ends) starts steps = AreStepsTo j item k starts ends.1 steps
+abbrev pub AreToldSteps : Judgement → ℕ → ℕ → Option (ℕ × ℕ) → List StepStart → List ToldStep
+    → Type 0
+AreToldSteps j item k None starts steps = steps ≡ []
+AreToldSteps j item k (Some ends) starts steps = AreStepsTo j item k starts ends.1 steps
 
 -- an event more, if it is not among them
 abbrev pub with_event : List ℕ → ℕ → List ℕ

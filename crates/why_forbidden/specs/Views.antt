@@ -12,7 +12,7 @@ use Rattle.why_forbidden.specs.declared.telling.Leg.{Leg}
 use Rattle.why_forbidden.specs.declared.telling.Start.{Start}
 use Rattle.why_forbidden.specs.declared.telling.Told.{Told}
 use Rattle.why_forbidden.specs.Labels.{Judgement}
-use Rattle.why_forbidden.specs.Outcomes.{Case, IsCandidate, IsOther, IsKept, IsForbidden, AreFindings, first_shown}
+use Rattle.why_forbidden.specs.Outcomes.{Case, IsCandidate, IsOther, IsKeptCandidate, IsForbiddenCandidate, AreFindings, first_shown}
 use Rattle.why_forbidden.specs.Steps.{StepStart, StepLeg}
 use Rattle.why_forbidden.specs.Told.{Scene}
 use Rattle.why_origins.specs.Origins.{AreInstructions}
@@ -55,8 +55,8 @@ case_of test space judged deep =
 -- what comes of the candidate of number k
 abbrev pub IsOutcome : Case → ℕ → Outcome → Type 0
 IsOutcome c k outcomes.Other = IsOther c k
-IsOutcome c k (outcomes.Kept events) = IsKept c k events.items
-IsOutcome c k (outcomes.Forbidden reason) = IsForbidden c k reason
+IsOutcome c k (outcomes.Kept events) = IsKeptCandidate c k events.items
+IsOutcome c k (outcomes.Forbidden reason) = IsForbiddenCandidate c k reason
 
 -- what comes of it where it satisfies the proposition
 abbrev pub IsOutcomeIf : Case → Scene → Outcome → Type 0
@@ -85,10 +85,10 @@ abbrev pub AreWithReason : Reason → Findings → Findings → Type 0
 AreWithReason reason old new =
     AreWith old.kept old.shown.items (old.reasons.items ++ reason ∷ []) new
 
-abbrev pub IsAdded : Outcome → Findings → Findings → Type 0
-IsAdded outcomes.Other old new = AreWith old.kept old.shown.items old.reasons.items new
-IsAdded (outcomes.Kept events) old new = AreWithKept events.items old new
-IsAdded (outcomes.Forbidden reason) old new = AreWithReason reason old new
+abbrev pub IsOutcomeAdded : Outcome → Findings → Findings → Type 0
+IsOutcomeAdded outcomes.Other old new = AreWith old.kept old.shown.items old.reasons.items new
+IsOutcomeAdded (outcomes.Kept events) old new = AreWithKept events.items old new
+IsOutcomeAdded (outcomes.Forbidden reason) old new = AreWithReason reason old new
 
 -- what is found of the first k candidates
 abbrev pub AreFoundOf : Case → ℕ → Findings → Type 0

@@ -22,9 +22,9 @@ use Rattle.why_text.specs.Findings.{findings_text}
 use Rattle.why_labels.specs.declared.label.NameValues.{NameValues}
 use Rattle.why_forbidden.specs.declared.answer.Asked.{Asked}
 use Rattle.why_forbidden.specs.declared.checks.CheckValues.{CheckValues}
-use Rattle.why_forbidden.specs.Checked.{IsChecked, check_indexes, items_of}
+use Rattle.why_forbidden.specs.Checked.{IsChecked, check_indexes, checked_items}
 use Rattle.why_forbidden.specs.Labels.{Judgement}
-use Rattle.why_forbidden.specs.Language.{IsOfLanguage, names_in, relation_names}
+use Rattle.why_forbidden.specs.Language.{IsOfLanguage, valued_names, relation_names}
 use Rattle.why_forbidden.specs.Outcomes.{Case, AreFindings}
 
 abbrev pub head_text : Test → List ℕ
@@ -47,18 +47,18 @@ HasFound asked test model items space checks values f =
 -- What is found of the candidates of the space: the columns of all names that checks use, the
 -- checks that are no flags, with their values, and the names of the language, with theirs; and the
 -- findings over all candidates.
-pub record IsExplained (asked : Asked) (test : Test) (model : ModelText) (items : List ResolvedItem)
+pub record IsFoundText (asked : Asked) (test : Test) (model : ModelText) (items : List ResolvedItem)
     (space : Space) (text : List ℕ)
     : Type 0 where
   pub found : ItemAnswers
   pub columns : HasAllColumns space items found
   pub checks : List CheckValues
   pub each_check : All (IsChecked space found.columns.items items) checks
-  pub all_checks : items_of checks ≡ check_indexes 0 items
+  pub all_checks : checked_items checks ≡ check_indexes 0 items
   pub values : NameValues
   pub bound : values.bound.now ≡ found.columns.items
   pub each_name : All (IsOfLanguage space) values.predefined.now
-  pub all_names : names_in values.predefined.now ≡ relation_names PREDEFINED
+  pub all_names : valued_names values.predefined.now ≡ relation_names PREDEFINED
   pub findings : Findings
   pub gathered : HasFound asked test model items space checks values findings
   pub told : text ≡ findings_text asked.is_forbidden space.locations.items findings
@@ -66,7 +66,7 @@ pub record IsExplained (asked : Asked) (test : Test) (model : ModelText) (items 
 -- the candidates of the test, or why it has none
 abbrev pub IsOverSpace : Asked → Test → ModelText → List ResolvedItem → List ℕ → Type 0
 IsOverSpace asked test model items text =
-    (space : Space) × ListsExecutions test space × IsExplained asked test model items space text
+    (space : Space) × ListsExecutions test space × IsFoundText asked test model items space text
 
 abbrev pub IsSpaceRefused : Test → List ℕ → Type 0
 IsSpaceRefused test text =
@@ -94,11 +94,11 @@ abbrev pub IsSaid : Asked → Test → ModelText → List ℕ → Type 0
 IsSaid asked test model text = IsOverItems asked test model text ⊎ IsFaulted model text
 
 -- a text goes on with one of these
-pub record GoesOn (old new : List ℕ) (Said : List ℕ → Type 0) : Type 0 where
+pub record AddsTo (old new : List ℕ) (Said : List ℕ → Type 0) : Type 0 where
   pub more : List ℕ
   pub said : Said more
   pub text : new ≡ old ++ more
 
 -- what is said of a test and a model: the test, its condition, and what is found, or the refusal
 abbrev pub IsWhy : Asked → Test → ModelText → List ℕ → Type 0
-IsWhy asked test model text = GoesOn (head_text test) text (IsSaid asked test model)
+IsWhy asked test model text = AddsTo (head_text test) text (IsSaid asked test model)

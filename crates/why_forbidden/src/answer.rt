@@ -3,12 +3,12 @@
 ghost use Rattle.std.specs.Prelude.{◌≡◌, ◌++◌, ◌-◌, ◌^◌, ◌<◌, ◌≤◌, IfOk, OnOk};
 ghost use Rattle.candidates.specs.Space.{candidate_count, IsShownAt};
 ghost use Rattle.why_origins.specs.Origins.{AreAllRuns};
-ghost use Rattle.from_scratch.specs.Answers.{AreSound};
+ghost use Rattle.from_scratch.specs.Answers.{AreSoundItems};
 ghost use Rattle.why_forbidden.specs.Checked.{IsFirstRefusal};
-ghost use Rattle.why_forbidden.specs.Outcomes.{IsRefusedFor};
+ghost use Rattle.why_forbidden.specs.Outcomes.{IsReasonFor};
 ghost use Rattle.why_forbidden.specs.Told.{events_from, numbers_from};
-ghost use Rattle.why_forbidden.specs.Views.{AreFoundOf, AreWithKept, AreWithReason, IsAdded, IsOutcome, IsOutcomeIf, case_of, judgement_of, scene_of};
-ghost use Rattle.why_forbidden.specs.Whys.{GoesOn, IsExplained, IsSaid, IsSaidOver, IsWhy, head_text, refusal_text};
+ghost use Rattle.why_forbidden.specs.Views.{AreFoundOf, AreWithKept, AreWithReason, IsOutcomeAdded, IsOutcome, IsOutcomeIf, case_of, judgement_of, scene_of};
+ghost use Rattle.why_forbidden.specs.Whys.{AddsTo, IsFoundText, IsSaid, IsSaidOver, IsWhy, head_text, refusal_text};
 
 use crate::checks::{FirstRefusal, first_refusal};
 use crate::evaluated::Evaluated;
@@ -74,7 +74,7 @@ pub fn forbidden(
     refusal: &FirstRefusal,
 ) -> Result<Reason, AllocError>
     requires { IsFirstRefusal judged.checks.now told.candidate refusal.now }
-    ensures { IfOk result (IsRefusedFor (judgement_of judged.entry is_deep) judged.entry.checks.now
+    ensures { IfOk result (IsReasonFor (judgement_of judged.entry is_deep) judged.entry.checks.now
         (scene_of told.entry) refusal.now) }
 {
     let check = &judged.checks[refusal.index];
@@ -169,7 +169,7 @@ fn add_forbidden(findings: &mut Findings, reason: Reason) -> Result<(), AllocErr
 // The findings with one outcome more.
 fn add_outcome(findings: &mut Findings, outcome: Outcome) -> Result<(), AllocError>
     requires { findings.old.kept < 2 ^ 64 - 1 }
-    ensures { OnOk result (IsAdded outcome findings.old findings.new) }
+    ensures { OnOk result (IsOutcomeAdded outcome findings.old findings.new) }
 {
     match outcome {
         Outcome::Other => Ok(()),
@@ -215,9 +215,9 @@ fn put_explained(
     resolved: &Resolved,
     space: &Space,
 ) -> Result<(), AllocError>
-    requires sound { AreSound resolved.now.items.items }
+    requires sound { AreSoundItems resolved.now.items.items }
     requires few { candidate_count space.now ≤ 16384 }
-    ensures { OnOk result (GoesOn text.old.items text.new.items (IsExplained asked test.now
+    ensures { OnOk result (AddsTo text.old.items text.new.items (IsFoundText asked test.now
         model.now resolved.now.items.items space.now)) }
 {
     let evaluated = Evaluated::of(alloc, space, resolved)?;
@@ -256,8 +256,8 @@ fn put_over_candidates(
     model: &ModelText,
     resolved: &Resolved,
 ) -> Result<(), AllocError>
-    requires { AreSound resolved.now.items.items }
-    ensures { OnOk result (GoesOn text.old.items text.new.items (IsSaidOver asked test.now model.now
+    requires { AreSoundItems resolved.now.items.items }
+    ensures { OnOk result (AddsTo text.old.items text.new.items (IsSaidOver asked test.now model.now
         resolved.now.items.items)) }
 {
     match space(alloc, test) {
@@ -275,7 +275,7 @@ fn put_body(
     test: &Test,
     model: &ModelText,
 ) -> Result<(), AllocError>
-    ensures { OnOk result (GoesOn text.old.items text.new.items (IsSaid asked test.now model.now)) }
+    ensures { OnOk result (AddsTo text.old.items text.new.items (IsSaid asked test.now model.now)) }
 {
     match resolve(alloc, model) {
         Ok(resolved) => put_over_candidates(alloc, text, asked, test, model, &resolved),

@@ -2,9 +2,9 @@
 
 ghost use Rattle.std.specs.Prelude.{◌≡◌, IfOk, IfSome, MatchOption, None, Some, length, option_to_list, slice_get};
 ghost use Rattle.std.specs.List.{All};
-ghost use Rattle.why_witness.specs.Refusals.{IsRefusal};
+ghost use Rattle.why_witness.specs.Refusals.{IsWitness};
 ghost use Rattle.why_walks.specs.Values.{AreFactorValues};
-ghost use Rattle.why_forbidden.specs.Checked.{AcceptBelow, IsChecked, IsFirstRefusal, check_indexes, index_if, is_check, items_of};
+ghost use Rattle.why_forbidden.specs.Checked.{AcceptBelow, IsChecked, IsFirstRefusal, check_indexes, index_if, is_unnamed_check, checked_items};
 
 use binding_graph::{CheckCode, ResolvedItem, Role};
 use candidates::Space;
@@ -101,8 +101,8 @@ fn check_of<'a>(
     ensures checked { IfOk result (λ found. IfSome found (λ c. (items : _)
         → slice_get items index ≡ Some item.now
         → IsChecked space.now columns.now items c)) }
-    ensures all { IfOk result (λ found. items_of (option_to_list found)
-        ≡ index_if (is_check item.now.role) index) }
+    ensures all { IfOk result (λ found. checked_items (option_to_list found)
+        ≡ index_if (is_unnamed_check item.now.role) index) }
 {
     match &item.role {
         Role::Check(check) => match &check.flag {
@@ -122,7 +122,7 @@ pub fn all_checks<'a>(
     items: &'a [ResolvedItem],
 ) -> Result<Vec<CheckValues<'a>>, AllocError>
     ensures each { IfOk result (λ v. All (IsChecked space.now columns.now items.now) v.items) }
-    ensures all { IfOk result (λ v. items_of v.items ≡ check_indexes 0 items.now) }
+    ensures all { IfOk result (λ v. checked_items v.items ≡ check_indexes 0 items.now) }
 {
     let mut checks = Vec::new(alloc);
     for index in 0..items.len() {
@@ -139,7 +139,7 @@ fn refusal_by(
     check: &CheckValues<'_>,
     candidate: usize,
 ) -> Result<Option<Witness>, AllocError>
-    ensures { IfOk result (IsRefusal check.now.check.now check.now.values candidate) }
+    ensures { IfOk result (IsWitness check.now.check.now check.now.values candidate) }
 {
     if candidate >= check.values.len() {
         return Ok(None);

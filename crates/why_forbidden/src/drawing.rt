@@ -9,7 +9,7 @@ ghost use Rattle.from_scratch.specs.FromScratch.{AreItemsOf, IsFaultless};
 ghost use Rattle.why_forbidden.specs.Drawable.{AddsDrawing, AreEdgesAt, AreReady, HasCount, IsGraphAt, subject_of};
 ghost use Rattle.bit_relations.specs.Relation.{IsMember};
 ghost use Rattle.why_forbidden.specs.Drawings.{AreDrawingsOf, AreDrawn, AreSteps, IsCheckText, IsDrawn, IsFate, step_ends};
-ghost use Rattle.why_forbidden.specs.Drawings.{IsJudged, refused_comment, title_text};
+ghost use Rattle.why_forbidden.specs.Drawings.{IsFirstRefusalIfAny, refused_comment, title_text};
 ghost use Rattle.why_forbidden.specs.Drawings as drawings;
 ghost use Rattle.why_forbidden.specs.Views.{judgement_of, scene_of};
 
@@ -46,7 +46,7 @@ pub enum Wanted {
 // Whether an execution is asked for that has what the test asks for, or not, and that the model
 // keeps, or not.
 fn is_wanted(wanted: Wanted, satisfied: bool, kept: bool) -> bool
-    ensures { result ≡ drawings.is_wanted wanted satisfied kept }
+    ensures { result ≡ drawings.is_execution_wanted wanted satisfied kept }
 {
     match wanted {
         Wanted::Shown => satisfied && kept,
@@ -105,7 +105,7 @@ fn fate_of(
     candidate: usize,
     found: &Option<FirstRefusal>,
 ) -> Result<Vec<u8>, AllocError>
-    requires judged { IsJudged judged.checks.now candidate found.now }
+    requires judged { IsFirstRefusalIfAny judged.checks.now candidate found.now }
     requires named { All (λ c. c.item < length judged.text.now) judged.checks.now }
     ensures { IfOk result (λ v.
         IsFate judged.entry.checks.now judged.entry.text.now found.now v.items) }
@@ -128,7 +128,7 @@ fn steps_of(
     told: Told<'_>,
     found: &Option<FirstRefusal>,
 ) -> Result<(Option<usize>, Vec<ToldStep>), AllocError>
-    requires { IsJudged judged.checks.now told.candidate found.now }
+    requires { IsFirstRefusalIfAny judged.checks.now told.candidate found.now }
     ensures { IfOk result (λ r. AreSteps (judgement_of judged.entry false) judged.entry.checks.now
         (scene_of told.entry) found.now r.0 r.1.items) }
 {
@@ -189,7 +189,7 @@ fn drawing_of(
     requires ready { AreReady (subject_of scene) scene.relations.now }
     requires runs { AreAllRuns scene.test.now scene.runs.now }
     requires shown { IsShownAt scene.space.now candidate execution.now }
-    requires judged { IsJudged scene.judged.checks.now candidate found.now }
+    requires judged { IsFirstRefusalIfAny scene.judged.checks.now candidate found.now }
     ensures { IfOk result (IsGraphAt (subject_of scene.entry) candidate found.now) }
 {
     let instructions = instructions_of(alloc, scene.runs, execution)?;

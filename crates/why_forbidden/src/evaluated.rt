@@ -1,7 +1,7 @@
 //! A model evaluated over the candidates of a test.
 
 ghost use Rattle.std.specs.Prelude.{◌≡◌, IfOk};
-ghost use Rattle.why_forbidden.specs.Evaluated.{IsEvaluated};
+ghost use Rattle.why_forbidden.specs.Evaluated.{AreModelValues};
 
 use crate::checks::{CheckValues, all_checks};
 use crate::labels::predefined_values;
@@ -40,7 +40,7 @@ impl<'a> Evaluated<'a> {
         space: &Space,
         resolved: &'a Resolved,
     ) -> Result<Evaluated<'a>, AllocError>
-        ensures { IfOk result (IsEvaluated space.now resolved.now.items.items) }
+        ensures { IfOk result (AreModelValues space.now resolved.now.items.items) }
     {
         let found = answers(alloc, space, resolved)?;
         let checks = all_checks(alloc, space, &found.columns, &resolved.items)?;

@@ -3,8 +3,8 @@
 ghost use Rattle.std.specs.Prelude.{◌≡◌, ◌++◌, IfOk, codes, slice_get};
 ghost use Rattle.std.specs.List.{All};
 ghost use Rattle.text_values.specs.declared.predefined.TheConstants.{PREDEFINED};
-ghost use Rattle.why_forbidden.specs.Labels.{IsBehind, IsInner, IsLabel, IsNamed, inputs_of, names_within, spelled};
-ghost use Rattle.why_forbidden.specs.Language.{IsOfLanguage, names_in, relation_names};
+ghost use Rattle.why_forbidden.specs.Labels.{IsBehind, IsInner, IsStepLabel, IsNamed, item_inputs_of, names_inside_name, spelled};
+ghost use Rattle.why_forbidden.specs.Language.{IsOfLanguage, valued_names, relation_names};
 ghost use Rattle.why_forbidden.specs.Views.{IsInnermostOf, judgement_of};
 ghost use Rattle.why_labels.specs.Inside.{names_inside};
 
@@ -44,7 +44,7 @@ fn relation_values(
     names: &[Predefined],
 ) -> Result<Vec<PredefinedValue>, AllocError>
     ensures each { IfOk result (λ v. All (IsOfLanguage space.now) v.items) }
-    ensures all { IfOk result (λ v. names_in v.items ≡ relation_names names.now) }
+    ensures all { IfOk result (λ v. valued_names v.items ≡ relation_names names.now) }
 {
     let mut values = Vec::new(alloc);
     for index in 0..names.len() {
@@ -60,7 +60,7 @@ fn relation_values(
 /// Errors: want of memory.
 pub fn predefined_values(alloc: Global, space: &Space) -> Result<Vec<PredefinedValue>, AllocError>
     ensures each { IfOk result (λ v. All (IsOfLanguage space.now) v.items) }
-    ensures all { IfOk result (λ v. names_in v.items ≡ relation_names PREDEFINED) }
+    ensures all { IfOk result (λ v. valued_names v.items ≡ relation_names PREDEFINED) }
 {
     relation_values(alloc, space, &PREDEFINED)
 }
@@ -83,7 +83,7 @@ fn spelled(items: &[ResolvedItem], name: ModelName) -> &[u8]
 }
 
 fn inputs_at(items: &[ResolvedItem], index: usize) -> &[Input]
-    ensures { result.now ≡ inputs_of (slice_get items.now index) }
+    ensures { result.now ≡ item_inputs_of (slice_get items.now index) }
 {
     match items.get(index) {
         Some(item) => &item.inputs,
@@ -120,7 +120,7 @@ fn innermost_within(
     pair: EventPair,
 ) -> Result<Option<ModelName>, AllocError>
     ensures { IfOk result (IsInnermostOf judged.entry pair
-        (names_within judged.entry.items.now name)) }
+        (names_inside_name judged.entry.items.now name)) }
 {
     match name {
         ModelName::Predefined(_) => Ok(None),
@@ -198,7 +198,7 @@ pub fn label(
     pair: EventPair,
 ) -> Result<Vec<u8>, AllocError>
     ensures { IfOk result (λ v.
-        IsLabel (judgement_of judged.entry is_deep) item code.now pair v.items) }
+        IsStepLabel (judgement_of judged.entry is_deep) item code.now pair v.items) }
 {
     let names = operands(alloc, item, inputs_at(judged.items, item), code)?;
     match innermost(alloc, judged.items, &judged.values, &names, item, pair)? {

@@ -5,12 +5,12 @@ ghost use Rattle.std.specs.List.{All, AllZip};
 ghost use Rattle.binding_kinds.specs.declared.kinds.Kind.TheVariants as kinds;
 ghost use Rattle.bit_relations.specs.Relation.{Events, Has, IsMember, IsRelation, Relation};
 ghost use Rattle.candidates.specs.Space.{Candidate};
-ghost use Rattle.cat_eval.specs.Columns.{HasValue};
+ghost use Rattle.cat_eval.specs.Columns.{HasColumnValue};
 ghost use Rattle.cat_eval.specs.Executions.{events_of};
 ghost use Rattle.cat_eval.specs.Values.{IsFor};
 ghost use Rattle.why_witness.specs.Pairs.{HasPair};
 ghost use Rattle.why_forbidden.specs.Drawable.{AreAllLinesAt, AreLinesAt, AreValuesOf, HasCount};
-ghost use Rattle.why_forbidden.specs.Drawings.{AreShownLines, IsAt, PairsOf};
+ghost use Rattle.why_forbidden.specs.Drawings.{AreShownLines, IsCandidateAt, PairsOfName};
 ghost use Rattle.why_forbidden.specs.Drawings as drawings;
 ghost use Rattle.why_forbidden.specs.Language.{IsOfLanguage};
 ghost use Rattle.draw_relations.specs.Values.{IsSized, IsSizedAt};
@@ -88,7 +88,7 @@ pub fn drawn_relations(alloc: Global, space: &Space) -> Result<Vec<DrawnRelation
 // The value in a candidate.
 fn relation_at(values: &Column, candidate: usize) -> Rel
     ensures { (s : Events) (r : Relation) → IsFor kinds.OfRelation values.now
-        → HasValue values.now candidate s r → result ≡ r }
+        → HasColumnValue values.now candidate s r → result ≡ r }
 {
     let mut relation = Rel::empty(0);
     if let Column::Relations(relations) = values {
@@ -102,8 +102,8 @@ fn relation_at(values: &Column, candidate: usize) -> Rel
 // The pairs of the relation in a candidate.
 fn relation_of(space: &Space, value: &PredefinedValue, candidate: usize) -> Rel
     requires { IsOfLanguage space.now value.now }
-    ensures { (one : Candidate) → IsAt space.now candidate one
-        → IsRelation result (events_of one) (PairsOf one value.now.name) }
+    ensures { (one : Candidate) → IsCandidateAt space.now candidate one
+        → IsRelation result (events_of one) (PairsOfName one value.now.name) }
 {
     let _space = space;
     relation_at(&value.column, candidate)

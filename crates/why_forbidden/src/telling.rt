@@ -2,7 +2,7 @@
 
 ghost use Rattle.std.specs.Prelude.{◌≡◌, ◌++◌, [], IfOk, MatchOption, OnOk, length, map, drop, option_map, slice_get, slice_index_or};
 ghost use Rattle.why_walks.specs.Walks.{runs_of};
-ghost use Rattle.why_forbidden.specs.Steps.{AreStarts, AreSteps, AreStepsTo, HasNoSteps, HasSteps, IsStep, LeadsBack, ends_of, legs_to, next_event, numbers_of};
+ghost use Rattle.why_forbidden.specs.Steps.{AreStarts, AreToldSteps, AreStepsTo, HasNoSteps, HasSteps, IsToldStep, AreStartsBack, ends_of, legs_to, next_event, numbers_of};
 ghost use Rattle.why_forbidden.specs.Steps.{starts_at, starts_through, with_event, with_events};
 ghost use Rattle.why_forbidden.specs.Told.{IsReason, told_at, told_events, written};
 ghost use Rattle.why_forbidden.specs.Views.{judgement_of, leg_of, scene_of, start_of};
@@ -128,7 +128,7 @@ fn step(
     candidate: usize,
     leg: Leg<'_>,
 ) -> Result<ToldStep, AllocError>
-    ensures { IfOk result (IsStep (judgement_of judged.entry is_deep) item candidate
+    ensures { IfOk result (IsToldStep (judgement_of judged.entry is_deep) item candidate
         (leg_of leg.entry)) }
 {
     let pair = EventPair {
@@ -251,7 +251,7 @@ fn round<'a>(
     told: Told<'_>,
     event: usize,
 ) -> Result<Vec<Start<'a>>, AllocError>
-    ensures { IfOk result (λ v. LeadsBack check.now told.entry.candidate
+    ensures { IfOk result (λ v. AreStartsBack check.now told.entry.candidate
         (length told.entry.events.now) event (map start_of v.items)) }
 {
     match starts_back(alloc, check, told, event)? {
@@ -356,7 +356,7 @@ fn steps_of(
     ends: Option<(usize, usize)>,
     starts: &[Start<'_>],
 ) -> Result<Vec<ToldStep>, AllocError>
-    ensures { IfOk result (λ v. AreSteps (judgement_of judged.entry is_deep) item candidate ends
+    ensures { IfOk result (λ v. AreToldSteps (judgement_of judged.entry is_deep) item candidate ends
         (map start_of starts.now) v.items) }
 {
     match ends {

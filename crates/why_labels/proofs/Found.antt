@@ -5,11 +5,11 @@ use Rattle.binding_graph.specs.declared.resolved.ResolvedItem.{ResolvedItem}
 use Rattle.text_values.specs.declared.predefined.Predefined.{Predefined}
 use Rattle.why_labels.specs.declared.unions.ModelName.{ModelName}
 use Rattle.why_labels.specs.declared.unions.ModelName.TheVariants as names
-use Rattle.why_labels.specs.Labels.{IsFirst, IsInnermost, NoName, Itself, Inside}
+use Rattle.why_labels.specs.Labels.{IsFirstOf, IsInnermost, NoName, Itself, Inside}
 use Rattle.why_labels.specs.Operands.{AreOperandsOf}
 
 module _ (items : List ResolvedItem) (P : ModelName → Type 0) (operands : List ModelName)
-    (name : ModelName) (first : IsFirst P operands name) where
+    (name : ModelName) (first : IsFirstOf P operands name) where
   pub language_name : (p : Predefined) → name ≡ names.Predefined p
       → IsInnermost items P operands (Some name)
   language_name p is =

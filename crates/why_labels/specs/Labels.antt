@@ -39,7 +39,7 @@ NoneOf P operands =
     (j : ℕ) → j < length operands → (d : ModelName) → P (slice_index_or operands j d) → ⊥
 
 -- the first of the names that has it
-pub record IsFirst (P : ModelName → Type 0) (operands : List ModelName) (name : ModelName)
+pub record IsFirstOf (P : ModelName → Type 0) (operands : List ModelName) (name : ModelName)
     : Type 0 where
   pub index : ℕ
   pub within : index < length operands
@@ -52,9 +52,9 @@ pub record IsFirst (P : ModelName → Type 0) (operands : List ModelName) (name 
 pub data IsInnermost (items : List ResolvedItem) (P : ModelName → Type 0)
     : List ModelName → Option ModelName → Type 0 where
   NoName : (operands : List ModelName) → NoneOf P operands → IsInnermost items P operands None
-  Itself : (operands inside : List ModelName) (name : ModelName) → IsFirst P operands name
+  Itself : (operands inside : List ModelName) (name : ModelName) → IsFirstOf P operands name
       → AreOperandsOf items name inside → IsInnermost items P inside None
       → IsInnermost items P operands (Some name)
-  Inside : (operands inside : List ModelName) (name inner : ModelName) → IsFirst P operands name
+  Inside : (operands inside : List ModelName) (name inner : ModelName) → IsFirstOf P operands name
       → AreOperandsOf items name inside → IsInnermost items P inside (Some inner)
       → IsInnermost items P operands (Some inner)

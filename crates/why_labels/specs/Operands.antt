@@ -12,7 +12,7 @@ use Rattle.binding_graph.specs.declared.resolved.Role.TheVariants as roles
 use Rattle.binding_graph.specs.declared.resolved.Source.{Source}
 use Rattle.binding_graph.specs.declared.resolved.Source.TheVariants as sources
 use Rattle.binding_graph.specs.declared.resolved.Step.{Step}
-use Rattle.binding_graph.specs.Trees.{RelTree, RelName, RelBlend, rel_code}
+use Rattle.binding_graph.specs.Trees.{RelTree, RelName, BlendRelations, rel_code}
 use Rattle.why_labels.specs.declared.unions.ModelName.{ModelName}
 use Rattle.why_labels.specs.declared.unions.ModelName.TheVariants as names
 
@@ -20,7 +20,7 @@ use Rattle.why_labels.specs.declared.unions.ModelName.TheVariants as names
 -- their pairs are its pairs
 abbrev pub union_names : RelTree → List Source
 union_names (RelName source) = source ∷ []
-union_names (RelBlend blends.Union e f) = union_names e ++ union_names f
+union_names (BlendRelations blends.Union e f) = union_names e ++ union_names f
 union_names e = []
 
 -- the expression of these steps is a union of these names, and of what is no name

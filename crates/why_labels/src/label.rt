@@ -1,7 +1,7 @@
 //! The innermost name that relates two events.
 
 ghost use Rattle.std.specs.Prelude.{◌↔◌, IfOk, IfSome, IsTrue, MatchOption, ◌≡◌, option_map};
-ghost use Rattle.why_labels.specs.Labels.{IsFirst, IsInnermost, NoneOf, Relates, RelatesAs, bound_value};
+ghost use Rattle.why_labels.specs.Labels.{IsFirstOf, IsInnermost, NoneOf, Relates, RelatesAs, bound_value};
 ghost use Rattle.why_labels.specs.Operands.{AreEarlier};
 
 use crate::unions::{ModelName, operands_of};
@@ -77,7 +77,7 @@ impl NameValues<'_> {
     // The first of the names that relates the events.
     fn first_related(&self, names: &[ModelName], pair: EventPair) -> Option<ModelName>
         ensures { MatchOption result (NoneOf (Relates self.now pair) names.now)
-            (λ name. IsFirst (Relates self.now pair) names.now name) }
+            (λ name. IsFirstOf (Relates self.now pair) names.now name) }
     {
         for index in 0..names.len() {
             if self.relates(names[index], pair) {

@@ -28,7 +28,7 @@ fn final_register(execution: &Execution, thread: usize, register: u8) -> RunValu
 
 // What the event stores at the location, if it stores there.
 fn stored_at(execution: &Execution, location: usize, event: u8) -> Option<RunValue>
-    ensures { result ≡ ends.stored_at execution.now.events.items location event }
+    ensures { result ≡ ends.value_stored_at execution.now.events.items location event }
 {
     let event = execution.events.get(usize::from(event))?;
     match event.action {

@@ -9,7 +9,7 @@ use Rattle.why_walks.specs.declared.factor.Repeats.TheVariants as repeats
 use Rattle.why_walks.specs.declared.run.Link.{Link}
 use Rattle.why_walks.specs.declared.value.FactorValues.{FactorValues}
 use Rattle.why_walks.specs.Values.{AreLinksAt, IsLinkAt}
-use Rattle.why_walks.specs.Walks.{IsFirstRun, IsFirstWalk, IsLeastNext, IsRun, IsWalk}
+use Rattle.why_walks.specs.Walks.{IsFirstRun, IsFirstWalk, IsLeastNext, IsFactorRun, IsWalk}
 use Rattle.why_walks.proofs.Walking.{links_head, links_tail, path_same, run_of_first, run_same, walk_same}
 
 pub walk_of_first : (ls : List Link) (a : ℕ) (runs : List (List ℕ)) (b : ℕ)
@@ -113,7 +113,7 @@ first_walk_same k (f ∷ fs) (l ∷ ls) (m ∷ ms) h g a b (run ∷ runs) w =
     let back : (x y : ℕ) → Has m.relation x y → Has l.relation x y = λ x y r. (p.pairs x y).1 ((q.pairs x y).0 r) in
     let first = first_run_same l.repeats (Has l.relation) (Has m.relation) to back a w.0 run w.1 in
     let least : IsLeastNext m ms a w.0 b = λ d lt r step others v.
-    w.2 d lt r (subst (λ (s : Repeats). IsRun s (Has l.relation) a r d) (sym how)
+    w.2 d lt r (subst (λ (s : Repeats). IsFactorRun s (Has l.relation) a r d) (sym how)
     (run_same m.repeats (Has m.relation) (Has l.relation) back a d r step)) others
     (walk_same k fs ms ls (links_tail k f fs m ms g) (links_tail k f fs l ls h) d b others v) in (
       w.0,

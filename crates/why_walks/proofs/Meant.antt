@@ -10,25 +10,25 @@ use Rattle.binding_kinds.specs.declared.kinds.Kind.{Kind}
 use Rattle.binding_kinds.specs.declared.kinds.Kind.TheVariants as kinds
 use Rattle.binding_graph.specs.declared.resolved.Code.{Code}
 use Rattle.binding_graph.specs.declared.resolved.Source.{Source}
-use Rattle.binding_graph.specs.Trees.{RelTree, RelName, NoPair, RelBlend, Then, Cross, OnSet, Close, RelNot, rel_code}
+use Rattle.binding_graph.specs.Trees.{RelTree, RelName, NoPair, BlendRelations, Compose, Multiply, IdentityOn, Close, ComplementRelation, rel_code}
 use Rattle.candidates.specs.declared.candidate.Space.{Space}
 use Rattle.candidates.specs.Space.{candidates_in, Candidate}
 use Rattle.cat_eval.specs.declared.column.Column.{Column}
 use Rattle.cat_eval.specs.declared.column.Column.TheVariants as columns
-use Rattle.cat_eval.specs.Columns.{HasValue}
+use Rattle.cat_eval.specs.Columns.{HasColumnValue}
 use Rattle.cat_eval.specs.Executions.{events_of, EventsAt, PairsAt}
 use Rattle.cat_eval.specs.Meaning.{Means}
-use Rattle.cat_eval.specs.Named.{WithOwn, Of}
-use Rattle.cat_eval.specs.Values.{IsFor, IsMeant}
+use Rattle.cat_eval.specs.Named.{WithOwn, OwnPairs}
+use Rattle.cat_eval.specs.Values.{IsFor, IsMeaning}
 use Rattle.why_witness.specs.Pairs.{HasPair}
 use Rattle.text_values.specs.declared.model.Postfix.TheVariants as postfix
 use Rattle.relation_cycles.specs.Cycles.{IsPathFrom}
 use Rattle.why_walks.specs.declared.run.Link.{Link}
 use Rattle.why_walks.specs.declared.value.FactorValues.{FactorValues}
-use Rattle.why_walks.specs.Factors.{Part, factors_of, repeated, repeats_of, tree_part}
+use Rattle.why_walks.specs.Factors.{FactorSteps, factors_of, repeated, repeats_of, tree_part}
 use Rattle.why_walks.specs.Found.{HasWalks, IsWalked}
-use Rattle.why_walks.specs.Values.{AreFactorValues, AreLinksAt, IsLinkAt, IsOn, IsValued, value_part}
-use Rattle.why_walks.specs.Walks.{IsRun}
+use Rattle.why_walks.specs.Values.{AreFactorValues, AreLinksAt, IsLinkAt, IsOn, HasFactorColumn, value_part}
+use Rattle.why_walks.specs.Walks.{IsFactorRun}
 
 -- ---- an expression is its factors in turn
 
@@ -45,13 +45,13 @@ module _ (n : ℕ) (sets : Source → ℕ → Type 0) (rels : Source → ℕ →
   in_turn : (t : RelTree) (a b : ℕ) → Means n sets rels t a b → InTurn (factors_of t) a b
   in_turn (RelName source) a b m = (b, m, refl)
   in_turn NoPair a b m = (b, m, refl)
-  in_turn (RelBlend how e f) a b m = (b, m, refl)
-  in_turn (Then e f) a b m =
+  in_turn (BlendRelations how e f) a b m = (b, m, refl)
+  in_turn (Compose e f) a b m =
       turns_both (factors_of e) (factors_of f) a m.0 b (in_turn e a m.0 m.1) (in_turn f m.0 b m.2)
-  in_turn (Cross s t) a b m = (b, m, refl)
-  in_turn (OnSet s) a b m = (b, m, refl)
+  in_turn (Multiply s t) a b m = (b, m, refl)
+  in_turn (IdentityOn s) a b m = (b, m, refl)
   in_turn (Close how e) a b m = (b, m, refl)
-  in_turn (RelNot e) a b m = (b, m, refl)
+  in_turn (ComplementRelation e) a b m = (b, m, refl)
 
   -- ---- one factor
 
@@ -65,13 +65,13 @@ module _ (n : ℕ) (sets : Source → ℕ → Type 0) (rels : Source → ℕ →
         go x (c ∷ cs) h = (to x c h.0, go c cs h.1)
 
     run : (t : RelTree) → ((a b : ℕ) → Means n sets rels (repeated t) a b → Has r a b) → (a b : ℕ)
-        → Means n sets rels t a b → (events : List ℕ) × IsRun (repeats_of t) (Has r) a events b
+        → Means n sets rels t a b → (events : List ℕ) × IsFactorRun (repeats_of t) (Has r) a events b
     run (RelName source) to a b m = (a ∷ [], (refl, to a b m))
     run NoPair to a b m = (a ∷ [], (refl, to a b m))
-    run (RelBlend how e f) to a b m = (a ∷ [], (refl, to a b m))
-    run (Then e f) to a b m = (a ∷ [], (refl, to a b m))
-    run (Cross s t) to a b m = (a ∷ [], (refl, to a b m))
-    run (OnSet s) to a b m = (a ∷ [], (refl, to a b m))
+    run (BlendRelations how e f) to a b m = (a ∷ [], (refl, to a b m))
+    run (Compose e f) to a b m = (a ∷ [], (refl, to a b m))
+    run (Multiply s t) to a b m = (a ∷ [], (refl, to a b m))
+    run (IdentityOn s) to a b m = (a ∷ [], (refl, to a b m))
     run (Close postfix.Transitive e) to a b m = path (Means n sets rels e) to a b m
     run (Close postfix.Reflexive e) to a b (inl same) = ([], inl (refl, same.1))
     run (Close postfix.Reflexive e) to a b (inr m) = (a ∷ [], inr (refl, to a b m))
@@ -79,7 +79,7 @@ module _ (n : ℕ) (sets : Source → ℕ → Type 0) (rels : Source → ℕ →
     run (Close postfix.Closure e) to a b (inl same) = ([], inl (refl, same.1))
     run (Close postfix.Closure e) to a b (inr m) =
         let p = path (Means n sets rels e) to a b m in (p.0, inr p.1)
-    run (RelNot e) to a b m = (a ∷ [], (refl, to a b m))
+    run (ComplementRelation e) to a b m = (a ∷ [], (refl, to a b m))
 
 -- ---- the values of a factor
 
@@ -92,7 +92,7 @@ record IsIts (c : Column) (k : ℕ) (r : Relation) : Type 0 where
   count : (n : ℕ) → IsOn k n c → r.count ≡ n
 
 is_its : (c : Column) (k : ℕ) (s : Events) (r : Relation) → IsFor kinds.OfRelation c
-    → HasValue c k s r → IsIts c k r
+    → HasColumnValue c k s r → IsIts c k r
 is_its (columns.Sets values) k s r suits has = absurd suits
 is_its (columns.Relations values) k s r suits has = record {
   pairs =
@@ -104,7 +104,7 @@ is_its (columns.Relations values) k s r suits has = record {
 }
 
 is_on : (c : Column) (k n : ℕ) (s : Events) (r : Relation) → IsFor kinds.OfRelation c
-    → HasValue c k s r → r.count ≡ n → IsOn k n c
+    → HasColumnValue c k s r → r.count ≡ n → IsOn k n c
 is_on (columns.Sets values) k n s r suits has count = absurd suits
 is_on (columns.Relations values) k n s r suits has count = (r, has, count)
 
@@ -114,7 +114,7 @@ module _ (inputs : List (Bor Column)) (space : Space) (k : ℕ) (one : Candidate
   its_events = EventsAt (events_of one) one inputs k
 
   abbrev its_pairs : Source → ℕ → ℕ → Type 0
-  its_pairs = WithOwn (PairsAt (events_of one) one inputs k) (Of (events_of one) [])
+  its_pairs = WithOwn (PairsAt (events_of one) one inputs k) (OwnPairs (events_of one) [])
 
   record IsLinked (t : RelTree) (f : FactorValues) : Type 0 where
     link : Link
@@ -124,21 +124,21 @@ module _ (inputs : List (Bor Column)) (space : Space) (k : ℕ) (one : Candidate
         → Has link.relation a b
     on : IsOn k (events_of one) f.values
 
-  linked : (t : RelTree) (f : FactorValues) → value_part f ≡ tree_part t → IsValued inputs space f
+  linked : (t : RelTree) (f : FactorValues) → value_part f ≡ tree_part t → HasFactorColumn inputs space f
       → IsLinked t f
   linked t f part valued =
       let (s, r, has, meant) = valued.values.values k one at in
       let suits : IsFor kinds.OfRelation f.values = subst (λ (a : Kind). IsFor a f.values) valued.kind valued.values.suited in
       let its : IsIts f.values k r = is_its f.values k s r suits has in
-      let means : IsMeant kinds.OfRelation f.code.steps.items (events_of one) its_events (PairsAt (events_of one) one inputs k) s r =
+      let means : IsMeaning kinds.OfRelation f.code.steps.items (events_of one) its_events (PairsAt (events_of one) one inputs k) s r =
       subst
-      (λ (a : Kind). IsMeant a f.code.steps.items (events_of one) its_events
+      (λ (a : Kind). IsMeaning a f.code.steps.items (events_of one) its_events
       (PairsAt (events_of one) one inputs k) s r) valued.kind meant in
-      let are : IsRelation r (events_of one) (Means (events_of one) its_events its_pairs (repeated t)) = means (repeated t) (ap (λ (p : Part). p.steps) part) in
+      let are : IsRelation r (events_of one) (Means (events_of one) its_events its_pairs (repeated t)) = means (repeated t) (ap (λ (p : FactorSteps). p.steps) part) in
       record {
         link = record { repeats = f.repeats; relation = r };
         is = record { repeats = refl; pairs = its.pairs; regular = are.regular; count = its.count };
-        repeats = ap (λ (p : Part). p.repeats) part;
+        repeats = ap (λ (p : FactorSteps). p.repeats) part;
         pairs = λ a b m. (are.pairs a b).1 m;
         on = is_on f.values k (events_of one) s r suits has are.count;
       }
@@ -160,7 +160,7 @@ module _ (inputs : List (Bor Column)) (space : Space) (k : ℕ) (one : Candidate
       each (suc j) lt g m = rest.each j (omega (arith, lt)) g m
 
   walked : (ts : List RelTree) (fs : List FactorValues) → map value_part fs ≡ map tree_part ts
-      → All (IsValued inputs space) fs → (a b : ℕ)
+      → All (HasFactorColumn inputs space) fs → (a b : ℕ)
       → InTurn (events_of one) its_events its_pairs ts a b → IsWalked k fs a b
   walked [] [] same all a b p =
       ([], [], record { as_many = refl; each = λ j lt. absurd (omega (arith, lt)) }, p)
@@ -169,19 +169,19 @@ module _ (inputs : List (Bor Column)) (space : Space) (k : ℕ) (one : Candidate
   walked (t ∷ ts) (f ∷ fs) same all a b p =
       let l : IsLinked t f = linked t f (heads same) (all 0 f (omega arith)) in
       let step = run (events_of one) its_events its_pairs l.link.relation t l.pairs a p.0 p.1 in
-      let (links, runs, are, walk) = walked ts fs (tails same) (All-tail (IsValued inputs space) f fs all) p.0 b p.2 in
-      let first : IsRun l.link.repeats (Has l.link.relation) a step.0 p.0 = rw l.repeats step.1 in
+      let (links, runs, are, walk) = walked ts fs (tails same) (All-tail (HasFactorColumn inputs space) f fs all) p.0 b p.2 in
+      let first : IsFactorRun l.link.repeats (Has l.link.relation) a step.0 p.0 = rw l.repeats step.1 in
       (l.link ∷ links, step.0 ∷ runs, links_more f fs l.link links l.is are, (p.0, first, walk))
 
   all_on : (ts : List RelTree) (fs : List FactorValues) → map value_part fs ≡ map tree_part ts
-      → All (IsValued inputs space) fs → All (λ f. IsOn k (events_of one) f.values) fs
+      → All (HasFactorColumn inputs space) fs → All (λ f. IsOn k (events_of one) f.values) fs
   all_on [] [] same all = λ j d lt. absurd (omega (arith, lt))
   all_on [] (f ∷ fs) same all = absurd cc
   all_on (t ∷ ts) [] same all = absurd cc
   all_on (t ∷ ts) (f ∷ fs) same all =
       All-cons (λ g. IsOn k (events_of one) g.values) f fs
       (linked t f (heads same) (all 0 f (omega arith))).on (all_on ts fs (tails same)
-      (All-tail (IsValued inputs space) f fs all))
+      (All-tail (HasFactorColumn inputs space) f fs all))
 
 -- the relations of the factors are on the events of the candidate
 pub factors_on : (code : Code) (inputs : List (Bor Column)) (space : Space)
@@ -197,4 +197,4 @@ pub has_walks : (code : Code) (space : Space) (factors : List FactorValues)
 has_walks code space factors inputs values t is k one at a b m =
     walked inputs space k one at (factors_of t) factors (values.parts t is) values.values a b
     (in_turn (events_of one) (EventsAt (events_of one) one inputs k)
-    (WithOwn (PairsAt (events_of one) one inputs k) (Of (events_of one) [])) t a b m)
+    (WithOwn (PairsAt (events_of one) one inputs k) (OwnPairs (events_of one) [])) t a b m)

@@ -3,75 +3,75 @@ use Rattle.std.proofs.Common.{◌≡◌, ◌∙◌, ◌++◌, List, [], ◌∷�
 use Rattle.std.proofs.lemmas.List.{append-nil, map-append, reverse-append}
 use Rattle.binding_graph.specs.declared.resolved.Step.{Step}
 use Rattle.binding_graph.specs.declared.resolved.Step.TheVariants as steps
-use Rattle.binding_graph.specs.Trees.{SetTree, SetName, AllEvents, NoEvent, SetBlend, SetNot, RelTree, RelName, NoPair, RelBlend, Then, Cross, OnSet, Close, RelNot, set_code, rel_code}
+use Rattle.binding_graph.specs.Trees.{SetTree, SetName, AllEvents, NoEvent, BlendSets, ComplementSet, RelTree, RelName, NoPair, BlendRelations, Compose, Multiply, IdentityOn, Close, ComplementRelation, set_code, rel_code}
 use Rattle.text_values.specs.declared.model.Postfix.{Postfix}
 use Rattle.text_values.specs.declared.model.Postfix.TheVariants as postfix
 use Rattle.why_walks.specs.declared.factor.Factor.{Factor}
 use Rattle.why_walks.specs.declared.factor.Repeats.{Repeats}
 use Rattle.why_walks.specs.declared.factor.Repeats.TheVariants as repeats
-use Rattle.why_walks.specs.Factors.{Part, factors_of, tree_part, part_of, AreFactors}
+use Rattle.why_walks.specs.Factors.{FactorSteps, factors_of, tree_part, factor_steps, AreFactors}
 use Rattle.why_walks.specs.Scanning.{without_next, next_twice, next_inside, makes_relation, with_step, with_last, pending_from, parts_from}
 
 set_pending : (s : SetTree) (rest : List Step) → pending_from (set_code s rest) ≡ pending_from rest
 set_pending (SetName source) rest = refl
 set_pending AllEvents rest = refl
 set_pending NoEvent rest = refl
-set_pending (SetBlend how a b) rest =
+set_pending (BlendSets how a b) rest =
     set_pending a (set_code b (steps.BlendSets how ∷ rest))
     ∙ set_pending b (steps.BlendSets how ∷ rest)
-set_pending (SetNot a) rest = set_pending a (steps.ComplementSet ∷ rest)
+set_pending (ComplementSet a) rest = set_pending a (steps.ComplementSet ∷ rest)
 
 -- a tree is the next relation
 rel_pending : (t : RelTree) (rest : List Step) (b : Bool) (bs : List Bool)
     → pending_from rest ≡ b ∷ bs → pending_from (rel_code t rest) ≡ bs
 rel_pending (RelName source) rest b bs e = ap without_next e
 rel_pending NoPair rest b bs e = ap without_next e
-rel_pending (RelBlend how x y) rest b bs e =
+rel_pending (BlendRelations how x y) rest b bs e =
     rel_pending x (rel_code y (steps.BlendRelations how ∷ rest)) false bs (rel_pending y
     (steps.BlendRelations how ∷ rest) false (false ∷ bs)
     (ap (λ (l : List Bool). next_twice (next_inside l)) e))
-rel_pending (Then x y) rest b bs e =
+rel_pending (Compose x y) rest b bs e =
     rel_pending x (rel_code y (steps.Compose ∷ rest)) b bs (rel_pending y (steps.Compose ∷ rest) b
     (b ∷ bs) (ap next_twice e))
-rel_pending (Cross s t) rest b bs e =
+rel_pending (Multiply s t) rest b bs e =
     set_pending s (set_code t (steps.Multiply ∷ rest)) ∙ set_pending t (steps.Multiply ∷ rest)
     ∙ ap without_next e
-rel_pending (OnSet s) rest b bs e = set_pending s (steps.IdentityOn ∷ rest) ∙ ap without_next e
+rel_pending (IdentityOn s) rest b bs e = set_pending s (steps.IdentityOn ∷ rest) ∙ ap without_next e
 rel_pending (Close how x) rest b bs e =
     rel_pending x (steps.Close how ∷ rest) false bs (ap next_inside e)
-rel_pending (RelNot x) rest b bs e =
+rel_pending (ComplementRelation x) rest b bs e =
     rel_pending x (steps.ComplementRelation ∷ rest) false bs (ap next_inside e)
 
 -- a set belongs to the first of the parts
-set_parts : (s : SetTree) (rest : List Step) (r : Repeats) (xs : List Step) (ps : List Part)
+set_parts : (s : SetTree) (rest : List Step) (r : Repeats) (xs : List Step) (ps : List FactorSteps)
     → parts_from rest ≡ record { repeats = r; steps = xs } ∷ ps
     → parts_from (set_code s rest) ≡ record { repeats = r; steps = set_code s xs } ∷ ps
 set_parts (SetName source) rest r xs ps e = ap (with_step (steps.PushSet source)) e
 set_parts AllEvents rest r xs ps e = ap (with_step steps.PushAllEvents) e
 set_parts NoEvent rest r xs ps e = ap (with_step steps.PushNoEvents) e
-set_parts (SetBlend how a b) rest r xs ps e =
+set_parts (BlendSets how a b) rest r xs ps e =
     set_parts a (set_code b (steps.BlendSets how ∷ rest)) r (set_code b (steps.BlendSets how ∷ xs))
     ps (set_parts b (steps.BlendSets how ∷ rest) r (steps.BlendSets how ∷ xs) ps
     (ap (with_step (steps.BlendSets how)) e))
-set_parts (SetNot a) rest r xs ps e =
+set_parts (ComplementSet a) rest r xs ps e =
     set_parts a (steps.ComplementSet ∷ rest) r (steps.ComplementSet ∷ xs) ps
     (ap (with_step steps.ComplementSet) e)
 
 -- a step of a relation that is no factor
-inside : (x : Step) (rest : List Step) (bs : List Bool) (ps : List Part) → makes_relation x ≡ true
+inside : (x : Step) (rest : List Step) (bs : List Bool) (ps : List FactorSteps) → makes_relation x ≡ true
     → pending_from rest ≡ false ∷ bs → parts_from rest ≡ ps → parts_from (x ∷ rest) ≡ with_step x ps
 inside x rest bs ps relation e p = rw (relation, e, p) refl
 
 -- a relation that is no factor belongs to the first of the parts
 inner_parts : (t : RelTree) (rest : List Step) (bs : List Bool) (r : Repeats) (xs : List Step)
-    (ps : List Part) → pending_from rest ≡ false ∷ bs
+    (ps : List FactorSteps) → pending_from rest ≡ false ∷ bs
     → parts_from rest ≡ record { repeats = r; steps = xs } ∷ ps
     → parts_from (rel_code t rest) ≡ record { repeats = r; steps = rel_code t xs } ∷ ps
 inner_parts (RelName source) rest bs r xs ps e p =
     inside (steps.PushRelation source) rest bs (record { repeats = r; steps = xs } ∷ ps) refl e p
 inner_parts NoPair rest bs r xs ps e p =
     inside steps.PushNoPairs rest bs (record { repeats = r; steps = xs } ∷ ps) refl e p
-inner_parts (RelBlend how x y) rest bs r xs ps e p =
+inner_parts (BlendRelations how x y) rest bs r xs ps e p =
     let one : pending_from (steps.BlendRelations how ∷ rest) ≡ false ∷ false ∷ bs = ap (λ (l : List Bool). next_twice (next_inside l)) e in
     inner_parts x (rel_code y (steps.BlendRelations how ∷ rest)) bs r
     (rel_code y (steps.BlendRelations how ∷ xs)) ps (rel_pending y
@@ -79,23 +79,23 @@ inner_parts (RelBlend how x y) rest bs r xs ps e p =
     (inner_parts y (steps.BlendRelations how ∷ rest) (false ∷ bs) r (steps.BlendRelations how ∷ xs)
     ps one (inside (steps.BlendRelations how) rest bs
     (record { repeats = r; steps = xs } ∷ ps) refl e p))
-inner_parts (Then x y) rest bs r xs ps e p =
+inner_parts (Compose x y) rest bs r xs ps e p =
     let one : pending_from (steps.Compose ∷ rest) ≡ false ∷ false ∷ bs = ap next_twice e in
     inner_parts x (rel_code y (steps.Compose ∷ rest)) bs r (rel_code y (steps.Compose ∷ xs)) ps
     (rel_pending y (steps.Compose ∷ rest) false (false ∷ bs) one)
     (inner_parts y (steps.Compose ∷ rest) (false ∷ bs) r (steps.Compose ∷ xs) ps one
     (inside steps.Compose rest bs (record { repeats = r; steps = xs } ∷ ps) refl e p))
-inner_parts (Cross s t) rest bs r xs ps e p =
+inner_parts (Multiply s t) rest bs r xs ps e p =
     set_parts s (set_code t (steps.Multiply ∷ rest)) r (set_code t (steps.Multiply ∷ xs)) ps
     (set_parts t (steps.Multiply ∷ rest) r (steps.Multiply ∷ xs) ps
     (inside steps.Multiply rest bs (record { repeats = r; steps = xs } ∷ ps) refl e p))
-inner_parts (OnSet s) rest bs r xs ps e p =
+inner_parts (IdentityOn s) rest bs r xs ps e p =
     set_parts s (steps.IdentityOn ∷ rest) r (steps.IdentityOn ∷ xs) ps
     (inside steps.IdentityOn rest bs (record { repeats = r; steps = xs } ∷ ps) refl e p)
 inner_parts (Close how x) rest bs r xs ps e p =
     inner_parts x (steps.Close how ∷ rest) bs r (steps.Close how ∷ xs) ps (ap next_inside e)
     (inside (steps.Close how) rest bs (record { repeats = r; steps = xs } ∷ ps) refl e p)
-inner_parts (RelNot x) rest bs r xs ps e p =
+inner_parts (ComplementRelation x) rest bs r xs ps e p =
     inner_parts x (steps.ComplementRelation ∷ rest) bs r (steps.ComplementRelation ∷ xs) ps
     (ap next_inside e) (inside steps.ComplementRelation rest bs
     (record { repeats = r; steps = xs } ∷ ps) refl e p)
@@ -127,7 +127,7 @@ outer_parts : (t : RelTree) (rest : List Step) (bs : List Bool) → pending_from
     → parts_from (rel_code t rest) ≡ map tree_part (factors_of t) ++ parts_from rest
 outer_parts (RelName source) rest bs e = ends (steps.PushRelation source) rest bs refl e
 outer_parts NoPair rest bs e = ends steps.PushNoPairs rest bs refl e
-outer_parts (RelBlend how x y) rest bs e =
+outer_parts (BlendRelations how x y) rest bs e =
     let one : pending_from (steps.BlendRelations how ∷ rest) ≡ false ∷ false ∷ bs = ap (λ (l : List Bool). next_twice (next_inside l)) e in
     inner_parts x (rel_code y (steps.BlendRelations how ∷ rest)) bs repeats.Once
     (rel_code y (steps.BlendRelations how ∷ [])) (parts_from rest)
@@ -135,40 +135,40 @@ outer_parts (RelBlend how x y) rest bs e =
     (inner_parts y (steps.BlendRelations how ∷ rest) (false ∷ bs) repeats.Once
     (steps.BlendRelations how ∷ []) (parts_from rest) one
     (ends (steps.BlendRelations how) rest bs refl e))
-outer_parts (Then x y) rest bs e =
+outer_parts (Compose x y) rest bs e =
     let one : pending_from (steps.Compose ∷ rest) ≡ true ∷ true ∷ bs = ap next_twice e in
     let left = outer_parts x (rel_code y (steps.Compose ∷ rest)) bs (rel_pending y (steps.Compose ∷ rest) true (true ∷ bs) one) in
     let right = outer_parts y (steps.Compose ∷ rest) (true ∷ bs) one in
     let skip : parts_from (steps.Compose ∷ rest) ≡ parts_from rest = ends steps.Compose rest bs refl e in
     left
-    ∙ ap (λ (l : List Part). map tree_part (factors_of x) ++ l) (right
-    ∙ ap (λ (l : List Part). map tree_part (factors_of y) ++ l) skip)
+    ∙ ap (λ (l : List FactorSteps). map tree_part (factors_of x) ++ l) (right
+    ∙ ap (λ (l : List FactorSteps). map tree_part (factors_of y) ++ l) skip)
     ∙ sym (append_assoc (map tree_part (factors_of x)) (map tree_part (factors_of y))
     (parts_from rest))
-    ∙ ap (λ (l : List Part). l ++ parts_from rest)
+    ∙ ap (λ (l : List FactorSteps). l ++ parts_from rest)
     (sym (map-append tree_part (factors_of x) (factors_of y)))
-outer_parts (Cross s t) rest bs e =
+outer_parts (Multiply s t) rest bs e =
     set_parts s (set_code t (steps.Multiply ∷ rest)) repeats.Once (set_code t (steps.Multiply ∷ []))
     (parts_from rest) (set_parts t (steps.Multiply ∷ rest) repeats.Once (steps.Multiply ∷ [])
     (parts_from rest) (ends steps.Multiply rest bs refl e))
-outer_parts (OnSet s) rest bs e =
+outer_parts (IdentityOn s) rest bs e =
     set_parts s (steps.IdentityOn ∷ rest) repeats.Once (steps.IdentityOn ∷ []) (parts_from rest)
     (ends steps.IdentityOn rest bs refl e)
 outer_parts (Close how x) rest bs e = closed_parts how x rest bs e
-outer_parts (RelNot x) rest bs e =
+outer_parts (ComplementRelation x) rest bs e =
     inner_parts x (steps.ComplementRelation ∷ rest) bs repeats.Once (steps.ComplementRelation ∷ [])
     (parts_from rest) (ap next_inside e) (ends steps.ComplementRelation rest bs refl e)
 
 parts_are : (t : RelTree) → parts_from (rel_code t []) ≡ map tree_part (factors_of t)
 parts_are t = outer_parts t [] [] refl ∙ append-nil (map tree_part (factors_of t))
 
-reverse_map : (fs : List Factor) → map part_of (reverse fs) ≡ reverse (map part_of fs)
+reverse_map : (fs : List Factor) → map factor_steps (reverse fs) ≡ reverse (map factor_steps fs)
 reverse_map [] = refl
 reverse_map (f ∷ fs) =
-    ap (map part_of) (reverse-append (f ∷ []) fs) ∙ map-append part_of (reverse fs) (f ∷ [])
-    ∙ ap (λ (l : List Part). l ++ part_of f ∷ []) (reverse_map fs)
-    ∙ sym (reverse-append (part_of f ∷ []) (map part_of fs))
+    ap (map factor_steps) (reverse-append (f ∷ []) fs) ∙ map-append factor_steps (reverse fs) (f ∷ [])
+    ∙ ap (λ (l : List FactorSteps). l ++ factor_steps f ∷ []) (reverse_map fs)
+    ∙ sym (reverse-append (factor_steps f ∷ []) (map factor_steps fs))
 
-pub factors_are : (xs : List Step) (fs : List Factor) → reverse (map part_of fs) ≡ parts_from xs
+pub factors_are : (xs : List Step) (fs : List Factor) → reverse (map factor_steps fs) ≡ parts_from xs
     → AreFactors xs (reverse fs)
 factors_are xs fs e t code = reverse_map fs ∙ e ∙ ap parts_from code ∙ parts_are t

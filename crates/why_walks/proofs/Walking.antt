@@ -15,20 +15,20 @@ use Rattle.why_walks.specs.declared.factor.Repeats.TheVariants as repeats
 use Rattle.why_walks.specs.declared.run.Link.{Link}
 use Rattle.why_walks.specs.declared.value.FactorValues.{FactorValues}
 use Rattle.why_walks.specs.Values.{AreLinksAt, IsLinkAt, IsOn}
-use Rattle.why_walks.specs.Walks.{AreLinksOn, AreRests, IsFirstRun, IsFirstWalk, IsLeastNext, IsLinkOn, IsRun, IsRunInto, IsNoWalk, IsWalk, Leads, LinkPairs, Repeated}
+use Rattle.why_walks.specs.Walks.{AreLinksOn, AreRests, IsFirstRun, IsFirstWalk, IsLeastNext, IsLinkOn, IsFactorRun, IsRunInto, IsNoWalk, IsWalk, LeadsThrough, LinkPairs, Repeated}
 
 pub walk_on : (ls : List Link) (l : Link) (a : ℕ) (runs : List (List ℕ)) (b : ℕ) (run : List ℕ)
-    (c : ℕ) → IsWalk ls a runs b → IsRun l.repeats (Has l.relation) b run c
+    (c : ℕ) → IsWalk ls a runs b → IsFactorRun l.repeats (Has l.relation) b run c
     → IsWalk (ls ++ l ∷ []) a (runs ++ run ∷ []) c
 walk_on [] l a [] b run c w r =
-    (c, subst (λ (x : ℕ). IsRun l.repeats (Has l.relation) x run c) (sym w) r, refl)
+    (c, subst (λ (x : ℕ). IsFactorRun l.repeats (Has l.relation) x run c) (sym w) r, refl)
 walk_on [] l a (x ∷ xs) b run c w r = absurd w
 walk_on (k ∷ ks) l a [] b run c w r = absurd w
 walk_on (k ∷ ks) l a (x ∷ xs) b run c w r = (w.0, w.1, walk_on ks l w.0 xs b run c w.2 r)
 
 -- the first run is a run
 pub run_of_first : (how : Repeats) (R : ℕ → ℕ → Type 0) (a : ℕ) (events : List ℕ) (b : ℕ)
-    → IsFirstRun how R a events b → IsRun how R a events b
+    → IsFirstRun how R a events b → IsFactorRun how R a events b
 run_of_first repeats.Once R a events b run = run
 run_of_first repeats.AtMostOnce R a events b (inl stay) = inl stay
 run_of_first repeats.AtMostOnce R a events b (inr step) = inr step.1
@@ -61,7 +61,7 @@ path_inside r regular a b p = Plus-within (Has r) r.count regular.within a b p
 
 -- a run of a factor leads to where its pairs do, and stays among the events
 run_leads : (how : Repeats) (r : Relation) → IsRegular r → (a b : ℕ) (events : List ℕ) → a < r.count
-    → IsRun how (Has r) a events b → Repeated how r.count (Has r) a b × (b < r.count)
+    → IsFactorRun how (Has r) a events b → Repeated how r.count (Has r) a b × (b < r.count)
 run_leads repeats.Once r regular a b events lt run = (run.1, (regular.within a b run.1).1)
 run_leads repeats.AtMostOnce r regular a b events lt (inl stay) =
     (inl (lt, stay.1), subst (λ (x : ℕ). x < r.count) stay.1 lt)
@@ -78,7 +78,7 @@ first_on : (n : ℕ) (l : Link) (ls : List Link) → AreLinksOn n (l ∷ ls) →
 first_on n l ls all = all 0 l (omega arith)
 
 pub walk_leads : (n : ℕ) (ls : List Link) → AreLinksOn n ls → (a b : ℕ) (runs : List (List ℕ))
-    → a < n → IsWalk ls a runs b → Leads n ls a b
+    → a < n → IsWalk ls a runs b → LeadsThrough n ls a b
 walk_leads n [] all a b [] lt w = (lt, w)
 walk_leads n [] all a b (run ∷ runs) lt w = absurd w
 walk_leads n (l ∷ ls) all a b [] lt w = absurd w
@@ -95,14 +95,14 @@ walk_leads n (l ∷ ls) all a b (run ∷ runs) lt w =
 
 pub record IsRestsSoFar (n : ℕ) (links : List Link) (rests : List Relation) (rest : Relation)
     (left : ℕ) : Type 0 where
-  pub behind : IsRelation rest n (Leads n (drop left links))
+  pub behind : IsRelation rest n (LeadsThrough n (drop left links))
   pub each : AreRests n links rests
 
 pub rests_begin : (n : ℕ) (links : List Link) (rest : Relation) → IsRelation rest n (Identity n)
     → IsRestsSoFar n links [] rest (length links)
 rests_begin n links rest is = record {
   behind =
-      subst (λ (ls : List Link). IsRelation rest n (Leads n ls))
+      subst (λ (ls : List Link). IsRelation rest n (LeadsThrough n ls))
       (sym (drop_all (length links) links (omega arith))) is;
   each = λ j lt. absurd (omega (arith, lt));
 }
@@ -121,13 +121,13 @@ module _ (n : ℕ) (links : List Link) (rests : List Relation) (rest : Relation)
   pub composed_rest : (pairs next : Relation) → AreLinksOn n links
       → IsRelation pairs l.relation.count (LinkPairs l)
       → (rest.count ≡ pairs.count → IsRelation next pairs.count (Composite (Has pairs) (Has rest)))
-      → IsRelation rest n (Leads n (drop (left + 1) links))
-      → IsRelation next n (Leads n (drop left links))
+      → IsRelation rest n (LeadsThrough n (drop (left + 1) links))
+      → IsRelation next n (LeadsThrough n (drop left links))
   composed_rest pairs next all are composed behind =
       let on : IsLinkOn n l = link_on all in
       let size : pairs.count ≡ n = are.count ∙ on.count in
       let made : IsRelation next pairs.count (Composite (Has pairs) (Has rest)) = composed (behind.count ∙ sym size) in
-      subst (λ (ls : List Link). IsRelation next n (Leads n ls)) (sym drop_link) (record {
+      subst (λ (ls : List Link). IsRelation next n (LeadsThrough n ls)) (sym drop_link) (record {
         count = made.count ∙ size;
         regular = made.regular;
         pairs = λ a b. (
@@ -140,7 +140,7 @@ module _ (n : ℕ) (links : List Link) (rests : List Relation) (rest : Relation)
 
 pub rests_more : (n : ℕ) (links : List Link) (rests : List Relation) (rest next : Relation)
     (left : ℕ) → length rests + left ≡ length links → IsRestsSoFar n links rests rest left
-    → IsRelation next n (Leads n (drop (left - 1) links))
+    → IsRelation next n (LeadsThrough n (drop (left - 1) links))
     → IsRestsSoFar n links (rests ++ rest ∷ []) next (left - 1)
 rests_more n links rests rest next left whole old behind = record { behind = behind; each = each }
   where
@@ -153,9 +153,9 @@ rests_more n links rests rest next left whole old behind = record { behind = beh
           let l : left ≡ length links - length rests = omega arith in
           subst
           (λ (i : ℕ). IsRelation (get_or (rests ++ rest ∷ []) i no_slot) n
-          (Leads n (drop (length links - i) links))) e
+          (LeadsThrough n (drop (length links - i) links))) e
           (rw (get_or-append_seam rests rest [] no_slot) (subst
-          (λ (i : ℕ). IsRelation rest n (Leads n (drop i links))) l old.behind))
+          (λ (i : ℕ). IsRelation rest n (LeadsThrough n (drop i links))) l old.behind))
     ]
 
 pub rests_step : (n : ℕ) (links : List Link) (rests : List Relation) (rest : Relation) (left : ℕ)
@@ -168,7 +168,7 @@ pub rests_step : (n : ℕ) (links : List Link) (rests : List Relation) (rest : R
 rests_step n links rests rest left l pairs next some whole is are composed old all =
     let so_far : IsRestsSoFar n links rests rest left = old all in
     let back : left ≡ (left - 1) + 1 = omega (arith, some) in
-    let behind : IsRelation rest n (Leads n (drop ((left - 1) + 1) links)) = subst (λ (i : ℕ). IsRelation rest n (Leads n (drop i links))) back so_far.behind in
+    let behind : IsRelation rest n (LeadsThrough n (drop ((left - 1) + 1) links)) = subst (λ (i : ℕ). IsRelation rest n (LeadsThrough n (drop i links))) back so_far.behind in
     rests_more n links rests rest next left whole so_far
     (composed_rest n links rests rest (left - 1) l (omega (arith, some, whole)) is pairs next all
     are composed behind)
@@ -179,7 +179,7 @@ rests_step n links rests rest left l pairs next some whole is are composed old a
 abbrev pub StillLeads : ℕ → List Link → ℕ → ℕ → ℕ → ℕ → Type 0
 StillLeads n links from to index at =
     AreLinksOn n links → from < n → (runs : List (List ℕ)) → IsWalk links from runs to
-    → Leads n (drop index links) at to
+    → LeadsThrough n (drop index links) at to
 
 pub leads_first : (n : ℕ) (links : List Link) (from to : ℕ) → StillLeads n links from to 0 from
 leads_first n links from to all lt runs w = walk_leads n links all from to runs lt w
@@ -188,13 +188,13 @@ module _ (n : ℕ) (links : List Link) (rests : List Relation) (index : ℕ) (l 
     (rest : Relation) (lt : index < length links) (is : l ≡ get_or links index l)
     (many : length rests ≡ length links)
     (there : rest ≡ get_or rests (length links - 1 - index) rest) where
-  rest_is : AreRests n links rests → IsRelation rest n (Leads n (drop (index + 1) links))
+  rest_is : AreRests n links rests → IsRelation rest n (LeadsThrough n (drop (index + 1) links))
   rest_is are =
       let inside : length links - 1 - index < length rests = omega (arith, lt, many) in
       let e : length links - (length links - 1 - index) ≡ index + 1 = omega (arith, lt) in
-      subst (λ (i : ℕ). IsRelation rest n (Leads n (drop i links))) e (subst
+      subst (λ (i : ℕ). IsRelation rest n (LeadsThrough n (drop i links))) e (subst
       (λ (r : Relation).
-      IsRelation r n (Leads n (drop (length links - (length links - 1 - index)) links)))
+      IsRelation r n (LeadsThrough n (drop (length links - (length links - 1 - index)) links)))
       (sym (get_or_read rests (length links - 1 - index) rest inside there no_slot))
       (are (length links - 1 - index) inside))
 
@@ -206,7 +206,7 @@ module _ (n : ℕ) (links : List Link) (rests : List Relation) (index : ℕ) (l 
       → StillLeads n links from to index at → (Composite (LinkPairs l) (Has rest) at to → ⊥)
       → AreLinksOn n links → from < n → IsNoWalk links from to
   leads_nowhere from to at are leads none all begins runs w =
-      let on : Leads n (l ∷ drop (index + 1) links) at to = subst (λ (ls : List Link). Leads n ls at to) (drop_link n links [] rest index l lt is) (leads all begins runs w) in
+      let on : LeadsThrough n (l ∷ drop (index + 1) links) at to = subst (λ (ls : List Link). LeadsThrough n ls at to) (drop_link n links [] rest index l lt is) (leads all begins runs w) in
       none (on.0, on.1, ((rest_is (are all)).pairs on.0 to).1 on.2)
 
 -- ---- the first walk
@@ -243,7 +243,7 @@ module _ (n : ℕ) (links : List Link) (rests : List Relation) (index : ℕ) (l 
       let behind : List Link = drop (index + 1) links in
       let on : IsLinkOn n l = link_on n links [] rest index l lt is all in
       let whole : AreLinksOn n behind = All-drop (IsLinkOn n) (index + 1) links all in
-      let rest_on : IsRelation rest n (Leads n behind) = rest_is n links rests index l rest lt is many there (are all) in
+      let rest_on : IsRelation rest n (LeadsThrough n behind) = rest_is n links rests index l rest lt is many there (are all) in
       let inside : at < l.relation.count = subst (λ (k : ℕ). at < k) (sym on.count) (old all begins).0 in
       let step = run_leads l.repeats l.relation on.regular at next run inside (run_of_first l.repeats (Has l.relation) at run next into.run) in
       let least : IsLeastNext l behind at next to = λ d less r w others v.
@@ -288,7 +288,7 @@ links_on k n fs ls h all j l lt =
     on (f ∷ fs) inside at is = record { count = (at f).count n (is f); regular = (at f).regular }
 
 pub run_same : (how : Repeats) (R S : ℕ → ℕ → Type 0) → ((a b : ℕ) → R a b → S a b)
-    → (a b : ℕ) (events : List ℕ) → IsRun how R a events b → IsRun how S a events b
+    → (a b : ℕ) (events : List ℕ) → IsFactorRun how R a events b → IsFactorRun how S a events b
 run_same repeats.Once R S to a b events run = (run.0, to a b run.1)
 run_same repeats.AtMostOnce R S to a b events (inl stay) = inl stay
 run_same repeats.AtMostOnce R S to a b events (inr step) = inr (step.0, to a b step.1)
@@ -310,7 +310,7 @@ walk_same k (f ∷ fs) (l ∷ ls) (m ∷ ms) h g a b (run ∷ runs) w =
     let how : l.repeats ≡ m.repeats = p.repeats ∙ sym q.repeats in
     let first = run_same l.repeats (Has l.relation) (Has m.relation) (λ x y r. (q.pairs x y).1 ((p.pairs x y).0 r)) a w.0 run w.1 in (
       w.0,
-      subst (λ (r : Repeats). IsRun r (Has m.relation) a run w.0) how first,
+      subst (λ (r : Repeats). IsFactorRun r (Has m.relation) a run w.0) how first,
       walk_same k fs ls ms (links_tail k f fs l ls h) (links_tail k f fs m ms g) w.0 b runs
           w.2,
     )

@@ -9,7 +9,7 @@ use Rattle.candidates.specs.Space.{candidates_in, Candidate}
 use Rattle.cat_eval.specs.declared.column.Column.{Column}
 use Rattle.cat_eval.specs.Executions.{events_of, EventsAt, PairsAt}
 use Rattle.cat_eval.specs.Meaning.{Means}
-use Rattle.cat_eval.specs.Named.{WithOwn, Of}
+use Rattle.cat_eval.specs.Named.{WithOwn, OwnPairs}
 use Rattle.why_walks.specs.declared.run.Link.{Link}
 use Rattle.why_walks.specs.declared.value.FactorValues.{FactorValues}
 use Rattle.why_walks.specs.Values.{AreFactorValues, AreLinksAt}
@@ -19,7 +19,7 @@ use Rattle.why_walks.specs.Walks.{IsFirstWalk, IsWalk}
 abbrev pub PairsIn : List (Bor Column) → ℕ → Candidate → RelTree → ℕ → ℕ → Type 0
 PairsIn inputs k one t =
     Means (events_of one) (EventsAt (events_of one) one inputs k)
-    (WithOwn (PairsAt (events_of one) one inputs k) (Of (events_of one) [])) t
+    (WithOwn (PairsAt (events_of one) one inputs k) (OwnPairs (events_of one) [])) t
 
 -- a walk through the factors from the one event to the other
 abbrev pub IsWalked : ℕ → List FactorValues → ℕ → ℕ → Type 0

@@ -5,7 +5,7 @@ use Rattle.binding_graph.specs.declared.resolved.Step.{Step}
 use Rattle.binding_graph.specs.declared.resolved.Step.TheVariants as steps
 use Rattle.text_values.specs.declared.model.Postfix.TheVariants as postfix
 use Rattle.why_walks.specs.declared.factor.Repeats.TheVariants as repeats
-use Rattle.why_walks.specs.Factors.{Part}
+use Rattle.why_walks.specs.Factors.{FactorSteps}
 
 -- of the relations that are still to come, the next first, whether each is a factor
 abbrev pub without_next : List Bool → List Bool
@@ -45,27 +45,27 @@ makes_relation steps.ComplementSet = false
 makes_relation step = true
 
 -- the factor that ends with a step
-abbrev pub last_of : Step → Part
+abbrev pub last_of : Step → FactorSteps
 last_of (steps.Close postfix.Transitive) = record { repeats = repeats.OnceOrMore; steps = [] }
 last_of (steps.Close postfix.Reflexive) = record { repeats = repeats.AtMostOnce; steps = [] }
 last_of (steps.Close postfix.Closure) = record { repeats = repeats.AnyNumber; steps = [] }
 last_of step = record { repeats = repeats.Once; steps = step ∷ [] }
 
 -- a step of the first of the parts
-abbrev pub with_step : Step → List Part → List Part
+abbrev pub with_step : Step → List FactorSteps → List FactorSteps
 with_step step [] = []
 with_step step (p ∷ ps) = record { repeats = p.repeats; steps = step ∷ p.steps } ∷ ps
 
 -- a relation that is a factor: its last step, or a composition of further factors
-abbrev pub with_last : Step → List Part → List Part
+abbrev pub with_last : Step → List FactorSteps → List FactorSteps
 with_last steps.Compose ps = ps
 with_last step ps = last_of step ∷ ps
 
-abbrev pub with_relation : Bool → Step → List Part → List Part
+abbrev pub with_relation : Bool → Step → List FactorSteps → List FactorSteps
 with_relation true step ps = with_last step ps
 with_relation false step ps = with_step step ps
 
-abbrev pub parts_after : Bool → Step → List Bool → List Part → List Part
+abbrev pub parts_after : Bool → Step → List Bool → List FactorSteps → List FactorSteps
 parts_after true step bs ps = with_relation (is_next_factor bs) step ps
 parts_after false step bs ps = with_step step ps
 
@@ -74,6 +74,6 @@ abbrev pub pending_from : List Step → List Bool
 pending_from [] = true ∷ []
 pending_from (x ∷ xs) = pending_after x (pending_from xs)
 
-abbrev pub parts_from : List Step → List Part
+abbrev pub parts_from : List Step → List FactorSteps
 parts_from [] = []
 parts_from (x ∷ xs) = parts_after (makes_relation x) x (pending_from xs) (parts_from xs)

@@ -13,13 +13,13 @@ use Rattle.why_witness.specs.Pairs.{HasPair}
 use Rattle.why_witness.specs.Values.{AreValues}
 use Rattle.why_walks.specs.declared.run.Link.{Link}
 use Rattle.why_walks.specs.declared.value.FactorValues.{FactorValues}
-use Rattle.why_walks.specs.Factors.{Part, factors_of, tree_part}
+use Rattle.why_walks.specs.Factors.{FactorSteps, factors_of, tree_part}
 
-abbrev pub value_part : FactorValues → Part
+abbrev pub value_part : FactorValues → FactorSteps
 value_part v = record { repeats = v.repeats; steps = v.code.steps.items }
 
 -- its expression is of a relation, and it has the values of that in the candidates of the space
-pub record IsValued (inputs : List (Bor Column)) (space : Space) (factor : FactorValues)
+pub record HasFactorColumn (inputs : List (Bor Column)) (space : Space) (factor : FactorValues)
     : Type 0 where
   pub kind : factor.code.kind ≡ kinds.OfRelation
   pub values : AreValues factor.code inputs space factor.values
@@ -29,7 +29,7 @@ pub record AreFactorValues (code : Code) (inputs : List (Bor Column)) (space : S
     (factors : List FactorValues) : Type 0 where
   pub parts : (t : RelTree) → code.steps.items ≡ rel_code t []
       → map value_part factors ≡ map tree_part (factors_of t)
-  pub values : All (IsValued inputs space) factors
+  pub values : All (HasFactorColumn inputs space) factors
 
 -- the column has a relation on n events in the candidate of number k
 abbrev pub IsOn : ℕ → ℕ → Column → Type 0

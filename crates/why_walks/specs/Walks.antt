@@ -18,11 +18,11 @@ abbrev pub IsOneStep : (ℕ → ℕ → Type 0) → ℕ → List ℕ → ℕ →
 IsOneStep R a events b = (events ≡ a ∷ []) × R a b
 
 -- the steps of one factor from an event to another, by the events where they begin
-abbrev pub IsRun : Repeats → (ℕ → ℕ → Type 0) → ℕ → List ℕ → ℕ → Type 0
-IsRun repeats.Once R a events b = IsOneStep R a events b
-IsRun repeats.AtMostOnce R a events b = IsStay a events b ⊎ IsOneStep R a events b
-IsRun repeats.OnceOrMore R a events b = IsPathFrom R a b events
-IsRun repeats.AnyNumber R a events b = IsStay a events b ⊎ IsPathFrom R a b events
+abbrev pub IsFactorRun : Repeats → (ℕ → ℕ → Type 0) → ℕ → List ℕ → ℕ → Type 0
+IsFactorRun repeats.Once R a events b = IsOneStep R a events b
+IsFactorRun repeats.AtMostOnce R a events b = IsStay a events b ⊎ IsOneStep R a events b
+IsFactorRun repeats.OnceOrMore R a events b = IsPathFrom R a b events
+IsFactorRun repeats.AnyNumber R a events b = IsStay a events b ⊎ IsPathFrom R a b events
 
 -- a run of each factor, each from where the one before it leads to
 abbrev pub IsWalk : List Link → ℕ → List (List ℕ) → ℕ → Type 0
@@ -30,7 +30,7 @@ IsWalk [] a [] b = a ≡ b
 IsWalk [] a (run ∷ runs) b = ⊥
 IsWalk (l ∷ ls) a [] b = ⊥
 IsWalk (l ∷ ls) a (run ∷ runs) b =
-    (c : ℕ) × IsRun l.repeats (Has l.relation) a run c × IsWalk ls c runs b
+    (c : ℕ) × IsFactorRun l.repeats (Has l.relation) a run c × IsWalk ls c runs b
 
 abbrev pub runs_of : List (Vec ℕ Global) → List (List ℕ)
 runs_of runs = map (λ v. v.items) runs
@@ -50,7 +50,7 @@ IsFirstRun repeats.AnyNumber R a events b =
 -- end
 abbrev pub IsLeastNext : Link → List Link → ℕ → ℕ → ℕ → Type 0
 IsLeastNext l ls from next to =
-    (d : ℕ) → d < next → (run : List ℕ) → IsRun l.repeats (Has l.relation) from run d
+    (d : ℕ) → d < next → (run : List ℕ) → IsFactorRun l.repeats (Has l.relation) from run d
     → (runs : List (List ℕ)) → IsWalk ls d runs to → ⊥
 
 -- of the walks the one of which each factor in turn leads to the least event from which the walk
@@ -88,15 +88,15 @@ abbrev pub LinkPairs : Link → ℕ → ℕ → Type 0
 LinkPairs l = Repeated l.repeats l.relation.count (Has l.relation)
 
 -- the pairs that factors in turn lead from and to
-abbrev pub Leads : ℕ → List Link → ℕ → ℕ → Type 0
-Leads n [] = Identity n
-Leads n (l ∷ ls) = Composite (LinkPairs l) (Leads n ls)
+abbrev pub LeadsThrough : ℕ → List Link → ℕ → ℕ → Type 0
+LeadsThrough n [] = Identity n
+LeadsThrough n (l ∷ ls) = Composite (LinkPairs l) (LeadsThrough n ls)
 
 -- of the last factor, the one before it, and so on, the pairs that those behind it lead from and to
 abbrev pub AreRests : ℕ → List Link → List Relation → Type 0
 AreRests n links rests =
     (j : ℕ) → j < length rests
-    → IsRelation (slice_index_or rests j no_slot) n (Leads n (drop (length links - j) links))
+    → IsRelation (slice_index_or rests j no_slot) n (LeadsThrough n (drop (length links - j) links))
 
 -- the left leads to no smaller event from which the right leads on
 abbrev pub IsLeastBetween : (ℕ → ℕ → Type 0) → (ℕ → ℕ → Type 0) → ℕ → ℕ → ℕ → Type 0

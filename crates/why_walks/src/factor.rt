@@ -1,7 +1,7 @@
 //! The factors of a composition.
 
 ghost use Rattle.std.specs.Prelude.{◌≡◌, [], IfOk, OnOk, reverse};
-ghost use Rattle.why_walks.specs.Factors.{AreFactors, part_of, parts_in};
+ghost use Rattle.why_walks.specs.Factors.{AreFactors, factor_steps, parts_in};
 ghost use Rattle.why_walks.specs.Scanning.{is_next_factor, last_of, makes_relation, next_inside, next_twice, parts_after, pending_after, with_last, with_step, without_next};
 
 use binding_graph::Step;
@@ -104,7 +104,7 @@ fn makes_relation(step: Step) -> bool
 }
 
 fn empty_factor(alloc: Global, repeats: Repeats) -> Factor
-    ensures { part_of result ≡ record { repeats = repeats; steps = [] } }
+    ensures { factor_steps result ≡ record { repeats = repeats; steps = [] } }
 {
     let steps = Vec::new(alloc);
     Factor { repeats, steps }
@@ -112,7 +112,7 @@ fn empty_factor(alloc: Global, repeats: Repeats) -> Factor
 
 // The factor that ends with a step.
 fn last_of(alloc: Global, step: Step) -> Result<Factor, AllocError>
-    ensures { IfOk result (λ f. part_of f ≡ last_of step) }
+    ensures { IfOk result (λ f. factor_steps f ≡ last_of step) }
 {
     match step {
         Step::Close(Postfix::Transitive) => Ok(empty_factor(alloc, Repeats::OnceOrMore)),

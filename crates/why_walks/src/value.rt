@@ -3,8 +3,8 @@
 ghost use Rattle.std.specs.Prelude.{◌≡◌, ◌↔◌, ℕ, IfOk};
 ghost use Rattle.bit_relations.specs.Relation.{Has, IsRegular};
 ghost use Rattle.why_witness.specs.Pairs.{HasPair};
-ghost use Rattle.why_walks.specs.Factors.{part_of};
-ghost use Rattle.why_walks.specs.Values.{AreFactorValues, AreLinksAt, IsLinkAt, IsOn, IsValued, value_part};
+ghost use Rattle.why_walks.specs.Factors.{factor_steps};
+ghost use Rattle.why_walks.specs.Values.{AreFactorValues, AreLinksAt, IsLinkAt, IsOn, HasFactorColumn, value_part};
 
 use crate::factor::{Factor, Repeats, factors};
 use crate::run::Link;
@@ -33,8 +33,8 @@ fn factor_value(
     space: &Space,
     inputs: &[&Column],
 ) -> Result<FactorValues, AllocError>
-    ensures part { IfOk result (λ v. value_part v ≡ part_of factor.now) }
-    ensures values { IfOk result (IsValued inputs.now space.now) }
+    ensures part { IfOk result (λ v. value_part v ≡ factor_steps factor.now) }
+    ensures values { IfOk result (HasFactorColumn inputs.now space.now) }
 {
     let steps = Vec::from_slice(alloc, &factor.steps)?;
     let kind = Kind::OfRelation;

@@ -17,16 +17,16 @@ use Rattle.candidates.specs.Space.{candidates_in, Candidate}
 use Rattle.cat_eval.specs.declared.column.Column.{Column}
 use Rattle.cat_eval.specs.declared.column.Column.TheVariants as columns
 use Rattle.cat_eval.specs.Checks.{Holds, IsEmptySet}
-use Rattle.cat_eval.specs.Columns.{AreColumns, ColumnsOf, HasValue}
+use Rattle.cat_eval.specs.Columns.{AreGroupColumns, ColumnsOf, HasColumnValue}
 use Rattle.cat_eval.specs.Executions.{events_of, EventsAt, PairsAt}
 use Rattle.cat_eval.specs.Meaning.{MeansSet, Means}
-use Rattle.cat_eval.specs.Named.{WithOwn, Of}
-use Rattle.cat_eval.specs.Values.{IsFor, IsMeant, column_len}
+use Rattle.cat_eval.specs.Named.{WithOwn, OwnPairs}
+use Rattle.cat_eval.specs.Values.{IsFor, IsMeaning, column_len}
 use Rattle.cat_eval.proofs.Visits.{holds_same, empty_same}
 use Rattle.relation_columns.specs.Runs.{rel_at, set_at, no_set}
 use Rattle.why_witness.specs.declared.witness.Witness.{Witness}
 use Rattle.why_witness.specs.Values.{AreValues, IsValueAt, IsGroupOf}
-use Rattle.why_witness.specs.Refusals.{IsRefusal}
+use Rattle.why_witness.specs.Refusals.{IsWitness}
 use Rattle.why_witness.specs.Witnesses.{Breaks, BreaksSet, IsExplanation, IsExplained}
 use Rattle.why_witness.proofs.Same.{breaks_same, breaks_set_same, explanation_same}
 
@@ -34,7 +34,7 @@ use Rattle.why_witness.proofs.Same.{breaks_same, breaks_set_same, explanation_sa
 one_column : (code : Code) (inputs : List (Bor Column)) (space : Space) (body : Body)
     (cs : List Column) (column : Column) → body.code.kind ≡ code.kind
     → body.code.steps.items ≡ code.steps.items
-    → AreColumns false (body ∷ []) inputs (candidates_in space.combinations.items) cs
+    → AreGroupColumns false (body ∷ []) inputs (candidates_in space.combinations.items) cs
     → column ≡ get_or cs 0 column → AreValues code inputs space column
 one_column code inputs space body cs column kind steps h is = record {
   suited = rw (← kind, is) (h.suited 0 (omega arith) body column);
@@ -43,20 +43,20 @@ one_column code inputs space body cs column kind steps h is = record {
 }
   where
     value : (k : ℕ) (one : Candidate)
-        → (s : Events) × (r : Relation) × HasValue (get_or cs 0 column) k s r
-        × IsMeant body.code.kind body.code.steps.items (events_of one)
+        → (s : Events) × (r : Relation) × HasColumnValue (get_or cs 0 column) k s r
+        × IsMeaning body.code.kind body.code.steps.items (events_of one)
         (EventsAt (events_of one) one inputs k) (PairsAt (events_of one) one inputs k) s r
         → IsValueAt code inputs column k one
     value k one (s, r, has, meant) = (
       s,
       r,
-      subst (λ (c : Column). HasValue c k s r) (sym is) has,
+      subst (λ (c : Column). HasColumnValue c k s r) (sym is) has,
       subst
-          (λ (a : Kind). IsMeant a code.steps.items (events_of one)
+          (λ (a : Kind). IsMeaning a code.steps.items (events_of one)
           (EventsAt (events_of one) one inputs k) (PairsAt (events_of one) one inputs k) s r)
           kind
           (subst
-          (λ (xs : List Step). IsMeant body.code.kind xs (events_of one)
+          (λ (xs : List Step). IsMeaning body.code.kind xs (events_of one)
           (EventsAt (events_of one) one inputs k) (PairsAt (events_of one) one inputs k)
           s r) steps meant),
     )
@@ -65,11 +65,11 @@ pub values_of_group : (code : Code) (role : Role) (inputs : List (Bor Column)) (
     (cs : List Column) (column : Column) → IsGroupOf code role → ColumnsOf role inputs space cs
     → column ≡ get_or cs 0 column → AreValues code inputs space column
 values_of_group code role inputs space cs column g h is =
-    let of_bodies : AreColumns false g.bodies.items inputs (candidates_in space.combinations.items) cs = subst (λ (r : Role). ColumnsOf r inputs space cs) g.group h in
+    let of_bodies : AreGroupColumns false g.bodies.items inputs (candidates_in space.combinations.items) cs = subst (λ (r : Role). ColumnsOf r inputs space cs) g.group h in
     one_column code inputs space g.body cs column g.kind g.steps
     (subst
     (λ (bs : List Body).
-    AreColumns false bs inputs (candidates_in space.combinations.items) cs) g.alone
+    AreGroupColumns false bs inputs (candidates_in space.combinations.items) cs) g.alone
     of_bodies) is
 
 module _ (check : CheckCode) (found : Option Witness) (n : ℕ) (sets : Source → ℕ → Type 0)
@@ -93,17 +93,17 @@ module _ (check : CheckCode) (found : Option Witness) (n : ℕ) (sets : Source �
       (holds_same check.word (Has r) R is.pairs) (breaks_same check.word (Has r) R is.pairs) found h
 
   of_relation : (values : List Relation) (kind : Kind) → IsFor kind (columns.Relations values)
-      → IsMeant kind check.code.steps.items n sets outer s r
+      → IsMeaning kind check.code.steps.items n sets outer s r
       → IsExplanation check.negated (Holds check.word (Has r)) (Breaks check.word (Has r)) found
       → IsExplained check n sets outer kind found
   of_relation values kinds.OfSet is meant h = absurd is
   of_relation values kinds.OfRelation is meant h =
-      λ t code. relation_explained (Means n sets (WithOwn outer (Of n [])) t) (meant t code) h
+      λ t code. relation_explained (Means n sets (WithOwn outer (OwnPairs n [])) t) (meant t code) h
   of_relation values kinds.OfAny is meant h =
-      λ t code. relation_explained (Means n sets (WithOwn outer (Of n [])) t) (meant t code) h
+      λ t code. relation_explained (Means n sets (WithOwn outer (OwnPairs n [])) t) (meant t code) h
 
   of_set : (values : List Events) (kind : Kind) → IsFor kind (columns.Sets values)
-      → IsMeant kind check.code.steps.items n sets outer s r
+      → IsMeaning kind check.code.steps.items n sets outer s r
       → IsExplanation check.negated (IsEmptySet (IsMember s)) (BreaksSet (IsMember s)) found
       → IsExplained check n sets outer kind found
   of_set values kinds.OfSet is meant h = λ t code. set_explained t (meant t code) h
@@ -113,7 +113,7 @@ module _ (check : CheckCode) (found : Option Witness) (n : ℕ) (sets : Source �
 pub relation_refused : (check : CheckCode) (values : List Relation) (k : ℕ) (r : Relation)
     (found : Option Witness) → r ≡ rel_at values k
     → IsExplanation check.negated (Holds check.word (Has r)) (Breaks check.word (Has r)) found
-    → IsRefusal check (columns.Relations values) k found
+    → IsWitness check (columns.Relations values) k found
 relation_refused check values k r found is h = λ space inputs one are at.
     let (s, v, has, meant) = are.values k one at in
     let same : r ≡ v = is ∙ get_or_from_slice_get values k v no_slot has in
@@ -126,7 +126,7 @@ relation_refused check values k r found is h = λ space inputs one are at.
 pub set_refused : (check : CheckCode) (values : List Events) (k : ℕ) (s : Events)
     (found : Option Witness) → s ≡ set_at values k
     → IsExplanation check.negated (IsEmptySet (IsMember s)) (BreaksSet (IsMember s)) found
-    → IsRefusal check (columns.Sets values) k found
+    → IsWitness check (columns.Sets values) k found
 set_refused check values k s found is h = λ space inputs one are at.
     let (v, r, has, meant) = are.values k one at in
     let same : s ≡ v = is ∙ get_or_from_slice_get values k v no_set has in

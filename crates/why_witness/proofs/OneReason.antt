@@ -14,11 +14,11 @@ use Rattle.cat_eval.specs.declared.column.Column.{Column}
 use Rattle.cat_eval.specs.Checks.{Holds, IsEmptySet}
 use Rattle.cat_eval.specs.Executions.{events_of, EventsAt, PairsAt}
 use Rattle.cat_eval.specs.Meaning.{MeansSet, Means}
-use Rattle.cat_eval.specs.Named.{WithOwn, Of}
+use Rattle.cat_eval.specs.Named.{WithOwn, OwnPairs}
 use Rattle.why_witness.specs.declared.witness.Witness.{Witness}
 use Rattle.why_witness.specs.declared.witness.Witness.TheVariants as shown
-use Rattle.why_witness.specs.Refusals.{HasOneRefusal}
-use Rattle.why_witness.specs.Witnesses.{AreSame, Breaks, BreaksSet, IsExplained, IsExplanation, IsExpression, IsFirstMember, IsMet, IsSame}
+use Rattle.why_witness.specs.Refusals.{HasOneWitness}
+use Rattle.why_witness.specs.Witnesses.{AreSameWitnesses, Breaks, BreaksSet, IsExplained, IsExplanation, IsExpression, IsFirstMember, IsMet, IsSame}
 use Rattle.why_witness.proofs.Same.{breaks_refutes}
 
 -- of two numbers neither of which is the smaller one
@@ -105,7 +105,7 @@ met_once shown.Met shown.Met p q = tt
 module _ (A : Type 0) (P : Witness → Type 0) (refutes : (w : Witness) → P w → A → ⊥)
     (once : (v w : Witness) → P v → P w → IsSame v w) where
   one_explanation : (negated : Bool) (f g : Option Witness) → IsExplanation negated A P f
-      → IsExplanation negated A P g → AreSame f g
+      → IsExplanation negated A P g → AreSameWitnesses f g
   one_explanation false None None p q = tt
   one_explanation false None (Some w) p q = absurd (refutes w q p)
   one_explanation false (Some v) None p q = absurd (refutes v p q)
@@ -118,15 +118,15 @@ module _ (A : Type 0) (P : Witness → Type 0) (refutes : (w : Witness) → P w 
 module _ (check : CheckCode) (n : ℕ) (sets : Source → ℕ → Type 0) (outer : Source → ℕ → ℕ → Type 0)
     (f g : Option Witness) where
   one_explained : (kind : Kind) → IsExpression kind check.code.steps.items
-      → IsExplained check n sets outer kind f → IsExplained check n sets outer kind g → AreSame f g
+      → IsExplained check n sets outer kind f → IsExplained check n sets outer kind g → AreSameWitnesses f g
   one_explained kinds.OfSet (t, code) p q =
       let S = MeansSet n sets t in one_explanation (IsEmptySet S) (BreaksSet S) (breaks_set_refutes S) (breaks_set_once S) check.negated f g (p t code) (q t code)
   one_explained kinds.OfRelation (t, code) p q =
-      let R = Means n sets (WithOwn outer (Of n [])) t in one_explanation (Holds check.word R) (Breaks check.word R) (breaks_refutes check.word R) (breaks_once check.word R) check.negated f g (p t code) (q t code)
+      let R = Means n sets (WithOwn outer (OwnPairs n [])) t in one_explanation (Holds check.word R) (Breaks check.word R) (breaks_refutes check.word R) (breaks_once check.word R) check.negated f g (p t code) (q t code)
   one_explained kinds.OfAny (t, code) p q =
-      let R = Means n sets (WithOwn outer (Of n [])) t in one_explanation (Holds check.word R) (Breaks check.word R) (breaks_refutes check.word R) (breaks_once check.word R) check.negated f g (p t code) (q t code)
+      let R = Means n sets (WithOwn outer (OwnPairs n [])) t in one_explanation (Holds check.word R) (Breaks check.word R) (breaks_refutes check.word R) (breaks_once check.word R) check.negated f g (p t code) (q t code)
 
-pub one_refusal : (check : CheckCode) (values : Column) (k : ℕ) → HasOneRefusal check values k
+pub one_refusal : (check : CheckCode) (values : Column) (k : ℕ) → HasOneWitness check values k
 one_refusal check values k space inputs one expression are at f g p q =
     one_explained check (events_of one) (EventsAt (events_of one) one inputs k)
     (PairsAt (events_of one) one inputs k) f g check.code.kind expression

@@ -10,16 +10,16 @@ use Rattle.binding_graph.specs.declared.resolved.Role.TheVariants as roles
 use Rattle.candidates.specs.declared.candidate.Space.{Space}
 use Rattle.candidates.specs.Space.{candidates_in, Candidate}
 use Rattle.cat_eval.specs.declared.column.Column.{Column}
-use Rattle.cat_eval.specs.Columns.{HasValue}
+use Rattle.cat_eval.specs.Columns.{HasColumnValue}
 use Rattle.cat_eval.specs.Executions.{events_of, EventsAt, PairsAt}
-use Rattle.cat_eval.specs.Values.{IsFor, IsMeant, column_len}
+use Rattle.cat_eval.specs.Values.{IsFor, IsMeaning, column_len}
 
 -- in the candidate of number k, the column has what the code means, where the names of other items
 -- have the values of the inputs
 abbrev pub IsValueAt : Code → List (Bor Column) → Column → ℕ → Candidate → Type 0
 IsValueAt code inputs column k one =
-    (s : Events) × (r : Relation) × HasValue column k s r
-    × IsMeant code.kind code.steps.items (events_of one) (EventsAt (events_of one) one inputs k)
+    (s : Events) × (r : Relation) × HasColumnValue column k s r
+    × IsMeaning code.kind code.steps.items (events_of one) (EventsAt (events_of one) one inputs k)
     (PairsAt (events_of one) one inputs k) s r
 
 -- the column has a value of the code's kind for each candidate of the space, and it is what the

@@ -12,7 +12,7 @@ use Rattle.binding_graph.specs.declared.resolved.Step.{Step}
 use Rattle.binding_graph.specs.Trees.{SetTree, RelTree, set_code, rel_code}
 use Rattle.cat_eval.specs.Checks.{Holds, IsEmptySet}
 use Rattle.cat_eval.specs.Meaning.{MeansSet, Means}
-use Rattle.cat_eval.specs.Named.{WithOwn, Of}
+use Rattle.cat_eval.specs.Named.{WithOwn, OwnPairs}
 use Rattle.why_witness.specs.declared.witness.Witness.{Witness}
 use Rattle.why_witness.specs.declared.witness.Witness.TheVariants as shown
 
@@ -55,12 +55,12 @@ IsExplained check n sets outer kinds.OfSet found =
     MeansSet n sets t in IsExplanation check.negated (IsEmptySet S) (BreaksSet S) found
 IsExplained check n sets outer kinds.OfRelation found =
     (t : RelTree) → check.code.steps.items ≡ rel_code t [] → let R =
-    Means n sets (WithOwn outer (Of n [])) t in IsExplanation check.negated (Holds check.word R)
-    (Breaks check.word R) found
+    Means n sets (WithOwn outer (OwnPairs n [])) t in IsExplanation check.negated
+    (Holds check.word R) (Breaks check.word R) found
 IsExplained check n sets outer kinds.OfAny found =
     (t : RelTree) → check.code.steps.items ≡ rel_code t [] → let R =
-    Means n sets (WithOwn outer (Of n [])) t in IsExplanation check.negated (Holds check.word R)
-    (Breaks check.word R) found
+    Means n sets (WithOwn outer (OwnPairs n [])) t in IsExplanation check.negated
+    (Holds check.word R) (Breaks check.word R) found
 
 -- ---- that there is one explanation
 
@@ -74,10 +74,10 @@ IsSame shown.Met shown.Met = Unit {0}
 IsSame v w = ⊥
 
 -- both accept, or both refuse by the same
-abbrev pub AreSame : Option Witness → Option Witness → Type 0
-AreSame None None = Unit {0}
-AreSame (Some v) (Some w) = IsSame v w
-AreSame f g = ⊥
+abbrev pub AreSameWitnesses : Option Witness → Option Witness → Type 0
+AreSameWitnesses None None = Unit {0}
+AreSameWitnesses (Some v) (Some w) = IsSame v w
+AreSameWitnesses f g = ⊥
 
 -- the steps are those of an expression of this kind
 abbrev pub IsExpression : Kind → List Step → Type 0

@@ -4,7 +4,7 @@ ghost use Rattle.std.specs.Prelude.{◌≡◌, ◌<◌, IfOk, MatchOption, lengt
 ghost use Rattle.bit_relations.specs.Relation.{Has, IsMember};
 ghost use Rattle.cat_eval.specs.Checks.{Holds, IsEmptySet};
 ghost use Rattle.cat_eval.specs.Values.{column_len};
-ghost use Rattle.why_witness.specs.Refusals.{IsRefusal};
+ghost use Rattle.why_witness.specs.Refusals.{IsWitness};
 ghost use Rattle.why_witness.specs.Witnesses.{Breaks, BreaksSet, IsExplanation};
 ghost use Rattle.relation_columns.specs.Runs.{rel_at, set_at};
 
@@ -130,7 +130,7 @@ pub fn refusal_of(
     candidate: usize,
 ) -> Result<Option<Witness>, AllocError>
     requires { candidate < column_len values.now }
-    ensures { IfOk result (IsRefusal check.now values.now candidate) }
+    ensures { IfOk result (IsWitness check.now values.now candidate) }
 {
     match values {
         Column::Sets(sets) => Ok(set_refusal(check.negated, &member_set(sets, candidate))),

@@ -1,6 +1,6 @@
 use Rattle.std.proofs.Common.{◌≡◌, length, map, reverse, arith}
 use Rattle.binding_kinds.specs.Value.{entry_of, bound_of}
-use Rattle.binding_kinds.specs.Senses.{AreKept}
+use Rattle.binding_kinds.specs.Senses.{HaveSenses}
 use Rattle.binding_kinds.specs.Fits.{AreKnown}
 use Rattle.binding_graph.specs.Usages.{usage_of}
 use Rattle.binding_graph.proofs.Declared.{count_names}
@@ -35,7 +35,7 @@ returns-in_ok-group_item-in-Ok-clause-item c = λ ss kept sound known.
     let s = c.sight_of-sight.ensures in
     let from : c.sight_of-sight.result.from ≡ length (reverse (map entry_of es)) = let n = c.len.ensures in let k = c.args.scope.now.entries.ok in let f = s.from in rw (count_names es) (omega (arith, n, k, f)) in
     let sight = c.sight_of-sight.result in
-    let kept_there : AreKept sight.functions.now ss = rw s.functions kept in
+    let kept_there : HaveSenses sight.functions.now ss = rw s.functions kept in
     let known_there : AreKnown (reverse (map entry_of sight.entries.now)) = rw s.entries known in
     let new = c.clear.ensures in
     let read = c.in_ok-fault.ensures in

@@ -1,7 +1,7 @@
 use Rattle.std.proofs.Common.{◌≡◌, List, length, map, reverse, ap, ◌∙◌, arith}
 use Rattle.binding_kinds.specs.declared.scope.Entry.{Entry}
 use Rattle.binding_kinds.specs.Value.{entry_of, bound_of}
-use Rattle.binding_kinds.specs.Senses.{AreKept}
+use Rattle.binding_kinds.specs.Senses.{HaveSenses}
 use Rattle.binding_kinds.specs.Fits.{AreKnown}
 use Rattle.binding_kinds.proofs.Fitted.{known_own}
 use Rattle.binding_graph.specs.Usages.{usage_of}
@@ -33,7 +33,7 @@ returns-in_ok-group_item-in-Ok-clause-item c = λ ss kept sound known.
     let from : c.sight_of-sight.result.from ≡ length (reverse (map entry_of es)) = let n = c.len-from.ensures in let k = c.args.scope.now.entries.ok in let f = s.from in rw (count_names es) (omega (arith, n, k, f)) in
     let own = ap (λ (l : List Entry). reverse (map entry_of l)) s.entries ∙ c.in_ok-declare_own.ensures in
     let sight = c.sight_of-sight.result in
-    let kept_there : AreKept sight.functions.now ss = rw s.functions kept in
+    let kept_there : HaveSenses sight.functions.now ss = rw s.functions kept in
     let known_there : AreKnown (reverse (map entry_of sight.entries.now)) = rw own (known_own (reverse (map entry_of es)) c.args.index 0 (map bound_of c.args.group.now) known) in
     let new = c.clear.ensures in
     let read = c.in_ok-fault.ensures in

@@ -1,12 +1,12 @@
 use Rattle.binding_kinds.proofs.FirstItem.{judged_items, JudgesItems}
 use Rattle.std.proofs.Common.{ℕ, Option, Some, None, subst, sym, ◌∙◌, ◌≡◌, List}
 use Rattle.binding_kinds.specs.declared.fault.ModelFault.{ModelFault}
-use Rattle.binding_kinds.specs.Value.{Naming, Clause}
+use Rattle.binding_kinds.specs.Value.{Naming, BareItem}
 use Rattle.binding_kinds.specs.Senses.{Sense}
 use Rattle.binding_kinds.specs.First.{first}
 use Rattle.binding_graph.proofs.items.resolve_items.Goals as goal
 
-given : (ss : List Sense) (names : List Naming) (from : ℕ) (cs : List Clause)
+given : (ss : List Sense) (names : List Naming) (from : ℕ) (cs : List BareItem)
     (o : Option ModelFault) → o ≡ first ss names from cs → JudgesItems ss names from cs o
 given ss names from cs o e =
     let P : Option ModelFault → Type 0 = λ q. JudgesItems ss names from cs q in

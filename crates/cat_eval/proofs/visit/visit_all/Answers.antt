@@ -5,7 +5,7 @@ use Rattle.std.proofs.lemmas.Option.{none-some}
 use Rattle.run_combinations.specs.Combinations.{candidates_of}
 use Rattle.run_combinations.proofs.Pairs.{length-candidates}
 use Rattle.candidates.specs.Space.{candidates_in, Candidate}
-use Rattle.cat_eval.specs.Seen.{Known, seen_in, seen_run}
+use Rattle.cat_eval.specs.Seen.{NamedValues, seen_in, seen_run}
 use Rattle.cat_eval.proofs.Entering.{flat_step}
 use Rattle.cat_eval.proofs.Seeing.{first_append, in_run, in_long}
 use Rattle.cat_eval.proofs.visit.visit_all.Goals as goal
@@ -32,7 +32,7 @@ loop-combination-preserved g c = λ given.
     (rw c.deref-combination-items.ensures.value at c.combination-item.is) in
     let seen_so : seen_in named 0 (candidates_in (take (index + 1) combinations)) ≡ seen_in named 0 so_far ++ seen_run named (length (seen_in named 0 so_far)) (length one.events.items) (length one.sources.items * length one.orders) =
     ap (seen_in named 0) grown ∙ first_append named so_far (map (λ t. (one, t)) (candidates_of one))
-    ∙ ap (λ (ks : List Known). seen_in named 0 so_far ++ ks)
+    ∙ ap (λ (ks : List NamedValues). seen_in named 0 so_far ++ ks)
     (in_run named (length so_far) one (candidates_of one)
     ∙ ap (λ (m : ℕ). seen_run named (length so_far) (length one.events.items) m) many
     ∙ ap

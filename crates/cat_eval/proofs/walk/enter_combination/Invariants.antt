@@ -3,12 +3,12 @@ use Rattle.std.specs.Prelude.{IsTrue}
 use Rattle.base_names.specs.Known.{Known}
 use Rattle.cat_eval.specs.Candidates.{reading_in}
 use Rattle.cat_eval.specs.Steady.{EndsWith}
-use Rattle.cat_eval.specs.Worlds.{IsReady, AreWorlds}
+use Rattle.cat_eval.specs.Worlds.{IsBaseReady, AreWorlds}
 use Rattle.cat_eval.proofs.walk.enter_combination.Given as goal
 
 abbrev pub invariant-loop-sources : goal.invariant-loop-sources
 invariant-loop-sources g l =
-    IsReady l.needs.names.items l.base l.combination
+    IsBaseReady l.needs.names.items l.base l.combination
     × ((first : _) (bases : List Known) → (IsTrue l.initial.again → EndsWith bases l.initial.base)
     → g.V.Enter.has_taken first bases l.initial.visitor
     → (more : List Known)

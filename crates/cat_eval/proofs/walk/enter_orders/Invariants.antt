@@ -4,12 +4,12 @@ use Rattle.base_names.specs.Known.{Known}
 use Rattle.base_names.specs.Candidate.{HasReadsFrom, HasCoherence}
 use Rattle.cat_eval.specs.Candidates.{reading_so}
 use Rattle.cat_eval.specs.Steady.{EndsWith}
-use Rattle.cat_eval.specs.Worlds.{IsReady, AreWorlds}
+use Rattle.cat_eval.specs.Worlds.{IsBaseReady, AreWorlds}
 use Rattle.cat_eval.proofs.walk.enter_orders.Given as goal
 
 abbrev pub invariant-loop-index : goal.invariant-loop-index
 invariant-loop-index g l =
-    IsReady l.needs.names.items l.base l.combination
+    IsBaseReady l.needs.names.items l.base l.combination
     × ((sources : List ℕ) → HasReadsFrom l.initial.base l.combination sources
     → HasReadsFrom l.base l.combination sources)
     × ((sources : List ℕ) → (IsTrue l.needs.reads → HasReadsFrom l.initial.base l.combination sources)

@@ -4,13 +4,13 @@ use Rattle.base_names.specs.Known.{Known, IsConsistent}
 use Rattle.base_names.specs.Candidate.{IsEntered}
 use Rattle.cat_eval.specs.Candidates.{of_combinations}
 use Rattle.cat_eval.specs.Steady.{EndsWith}
-use Rattle.cat_eval.specs.Worlds.{AreHeld, AreWorlds}
+use Rattle.cat_eval.specs.Worlds.{AreNamesHeld, AreWorlds}
 use Rattle.cat_eval.proofs.walk.enter_space.Given as goal
 
 abbrev pub invariant-loop-combination : goal.invariant-loop-combination
 invariant-loop-combination g l =
     IsConsistent l.base
-    × AreHeld l.needs.names.items l.base
+    × AreNamesHeld l.needs.names.items l.base
     × IfSome l.entered (λ earlier. IsEntered l.base earlier.now)
     × (g.V.Enter.has_taken l.initial.visitor [] l.initial.visitor
     → (bases : List Known)

@@ -1,6 +1,6 @@
 use Rattle.std.proofs.Common.{ℕ, ◌≡◌, length, arith, subst}
 use Rattle.text_values.specs.ModelValues.{clauses_of}
-use Rattle.draw_relations.specs.Values.{AreShown, NoName}
+use Rattle.draw_relations.specs.Values.{AreValuesBefore, NoName}
 use Rattle.draw_relations.proofs.Coding.{shown_step, sized_step}
 use Rattle.draw_relations.proofs.values.found_values.Goals as goal
 
@@ -38,7 +38,7 @@ returns c =
     let full : c.loop-index.index ≡ length names = omega (arith, c.loop-index-test.false, c.loop-index.auto.index-end) in
     record {
       all =
-          subst (λ (k : ℕ). AreShown space clauses names k c.loop-index.values.items) full
+          subst (λ (k : ℕ). AreValuesBefore space clauses names k c.loop-index.values.items) full
           c.loop-index.invariant.shown;
       sized = c.loop-index.invariant.sized;
     }

@@ -3,7 +3,7 @@ use Rattle.std.proofs.lemmas.Result.{IfOk-weaker}
 use Rattle.text_values.specs.ModelValues.{clauses_of}
 use Rattle.draw_relations.specs.declared.names.ShownName.{ShownName}
 use Rattle.draw_relations.specs.Shown.{names_shown}
-use Rattle.draw_relations.specs.Values.{AreShown}
+use Rattle.draw_relations.specs.Values.{AreValuesBefore}
 use Rattle.draw_relations.proofs.values.shown_values.Goals as goal
 
 pub returns : goal.returns
@@ -16,7 +16,7 @@ returns c =
       all =
           IfOk-weaker c.found_values.result _ _
           (λ v h.
-          subst (λ (xs : List ShownName). AreShown space clauses xs (length xs) v.items) same h)
+          subst (λ (xs : List ShownName). AreValuesBefore space clauses xs (length xs) v.items) same h)
           found;
       sized = c.found_values.ensures.sized;
     }

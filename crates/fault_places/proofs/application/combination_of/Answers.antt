@@ -2,7 +2,7 @@ use Rattle.std.proofs.Common.{◌≡◌, ℕ, ◌+◌, ◌-◌, map, reverse, dr
 use Rattle.text_values.specs.ModelValue.{gathered}
 use Rattle.text_values.specs.ModelValues.{term_of}
 use Rattle.binding_kinds.specs.Value.{entry_of}
-use Rattle.binding_kinds.specs.Combinations.{number_of}
+use Rattle.binding_kinds.specs.Combinations.{kinds_number}
 use Rattle.binding_kinds.specs.Senses.{kinds_in}
 use Rattle.fault_places.proofs.Own.{combined_before}
 use Rattle.fault_places.proofs.application.combination_of.Goals as goal
@@ -24,7 +24,7 @@ arguments-preserved c =
           (c.arguments.invariant.combined ss kept few
           ∙ ap
           (λ (n : ℕ).
-          number_of (kinds_in ss names (gathered (map term_of (drop n xs)))))
+          kinds_number (kinds_in ss names (gathered (map term_of (drop n xs)))))
           before)
           (λ small. omega (
             arith,

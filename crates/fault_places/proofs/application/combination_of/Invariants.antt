@@ -2,16 +2,16 @@ use Rattle.std.proofs.Common.{◌≡◌, ◌≤◌, List, length, map, drop, rev
 use Rattle.text_values.specs.ModelValue.{gathered}
 use Rattle.text_values.specs.ModelValues.{term_of}
 use Rattle.binding_kinds.specs.Value.{entry_of}
-use Rattle.binding_kinds.specs.Combinations.{number_of}
-use Rattle.binding_kinds.specs.Senses.{Sense, AreKept, kinds_in}
+use Rattle.binding_kinds.specs.Combinations.{kinds_number}
+use Rattle.binding_kinds.specs.Senses.{Sense, HaveSenses, kinds_in}
 use Rattle.fault_places.proofs.application.combination_of.Given as goal
 
 abbrev pub invariant-arguments : goal.invariant-arguments
 invariant-arguments l = record {
   within : l.end ≤ length l.arguments;
-  combined : (senses : List Sense) → AreKept l.functions senses → length l.arguments ≤ 8
+  combined : (senses : List Sense) → HaveSenses l.functions senses → length l.arguments ≤ 8
       → l.combination
-      ≡ number_of (kinds_in senses (reverse (map entry_of l.entries))
+      ≡ kinds_number (kinds_in senses (reverse (map entry_of l.entries))
       (gathered (map term_of (drop l.end l.arguments))));
 }
 

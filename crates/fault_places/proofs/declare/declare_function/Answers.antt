@@ -5,7 +5,7 @@ use Rattle.binding_kinds.specs.declared.kinds.Kind.TheVariants.{OfAny}
 use Rattle.binding_kinds.specs.declared.scope.Entry.{Entry}
 use Rattle.binding_kinds.specs.declared.scope.Binder.TheVariants as binders
 use Rattle.binding_kinds.specs.Value.{entry_of}
-use Rattle.binding_kinds.specs.Senses.{IsKept, AreKept}
+use Rattle.binding_kinds.specs.Senses.{HasSense, HaveSenses}
 use Rattle.binding_kinds.specs.Functions.{sense_of_function}
 use Rattle.binding_kinds.proofs.FirstItem.{few_parameters}
 use Rattle.fault_places.specs.Search.{signed_fault_of}
@@ -25,7 +25,7 @@ returns-clause-functions c = λ ss kept none.
     let ps = c.args.parameters.now in
     let fault : c.parameters_fault-fault.result ≡ None = none_of c.parameters_fault-fault.result (sym c.if-is_some.ensures) in
     let few : length ps ≤ 8 = few_parameters ps (no_parameter [] ps (sym c.parameters_fault-fault.ensures ∙ ap (option_map signed_fault_of) fault)) in
-    let kept_there : AreKept c.deref-2.result.now ss = rw c.deref-2.ensures.value kept in
-    let one : IsKept c.in_ok-function.function (sense_of_function ss (reverse (map entry_of c.args.scope.now.entries.items)) ps (term_of c.args.body.now)) = rw c.deref.ensures.value at (c.in_ok-function.ensures.kept ss kept_there few) in
+    let kept_there : HaveSenses c.deref-2.result.now ss = rw c.deref-2.ensures.value kept in
+    let one : HasSense c.in_ok-function.function (sense_of_function ss (reverse (map entry_of c.args.scope.now.entries.items)) ps (term_of c.args.body.now)) = rw c.deref.ensures.value at (c.in_ok-function.ensures.kept ss kept_there few) in
     functions_more c.args.scope.now.functions.items _ ss c.in_ok-function.function _ kept
     c.in_ok-push.ensures.items one

@@ -3,13 +3,13 @@ use Rattle.std.proofs.lemmas.Result.{IfOk-weaker}
 use Rattle.candidates.specs.declared.candidate.Space.{Space}
 use Rattle.cat_eval.specs.Tables.{IsOver}
 use Rattle.verdict.specs.declared.answer.Refusal.TheVariants as refusals
-use Rattle.from_scratch.specs.Cell.{IsSaid, IsCell}
+use Rattle.from_scratch.specs.Cell.{IsSaidFromSome, IsCell}
 use Rattle.from_scratch.proofs.Cells.{cell_said, cell_refused, model_over}
 use Rattle.from_scratch.proofs.suite.over_space.Goals as goal
 
 pub returns-in-Ok-clause-cell : goal.returns-in-Ok-clause-cell
 returns-in-Ok-clause-cell c =
-    IfOk-weaker c.evaluated.result (IsSaid c.in-Ok.space c.args.test.now) (IsCell c.args.test.now)
+    IfOk-weaker c.evaluated.result (IsSaidFromSome c.in-Ok.space c.args.test.now) (IsCell c.args.test.now)
     (λ o h. cell_said c.args.test.now c.in-Ok.space o (rw c.in-Ok.is at c.requires.space) h)
     c.evaluated.ensures.said
 

@@ -1,7 +1,7 @@
 use Rattle.std.proofs.Common.{◌≡◌, sym, subst, ap, ◌∙◌}
 use Rattle.text_values.specs.TestValue.{Join, formula_of}
 use Rattle.text_values.specs.declared.test.Proposition as text
-use Rattle.verdict.specs.Compiled.{Means}
+use Rattle.verdict.specs.Compiled.{Compiles}
 use Rattle.verdict.specs.declared.formula.Formula as code
 use Rattle.verdict.proofs.Atoms.{both_meant}
 use Rattle.verdict.proofs.formula.+formula_over.Goals as goal
@@ -23,10 +23,10 @@ returns-in_ok-right-in-Joined t c =
     (formula_of c.args.proposition.now)
     c.in_ok-left-in-Joined.left.value c.in_ok-right-in-Joined.right.value is
     (subst
-    (λ (f : code.Formula). Means c.args.locations.now c.args.places.now
+    (λ (f : code.Formula). Compiles c.args.locations.now c.args.places.now
     (formula_of c.deref-in-Joined.result.now) f)
     (sym c.in_ok-left-in-Joined.ensures.ok) c.in_ok-formula_over-in-Joined.ensures)
     (subst
-    (λ (f : code.Formula). Means c.args.locations.now c.args.places.now
+    (λ (f : code.Formula). Compiles c.args.locations.now c.args.places.now
     (formula_of c.deref-in-Joined-2.result.now) f)
     (sym c.in_ok-right-in-Joined.ensures.ok) c.in_ok-formula_over-in-Joined-2.ensures)

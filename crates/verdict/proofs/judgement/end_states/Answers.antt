@@ -2,7 +2,7 @@ use Rattle.std.proofs.Common.{◌≡◌, ℕ, ◌-◌, ◌^◌, ◌++◌, min, L
 use Rattle.std.specs.List.{All}
 use Rattle.text_values.specs.TestValue.{Formula, formula_of}
 use Rattle.candidates.specs.Space.{shown_in}
-use Rattle.verdict.specs.Compiled.{Means}
+use Rattle.verdict.specs.Compiled.{Compiles}
 use Rattle.verdict.specs.Counting.{count_kept, tally}
 use Rattle.verdict.specs.Evaluated.{IsWorded}
 use Rattle.verdict.specs.Final.{final_state}
@@ -17,12 +17,12 @@ pub returns : goal.returns
 returns c =
     let p : Formula = formula_of c.args.condition.now.proposition in
     let are : AreShown c.args.space.now.locations.items (places_of p ++ c.args.observed.now) c.in_ok-places.places.items = subst (λ (l : List (List ℕ)). AreShown l (places_of p ++ c.args.observed.now) c.in_ok-places.places.items) c.deref.ensures.value c.in_ok-places.ensures in
-    let means : Means c.args.space.now.locations.items c.in_ok-places.places.items p c.in_ok-formula.formula =
+    let means : Compiles c.args.space.now.locations.items c.in_ok-places.places.items p c.in_ok-formula.formula =
     subst
     (λ (l : List ShownPlace).
-    Means c.args.space.now.locations.items l p c.in_ok-formula.formula)
+    Compiles c.args.space.now.locations.items l p c.in_ok-formula.formula)
     c.deref-2.ensures.value
-    (subst (λ (l : List (List ℕ)). Means l c.deref-2.result.now p c.in_ok-formula.formula)
+    (subst (λ (l : List (List ℕ)). Compiles l c.deref-2.result.now p c.in_ok-formula.formula)
     c.deref-3.ensures.value c.in_ok-formula.ensures) in
     let tallies : (v : List FinalValue) → tally c.in_ok-counts.counts.entries v ≡ min (count_kept (λ x. is_state v (final_state c.in_ok-places.places.items x)) c.args.kept.now (shown_in c.args.space.now)) (2 ^ 64 - 1) = λ v.
     c.in_ok-counts.ensures.tally v

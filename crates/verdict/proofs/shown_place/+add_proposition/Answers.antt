@@ -4,7 +4,7 @@ use Rattle.text_values.specs.TestValue.{formula_of}
 use Rattle.text_values.specs.declared.test.Place.{Place}
 use Rattle.text_values.specs.declared.test.Proposition as code
 use Rattle.verdict.specs.Meaning.{places_of}
-use Rattle.verdict.specs.Shown.{known_places, Adds}
+use Rattle.verdict.specs.Shown.{known_places, AddsPlaces}
 use Rattle.verdict.proofs.Places.{added_twice}
 use Rattle.verdict.proofs.shown_place.+add_proposition.Goals as goal
 
@@ -22,7 +22,7 @@ returns-in_ok-add_proposition-in-Joined t c =
     (sym c.deref-in-Joined-2.ensures) in
     on_ok_weaker c.add_proposition-in-Joined-2.result
     (λ more. subst
-    (λ (l : List Place). Adds c.args.shown.now.keys c.add_proposition-in-Joined-2.new.shown.keys
+    (λ (l : List Place). AddsPlaces c.args.shown.now.keys c.add_proposition-in-Joined-2.new.shown.keys
     (known_places c.args.locations.now l))
     (sym both)
     (added_twice c.args.locations.now c.args.shown.now.keys

@@ -3,7 +3,7 @@ use Rattle.std.proofs.lemmas.Result.{IfOk-weaker}
 use Rattle.text_values.specs.TestValue.{formula_of}
 use Rattle.text_values.specs.declared.test.Place.{Place}
 use Rattle.verdict.specs.Meaning.{places_of}
-use Rattle.verdict.specs.Shown.{known_places, Adds}
+use Rattle.verdict.specs.Shown.{known_places, AddsPlaces}
 use Rattle.verdict.specs.declared.shown_place.ShownPlace.{ShownPlace}
 use Rattle.verdict.proofs.Places.{one_place_more, all_shown}
 use Rattle.verdict.proofs.shown_place.shown_places.Goals as goal
@@ -14,7 +14,7 @@ loop-place-preserved c =
     (places_of (formula_of c.args.proposition.now)) c.args.observed.now c.loop-place.place-index
     c.place-item.result c.loop-place-test.true c.loop-place.invariant
     (subst
-    (λ (x : Place). Adds c.loop-place.shown.keys c.add_place.new.shown.keys
+    (λ (x : Place). AddsPlaces c.loop-place.shown.keys c.add_place.new.shown.keys
     (known_places c.args.locations.now (x ∷ []))) c.place-item.is
     c.in_ok-add_place.ensures)
 

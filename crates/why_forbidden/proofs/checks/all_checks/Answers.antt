@@ -4,7 +4,7 @@ use Rattle.std.proofs.lemmas.List.{append-nil, take_all}
 use Rattle.std.proofs.lemmas.List.Elements.{All-push}
 use Rattle.std.proofs.lemmas.Option.{slice_get_read}
 use Rattle.why_forbidden.specs.declared.checks.CheckValues.{CheckValues}
-use Rattle.why_forbidden.specs.Checked.{IsChecked, check_indexes, items_of}
+use Rattle.why_forbidden.specs.Checked.{IsChecked, check_indexes, checked_items}
 use Rattle.why_forbidden.proofs.Listing.{listed}
 use Rattle.why_forbidden.proofs.checks.all_checks.Goals as goal
 use Rattle.why_forbidden.proofs.checks.all_checks.Goals.{in-Some+in_ok-push, in_default}
@@ -16,7 +16,7 @@ loop-index-preserved c =
     let checks : List CheckValues = c.loop-index.checks.items in
     let P = IsChecked c.args.space.now c.args.columns.now items in
     let at = slice_get_read items (length items) i c.index-items-index.result refl (omega arith) c.index-items-index.is in
-    let Goal : List CheckValues → Type 0 = λ xs. All P xs × (items_of xs ≡ check_indexes 0 (take (i + 1) items)) in
+    let Goal : List CheckValues → Type 0 = λ xs. All P xs × (checked_items xs ≡ check_indexes 0 (take (i + 1) items)) in
     elim c.match-branch-2.branch [
       | in-Some+in_ok-push w ↦
           let one = rw w.in-Some.is at c.in_ok-check.ensures.checked in
@@ -31,7 +31,7 @@ loop-index-preserved c =
           subst Goal (sym (ap (λ v. v.items) w.checks-is)) (
             c.loop-index.invariant.0,
             subst
-                (λ (xs : List CheckValues). items_of xs
+                (λ (xs : List CheckValues). checked_items xs
                 ≡ check_indexes 0 (take (i + 1) items)) same all,
           )
     ]

@@ -4,7 +4,7 @@ use Rattle.std.proofs.lemmas.List.{append-nil, take_all}
 use Rattle.std.proofs.lemmas.List.Elements.{All-push}
 use Rattle.text_values.specs.declared.predefined.Predefined.{Predefined}
 use Rattle.why_labels.specs.declared.label.PredefinedValue.{PredefinedValue}
-use Rattle.why_forbidden.specs.Language.{IsOfLanguage, names_in, relation_names}
+use Rattle.why_forbidden.specs.Language.{IsOfLanguage, valued_names, relation_names}
 use Rattle.why_forbidden.proofs.Listing.{adds, adds_none, named}
 use Rattle.why_forbidden.proofs.labels.relation_values.Goals as goal
 use Rattle.why_forbidden.proofs.labels.relation_values.Goals.{then-not-is_set+in_ok-predefined_value+in_ok-push, else-not-is_set}
@@ -15,7 +15,7 @@ loop-index-preserved c =
     let i : ℕ = c.loop-index.index in
     let values : List PredefinedValue = c.loop-index.values.items in
     let P = IsOfLanguage c.args.space.now in
-    let Goal : List PredefinedValue → Type 0 = λ xs. All P xs × (names_in xs ≡ relation_names (take (i + 1) names)) in
+    let Goal : List PredefinedValue → Type 0 = λ xs. All P xs × (valued_names xs ≡ relation_names (take (i + 1) names)) in
     elim c.if-not-is_set.branch [
       | then-not-is_set+in_ok-predefined_value+in_ok-push w ↦
           let v = w.in_ok-predefined_value.field-0 in
@@ -30,7 +30,7 @@ loop-index-preserved c =
           subst Goal (sym (ap (λ v. v.items) w.values-is)) (
             c.loop-index.invariant.0,
             subst
-                (λ (xs : List PredefinedValue). names_in xs
+                (λ (xs : List PredefinedValue). valued_names xs
                 ≡ relation_names (take (i + 1) names)) same all,
           )
     ]

@@ -1,9 +1,9 @@
 use Rattle.std.proofs.Common.{◌≡◌, take}
 use Rattle.std.specs.List.{All}
-use Rattle.why_forbidden.specs.Language.{IsOfLanguage, names_in, relation_names}
+use Rattle.why_forbidden.specs.Language.{IsOfLanguage, valued_names, relation_names}
 use Rattle.why_forbidden.proofs.labels.relation_values.Given as goal
 
 abbrev pub invariant-loop-index : goal.invariant-loop-index
 invariant-loop-index l =
     All (IsOfLanguage l.space) l.values.items
-    × (names_in l.values.items ≡ relation_names (take l.index l.names))
+    × (valued_names l.values.items ≡ relation_names (take l.index l.names))

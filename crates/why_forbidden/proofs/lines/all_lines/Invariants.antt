@@ -2,10 +2,10 @@ use Rattle.std.proofs.Common.{take}
 use Rattle.std.specs.List.{AllZip}
 use Rattle.bit_relations.specs.Relation.{IsMember}
 use Rattle.candidates.specs.Space.{Candidate}
-use Rattle.why_forbidden.specs.Drawings.{AreLines, IsAt, relations}
+use Rattle.why_forbidden.specs.Drawings.{AreLines, IsCandidateAt, relations}
 use Rattle.why_forbidden.proofs.lines.all_lines.Given as goal
 
 abbrev pub invariant-loop-index : goal.invariant-loop-index
 invariant-loop-index l =
-    (one : Candidate) → IsAt l.space l.candidate one
+    (one : Candidate) → IsCandidateAt l.space l.candidate one
     → AllZip (AreLines one (IsMember l.drawn)) (take l.index relations) l.lines.items

@@ -1,6 +1,6 @@
 use Rattle.std.proofs.Common.{◌∙◌, refl}
 use Rattle.bit_relations.specs.Relation.{Has, IsMember}
-use Rattle.why_forbidden.specs.Drawings.{PairsOf}
+use Rattle.why_forbidden.specs.Drawings.{PairsOfName}
 use Rattle.why_forbidden.proofs.Pairing.{edges_as}
 use Rattle.why_forbidden.proofs.lines.lines_of.Goals as goal
 
@@ -12,6 +12,6 @@ returns c = λ one is.
       name = c.in_ok-name.ensures.items ∙ c.spelling.ensures;
       ink = refl;
       pairs =
-          edges_as S S (Has c.relation_of-pairs.result) (PairsOf one c.args.relation.now.value.name)
+          edges_as S S (Has c.relation_of-pairs.result) (PairsOfName one c.args.relation.now.value.name)
           (λ a. ((λ x. x), (λ x. x))) found.pairs c.in_ok-pairs.pairs.items c.in_ok-pairs.ensures;
     }

@@ -4,7 +4,7 @@ use Rattle.std.proofs.lemmas.List.{map-append, take_more}
 use Rattle.binding_graph.proofs.Labels.{zip_push}
 use Rattle.why_text.specs.declared.reason.ToldStep.{ToldStep}
 use Rattle.why_forbidden.specs.declared.telling.Leg.{Leg}
-use Rattle.why_forbidden.specs.Steps.{StepLeg, IsStep}
+use Rattle.why_forbidden.specs.Steps.{StepLeg, IsToldStep}
 use Rattle.why_forbidden.specs.Views.{judgement_of, leg_of}
 use Rattle.why_forbidden.proofs.telling.steps_to.Goals as goal
 
@@ -13,7 +13,7 @@ loop-leg-preserved c =
     let legs : List Leg = c.deref-leg-items.result.now in
     let i : ℕ = c.loop-leg.leg-index in
     let leg : Leg = c.leg-item.result in
-    let R = IsStep (judgement_of c.args.judged c.args.is_deep) c.args.item c.args.candidate in
+    let R = IsToldStep (judgement_of c.args.judged c.args.is_deep) c.args.item c.args.candidate in
     let next : map leg_of (take (i + 1) legs) ≡ map leg_of (take i legs) ++ leg_of leg ∷ [] =
     ap (map leg_of) (take_more legs i leg (omega arith)
     ∙ ap (λ (y : Leg). take i legs ++ y ∷ []) (sym c.leg-item.is))

@@ -1,13 +1,13 @@
 use Rattle.std.proofs.Common.{◌≡◌, drop, reverse}
 use Rattle.binding_graph.specs.Inputs.{IsIndexed}
-use Rattle.binding_graph.specs.Usages.{all_noted}
+use Rattle.binding_graph.specs.Usages.{with_all_used}
 use Rattle.binding_graph.proofs.uses.Uses.note_all.Given as goal
 
 abbrev pub invariant-loop-value : goal.invariant-loop-value
 invariant-loop-value l = record {
   uses : IsIndexed l.fn.self.indexes.items l.fn.self.values.items
-      → all_noted (reverse l.self.values.items) (drop l.value-index l.values)
-      ≡ all_noted (reverse l.fn.self.values.items) l.values;
+      → with_all_used (reverse l.self.values.items) (drop l.value-index l.values)
+      ≡ with_all_used (reverse l.fn.self.values.items) l.values;
   indexed : IsIndexed l.fn.self.indexes.items l.fn.self.values.items
       → IsIndexed l.self.indexes.items l.self.values.items;
   functions : l.self.functions ≡ l.fn.self.functions;

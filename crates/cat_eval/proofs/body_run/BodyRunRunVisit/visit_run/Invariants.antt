@@ -1,6 +1,6 @@
 use Rattle.std.proofs.Common.{◌≡◌, ◌≤◌, ◌-◌, ◌++◌, List, length}
 use Rattle.cat_eval.specs.Runs.{IsBodyAt}
-use Rattle.cat_eval.specs.Seen.{Known, seen_run}
+use Rattle.cat_eval.specs.Seen.{NamedValues, seen_run}
 use Rattle.cat_eval.specs.Values.{column_len}
 use Rattle.cat_eval.proofs.body_run.BodyRunRunVisit.visit_run.Given as goal
 
@@ -10,7 +10,7 @@ invariant-runs l = record {
   inputs : l.self.inputs ≡ l.initial.self.inputs;
   more : column_len l.initial.self.column ≤ column_len l.self.column;
   within : column_len l.self.column ≤ l.stop;
-  at : (bases : List Known)
+  at : (bases : List NamedValues)
       → IsBodyAt l.named l.initial.self.body.now l.initial.self.inputs.now bases l.initial.self
       → IsBodyAt l.named l.initial.self.body.now l.initial.self.inputs.now
       (bases

@@ -1,5 +1,5 @@
 use Rattle.std.proofs.Common.{◌∙◌, [], reverse, refl}
-use Rattle.cat_eval.specs.Named.{EventsIn, PairsOutside, WithOwn, Of}
+use Rattle.cat_eval.specs.Named.{EventsIn, PairsOutside, WithOwn, OwnPairs}
 use Rattle.cat_eval.proofs.Evaluated.{relation_left, set_left}
 use Rattle.cat_eval.proofs.Visits.{answer_is}
 use Rattle.cat_eval.proofs.check.CheckRun.evaluated.Goals as goal
@@ -12,7 +12,7 @@ returns c =
     let inputs = run.inputs.now in
     let k = c.args.candidate in
     let events = EventsIn base inputs k in
-    let pairs = WithOwn (PairsOutside base inputs k) (Of base.count []) in
+    let pairs = WithOwn (PairsOutside base inputs k) (OwnPairs base.count []) in
     let us = reverse c.run.new.self.sets.items in
     let vs = c.run.new.self.relations in
     answer_is check inputs base k c.is_as_asked-met.result us vs

@@ -3,7 +3,7 @@ use Rattle.std.proofs.lemmas.List.{get_or_default}
 use Rattle.text_values.specs.declared.predefined.Predefined.TheVariants as names
 use Rattle.binding_graph.specs.declared.resolved.Source.TheVariants as sources
 use Rattle.binding_graph.specs.declared.resolved.Step.TheVariants as steps
-use Rattle.cat_eval.specs.Needed.{changes_with_reads, changes_with_orders, step_passes, step_names, names_in}
+use Rattle.cat_eval.specs.Needed.{changes_with_reads, changes_with_orders, step_passes, step_names, predefined_names_in}
 use Rattle.cat_eval.proofs.Entering.{flat_step}
 use Rattle.cat_eval.proofs.Listed.{any_more, listed_more}
 use Rattle.cat_eval.proofs.needs.Needs.add_all.Goals as goal
@@ -24,5 +24,5 @@ loop-step-preserved c =
           new.orders c.loop-step-test.true is l.invariant.1 added.changes.1,
       rw (flat_step step_names xs l.step-index step c.loop-step-test.true is)
           (listed_more old.names.items l.self.names.items new.names.items
-          (names_in (take l.step-index xs)) (step_names step) l.invariant.2 added.names),
+          (predefined_names_in (take l.step-index xs)) (step_names step) l.invariant.2 added.names),
     )

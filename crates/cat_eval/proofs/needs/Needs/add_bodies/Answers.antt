@@ -1,5 +1,5 @@
 use Rattle.std.proofs.Common.{take}
-use Rattle.cat_eval.specs.Needed.{steps_read, steps_order, names_in, bodies_names}
+use Rattle.cat_eval.specs.Needed.{steps_read, steps_order, predefined_names_in, bodies_names}
 use Rattle.cat_eval.proofs.Entering.{flat_step}
 use Rattle.cat_eval.proofs.Listed.{any_more, listed_more}
 use Rattle.cat_eval.proofs.needs.Needs.add_bodies.Goals as goal
@@ -17,9 +17,9 @@ loop-body-preserved c =
       any_more (λ one. steps_order one.code.steps.items) xs l.body-index body old.orders
           l.self.orders new.orders c.loop-body-test.true c.body-item.is l.invariant.1
           added.changes.1,
-      rw (flat_step (λ one. names_in one.code.steps.items) xs l.body-index body
+      rw (flat_step (λ one. predefined_names_in one.code.steps.items) xs l.body-index body
           c.loop-body-test.true c.body-item.is)
           (listed_more old.names.items l.self.names.items new.names.items
-          (bodies_names (take l.body-index xs)) (names_in body.code.steps.items)
+          (bodies_names (take l.body-index xs)) (predefined_names_in body.code.steps.items)
           l.invariant.2 added.names),
     )

@@ -2,7 +2,7 @@ use Rattle.std.proofs.Common.{◌≡◌, ◌<◌, ◌≤◌, ◌^◌, List}
 use Rattle.binding_graph.specs.Trees.{RelTree}
 use Rattle.cat_eval.specs.Least.{AreMonotone}
 use Rattle.cat_eval.specs.Named.{EventsIn, PairsOutside}
-use Rattle.cat_eval.specs.Rising.{AreCodes, IsRound, rooms}
+use Rattle.cat_eval.specs.Rising.{AreCodes, IsFixpointRound, rooms}
 use Rattle.cat_eval.proofs.solver.Solver.round.Given as goal
 
 abbrev pub invariant-loop-position : goal.invariant-loop-position
@@ -11,7 +11,7 @@ invariant-loop-position l =
     × (rooms l.self.own.items ≤ rooms l.initial.self.own.items)
     × (l.grew < 2 ^ 64)
     × ((trees : List RelTree) → AreCodes trees l.bodies → AreMonotone trees
-    → IsRound l.base.count (EventsIn l.base l.inputs l.candidate)
+    → IsFixpointRound l.base.count (EventsIn l.base l.inputs l.candidate)
     (PairsOutside l.base l.inputs l.candidate) trees l.initial.self.own.items l.names 0 0
-    → IsRound l.base.count (EventsIn l.base l.inputs l.candidate)
+    → IsFixpointRound l.base.count (EventsIn l.base l.inputs l.candidate)
     (PairsOutside l.base l.inputs l.candidate) trees l.self.own.items l.names l.position l.grew)

@@ -2,7 +2,7 @@ use Rattle.std.proofs.Common.{◌≡◌, List, length}
 use Rattle.binding_graph.specs.Trees.{RelTree}
 use Rattle.cat_eval.specs.Least.{AreMonotone}
 use Rattle.cat_eval.specs.Named.{EventsIn, PairsOutside}
-use Rattle.cat_eval.specs.Rising.{AreCodes, IsRound, rooms}
+use Rattle.cat_eval.specs.Rising.{AreCodes, IsFixpointRound, rooms}
 use Rattle.cat_eval.proofs.solver.Solver.solve.Given as goal
 
 abbrev pub invariant-rounds : goal.invariant-rounds
@@ -10,7 +10,7 @@ invariant-rounds l =
     (length l.self.own.items ≡ length l.initial.self.own.items)
     × ((trees : List RelTree) → AreCodes trees l.bodies → AreMonotone trees
     → length l.initial.self.own.items ≡ length l.bodies
-    → IsRound l.base.count (EventsIn l.base l.inputs l.candidate)
+    → IsFixpointRound l.base.count (EventsIn l.base l.inputs l.candidate)
     (PairsOutside l.base l.inputs l.candidate) trees l.self.own.items l.names 0 0)
 
 abbrev pub decreases-rounds : goal.decreases-rounds

@@ -2,7 +2,7 @@ use Rattle.std.proofs.Common.{◌∙◌, ◌++◌, ◌∷◌, [], inl, inr, ap, 
 use Rattle.std.proofs.lemmas.Bool.{cases_eq}
 use Rattle.std.specs.Prelude.{slice_index_or}
 use Rattle.cat_eval.specs.declared.table.Entry.{Entry}
-use Rattle.cat_eval.specs.Tables.{IsFilled}
+use Rattle.cat_eval.specs.Tables.{IsEntryFilled}
 use Rattle.cat_eval.proofs.Filling.{names_same}
 use Rattle.cat_eval.proofs.table.NameRunEnter.enter.Goals as goal
 
@@ -28,9 +28,9 @@ loop-index-preserved c =
           ∙ before.2 j (omega (arith, ge)) d),
       (λ bases ends reordered filled j lt d. elim (cases_eq j at) [
         | inl same ↦
-            let old : IsFilled (slice_index_or c.loop-index.self.entries.items at d) bases = subst (λ (x : Entry). IsFilled x bases) (sym (before.2 at (omega arith) d)) (filled at (omega (arith, c.loop-index-test.true)) d) in
+            let old : IsEntryFilled (slice_index_or c.loop-index.self.entries.items at d) bases = subst (λ (x : Entry). IsEntryFilled x bases) (sym (before.2 at (omega arith) d)) (filled at (omega (arith, c.loop-index-test.true)) d) in
             rw same (c.in_ok-fill_at.ensures.filled bases ends reordered d old)
-        | inr other ↦ subst (λ (x : Entry). IsFilled x (bases ++ base ∷ []))
+        | inr other ↦ subst (λ (x : Entry). IsEntryFilled x (bases ++ base ∷ []))
             (sym (c.fill_at.ensures.others j other d)) (before.3 bases ends reordered filled j
             (omega (arith, lt, other)) d)
       ]),

@@ -4,7 +4,7 @@ use Rattle.base_names.specs.Known.{Known}
 use Rattle.cat_eval.specs.declared.table.Entry.{Entry}
 use Rattle.cat_eval.specs.Reordered.{EndsReordered}
 use Rattle.cat_eval.specs.Steady.{EndsWith}
-use Rattle.cat_eval.specs.Tables.{IsFilled, AreFilled}
+use Rattle.cat_eval.specs.Tables.{IsEntryFilled, AreFilled}
 use Rattle.cat_eval.proofs.table.NameRunEnter.enter.Given as goal
 
 abbrev pub invariant-loop-index : goal.invariant-loop-index
@@ -19,4 +19,4 @@ invariant-loop-index l =
     × ((bases : List Known) → (IsTrue l.again → EndsWith bases l.base)
     → (IsTrue l.reordered → EndsReordered bases l.base)
     → AreFilled l.initial.self.entries.items bases → (j : ℕ) → j < l.index → (d : Entry)
-    → IsFilled (slice_index_or l.self.entries.items j d) (bases ++ l.base ∷ []))
+    → IsEntryFilled (slice_index_or l.self.entries.items j d) (bases ++ l.base ∷ []))
